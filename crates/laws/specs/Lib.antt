@@ -1,0 +1,4 @@
+pub mod Ints
+pub mod Held
+pub mod Exp
+pub mod Sums

@@ -1,0 +1,75 @@
+use mathlib.Core.Path.{sym, _∙_}
+use Prim.Native.Nat.{_-_}
+use borrow.Author.Tests.{not-true, not-false}
+use Rattle.money.specs.Offers.{numberOk, numbersOk}
+use Rattle.laws.specs.Sums.{Passed, passed-none, passed-more, passed-all, every-no}
+use borrow.Author.Needs.{needs}
+use native.Mathlib.Omega.{arith}
+use Rattle.money.proofs.offers.numbers_ok.Statement.{statement}
+use Rattle.money.proofs.offers.numbers_ok.Tie as tie
+use Rattle.money.proofs.offers.numbers_ok.Reads as reads
+use Rattle.money.proofs.offers.numbers_ok.Lts as lts
+use Rattle.money.proofs.offers.pair_ok.Reads as pair-ok-reads
+
+abbrev Inv-loop : tie.InvT-loop
+Inv-loop o n i₀ i = Passed (o .count) (numberOk o) i
+
+abbrev μ-loop : tie.MeasureT-loop
+μ-loop o n i₀ i = n - i
+
+cast-n : tie.Need-cast-n Inv-loop μ-loop
+cast-n c = search needs
+
+loop-holds : tie.Need-loop-holds Inv-loop μ-loop
+loop-holds c = passed-none _ _
+
+mul-p : tie.Need-mul-p Inv-loop μ-loop
+mul-p c = search needs
+
+element-copy-out-p : tie.Need-element-copy-out-p Inv-loop μ-loop
+element-copy-out-p c = search needs
+
+mul-q : tie.Need-mul-q Inv-loop μ-loop
+mul-q c = search needs
+
+element-copy-out-q : tie.Need-element-copy-out-q Inv-loop μ-loop
+element-copy-out-q c = search needs
+
+pair-ok-requires : tie.Need-pair-ok-requires Inv-loop μ-loop
+pair-ok-requires c κs = search needs
+
+returns : tie.Need-returns Inv-loop μ-loop
+unfolding numbersOk
+returns c = sym (every-no _ _ (numberOk ((c .before .before .before .before .before .before .args) .t1)) ((c .before .before .before .before .loop-test) .taken) (sym ((c .before .pair-ok) .ensures) ∙ not-true _ ((c .if1) .taken)))
+
+add-i : tie.Need-add-i Inv-loop μ-loop
+add-i c = search needs
+
+loop-less : tie.Need-loop-less Inv-loop μ-loop
+loop-less c = search needs
+
+loop-again : tie.Need-loop-again Inv-loop μ-loop
+loop-again c = passed-more ((c .before .before .before .before .before .loop) .inv) ((c .before .before .before .before .loop-test) .taken) (sym ((c .before .pair-ok) .ensures) ∙ not-false _ ((c .if1) .left))
+
+returns-2 : tie.Need-returns-2 Inv-loop μ-loop
+unfolding numbersOk
+returns-2 c = sym (passed-all ((c .before .loop) .inv) ((c .loop-test) .left))
+
+pub numbers-ok-spec : {M : Type 1} → statement M
+numbers-ok-spec =
+    tie.close
+    (tie.spec
+    Inv-loop
+    μ-loop
+    cast-n
+    loop-holds
+    mul-p
+    element-copy-out-p
+    mul-q
+    element-copy-out-q
+    pair-ok-requires
+    returns
+    add-i
+    loop-less
+    loop-again
+    returns-2)

@@ -1,0 +1,49 @@
+use mathlib.Core.Path.{sym, _∙_}
+use borrow.Author.Tests.{not-true, not-false, le-leb, lt-leb}
+use Rattle.money.specs.Offers.{offerFault}
+use native.Mathlib.Omega.{arith}
+use borrow.Author.Needs.{needs}
+use Rattle.money.proofs.offers.offer_fault.Statement.{statement}
+use Rattle.money.proofs.offers.offer_fault.Tie as tie
+use Rattle.money.proofs.offers.offer_fault.Reads as reads
+use Rattle.money.proofs.offers.offer_fault.Lts as lts
+use Rattle.money.proofs.offers.numbers_ok.Reads as numbers-ok-reads
+use Rattle.money.proofs.offers.order_ok.Reads as order-ok-reads
+
+returns : tie.Need-returns
+unfolding offerFault
+returns c = rw (lt-leb _ _ ((c .if1) .taken))
+
+returns-2 : tie.Need-returns-2
+unfolding offerFault
+returns-2 c = rw (le-leb _ _ ((c .before .before .if1) .left), lt-leb _ _ ((c .if2) .taken))
+
+numbers-ok-requires : tie.Need-numbers-ok-requires
+numbers-ok-requires c κs = search needs
+
+returns-3 : tie.Need-returns-3
+unfolding offerFault
+returns-3 c = rw (le-leb _ _ ((c .before .before .before .before .if1) .left), le-leb _ _ ((c .before .before .if2) .left), sym ((c .before .numbers-ok) .ensures) ∙ not-true _ ((c .if3) .taken))
+
+order-ok-requires : tie.Need-order-ok-requires
+order-ok-requires c κs = search needs
+
+returns-4 : tie.Need-returns-4
+unfolding offerFault
+returns-4 c = rw (le-leb _ _ ((c .before .before .before .before .before .before .if1) .left), le-leb _ _ ((c .before .before .before .before .if2) .left), sym ((c .before .before .before .numbers-ok) .ensures) ∙ not-false _ ((c .before .before .if3) .left), sym ((c .before .order-ok) .ensures) ∙ not-true _ ((c .if4) .taken))
+
+returns-5 : tie.Need-returns-5
+unfolding offerFault
+returns-5 c = rw (le-leb _ _ ((c .before .before .before .before .before .before .if1) .left), le-leb _ _ ((c .before .before .before .before .if2) .left), sym ((c .before .before .before .numbers-ok) .ensures) ∙ not-false _ ((c .before .before .if3) .left), sym ((c .before .order-ok) .ensures) ∙ not-false _ ((c .if4) .left))
+
+pub offer-fault-spec : {M : Type 1} → statement M
+offer-fault-spec =
+    tie.close
+    (tie.spec
+    returns
+    returns-2
+    numbers-ok-requires
+    returns-3
+    order-ok-requires
+    returns-4
+    returns-5)

@@ -1,0 +1,23 @@
+use native.Mathlib.Omega.{arith}
+use borrow.Author.Needs.{needs}
+use Rattle.money.proofs.offers.pair_ok.Statement.{statement}
+use Rattle.money.proofs.offers.pair_ok.Tie as tie
+use Rattle.money.proofs.offers.pair_ok.Reads as reads
+use Rattle.money.proofs.offers.pair_ok.Lts as lts
+use Rattle.money.proofs.units.Price.in_range.Reads as units-Price-in-range-reads
+use Rattle.money.proofs.units.Quantity.in_range.Reads as units-Quantity-in-range-reads
+
+in-range-requires : tie.Need-in-range-requires
+in-range-requires c κs = search needs
+
+in-range-requires-2 : tie.Need-in-range-requires-2
+in-range-requires-2 c κs = search needs
+
+returns : tie.Need-returns
+returns c = cc
+
+returns-2 : tie.Need-returns-2
+returns-2 c = cc
+
+pub pair-ok-spec : {M : Type 1} → statement M
+pair-ok-spec = tie.close (tie.spec in-range-requires in-range-requires-2 returns returns-2)

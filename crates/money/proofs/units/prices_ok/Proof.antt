@@ -1,0 +1,64 @@
+use mathlib.Core.Path.{sym, _∙_}
+use Prim.Native.Nat.{_-_}
+use lib.ListN.{getD}
+use borrow.Author.Tests.{not-true, not-false}
+use Rattle.money.specs.Units.{pricesOk, priceOk, noPrice}
+use Rattle.laws.specs.Sums.{Passed, passed-none, passed-more, passed-all, every-no}
+use borrow.Author.Needs.{needs}
+use native.Mathlib.Omega.{arith}
+use Rattle.money.proofs.units.prices_ok.Statement.{statement}
+use Rattle.money.proofs.units.prices_ok.Tie as tie
+use Rattle.money.proofs.units.prices_ok.Reads as reads
+use Rattle.money.proofs.units.prices_ok.Lts as lts
+use Rattle.money.proofs.units.Price.in_range.Reads as in-range-reads
+
+abbrev Inv-loop : tie.InvT-loop
+Inv-loop prices k₀ k = Passed 12 (λ j. priceOk (getD prices j noPrice)) k
+
+abbrev μ-loop : tie.MeasureT-loop
+μ-loop prices k₀ k = 12 - k
+
+loop-holds : tie.Need-loop-holds Inv-loop μ-loop
+loop-holds c = passed-none _ _
+
+mul-p : tie.Need-mul-p Inv-loop μ-loop
+mul-p c = search needs
+
+array-copy-out-p : tie.Need-array-copy-out-p Inv-loop μ-loop
+array-copy-out-p c = search needs
+
+in-range-requires : tie.Need-in-range-requires Inv-loop μ-loop
+in-range-requires c κs = search needs
+
+returns : tie.Need-returns Inv-loop μ-loop
+unfolding pricesOk
+returns c = sym (every-no _ _ (λ j. priceOk (getD ((c .before .before .before .before .before .args) .t1) j noPrice)) ((c .before .before .before .loop-test) .taken) (sym ((c .before .in-range) .ensures) ∙ not-true _ ((c .if1) .taken)))
+
+add-k : tie.Need-add-k Inv-loop μ-loop
+add-k c = search needs
+
+loop-less : tie.Need-loop-less Inv-loop μ-loop
+loop-less c = search needs
+
+loop-again : tie.Need-loop-again Inv-loop μ-loop
+loop-again c = passed-more ((c .before .before .before .before .loop) .inv) ((c .before .before .before .loop-test) .taken) (sym ((c .before .in-range) .ensures) ∙ not-false _ ((c .if1) .left))
+
+returns-2 : tie.Need-returns-2 Inv-loop μ-loop
+unfolding pricesOk
+returns-2 c = sym (passed-all ((c .before .loop) .inv) ((c .loop-test) .left))
+
+pub prices-ok-spec : {M : Type 1} → statement M
+prices-ok-spec =
+    tie.close
+    (tie.spec
+    Inv-loop
+    μ-loop
+    loop-holds
+    mul-p
+    array-copy-out-p
+    in-range-requires
+    returns
+    add-k
+    loop-less
+    loop-again
+    returns-2)

@@ -1,0 +1,59 @@
+use mathlib.Core.Path.{sym, _∙_}
+use Prim.Native.Nat.{_-_}
+use lib.Dec.{leb}
+use borrow.Author.Tests.{le-leb, lt-leb}
+use Rattle.money.specs.Units.{withinOk, quantityAt}
+use Rattle.laws.specs.Sums.{Passed, passed-none, passed-more, passed-all, every-no}
+use borrow.Author.Needs.{needs}
+use native.Mathlib.Omega.{arith}
+use Rattle.money.proofs.units.within_ok.Statement.{statement}
+use Rattle.money.proofs.units.within_ok.Tie as tie
+use Rattle.money.proofs.units.within_ok.Reads as reads
+use Rattle.money.proofs.units.within_ok.Lts as lts
+
+abbrev Inv-loop : tie.InvT-loop
+Inv-loop last qs k₀ k = Passed 12 (λ j. leb (quantityAt qs j) (last .0)) k
+
+abbrev μ-loop : tie.MeasureT-loop
+μ-loop last qs k₀ k = 12 - k
+
+loop-holds : tie.Need-loop-holds Inv-loop μ-loop
+loop-holds c = passed-none _ _
+
+mul-q : tie.Need-mul-q Inv-loop μ-loop
+mul-q c = search needs
+
+array-copy-out-q : tie.Need-array-copy-out-q Inv-loop μ-loop
+array-copy-out-q c = search needs
+
+returns : tie.Need-returns Inv-loop μ-loop
+unfolding withinOk
+returns c = sym (every-no _ _ (λ j. leb (quantityAt ((c .before .before .before .before .before .before .args) .t1) j) ((c .before .before .before .before .before .before .args) .last .0)) ((c .before .before .before .before .loop-test) .taken) (lt-leb _ _ ((c .if1) .taken)))
+
+add-k : tie.Need-add-k Inv-loop μ-loop
+add-k c = search needs
+
+loop-less : tie.Need-loop-less Inv-loop μ-loop
+loop-less c = search needs
+
+loop-again : tie.Need-loop-again Inv-loop μ-loop
+loop-again c = passed-more ((c .before .before .before .before .before .loop) .inv) ((c .before .before .before .before .loop-test) .taken) (le-leb _ _ ((c .if1) .left))
+
+returns-2 : tie.Need-returns-2 Inv-loop μ-loop
+unfolding withinOk
+returns-2 c = sym (passed-all ((c .before .loop) .inv) ((c .loop-test) .left))
+
+pub within-ok-spec : {M : Type 1} → statement M
+within-ok-spec =
+    tie.close
+    (tie.spec
+    Inv-loop
+    μ-loop
+    loop-holds
+    mul-q
+    array-copy-out-q
+    returns
+    add-k
+    loop-less
+    loop-again
+    returns-2)

@@ -1,0 +1,85 @@
+-- Sums of profits, credits and their sizes. Assumes nothing.
+use mathlib.Core.Path.{_≡_, refl, sym, ap, _∙_, subst}
+use mathlib.Core.Bool.{Bool, true}
+use mathlib.Core.List.{List}
+use Prim.Native.Nat.{ℕ, _+_, _-_, _*_, _≤_, _<_, zero-le}
+use native.Mathlib.Nat.{sub-zero}
+use native.Mathlib.Omega.{arith}
+use lib.IntN.{ℤ, pos, negℤ, natAbs, _+ℤ_, _-ℤ_, _*ℤ_}
+use Rattle.laws.specs.Ints.{ints, by₁, minℤ, sub-within}
+use Rattle.laws.specs.Sums.{Σℤ, Σℤ-ext, Σℤ-within, Σℤ-step}
+use Rattle.money.specs.declared.units.Price.{Price}
+use Rattle.money.specs.declared.units.Quantity.{Quantity}
+use Rattle.money.specs.declared.offers.Offer.{Offer}
+use Rattle.money.specs.Units.{priceAt, quantityAt, withinOk}
+use Rattle.money.specs.Offers.{lastQ, offerFault, cost}
+use Rattle.money.specs.Guarantee.{profit, profits, credit}
+use Rattle.money.specs.UnitLaws.{Moderate, Rates, within-at}
+use Rattle.money.specs.OfferLaws.{Good, good-of, abs-mul-pos, cost-size, last-size}
+
+-- what the credit of an hour wants: twelve prices in range, twelve quantities within the offer
+pub record Ready (o : Offer) (ps : List Price) (q : ℕ → ℕ) : Type 0 where
+  pub good : Good o
+  pub prices : (k : ℕ) → k < 12 → natAbs (priceAt ps k) ≤ 200000
+  pub within : (k : ℕ) → k < 12 → q k ≤ lastQ o
+
+module _ (o : Offer) (ps : List Price) (q : ℕ → ℕ) (r : Ready o ps q) where
+  pub profit-size : (k : ℕ) → k < 12 → natAbs (profit o (priceAt ps k) (q k)) ≤ 440000000000
+  profit-size k l =
+      let h : q k ≤ 100000 = omega (arith, r .within k l, last-size o (r .good)) in
+      sub-within (priceAt ps k *ℤ pos (q k)) (cost o (q k)) (abs-mul-pos (priceAt ps k) (q k) {A = 200000} {B = 100000} (r .prices k l) h) (cost-size o (r .good) (q k) h)
+
+  pub some-size : (n : ℕ) → n ≤ 12 → natAbs (Σℤ n (λ k. profit o (priceAt ps k) (q k))) ≤ 5280000000000
+  some-size n l = omega (arith, Σℤ-within 440000000000 n (λ k. profit o (priceAt ps k) (q k)) (λ j k. profit-size j (omega arith)))
+
+  pub profits-size : natAbs (profits o ps q) ≤ 5280000000000
+  unfolding profits
+  profits-size = some-size 12 (omega arith)
+
+  pub credit-size : natAbs (credit o ps q) ≤ 5280000000000
+  credit-size = lesser (profits o ps q) profits-size
+    where
+      lesser : (x : ℤ) → natAbs x ≤ 5280000000000 → natAbs (negℤ (minℤ (pos 0) x)) ≤ 5280000000000
+      lesser = by₁ _ (λ a a′. simp ints (omega arith))
+
+pub ready-of : (ps : List Price) (o : Offer) (qs : List Quantity) → Rates ps → offerFault o ≡ 0 → withinOk qs (lastQ o) ≡ true → Ready o ps (quantityAt qs)
+ready-of ps o qs r g w = record { good = good-of o g; prices = r; within = within-at qs (lastQ o) w }
+
+pub within-is : (o : Offer) (qs : List Quantity) {l : ℕ} {r t : Bool} → l ≡ lastQ o → r ≡ withinOk qs l → r ≡ t → withinOk qs (lastQ o) ≡ t
+within-is o qs p q k = ap (λ (n : ℕ). withinOk qs n) (sym p) ∙ sym q ∙ k
+
+pub record Upto (o : Offer) (ps : List Price) (q : ℕ → ℕ) (sum : ℤ) (k : ℕ) : Type 0 where
+  pub upto : k ≤ 12
+  pub so-far : sum ≡ Σℤ k (λ j. profit o (priceAt ps j) (q j))
+
+pub upto-none : (o : Offer) (ps : List Price) (q : ℕ → ℕ) → Upto o ps q (pos 0) 0
+unfolding Σℤ
+upto-none o ps q = record { upto = zero-le; so-far = refl }
+
+module _ {o : Offer} {ps : List Price} {q : ℕ → ℕ} (ready : Ready o ps q) {sum : ℤ} {k : ℕ} (u : Upto o ps q sum k) where
+  pub sum-room : Moderate sum
+  sum-room = rw (u .so-far) (omega (arith, some-size o ps q ready k (u .upto)))
+
+  module _ {v c d : ℤ} (l : k < 12) (e : v ≡ priceAt ps k *ℤ pos (q k - 0)) (f : c ≡ cost o (q k)) (g : d ≡ v -ℤ c) where
+    profit-is : d ≡ profit o (priceAt ps k) (q k)
+    profit-is = g ∙ (λ i. e i -ℤ f i) ∙ rw sub-zero
+
+    pub cost-room : Moderate c
+    cost-room = rw f (omega (arith, cost-size o (ready .good) (q k) (omega (arith, ready .within k l, last-size o (ready .good)))))
+
+    pub profit-room : Moderate d
+    profit-room = rw profit-is (omega (arith, profit-size o ps q ready k l))
+
+    pub upto-more : {r : ℤ} → r ≡ sum +ℤ d → Upto o ps q r (k + 1)
+    upto-more h = record { upto = omega arith; so-far = Σℤ-step k (λ j. profit o (priceAt ps j) (q j)) (u .so-far) h profit-is }
+
+pub upto-all : {o : Offer} {ps : List Price} {q : ℕ → ℕ} {sum : ℤ} {k : ℕ} → Upto o ps q sum k → 12 ≤ k → sum ≡ profits o ps q
+unfolding profits
+upto-all {o = o} {ps = ps} {q = q} {k = k} u h = let e : k ≡ 12 = omega (arith, u .upto) in rw (← e) (u .so-far)
+
+pub credit-room : {o : Offer} {ps : List Price} {q : ℕ → ℕ} → Ready o ps q → {x : ℤ} → x ≡ credit o ps q → Moderate x
+credit-room {o = o} {ps = ps} {q = q} r e = rw e (omega (arith, credit-size o ps q r))
+
+pub credit-ext : (o : Offer) (ps : List Price) (q q′ : ℕ → ℕ) → ((k : ℕ) → k < 12 → q k ≡ q′ k) → credit o ps q ≡ credit o ps q′
+unfolding profits
+credit-ext o ps q q′ h = ap (λ (z : ℤ). negℤ (minℤ (pos 0) z)) (Σℤ-ext 12 _ _ (λ k l. ap (λ (x : ℕ). profit o (priceAt ps k) x) (h k l)))

@@ -1,0 +1,152 @@
+-- Laws of units, of tests and refusals, and of rows of twelve quantities. Assumes nothing.
+use mathlib.Core.Path.{_≡_, refl, sym, ap, _∙_, subst}
+use mathlib.Core.Bool.{Bool, true, false, cond, _&&_}
+use mathlib.Core.List.{List, map}
+use Prim.Native.Nat.{ℕ, zero, suc, _+_, _*_, _/_, _≤_, _<_, zero-le}
+use native.Mathlib.Omega.{arith}
+use borrow.Author.Tests.{leb-true}
+use lib.Dec.{T, leb, ltb→lt}
+use lib.IntN.{ℤ, pos, negsuc, negℤ, natAbs, _-ℤ_}
+use lib.Signed.{leZ, _≤ℤ_, _<ℤ_, ≤ℤ-refl}
+use lib.ListN.{getD, set, length, length-set, length-map}
+use lib.Seq.{getD-set-same, getD-set-other}
+use mir.Syntax.{w64}
+use mir.Val.{SFits, toZ, ofZ}
+use mir.Facts.{toZ-ofZ}
+use Rattle.laws.specs.Held.{Held}
+use Rattle.laws.specs.Ints.{ints, by₁, dif-abs, minℤ, le-true, ≤ℤ-antisym}
+use Rattle.laws.specs.Sums.{every, every-at, and-true, orElse, last-or}
+use Rattle.money.specs.declared.units.Price.{Price}
+use Rattle.money.specs.declared.units.Quantity.{Quantity}
+use Rattle.money.specs.declared.units.Answer.{Answer}
+use Rattle.money.specs.declared.units.Answer.the-variants.{Amount, Refused}
+use Rattle.money.specs.Units.{minPrice, maxPrice, noPrice, noQuantity, priceOk, priceAt, quantityAt, pricesOk, withinOk, sameℤ, unless, answer, centsOf}
+
+-- an amount that any sum or difference of two such still holds in 64 bits
+abbrev pub Moderate : ℤ → Type 0
+Moderate z = natAbs z ≤ 100000000000000000
+
+-- twelve prices in range
+abbrev pub Rates : List Price → Type 0
+Rates ps = (k : ℕ) → k < 12 → natAbs (priceAt ps k) ≤ 200000
+
+-- what owning an array of structs tells of its list
+pub unmapped : {X Y : Type 0} (f : X → Y) (l : List X) (n : ℕ) → length (map f l) ≡ n → length l ≡ n
+unmapped f l n p = sym (length-map l f) ∙ p
+
+-- ---- tests
+pub price-in : (p : Price) → priceOk p ≡ true → natAbs (p .0) ≤ 200000
+price-in p e =
+    let a = and-true (leZ minPrice (p .0)) (leZ (p .0) maxPrice) e in
+    both (p .0) (le-true _ _ (a .0)) (le-true _ _ (a .1))
+  where
+    both : (z : ℤ) → negsuc 199999 ≤ℤ z → z ≤ℤ pos 200000 → natAbs z ≤ 200000
+    both = by₁ _ (λ a a′. simp ints (omega arith))
+
+pub prices-of : (ps : List Price) → pricesOk ps ≡ true → Rates ps
+unfolding pricesOk
+prices-of ps h = λ k l. price-in (getD ps k noPrice) (every-at 12 (λ k. priceOk (getD ps k noPrice)) h k l)
+
+pub within-at : (qs : List Quantity) (last : ℕ) → withinOk qs last ≡ true → (k : ℕ) → k < 12 → quantityAt qs k ≤ last
+unfolding withinOk
+within-at qs last w k l = leb-true _ _ (every-at 12 (λ k. leb (quantityAt qs k) last) w k l)
+
+pub passes : (b : Bool) (n r : ℕ) → unless b (suc n) r ≡ 0 → (b ≡ true) × (r ≡ 0)
+passes true n r e = (refl, e)
+passes false n r e = absurd (omega arith)
+
+pub neither : (a b : ℕ) → orElse a b ≡ 0 → (a ≡ 0) × (b ≡ 0)
+neither zero b e = (refl, e)
+neither (suc a) b e = absurd (omega arith)
+
+-- a fault that a call returned is the first of two
+pub kept : (b : ℕ) {r a : ℕ} → r ≡ a → (r ≡ 0 → ⊥) → r ≡ orElse a b
+kept b {r = r} {a = a} e h = go a e
+  where
+    go : (n : ℕ) → r ≡ n → r ≡ orElse n b
+    go zero q = absurd (h q)
+    go (suc n) q = q
+
+-- the answer where there is a fault
+pub answer-fault : (x : ℤ) {r a : ℕ} → r ≡ a → (r ≡ 0 → ⊥) → Refused r ≡ answer a x
+answer-fault x {r = r} {a = a} e h = go a e
+  where
+    go : (n : ℕ) → r ≡ n → Refused r ≡ answer n x
+    go zero q = absurd (h q)
+    go (suc n) q = ap Refused q
+
+-- the answer where there is none
+pub answer-amount : {f : ℕ} {x y : ℤ} → f ≡ 0 → y ≡ x → Amount (record { 0 = y }) ≡ answer f x
+answer-amount {f = f} {x = x} {y = y} e k = ap (λ (z : ℤ). Amount (record { 0 = z })) k ∙ sym (ap (λ (n : ℕ). answer n x) e)
+
+-- ---- equal amounts
+pub same-true : (x y : ℤ) → x ≡ y → sameℤ x y ≡ true
+same-true x y e = subst (λ (z : ℤ). sameℤ x z ≡ true) e (rw (yes (leZ x x) (≤ℤ-refl x .le)))
+  where
+    yes : (b : Bool) → T b → b ≡ true
+    yes true t = refl
+    yes false t = absurd t
+
+pub same-false : (x y : ℤ) → (x ≡ y → ⊥) → sameℤ x y ≡ false
+same-false x y h = go (leZ x y) (leZ y x) refl refl
+  where
+    go : (a b : Bool) → leZ x y ≡ a → leZ y x ≡ b → a && b ≡ false
+    go true true p q = absurd (h (≤ℤ-antisym x y (le-true x y p) (le-true y x q)))
+    go true false p q = refl
+    go false b p q = refl
+
+pub same-is : (x y : ℤ) → sameℤ x y ≡ true → x ≡ y
+same-is x y e = let a = and-true (leZ x y) (leZ y x) e in ≤ℤ-antisym x y (le-true x y (a .0)) (le-true y x (a .1))
+
+pub same-as : (x y : ℤ) {z : ℤ} {r t : Bool} → z ≡ y → r ≡ sameℤ x z → r ≡ t → sameℤ x y ≡ t
+same-as x y p q k = ap (λ (n : ℤ). sameℤ x n) (sym p) ∙ sym q ∙ k
+
+-- ---- -min(0, x), by the test that code makes
+pub lacks : (x : ℤ) → x <ℤ pos 0 → negℤ x ≡ negℤ (minℤ (pos 0) x)
+lacks = by₁ _ (λ a a′. simp ints (omega arith))
+
+pub lacks-none : (x : ℤ) → pos 0 ≤ℤ x → pos 0 ≡ negℤ (minℤ (pos 0) x)
+lacks-none = by₁ _ (λ a a′. simp ints (omega arith))
+
+-- ---- the magnitude of 64 bits, of which -2^63 has no negative there
+pub flip-abs : (x : ℤ) → x <ℤ pos 0 → natAbs (negsuc 0 -ℤ x) + 1 ≡ natAbs x
+flip-abs = by₁ _ (λ a a′. simp (ints, dif-abs) (omega arith))
+
+pub flip-above : (x : ℤ) → x <ℤ pos 0 → pos 0 ≤ℤ (negsuc 0 -ℤ x)
+flip-above = by₁ _ (λ a a′. simp ints (omega arith))
+
+pub abs-most : (x : ℤ) → SFits w64 x → natAbs x ≤ 9223372036854775808
+abs-most (pos n) f = omega (arith, f .sfits)
+abs-most (negsuc n) f = omega (arith, f .sfits)
+
+pub flipped : {z : ℤ} → SFits w64 z → z <ℤ pos 0 → Held (negsuc 0 -ℤ toZ w64 (ofZ w64 z)) (negsuc 0 -ℤ z) 9223372036854775807
+flipped {z} f l = record { same = ap (λ (y : ℤ). negsuc 0 -ℤ y) (toZ-ofZ f); within = omega (arith, flip-abs z l, abs-most z f) }
+
+-- ---- ticks to cents, by the test that code makes
+pub cents-below : (x : ℤ) → x <ℤ pos 0 → negℤ (pos ((natAbs x + 60) / 120)) ≡ centsOf x
+unfolding centsOf
+cents-below (pos n) h = let l : n < 0 = ltb→lt n 0 (h .lt) in absurd (omega arith)
+cents-below (negsuc n) h = refl
+
+pub cents-above : (x : ℤ) → pos 0 ≤ℤ x → pos ((natAbs x + 60) / 120) ≡ centsOf x
+unfolding centsOf
+cents-above (pos n) h = refl
+cents-above (negsuc n) h = absurd (h .le)
+
+-- ---- a row of twelve quantities, filled from the front
+pub record Filled (row : List Quantity) (f : ℕ → ℕ) (k : ℕ) : Type 0 where
+  pub upto : k ≤ 12
+  pub long : length row ≡ 12
+  pub so-far : (j : ℕ) → j < k → quantityAt row j ≡ f j
+
+pub filled-none : (row : List Quantity) (f : ℕ → ℕ) → length row ≡ 12 → Filled row f 0
+filled-none row f h = record { upto = zero-le; long = h; so-far = λ j l. absurd (omega arith) }
+
+pub filled-more : {row : List Quantity} {f : ℕ → ℕ} {k : ℕ} {v : Quantity} → Filled row f k → k < 12 → v .0 ≡ f k → Filled (set row k v) f (k + 1)
+filled-more {row = row} {f = f} {k = k} {v = v} r l e = record {
+  upto = omega arith;
+  long = simp length-set (r .long);
+  so-far = λ j h. last-or j k (omega arith)
+      (λ q. subst (λ (i : ℕ). quantityAt (set row k v) i ≡ f i) (sym q) (ap (λ (x : Quantity). x .0) (getD-set-same row k v noQuantity (omega (arith, r .long))) ∙ e))
+      (λ q. ap (λ (x : Quantity). x .0) (getD-set-other row k j v noQuantity (λ z. omega arith)) ∙ r .so-far j q);
+}

@@ -1,0 +1,72 @@
+ghost use mathlib.Core.Path.{_≡_};
+ghost use Rattle.money.specs.Units.{quantityAt};
+ghost use Rattle.money.specs.Guarantee.{profits, credit, creditAnswer};
+ghost use Rattle.money.specs.GuaranteeLaws.{Ready};
+use crate::offers::Offer;
+use crate::offers::last_of;
+use crate::offers::offer_fault;
+use crate::refusals::BEYOND_LIST;
+use crate::refusals::OUT_OF_RANGE;
+use crate::units::Answer;
+use crate::units::Price;
+use crate::units::Quantity;
+use crate::units::Ticks;
+use crate::units::prices_ok;
+use crate::units::quantities_ok;
+use crate::units::within_ok;
+
+// The profits of twelve intervals. The walk over the pairs stops at the first one that reaches the quantity.
+fn profit_sum(o: Offer, prices: [Price; 12], qs: [Quantity; 12]) -> Ticks
+    requires { ⌜ Ready o prices (quantityAt qs) ⌝ }
+    ensures { λ r. ⌜ r .0 ≡ profits o prices (quantityAt qs) ⌝ }
+{
+    let mut sum = Ticks(0);
+    let mut k: usize = 0;
+    'intervals: while k < 12 {
+        let q = qs[k];
+        let emp = prices[k];
+        let mut acc = Ticks(0);
+        let mut last = Quantity(0);
+        let mut i: usize = 0;
+        let cost = loop {
+            let p = o.prices[i];
+            let w = o.quantities[i];
+            if q.0 <= w.0 {
+                break acc.plus(p.times(last, q));
+            }
+            acc = acc.plus(p.times(last, w));
+            last = w;
+            i = i + 1;
+        };
+        sum = sum.plus(emp.times(Quantity(0), q).minus(cost));
+        k = k + 1;
+    }
+    sum
+}
+
+pub(crate) fn credit_of(o: Offer, prices: [Price; 12], qs: [Quantity; 12]) -> Ticks
+    requires { ⌜ Ready o prices (quantityAt qs) ⌝ }
+    ensures { λ r. ⌜ r .0 ≡ credit o prices (quantityAt qs) ⌝ }
+{
+    profit_sum(o, prices, qs).lacking()
+}
+
+// An import's credit for an hour, or the number of the refusal.
+pub fn hour_credit(o: Offer, prices: [Price; 12], qs: [Quantity; 12]) -> Answer
+    ensures { λ r. ⌜ r ≡ creditAnswer o prices qs ⌝ }
+{
+    if !prices_ok(prices) {
+        return Answer::Refused(OUT_OF_RANGE);
+    }
+    if !quantities_ok(qs) {
+        return Answer::Refused(OUT_OF_RANGE);
+    }
+    let f = offer_fault(o);
+    if f != 0 {
+        return Answer::Refused(f);
+    }
+    if !within_ok(qs, last_of(o)) {
+        return Answer::Refused(BEYOND_LIST);
+    }
+    Answer::Amount(credit_of(o, prices, qs))
+}
