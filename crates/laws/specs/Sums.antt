@@ -1,12 +1,15 @@
 -- Sums, tests and first faults over the numbers below n, with the laws that a loop cites. Assumes nothing.
 use mathlib.Core.Path.{_≡_, refl, sym, ap, _∙_, subst}
-use mathlib.Core.Bool.{Bool, true, false, cond, not, _&&_}
+use mathlib.Core.Bool.{Bool, true, false, cond, not, _&&_, _||_}
 use Prim.Native.Nat.{ℕ, zero, suc, _+_, _*_, _≤_, _<_}
 use native.Mathlib.Numerals.{add-one}
 use native.Mathlib.Decide.{decLt, ℕ-discrete}
 use native.Mathlib.Omega.{arith}
-use lib.IntN.{ℤ, pos, natAbs, _+ℤ_, +ℤ-idr}
-use Rattle.laws.specs.Ints.{add-within}
+use mathlib.Core.Logic.{_⊎_, inl, inr}
+use borrow.Author.Tests.{eq-eqb, ne-eqb}
+use lib.Dec.{eqb}
+use lib.IntN.{ℤ, pos, natAbs, _+ℤ_, _-ℤ_, +ℤ-idr}
+use Rattle.laws.specs.Ints.{ints, by₄, add-within}
 
 -- the sum of f i over i < n
 unfoldable pub Σℤ : ℕ → (ℕ → ℤ) → ℤ
@@ -39,6 +42,22 @@ last-or {X} i n l f g = by (ℕ-discrete i n)
     by : Dec (i ≡ n) → X
     by (yes q) = f q
     by (no q) = g (omega arith)
+
+-- a is below b, or not
+pub below-or : {X : Type 0} (a b : ℕ) → (a < b → X) → (b ≤ a → X) → X
+below-or {X} a b f g = by (decLt a b)
+  where
+    by : Dec (a < b) → X
+    by (yes h) = f h
+    by (no h) = g (omega arith)
+
+-- a test by its two outcomes
+pub never : {X : Type 0} → true ≡ false → X
+never e = let z : _≡_ {A = ℕ} 0 1 = cc in absurd (omega arith)
+
+pub on : {X : Type 0} (b : Bool) → (b ≡ true → X) → (b ≡ false → X) → X
+on true f g = f refl
+on false f g = g refl
 
 -- ---- one more
 pub Σℤ-more : (n : ℕ) (f : ℕ → ℤ) → Σℤ (n + 1) f ≡ Σℤ n f +ℤ f n
@@ -87,6 +106,30 @@ unfolding Σℕ
 Σℕ-ones zero f h = refl
 Σℕ-ones (suc n) f h = omega (arith, Σℕ-ones n f (λ j k. h j (omega arith)), h n (omega arith))
 
+pub Σℤ-sub : (n : ℕ) (f g : ℕ → ℤ) → Σℤ n (λ j. f j -ℤ g j) ≡ Σℤ n f -ℤ Σℤ n g
+unfolding Σℤ
+Σℤ-sub zero f g = refl
+Σℤ-sub (suc n) f g = (λ i. Σℤ-sub n f g i +ℤ (f n -ℤ g n)) ∙ swap (Σℤ n f) (Σℤ n g) (f n) (g n)
+  where
+    swap : (x y z w : ℤ) → x -ℤ y +ℤ (z -ℤ w) ≡ x +ℤ z -ℤ (y +ℤ w)
+    swap = by₄ _ (λ a a′ b b′ c c′ d d′. simp ints (omega arith))
+
+-- one term apart
+pub Σℕ-apart : (n m : ℕ) (f : ℕ → ℕ) → m < n → Σℕ n f ≡ Σℕ n (λ i. cond (eqb i m) 0 (f i)) + f m
+unfolding Σℕ
+Σℕ-apart zero m f l = absurd (omega arith)
+Σℕ-apart (suc n) m f l =
+    last-or m n l
+    (λ q.
+    let a : Σℕ n (λ i. cond (eqb i m) 0 (f i)) ≡ Σℕ n f = Σℕ-ext n _ _ (λ j h. rw (ne-eqb j m (λ z. omega arith))) in
+    let b : cond (eqb n m) 0 (f n) ≡ 0 = rw (eq-eqb n m (sym q)) in
+    let c : f n ≡ f m = ap f (sym q) in
+    omega arith)
+    (λ q.
+    let a = Σℕ-apart n m f q in
+    let b : cond (eqb n m) 0 (f n) ≡ f n = rw (ne-eqb n m (λ z. omega arith)) in
+    omega arith)
+
 -- ---- sizes
 pub Σℤ-within : (B n : ℕ) (f : ℕ → ℤ) → ((j : ℕ) → j < n → natAbs (f j) ≤ B) → natAbs (Σℤ n f) ≤ B * n
 unfolding Σℤ
@@ -125,7 +168,28 @@ every-at (suc n) f e i l =
     last-or i n l (λ q. subst (λ (j : ℕ). f j ≡ true) (sym q) (and-true (every n f) (f n) e .1))
     (λ q. every-at n f (and-true (every n f) (f n) e .0) i q)
 
+pub or-cases : (a b : Bool) → a || b ≡ true → (a ≡ true) ⊎ (b ≡ true)
+or-cases true b e = inl refl
+or-cases false b e = inr e
+
+pub or-left : (a b : Bool) → a ≡ true → a || b ≡ true
+or-left a b e = rw e
+
+pub or-right : (a b : Bool) → b ≡ true → a || b ≡ true
+or-right true b e = refl
+or-right false b e = e
+
+pub every-ext : (n : ℕ) (f g : ℕ → Bool) → ((j : ℕ) → j < n → f j ≡ g j) → every n f ≡ every n g
+unfolding every
+every-ext zero f g h = refl
+every-ext (suc n) f g h = λ i. every-ext n f g (λ j k. h j (omega arith)) i && h n (omega arith) i
+
 -- ---- first faults
+pub firstOf-ext : (n : ℕ) (f g : ℕ → ℕ) → ((j : ℕ) → j < n → f j ≡ g j) → firstOf n f ≡ firstOf n g
+unfolding firstOf
+firstOf-ext zero f g h = refl
+firstOf-ext (suc n) f g h = λ i. orElse (firstOf-ext n f g (λ j k. h j (omega arith)) i) (h n (omega arith) i)
+
 pub firstOf-none : (n : ℕ) (f : ℕ → ℕ) → ((j : ℕ) → j < n → f j ≡ 0) → firstOf n f ≡ 0
 unfolding firstOf
 firstOf-none zero f h = refl

@@ -5,3 +5,9 @@ pub mod Offers
 pub mod OfferLaws
 pub mod Guarantee
 pub mod GuaranteeLaws
+pub mod Names
+pub mod NameLaws
+pub mod Offset
+pub mod OffsetLaws
+pub mod CancelledLaws
+pub mod LentLaws

@@ -8,7 +8,7 @@ use borrow.Author.Tests.{leb-true}
 use lib.Dec.{T, leb, ltb→lt}
 use lib.IntN.{ℤ, pos, negsuc, negℤ, natAbs, _-ℤ_}
 use lib.Signed.{leZ, _≤ℤ_, _<ℤ_, ≤ℤ-refl}
-use lib.ListN.{getD, set, length, length-set, length-map}
+use lib.ListN.{getD, set, length, length-set, length-map, replicate}
 use lib.Seq.{getD-set-same, getD-set-other}
 use mir.Syntax.{w64}
 use mir.Val.{SFits, toZ, ofZ}
@@ -132,6 +132,12 @@ pub cents-above : (x : ℤ) → pos 0 ≤ℤ x → pos ((natAbs x + 60) / 120) �
 unfolding centsOf
 cents-above (pos n) h = refl
 cents-above (negsuc n) h = absurd (h .le)
+
+-- a row of zeros
+pub zeros : (n k : ℕ) → quantityAt (replicate n noQuantity) k ≡ 0
+zeros zero k = refl
+zeros (suc n) zero = refl
+zeros (suc n) (suc k) = zeros n k
 
 -- ---- a row of twelve quantities, filled from the front
 pub record Filled (row : List Quantity) (f : ℕ → ℕ) (k : ℕ) : Type 0 where

@@ -1,5 +1,8 @@
 // The market rules' amounts, over numbers alone: nothing here knows of records or of a book.
+pub mod guarantee;
+pub mod imports;
+pub mod names;
+pub mod offers;
+pub mod offset;
 pub mod refusals;
 pub mod units;
-pub mod offers;
-pub mod guarantee;

@@ -42,6 +42,7 @@ pub enum Answer {
 
 impl Price {
     pub const MIN: Price = Price(-200000);
+
     pub const MAX: Price = Price(200000);
 
     pub fn new(cents: i32) -> PriceRead

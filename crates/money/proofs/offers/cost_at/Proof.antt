@@ -32,13 +32,13 @@ unfolding costAnswer
 returns-2 c = rw (sym ((c .before .before .before .in-range) .ensures) ∙ not-false _ ((c .before .before .if1) .left)) (answer-fault (cost ((c .before .before .before .before .args) .o) ((c .before .before .before .before .args) .q .0)) (kept (unless (leb ((c .before .before .before .before .args) .q .0) (lastQ ((c .before .before .before .before .args) .o))) 7 0) ((c .before .offer-fault) .ensures) ((c .if2) .taken)) ((c .if2) .taken))
 
 last-of-requires : tie.Need-last-of-requires
-last-of-requires c κs = 
+last-of-requires c κs =
     let g = good-of ((c .before .before .before .before .args) .o) (sym ((c .before .offer-fault) .ensures) ∙ (c .if2) .left) in
     (g .some, g .most)
 
 returns-3 : tie.Need-returns-3
 unfolding costAnswer
-returns-3 c = 
+returns-3 c =
     let m : lastQ ((c .before .before .before .before .before .before .before .before .args) .o) < (c .before .before .before .before .before .before .before .before .args) .q .0 = omega (arith, (c .before .before .before .last-of) .ensures, (c .if3) .taken) in
     rw (sym ((c .before .before .before .before .before .before .before .in-range) .ensures) ∙ not-false _ ((c .before .before .before .before .before .before .if1) .left), sym ((c .before .before .before .before .before .offer-fault) .ensures) ∙ (c .before .before .before .before .if2) .left, lt-leb _ _ m)
 
@@ -47,7 +47,7 @@ cost-of-requires c κs = (good-of ((c .before .before .before .before .before .b
 
 returns-4 : tie.Need-returns-4
 unfolding costAnswer
-returns-4 c = 
+returns-4 c =
     let m : (c .before .before .before .before .before .before .before .before .before .args) .q .0 ≤ lastQ ((c .before .before .before .before .before .before .before .before .before .args) .o) = omega (arith, (c .before .before .before .before .last-of) .ensures, (c .before .if3) .left) in
     rw (sym ((c .before .before .before .before .before .before .before .before .in-range) .ensures) ∙ not-false _ ((c .before .before .before .before .before .before .before .if1) .left), sym ((c .before .before .before .before .before .before .offer-fault) .ensures) ∙ (c .before .before .before .before .before .if2) .left, le-leb _ _ m, (c .cost-of) .ensures)
 

@@ -31,7 +31,7 @@ element-copy-out-w : tie.Need-element-copy-out-w Inv-loop μ-loop
 element-copy-out-w c = search needs
 
 times-requires : tie.Need-times-requires Inv-loop μ-loop
-times-requires c κs = 
+times-requires c κs =
     let w = (c .before .before .before .before .before .loop) .inv in
     ((c .before .before .before .before .before .before .pre) .0 .prices-in _ (w .below), (short _ _ ((c .before .before .before .before .before .before .pre) .0) ((c .before .before .before .before .before .before .pre) .1) _ _ _ w, omega (arith, (c .before .before .before .before .before .before .pre) .1, last-size _ ((c .before .before .before .before .before .before .pre) .0))))
 
@@ -39,7 +39,7 @@ plus-requires : tie.Need-plus-requires Inv-loop μ-loop
 plus-requires c κs = (acc-room ((c .before .before .before .before .before .before .before .pre) .0) ((c .before .before .before .before .before .before .before .pre) .1) ((c .before .before .before .before .before .before .loop) .inv), omega (arith, (c .times) .ensures .1))
 
 times-requires-2 : tie.Need-times-requires-2 Inv-loop μ-loop
-times-requires-2 c κs = 
+times-requires-2 c κs =
     let w = (c .before .before .before .before .before .loop) .inv in
     ((c .before .before .before .before .before .before .pre) .0 .prices-in _ (w .below), (reach _ _ ((c .before .before .before .before .before .before .pre) .0) ((c .before .before .before .before .before .before .pre) .1) _ _ _ w, (c .before .before .before .before .before .before .pre) .0 .quantities-in _ (w .below)))
 

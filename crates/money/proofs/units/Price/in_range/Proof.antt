@@ -10,13 +10,13 @@ use Rattle.money.proofs.units.Price.in_range.Reads as reads
 use Rattle.money.proofs.units.Price.in_range.Lts as lts
 
 returns : tie.Need-returns
-returns c = 
+returns c =
     let f : SFits w32 ((c .before .before .before .before .before .before .before .before .before .args) .self .0) = search needs in
     let x = h.plain f in
     rw (h.test-le (h.lit (negsuc 199999)) x ((c .before .before .before .before .if1) .taken), x .same)
 
 returns-2 : tie.Need-returns-2
-returns-2 c = 
+returns-2 c =
     let f : SFits w32 ((c .before .before .before .before .before .args) .self .0) = search needs in
     let x = h.plain f in
     rw (h.test-le (h.lit (negsuc 199999)) x ((c .if1) .left)) ((c .if1) .left)

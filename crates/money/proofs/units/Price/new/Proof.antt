@@ -14,13 +14,13 @@ in-range-requires : tie.Need-in-range-requires
 in-range-requires c κs = search needs
 
 returns : tie.Need-returns
-returns c = 
+returns c =
     let back = toZ-ofZ ((c .before .before .fits) .cents) in
     let t : priceOk (record { 0 = (c .before .before .args) .cents }) ≡ true = rw back at (sym ((c .before .in-range) .ensures) ∙ (c .if1) .taken) in
     rw (back, t)
 
 returns-2 : tie.Need-returns-2
-returns-2 c = 
+returns-2 c =
     let back = toZ-ofZ ((c .before .before .fits) .cents) in
     let t : priceOk (record { 0 = (c .before .before .args) .cents }) ≡ false = rw back at (sym ((c .before .in-range) .ensures) ∙ (c .if1) .left) in
     rw t

@@ -28,13 +28,13 @@ sub-t7 : tie.Need-sub-t7
 sub-t7 c = fits (neg (u32 (((c .before .before .before .magnitude) .result + 60) / 120) 100000000000000000)) (omega (arith, (c .before .before .before .magnitude) .ensures .1))
 
 returns : tie.Need-returns
-returns c = 
+returns c =
     let f : SFits w64 ((c .before .before .before .before .args) .self .0) = search needs in
     let l = lt-true _ _ (h.test-lt (h.plain f) (h.lit (pos 0)) ((c .if1) .taken)) in
     same (neg (u32 (((c .before .before .before .magnitude) .result + 60) / 120) 100000000000000000)) (omega (arith, (c .before .before .before .magnitude) .ensures .1)) ∙ rw ((c .before .before .before .magnitude) .ensures .0) (cents-below _ l)
 
 returns-2 : tie.Need-returns-2
-returns-2 c = 
+returns-2 c =
     let f : SFits w64 ((c .before .before .before .before .args) .self .0) = search needs in
     let l = lt-false _ _ (h.test-lt (h.plain f) (h.lit (pos 0)) ((c .if1) .left)) in
     same (u32 (((c .before .before .before .magnitude) .result + 60) / 120) 100000000000000000) (omega (arith, (c .before .before .before .magnitude) .ensures .1)) ∙ rw ((c .before .before .before .magnitude) .ensures .0) (cents-above _ l)

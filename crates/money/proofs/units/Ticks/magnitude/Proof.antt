@@ -15,27 +15,27 @@ use Rattle.money.proofs.units.Ticks.magnitude.Reads as reads
 use Rattle.money.proofs.units.Ticks.magnitude.Lts as lts
 
 sub-result : tie.Need-sub-result
-sub-result c = 
+sub-result c =
     let f : SFits w64 ((c .before .before .before .before .before .args) .self .0) = search needs in
     let x = h.plain f in
     h.fits (flipped f (lt-true _ _ (h.test-lt x (h.lit (pos 0)) ((c .before .before .if1) .taken)))) (omega arith)
 
 cast-result : tie.Need-cast-result
-cast-result c = 
+cast-result c =
     let f : SFits w64 ((c .before .before .before .before .before .args) .self .0) = search needs in
     let x = h.plain f in
     let l = lt-true _ _ (h.test-lt x (h.lit (pos 0)) ((c .before .before .if1) .taken)) in
     h.to-nat (h.back (flipped f l) (omega arith)) (flip-above _ l) (omega arith)
 
 add-result : tie.Need-add-result
-add-result c = 
+add-result c =
     let f : SFits w64 ((c .before .before .before .before .before .args) .self .0) = search needs in
     let x = h.plain f in
     let l = lt-true _ _ (h.test-lt x (h.lit (pos 0)) ((c .before .before .if1) .taken)) in
     record { fits = omega (arith, h.size (h.back (flipped f l) (omega arith))) }
 
 returns : tie.Need-returns
-returns c = 
+returns c =
     let f : SFits w64 ((c .before .before .before .before .before .args) .self .0) = search needs in
     let x = h.plain f in
     let l = lt-true _ _ (h.test-lt x (h.lit (pos 0)) ((c .before .before .if1) .taken)) in
@@ -43,13 +43,13 @@ returns c =
     (e, omega (arith, e, abs-most _ f))
 
 cast-result-2 : tie.Need-cast-result-2
-cast-result-2 c = 
+cast-result-2 c =
     let f : SFits w64 ((c .before .before .before .before .before .args) .self .0) = search needs in
     let x = h.plain f in
     h.to-nat x (lt-false _ _ (h.test-lt x (h.lit (pos 0)) ((c .before .before .if1) .left))) (h.abs-fits f)
 
 returns-2 : tie.Need-returns-2
-returns-2 c = 
+returns-2 c =
     let f : SFits w64 ((c .before .before .before .before .before .args) .self .0) = search needs in
     (ap natAbs (h.plain f .same), rw (h.plain f .same) (abs-most _ f))
 

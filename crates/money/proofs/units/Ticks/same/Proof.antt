@@ -12,7 +12,7 @@ use Rattle.money.proofs.units.Ticks.same.Reads as reads
 use Rattle.money.proofs.units.Ticks.same.Lts as lts
 
 returns : tie.Need-returns
-returns c = 
+returns c =
     let f : SFits w64 ((c .before .before .before .before .before .args) .self .0) = search needs in
     let g : SFits w64 ((c .before .before .before .before .before .args) .other .0) = search needs in
     sym (same-true _ _ (h.same-bits f g ((c .if1) .taken)))

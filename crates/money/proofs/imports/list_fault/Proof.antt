@@ -1,0 +1,54 @@
+use mathlib.Core.Path.{sym, _∙_}
+use Prim.Native.Nat.{_-_}
+use Rattle.money.specs.Offset.{faultAt, listFault}
+use Rattle.laws.specs.Sums.{Clean, clean-none, clean-more, clean-all, clean-no}
+use borrow.Author.Needs.{needs}
+use native.Mathlib.Omega.{arith}
+use Rattle.money.proofs.imports.list_fault.Statement.{statement}
+use Rattle.money.proofs.imports.list_fault.Tie as tie
+use Rattle.money.proofs.imports.list_fault.Reads as reads
+use Rattle.money.proofs.imports.list_fault.Lts as lts
+use Rattle.money.proofs.imports.fault_at.Reads as fault-at-reads
+
+abbrev Inv-loop : tie.InvT-loop
+Inv-loop n entries prices i₀ i = Clean n (faultAt prices entries) i
+
+abbrev μ-loop : tie.MeasureT-loop
+μ-loop n entries prices i₀ i = n - i
+
+loop-holds : tie.Need-loop-holds Inv-loop μ-loop
+loop-holds c = clean-none _ _
+
+fault-at-requires : tie.Need-fault-at-requires Inv-loop μ-loop
+fault-at-requires c κs = ((c .before .before .pre) .1, omega (arith, (c .loop-test) .taken, (c .before .before .pre) .0))
+
+returns : tie.Need-returns Inv-loop μ-loop
+unfolding listFault
+returns c = clean-no ((c .before .before .before .loop) .inv) ((c .before .before .loop-test) .taken) ((c .before .fault-at) .ensures) ((c .if1) .taken)
+
+add-i : tie.Need-add-i Inv-loop μ-loop
+add-i c = search needs
+
+loop-less : tie.Need-loop-less Inv-loop μ-loop
+loop-less c = search needs
+
+loop-again : tie.Need-loop-again Inv-loop μ-loop
+loop-again c = clean-more ((c .before .before .before .loop) .inv) ((c .before .before .loop-test) .taken) (sym ((c .before .fault-at) .ensures) ∙ (c .if1) .left)
+
+returns-2 : tie.Need-returns-2 Inv-loop μ-loop
+unfolding listFault
+returns-2 c = sym (clean-all ((c .before .loop) .inv) ((c .loop-test) .left))
+
+pub list-fault-spec : {M : Type 1} → statement M
+list-fault-spec =
+    tie.close
+    (tie.spec
+    Inv-loop
+    μ-loop
+    loop-holds
+    fault-at-requires
+    returns
+    add-i
+    loop-less
+    loop-again
+    returns-2)

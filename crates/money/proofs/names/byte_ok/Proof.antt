@@ -1,0 +1,16 @@
+use borrow.Author.Tests.{le-leb, lt-leb}
+use borrow.Author.Needs.{needs}
+use native.Mathlib.Omega.{arith}
+use Rattle.money.proofs.names.byte_ok.Statement.{statement}
+use Rattle.money.proofs.names.byte_ok.Tie as tie
+use Rattle.money.proofs.names.byte_ok.Reads as reads
+use Rattle.money.proofs.names.byte_ok.Lts as lts
+
+returns : tie.Need-returns
+returns c = rw (le-leb _ _ ((c .if1) .taken))
+
+returns-2 : tie.Need-returns-2
+returns-2 c = rw (lt-leb _ _ ((c .if1) .left))
+
+pub byte-ok-spec : {M : Type 1} → statement M
+byte-ok-spec = tie.close (tie.spec returns returns-2)

@@ -1,0 +1,74 @@
+use mathlib.Core.Path.{sym, _∙_}
+use Prim.Native.Nat.{_-_}
+use lib.ListN.{getD}
+use borrow.Author.Tests.{not-true, not-false, le-leb, lt-leb}
+use Rattle.money.specs.Names.{nameOk, nameByteOk}
+use Rattle.laws.specs.Sums.{Passed, passed-none, passed-more, passed-all, every-no}
+use borrow.Author.Needs.{needs}
+use native.Mathlib.Omega.{arith}
+use Rattle.money.proofs.names.name_ok.Statement.{statement}
+use Rattle.money.proofs.names.name_ok.Tie as tie
+use Rattle.money.proofs.names.name_ok.Reads as reads
+use Rattle.money.proofs.names.name_ok.Lts as lts
+use Rattle.money.proofs.names.byte_ok.Reads as byte-ok-reads
+
+abbrev Inv-loop : tie.InvT-loop
+Inv-loop a n i₀ i = Passed (a .len) (λ j. nameByteOk (getD (a .bytes) j 0)) i
+
+abbrev μ-loop : tie.MeasureT-loop
+μ-loop a n i₀ i = n - i
+
+returns : tie.Need-returns Inv-loop μ-loop
+unfolding nameOk
+returns c = rw (lt-leb _ _ ((c .if1) .taken))
+
+returns-2 : tie.Need-returns-2 Inv-loop μ-loop
+unfolding nameOk
+returns-2 c = rw (le-leb _ _ ((c .before .if1) .left), lt-leb _ _ ((c .if2) .taken))
+
+cast-n : tie.Need-cast-n Inv-loop μ-loop
+cast-n c = search needs
+
+loop-holds : tie.Need-loop-holds Inv-loop μ-loop
+loop-holds c = passed-none _ _
+
+element-copy-out-b : tie.Need-element-copy-out-b Inv-loop μ-loop
+element-copy-out-b c = search needs
+
+byte-ok-requires : tie.Need-byte-ok-requires Inv-loop μ-loop
+byte-ok-requires c κs = search needs
+
+returns-3 : tie.Need-returns-3 Inv-loop μ-loop
+unfolding nameOk
+returns-3 c = rw (le-leb _ _ ((c .before .before .before .before .before .before .if1) .left), le-leb _ _ ((c .before .before .before .before .before .if2) .left), every-no _ _ (λ j. nameByteOk (getD ((c .before .before .before .before .before .before .before .args) .t1 .bytes) j 0)) ((c .before .before .before .loop-test) .taken) (sym ((c .before .byte-ok) .ensures) ∙ not-true _ ((c .if3) .taken)))
+
+add-i : tie.Need-add-i Inv-loop μ-loop
+add-i c = search needs
+
+loop-less : tie.Need-loop-less Inv-loop μ-loop
+loop-less c = search needs
+
+loop-again : tie.Need-loop-again Inv-loop μ-loop
+loop-again c = passed-more ((c .before .before .before .before .loop) .inv) ((c .before .before .before .loop-test) .taken) (sym ((c .before .byte-ok) .ensures) ∙ not-false _ ((c .if3) .left))
+
+returns-4 : tie.Need-returns-4 Inv-loop μ-loop
+unfolding nameOk
+returns-4 c = rw (le-leb _ _ ((c .before .before .before .if1) .left), le-leb _ _ ((c .before .before .if2) .left), passed-all ((c .before .loop) .inv) ((c .loop-test) .left))
+
+pub name-ok-spec : {M : Type 1} → statement M
+name-ok-spec =
+    tie.close
+    (tie.spec
+    Inv-loop
+    μ-loop
+    returns
+    returns-2
+    cast-n
+    loop-holds
+    element-copy-out-b
+    byte-ok-requires
+    returns-3
+    add-i
+    loop-less
+    loop-again
+    returns-4)

@@ -1,0 +1,99 @@
+use Prim.Native.Nat.{ℕ, _-_, min}
+use mathlib.Core.Path.{refl, _∙_, ap}
+use Rattle.money.specs.Units.{quantityAt}
+use Rattle.money.specs.Offset.{mqsi, entry}
+use Rattle.money.specs.UnitLaws.{Filled, filled-none, filled-more}
+use borrow.Author.Needs.{needs}
+use native.Mathlib.Omega.{arith}
+use Rattle.money.proofs.offset.adj_row.Statement.{statement}
+use Rattle.money.proofs.offset.adj_row.Tie as tie
+use Rattle.money.proofs.offset.adj_row.Reads as reads
+use Rattle.money.proofs.offset.adj_row.Lts as lts
+use Rattle.money.proofs.offset.reach_row.Reads as reach-row-reads
+use Rattle.money.proofs.units.Quantity.above.Reads as above-reads
+use Rattle.money.proofs.units.Quantity.lesser.Reads as lesser-reads
+
+abbrev Inv-loop : tie.InvT-loop
+Inv-loop n i totals e reached row₀ k₀ row k = Filled row (λ j. min (mqsi e j) (quantityAt reached j - quantityAt totals j)) k
+
+abbrev μ-loop : tie.MeasureT-loop
+μ-loop n i totals e reached row₀ k₀ row k = 12 - k
+
+mul-e : tie.Need-mul-e Inv-loop μ-loop
+mul-e c = search needs
+
+array-copy-out-e : tie.Need-array-copy-out-e Inv-loop μ-loop
+array-copy-out-e c = search needs
+
+reach-row-requires : tie.Need-reach-row-requires Inv-loop μ-loop
+reach-row-requires c κs = (c .before .pre)
+
+loop-holds : tie.Need-loop-holds Inv-loop μ-loop
+loop-holds c = filled-none _ _ refl
+
+mul-q : tie.Need-mul-q Inv-loop μ-loop
+mul-q c = search needs
+
+element-copy-out-q : tie.Need-element-copy-out-q Inv-loop μ-loop
+element-copy-out-q c = search needs
+
+mul-s : tie.Need-mul-s Inv-loop μ-loop
+mul-s c = search needs
+
+array-copy-out-s : tie.Need-array-copy-out-s Inv-loop μ-loop
+array-copy-out-s c = search needs
+
+mul-t : tie.Need-mul-t Inv-loop μ-loop
+mul-t c = search needs
+
+array-copy-out-t : tie.Need-array-copy-out-t Inv-loop μ-loop
+array-copy-out-t c = search needs
+
+above-requires : tie.Need-above-requires Inv-loop μ-loop
+above-requires c κs = search needs
+
+lesser-requires : tie.Need-lesser-requires Inv-loop μ-loop
+lesser-requires c κs = search needs
+
+mul-row : tie.Need-mul-row Inv-loop μ-loop
+mul-row c = search needs
+
+array-set-from-row : tie.Need-array-set-from-row Inv-loop μ-loop
+array-set-from-row c = search needs
+
+add-k : tie.Need-add-k Inv-loop μ-loop
+add-k c = search needs
+
+loop-less : tie.Need-loop-less Inv-loop μ-loop
+loop-less c = search needs
+
+loop-again : tie.Need-loop-again Inv-loop μ-loop
+loop-again c = filled-more ((c .before .before .before .before .before .before .loop) .inv) ((c .before .before .before .before .before .loop-test) .taken) (rw ((c .lesser) .ensures, (c .before .above) .ensures))
+
+returns : tie.Need-returns Inv-loop μ-loop
+returns c = λ k h. (c .before .loop) .inv .so-far k (omega (arith, (c .loop-test) .left)) ∙ ap (λ (x : ℕ). min (mqsi (entry ((c .before .before .before .before .args) .t2) ((c .before .before .before .before .args) .i)) k) (x - quantityAt ((c .before .before .before .before .args) .t3) k)) ((c .before .before .reach-row) .ensures k h)
+
+pub adj-row-spec : {M : Type 1} → statement M
+adj-row-spec =
+    tie.close
+    (tie.spec
+    Inv-loop
+    μ-loop
+    mul-e
+    array-copy-out-e
+    reach-row-requires
+    loop-holds
+    mul-q
+    element-copy-out-q
+    mul-s
+    array-copy-out-s
+    mul-t
+    array-copy-out-t
+    above-requires
+    lesser-requires
+    mul-row
+    array-set-from-row
+    add-k
+    loop-less
+    loop-again
+    returns)

@@ -1,0 +1,95 @@
+ghost use mathlib.Core.Path.{_≡_};
+ghost use Prim.Native.Nat.{min};
+ghost use lib.Dec.{eqb};
+ghost use Rattle.money.specs.Names.{nameOf, nameBefore, sameName, nameByteOk, nameOk};
+
+// A decoded name: its length, and places for twelve bytes.
+pub struct Name {
+    pub len: u8,
+    pub bytes: [u8; 12],
+}
+
+// The number of places that a name uses.
+fn used(a: Name) -> usize
+    ensures { λ r. ⌜ r ≡ min (a .len) 12 ⌝ }
+{
+    if 12 < a.len {
+        return 12;
+    }
+    a.len as usize
+}
+
+// Byte order, a prefix first.
+pub fn name_before(a: Name, b: Name) -> bool
+    ensures { λ r. ⌜ r ≡ nameBefore (nameOf a) (nameOf b) ⌝ }
+{
+    let m = used(a);
+    let n = used(b);
+    let mut i: usize = 0;
+    while i < m {
+        if n <= i {
+            return false;
+        }
+        let x = a.bytes[i];
+        let y = b.bytes[i];
+        if x < y {
+            return true;
+        }
+        if y < x {
+            return false;
+        }
+        i = i + 1;
+    }
+    if i < n {
+        return true;
+    }
+    false
+}
+
+pub fn same_name(a: Name, b: Name) -> bool
+    ensures { λ r. ⌜ r ≡ sameName a b ⌝ }
+{
+    let m = used(a);
+    let n = used(b);
+    if m != n {
+        return false;
+    }
+    let mut i: usize = 0;
+    while i < m {
+        let x = a.bytes[i];
+        let y = b.bytes[i];
+        if x != y {
+            return false;
+        }
+        i = i + 1;
+    }
+    true
+}
+
+fn byte_ok(b: u8) -> bool
+    ensures { λ r. ⌜ r ≡ nameByteOk b ⌝ }
+{
+    33 <= b && b <= 126
+}
+
+// 1 to 12 bytes, each 0x21 to 0x7E.
+pub fn name_ok(a: Name) -> bool
+    ensures { λ r. ⌜ r ≡ nameOk a ⌝ }
+{
+    if a.len < 1 {
+        return false;
+    }
+    if 12 < a.len {
+        return false;
+    }
+    let n = a.len as usize;
+    let mut i: usize = 0;
+    while i < n {
+        let b = a.bytes[i];
+        if !byte_ok(b) {
+            return false;
+        }
+        i = i + 1;
+    }
+    true
+}

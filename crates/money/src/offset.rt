@@ -1,0 +1,222 @@
+ghost use mathlib.Core.Path.{_≡_};
+ghost use Prim.Native.Nat.{ℕ, _<_, _≤_, _+_, _-_, min};
+ghost use mathlib.Core.Bool.{_&&_};
+ghost use lib.Dec.{leb};
+ghost use lib.ListN.{length};
+ghost use Rattle.money.specs.Units.{priceOk, quantityAt};
+ghost use Rattle.money.specs.Offset.{mqsi, counted, reach, adj, offset, totalOk, ratesOk, offsetAnswer};
+ghost use Rattle.money.specs.UnitLaws.{Rates};
+ghost use Rattle.money.specs.OffsetLaws.{Listed};
+ghost use Rattle.money.specs.LentLaws.{startOf, addOf, finishOf};
+use crate::guarantee::credit_of;
+use crate::imports::Import;
+use crate::imports::list_fault;
+use crate::imports::up_to;
+use crate::names::Name;
+use crate::offers::Offer;
+use crate::refusals::HOUR_FULL;
+use crate::refusals::OUT_OF_RANGE;
+use crate::units::Answer;
+use crate::units::Price;
+use crate::units::Quantity;
+use crate::units::Ticks;
+
+// What an hour's sixteen exports can come to.
+pub const TOTAL_MAX: Quantity = Quantity(1600000);
+
+// Twelve sums, each with one more quantity.
+fn added(sums: [Quantity; 12], more: [Quantity; 12]) -> [Quantity; 12]
+    requires { ⌜ ((k : ℕ) → k < 12 → quantityAt sums k + quantityAt more k ≤ 1600000) ⌝ }
+    ensures { λ r. ⌜ ((k : ℕ) → k < 12 → quantityAt r k ≡ quantityAt sums k + quantityAt more k) ⌝ }
+{
+    let mut row = [Quantity(0); 12];
+    let mut k: usize = 0;
+    while k < 12 {
+        let a = sums[k];
+        let b = more[k];
+        row[k] = Quantity(a.0 + b.0);
+        k = k + 1;
+    }
+    row
+}
+
+// The same with an import's quantities, if it precedes `e` or is `e`.
+fn counted_in(sums: [Quantity; 12], a: Import, e: Import) -> [Quantity; 12]
+    requires { ⌜ ((k : ℕ) → k < 12 → quantityAt sums k + mqsi a k ≤ 1600000) ⌝ }
+    ensures { λ r. ⌜ ((k : ℕ) → k < 12 → quantityAt r k ≡ quantityAt sums k + counted a e k) ⌝ }
+{
+    if up_to(a, e) {
+        let more = a.quantities;
+        return added(sums, more);
+    }
+    sums
+}
+
+// For twelve intervals, the sum of the quantities up to and including import i.
+fn reach_row(n: usize, entries: [Import; 16], i: usize) -> [Quantity; 12]
+    requires { ⌜ Listed n entries ⌝ ∗ ⌜ i < n ⌝ }
+    ensures { λ r. ⌜ ((k : ℕ) → k < 12 → quantityAt r k ≡ reach n entries i k) ⌝ }
+{
+    let e = entries[i];
+    let mut sums = [Quantity(0); 12];
+    let mut j: usize = 0;
+    while j < n {
+        let a = entries[j];
+        let next = counted_in(sums, a, e);
+        sums = next;
+        j = j + 1;
+    }
+    sums
+}
+
+// The twelve adjusted quantities of import i.
+fn adj_row(n: usize, entries: [Import; 16], totals: [Quantity; 12], i: usize) -> [Quantity; 12]
+    requires { ⌜ Listed n entries ⌝ ∗ ⌜ i < n ⌝ }
+    ensures { λ r. ⌜ ((k : ℕ) → k < 12 → quantityAt r k ≡ adj n entries totals i k) ⌝ }
+{
+    let e = entries[i];
+    let reached = reach_row(n, entries, i);
+    let mut row = [Quantity(0); 12];
+    let mut k: usize = 0;
+    while k < 12 {
+        let q = e.quantities[k];
+        let s = reached[k];
+        let t = totals[k];
+        row[k] = q.lesser(s.above(t));
+        k = k + 1;
+    }
+    row
+}
+
+// The offset of a sound list.
+fn offset_of(n: usize, entries: [Import; 16], prices: [Price; 12], totals: [Quantity; 12]) -> Ticks
+    requires { ⌜ Listed n entries ⌝ ∗ ⌜ Rates prices ⌝ }
+    ensures { λ r. ⌜ r .0 ≡ offset n entries prices totals ⌝ }
+{
+    let mut sum = Ticks(0);
+    let mut i: usize = 0;
+    while i < n {
+        let e = entries[i];
+        let row = adj_row(n, entries, totals, i);
+        let o = e.offer;
+        let c = e.credit;
+        sum = sum.plus(c.minus(credit_of(o, prices, row)));
+        i = i + 1;
+    }
+    sum
+}
+
+fn rate_ok(p: Price, total: Quantity) -> bool
+    ensures { λ r. ⌜ r ≡ (priceOk p && totalOk total) ⌝ }
+{
+    p.in_range() && total.0 <= TOTAL_MAX.0
+}
+
+fn rates_ok(prices: [Price; 12], totals: [Quantity; 12]) -> bool
+    ensures { λ r. ⌜ r ≡ ratesOk prices totals ⌝ }
+{
+    let mut k: usize = 0;
+    while k < 12 {
+        let p = prices[k];
+        let t = totals[k];
+        if !rate_ok(p, t) {
+            return false;
+        }
+        k = k + 1;
+    }
+    true
+}
+
+// The offset of the first `count` entries, or the number of the refusal.
+pub fn offset_core(
+    count: u8,
+    entries: [Import; 16],
+    prices: [Price; 12],
+    totals: [Quantity; 12],
+) -> Answer
+    ensures { λ r. ⌜ r ≡ offsetAnswer count entries prices totals ⌝ }
+{
+    if 16 < count {
+        return Answer::Refused(HOUR_FULL);
+    }
+    if !rates_ok(prices, totals) {
+        return Answer::Refused(OUT_OF_RANGE);
+    }
+    let n = count as usize;
+    let f = list_fault(n, entries, prices);
+    if f != 0 {
+        return Answer::Refused(f);
+    }
+    Answer::Amount(offset_of(n, entries, prices, totals))
+}
+
+// The entries taken so far, beside the hour's prices and export totals.
+pub struct Taken {
+    pub count: u8,
+    pub prices: [Price; 12],
+    pub totals: [Quantity; 12],
+    pub entries: [Import; 16],
+}
+
+pub(crate) fn start(prices: [Price; 12], totals: [Quantity; 12]) -> Taken
+    ensures { λ r. ⌜ r ≡ startOf prices totals ⌝ }
+{
+    let offer = Offer {
+        count: 0,
+        prices: [Price(0); 20],
+        quantities: [Quantity(0); 20],
+    };
+    let name = Name {
+        len: 0,
+        bytes: [0; 12],
+    };
+    let none = Import {
+        name: name,
+        credit: Ticks(0),
+        quantities: [Quantity(0); 12],
+        offer: offer,
+    };
+    let entries = [none; 16];
+    Taken {
+        count: 0,
+        prices: prices,
+        totals: totals,
+        entries: entries,
+    }
+}
+
+// One entry more; a 17th is only counted.
+pub(crate) fn add(mut s: Taken, e: Import) -> Taken
+    ensures { λ r. ⌜ r ≡ addOf s e ⌝ }
+{
+    let n = s.count as usize;
+    if n < 16 {
+        s.entries[n] = e;
+        s.count = s.count + 1;
+        return s;
+    }
+    s.count = 17;
+    s
+}
+
+pub(crate) fn finish(s: Taken) -> Answer
+    ensures { λ r. ⌜ r ≡ finishOf s ⌝ }
+{
+    let entries = s.entries;
+    let prices = s.prices;
+    let totals = s.totals;
+    offset_core(s.count, entries, prices, totals)
+}
+
+// The offset of one hour's imports, a lent list of whole entries in any order. Each entry goes by value to the core above.
+pub fn offset(entries: &[Import], prices: [Price; 12], totals: [Quantity; 12]) -> Answer
+    ensures { λ r. ⌜ r ≡ offsetAnswer (length (now (entries .entry))) (now (entries .entry)) prices totals ⌝ }
+{
+    let mut t = start(prices, totals);
+    let mut i = 0;
+    while i < entries.len() {
+        t = add(t, entries[i]);
+        i = i + 1;
+    }
+    finish(t)
+}
