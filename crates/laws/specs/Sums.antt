@@ -1,7 +1,7 @@
 -- Sums, tests and first faults over the numbers below n, with the laws that a loop cites. Assumes nothing.
 use mathlib.Core.Path.{_≡_, refl, sym, ap, _∙_, subst}
 use mathlib.Core.Bool.{Bool, true, false, cond, not, _&&_, _||_}
-use Prim.Native.Nat.{ℕ, zero, suc, _+_, _*_, _≤_, _<_}
+use Prim.Native.Nat.{ℕ, zero, suc, _+_, _*_, _≤_, _<_, zero-le}
 use native.Mathlib.Numerals.{add-one}
 use native.Mathlib.Decide.{decLt, ℕ-discrete}
 use native.Mathlib.Omega.{arith}
@@ -219,6 +219,21 @@ firstOf-zero (suc n) f e i l =
 -- one more index
 pub below-step : {Q : ℕ → Type 0} (i : ℕ) → ((j : ℕ) → j < i → Q j) → Q i → (j : ℕ) → j < i + 1 → Q j
 below-step {Q} i h q j l = last-or j i (omega arith) (λ e. subst Q (sym e) q) (h j)
+
+-- ---- a loop that sums: where it stands, and its end
+pub record Summed (n : ℕ) (f : ℕ → ℤ) (sum : ℤ) (k : ℕ) : Type 0 where
+  pub upto : k ≤ n
+  pub so-far : sum ≡ Σℤ k f
+
+pub summed-none : (n : ℕ) (f : ℕ → ℤ) → Summed n f (pos 0) 0
+unfolding Σℤ
+summed-none n f = record { upto = zero-le; so-far = refl }
+
+pub summed-more : {n : ℕ} {f : ℕ → ℤ} {sum r x : ℤ} {k : ℕ} → Summed n f sum k → k < n → r ≡ sum +ℤ x → x ≡ f k → Summed n f r (k + 1)
+summed-more {f = f} {k = k} u l e g = record { upto = omega arith; so-far = Σℤ-step k f (u .so-far) e g }
+
+pub summed-all : {n : ℕ} {f : ℕ → ℤ} {sum : ℤ} {k : ℕ} → Summed n f sum k → n ≤ k → sum ≡ Σℤ n f
+summed-all {n = n} {k = k} u l = let e : k ≡ n = omega (arith, u .upto) in rw (← e) (u .so-far)
 
 -- ---- a loop that tests each index: where it stands, and its ends
 pub record Passed (n : ℕ) (f : ℕ → Bool) (i : ℕ) : Type 0 where

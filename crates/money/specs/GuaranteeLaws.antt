@@ -2,12 +2,12 @@
 use mathlib.Core.Path.{_≡_, refl, sym, ap, _∙_, subst}
 use mathlib.Core.Bool.{Bool, true}
 use mathlib.Core.List.{List}
-use Prim.Native.Nat.{ℕ, _+_, _-_, _*_, _≤_, _<_, zero-le}
+use Prim.Native.Nat.{ℕ, _+_, _-_, _*_, _≤_, _<_}
 use native.Mathlib.Nat.{sub-zero}
 use native.Mathlib.Omega.{arith}
 use lib.IntN.{ℤ, pos, negℤ, natAbs, _+ℤ_, _-ℤ_, _*ℤ_}
 use Rattle.laws.specs.Ints.{ints, by₁, minℤ, sub-within}
-use Rattle.laws.specs.Sums.{Σℤ, Σℤ-ext, Σℤ-within, Σℤ-step}
+use Rattle.laws.specs.Sums.{Σℤ, Σℤ-ext, Σℤ-within, Summed, summed-all}
 use Rattle.money.specs.declared.units.Price.{Price}
 use Rattle.money.specs.declared.units.Quantity.{Quantity}
 use Rattle.money.specs.declared.offers.Offer.{Offer}
@@ -48,34 +48,27 @@ ready-of ps o qs r g w = record { good = good-of o g; prices = r; within = withi
 pub within-is : (o : Offer) (qs : List Quantity) {l : ℕ} {r t : Bool} → l ≡ lastQ o → r ≡ withinOk qs l → r ≡ t → withinOk qs (lastQ o) ≡ t
 within-is o qs p q k = ap (λ (n : ℕ). withinOk qs n) (sym p) ∙ sym q ∙ k
 
-pub record Upto (o : Offer) (ps : List Price) (q : ℕ → ℕ) (sum : ℤ) (k : ℕ) : Type 0 where
-  pub upto : k ≤ 12
-  pub so-far : sum ≡ Σℤ k (λ j. profit o (priceAt ps j) (q j))
+-- the sum over the intervals, as a loop has it
+abbrev pub interval-profit : Offer → List Price → (ℕ → ℕ) → ℕ → ℤ
+interval-profit o ps q k = profit o (priceAt ps k) (q k)
 
-pub upto-none : (o : Offer) (ps : List Price) (q : ℕ → ℕ) → Upto o ps q (pos 0) 0
-unfolding Σℤ
-upto-none o ps q = record { upto = zero-le; so-far = refl }
+-- what the calls returned: price × q less the cost
+pub profit-is : (o : Offer) (p : ℤ) (q : ℕ) {c v r : ℤ} → v ≡ p *ℤ pos (q - 0) → c ≡ cost o q → r ≡ v -ℤ c → r ≡ profit o p q
+profit-is o p q e f g = g ∙ (λ i. e i -ℤ f i) ∙ rw sub-zero
 
-module _ {o : Offer} {ps : List Price} {q : ℕ → ℕ} (ready : Ready o ps q) {sum : ℤ} {k : ℕ} (u : Upto o ps q sum k) where
-  pub sum-room : Moderate sum
-  sum-room = rw (u .so-far) (omega (arith, some-size o ps q ready k (u .upto)))
+module _ {o : Offer} {ps : List Price} {q : ℕ → ℕ} (ready : Ready o ps q) where
+  pub cost-room : (k : ℕ) → k < 12 → {c : ℤ} → c ≡ cost o (q k) → Moderate c
+  cost-room k l f = rw f (omega (arith, cost-size o (ready .good) (q k) (omega (arith, ready .within k l, last-size o (ready .good)))))
 
-  module _ {v c d : ℤ} (l : k < 12) (e : v ≡ priceAt ps k *ℤ pos (q k - 0)) (f : c ≡ cost o (q k)) (g : d ≡ v -ℤ c) where
-    profit-is : d ≡ profit o (priceAt ps k) (q k)
-    profit-is = g ∙ (λ i. e i -ℤ f i) ∙ rw sub-zero
+  pub profit-room : (k : ℕ) → k < 12 → {d : ℤ} → d ≡ profit o (priceAt ps k) (q k) → Moderate d
+  profit-room k l e = rw e (omega (arith, profit-size o ps q ready k l))
 
-    pub cost-room : Moderate c
-    cost-room = rw f (omega (arith, cost-size o (ready .good) (q k) (omega (arith, ready .within k l, last-size o (ready .good)))))
+  pub profits-room : {sum : ℤ} {k : ℕ} → Summed 12 (interval-profit o ps q) sum k → Moderate sum
+  profits-room {k = k} u = rw (u .so-far) (omega (arith, some-size o ps q ready k (u .upto)))
 
-    pub profit-room : Moderate d
-    profit-room = rw profit-is (omega (arith, profit-size o ps q ready k l))
-
-    pub upto-more : {r : ℤ} → r ≡ sum +ℤ d → Upto o ps q r (k + 1)
-    upto-more h = record { upto = omega arith; so-far = Σℤ-step k (λ j. profit o (priceAt ps j) (q j)) (u .so-far) h profit-is }
-
-pub upto-all : {o : Offer} {ps : List Price} {q : ℕ → ℕ} {sum : ℤ} {k : ℕ} → Upto o ps q sum k → 12 ≤ k → sum ≡ profits o ps q
+pub profits-all : (o : Offer) (ps : List Price) (q : ℕ → ℕ) {sum : ℤ} {k : ℕ} → Summed 12 (interval-profit o ps q) sum k → 12 ≤ k → sum ≡ profits o ps q
 unfolding profits
-upto-all {o = o} {ps = ps} {q = q} {k = k} u h = let e : k ≡ 12 = omega (arith, u .upto) in rw (← e) (u .so-far)
+profits-all o ps q u h = summed-all u h
 
 pub credit-room : {o : Offer} {ps : List Price} {q : ℕ → ℕ} → Ready o ps q → {x : ℤ} → x ≡ credit o ps q → Moderate x
 credit-room {o = o} {ps = ps} {q = q} r e = rw e (omega (arith, credit-size o ps q r))

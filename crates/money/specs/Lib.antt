@@ -11,3 +11,8 @@ pub mod Offset
 pub mod OffsetLaws
 pub mod CancelledLaws
 pub mod LentLaws
+pub mod Production
+pub mod ProductionLaws
+pub mod Failure
+pub mod FailureLaws
+pub mod Examples

@@ -7,7 +7,7 @@ use native.Mathlib.Omega.{arith}
 use lib.IntN.{ℤ, pos, negℤ, natAbs, _+ℤ_, _-ℤ_}
 use lib.ListN.{getD, length}
 use Rattle.laws.specs.Ints.{sub-within}
-use Rattle.laws.specs.Sums.{Σℤ, Σℕ, Σℤ-step, Σℕ-more, Σℤ-sub, Σℤ-within, Σℕ-within, every-at, and-true, firstOf-zero}
+use Rattle.laws.specs.Sums.{Σℤ, Σℕ, Summed, summed-all, Σℕ-more, Σℤ-sub, Σℤ-within, Σℕ-within, every-at, and-true, firstOf-zero}
 use Rattle.money.specs.declared.units.Price.{Price}
 use Rattle.money.specs.declared.units.Quantity.{Quantity}
 use Rattle.money.specs.declared.imports.Import.{Import}
@@ -80,14 +80,6 @@ reached-all {n = n} {es = es} {i = i} {j = j} r h k m = let e : j ≡ n = omega 
 abbrev pub gives : ℕ → List Import → List Price → List Quantity → ℕ → ℤ
 gives n es ps ts i = entry es i .credit .0 -ℤ credit (entry es i .offer) ps (adj n es ts i)
 
-pub record Offsets (n : ℕ) (es : List Import) (ps : List Price) (ts : List Quantity) (sum : ℤ) (i : ℕ) : Type 0 where
-  pub upto : i ≤ n
-  pub so-far : sum ≡ Σℤ i (gives n es ps ts)
-
-pub offsets-none : (n : ℕ) (es : List Import) (ps : List Price) (ts : List Quantity) → Offsets n es ps ts (pos 0) 0
-unfolding Σℤ
-offsets-none n es ps ts = record { upto = zero-le; so-far = refl }
-
 module _ (ps : List Price) (ts : List Quantity) {n : ℕ} {es : List Import} (s : Listed n es) (rates : Rates ps) where
   pub adj-ready : {q : ℕ → ℕ} {i : ℕ} → i < n → ((k : ℕ) → k < 12 → q k ≡ adj n es ts i k) → Ready (entry es i .offer) ps q
   adj-ready {i = i} l h = record { good = s .each i l .good; prices = rates; within = λ k m. omega (arith, h k m, s .each i l .within k m) }
@@ -95,25 +87,20 @@ module _ (ps : List Price) (ts : List Quantity) {n : ℕ} {es : List Import} (s 
   gives-size : (i : ℕ) → i < n → natAbs (gives n es ps ts i) ≤ 10560000000000
   gives-size i l = sub-within (entry es i .credit .0) (credit (entry es i .offer) ps (adj n es ts i)) (s .each i l .small) (credit-size _ _ _ (adj-ready {q = adj n es ts i} {i = i} l (λ k m. refl)))
 
-  module _ {sum : ℤ} {i : ℕ} (r : Offsets n es ps ts sum i) where
+  module _ {sum : ℤ} {i : ℕ} (r : Summed n (gives n es ps ts) sum i) where
     pub offsets-room : Moderate sum
     offsets-room = rw (r .so-far) (omega (arith, r .upto, s .most, Σℤ-within 10560000000000 i (gives n es ps ts) (λ j h. gives-size j (omega (arith, r .upto)))))
 
     module _ {q : ℕ → ℕ} {x d : ℤ} (l : i < n) (row : (k : ℕ) → k < 12 → q k ≡ adj n es ts i k) (e : x ≡ credit (entry es i .offer) ps q) (g : d ≡ entry es i .credit .0 -ℤ x) where
-      gives-is : d ≡ gives n es ps ts i
+      pub gives-is : d ≡ gives n es ps ts i
       gives-is = g ∙ ap (λ (z : ℤ). entry es i .credit .0 -ℤ z) (e ∙ credit-ext (entry es i .offer) ps q (adj n es ts i) row)
 
       pub gives-room : Moderate d
       gives-room = rw gives-is (omega (arith, gives-size i l))
 
-      pub offsets-more : {t : ℤ} → t ≡ sum +ℤ d → Offsets n es ps ts t (i + 1)
-      offsets-more h = record { upto = omega arith; so-far = Σℤ-step i (gives n es ps ts) (r .so-far) h gives-is }
-
-pub offsets-all : {n : ℕ} {es : List Import} {ps : List Price} {ts : List Quantity} {sum : ℤ} {i : ℕ} → Offsets n es ps ts sum i → n ≤ i → sum ≡ offset n es ps ts
+pub offsets-all : (n : ℕ) (es : List Import) (ps : List Price) (ts : List Quantity) {sum : ℤ} {i : ℕ} → Summed n (gives n es ps ts) sum i → n ≤ i → sum ≡ offset n es ps ts
 unfolding offset
-offsets-all {n = n} {es = es} {ps = ps} {ts = ts} {i = i} r h =
-    let e : i ≡ n = omega (arith, r .upto) in
-    r .so-far ∙ ap (λ (m : ℕ). Σℤ m (gives n es ps ts)) e ∙ Σℤ-sub n (λ j. entry es j .credit .0) (λ j. credit (entry es j .offer) ps (adj n es ts j))
+offsets-all n es ps ts r h = summed-all r h ∙ Σℤ-sub n (λ j. entry es j .credit .0) (λ j. credit (entry es j .offer) ps (adj n es ts j))
 
 -- ---- what the checks tell
 pub sound-of : (ps : List Price) (e : Import) → Rates ps → entryFault ps e ≡ 0 → Sound e

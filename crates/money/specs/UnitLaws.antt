@@ -2,11 +2,11 @@
 use mathlib.Core.Path.{_≡_, refl, sym, ap, _∙_, subst}
 use mathlib.Core.Bool.{Bool, true, false, cond, _&&_}
 use mathlib.Core.List.{List, map}
-use Prim.Native.Nat.{ℕ, zero, suc, _+_, _*_, _/_, _≤_, _<_, zero-le}
+use Prim.Native.Nat.{ℕ, zero, suc, _+_, _-_, _*_, _/_, _≤_, _<_, zero-le}
 use native.Mathlib.Omega.{arith}
 use borrow.Author.Tests.{leb-true}
 use lib.Dec.{T, leb, ltb→lt}
-use lib.IntN.{ℤ, pos, negsuc, negℤ, natAbs, _-ℤ_}
+use lib.IntN.{ℤ, pos, negsuc, negℤ, natAbs, _-ℤ_, _*ℤ_}
 use lib.Signed.{leZ, _≤ℤ_, _<ℤ_, ≤ℤ-refl}
 use lib.ListN.{getD, set, length, length-set, length-map, replicate}
 use lib.Seq.{getD-set-same, getD-set-other}
@@ -14,7 +14,7 @@ use mir.Syntax.{w64}
 use mir.Val.{SFits, toZ, ofZ}
 use mir.Facts.{toZ-ofZ}
 use Rattle.laws.specs.Held.{Held}
-use Rattle.laws.specs.Ints.{ints, by₁, dif-abs, minℤ, le-true, ≤ℤ-antisym}
+use Rattle.laws.specs.Ints.{ints, by₁, by₂, dif, dif-abs, pos-dif, neg-*, minℤ, le-true, ≤ℤ-antisym}
 use Rattle.laws.specs.Sums.{every, every-at, and-true, orElse, last-or}
 use Rattle.money.specs.declared.units.Price.{Price}
 use Rattle.money.specs.declared.units.Quantity.{Quantity}
@@ -132,6 +132,33 @@ pub cents-above : (x : ℤ) → pos 0 ≤ℤ x → pos ((natAbs x + 60) / 120) �
 unfolding centsOf
 cents-above (pos n) h = refl
 cents-above (negsuc n) h = absurd (h .le)
+
+-- the cents lie within half a cent of the ticks, and half a cent goes away from zero
+near-dif : (a b : ℕ) → a ≤ b + 60 → b ≤ a + 60 → natAbs (dif a 0 -ℤ dif b 0) ≤ 60
+near-dif a b h k = simp ints (omega arith)
+
+near : (a b : ℕ) → a ≤ b + 60 → b ≤ a + 60 → natAbs (pos a -ℤ pos b) ≤ 60
+near a b h k = subst (λ (x : ℤ). natAbs x ≤ 60) (sym (λ i. pos-dif a i -ℤ pos-dif b i)) (near-dif a b h k)
+
+opposite : (x y : ℤ) → natAbs (negℤ x -ℤ negℤ y) ≡ natAbs (x -ℤ y)
+opposite = by₂ _ (λ a a′ b b′. simp (ints, dif-abs) (omega arith))
+
+pub cents-near : (t : ℤ) → natAbs (centsOf t *ℤ pos 120 -ℤ t) ≤ 60
+unfolding centsOf
+cents-near (pos n) = near ((n + 60) / 120 * 120) n (omega arith) (omega arith)
+cents-near (negsuc n) = rw (neg-* (pos ((suc n + 60) / 120)) (pos 120), opposite (pos ((suc n + 60) / 120 * 120)) (pos (suc n))) (near ((suc n + 60) / 120 * 120) (suc n) (omega arith) (omega arith))
+
+pub cents-half : (n : ℕ) → centsOf (pos (n * 120 + 60)) ≡ pos (suc n)
+unfolding centsOf
+cents-half n = ap pos (omega arith)
+
+pub cents-half-below : (n : ℕ) → centsOf (negℤ (pos (suc n * 120 - 60))) ≡ negℤ (pos (suc n))
+unfolding centsOf
+cents-half-below n = below (suc n * 120 - 60) (suc n) (omega arith) (omega arith)
+  where
+    below : (m k : ℕ) → 0 < m → (m + 60) / 120 ≡ k → centsOf (negℤ (pos m)) ≡ negℤ (pos k)
+    below zero k h e = absurd (omega arith)
+    below (suc m) k h e = ap (λ (x : ℕ). negℤ (pos x)) e
 
 -- a row of zeros
 pub zeros : (n k : ℕ) → quantityAt (replicate n noQuantity) k ≡ 0

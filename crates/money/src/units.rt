@@ -118,10 +118,24 @@ impl Quantity {
 
 impl CentsPerStart {
     pub const MAX: CentsPerStart = CentsPerStart(100000000);
+
+    // 120 ticks a cent.
+    pub fn ticks(self) -> Ticks
+        ensures { λ r. ⌜ r .0 ≡ pos (self .0 * 120) ⌝ }
+    {
+        Ticks((self.0 as i64) * 120)
+    }
 }
 
 impl CentsPerHour {
     pub const MAX: CentsPerHour = CentsPerHour(100000000);
+
+    // A twelfth of the hour's: 10 ticks a cent.
+    pub fn an_interval(self) -> Ticks
+        ensures { λ r. ⌜ r .0 ≡ pos (self .0 * 10) ⌝ }
+    {
+        Ticks((self.0 as i64) * 10)
+    }
 }
 
 impl Ticks {
@@ -159,7 +173,7 @@ impl Ticks {
         false
     }
 
-    fn magnitude(self) -> u64
+    pub fn magnitude(self) -> u64
         ensures { λ r. ⌜ r ≡ natAbs (self .0) ⌝ ∗ ⌜ r ≤ 9223372036854775808 ⌝ }
     {
         if self.0 < 0 {

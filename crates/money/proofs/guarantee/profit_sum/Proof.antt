@@ -1,7 +1,8 @@
 use Prim.Native.Nat.{_-_, zero-le}
-use Rattle.money.specs.Units.{quantityAt}
+use Rattle.money.specs.Units.{priceAt, quantityAt}
 use Rattle.money.specs.OfferLaws.{Walk, starts, reach, short, last-size, acc-room, walked-on, walked}
-use Rattle.money.specs.GuaranteeLaws.{Upto, upto-none, sum-room, cost-room, profit-room, upto-more, upto-all}
+use Rattle.money.specs.GuaranteeLaws.{interval-profit, profit-is, cost-room, profit-room, profits-room, profits-all}
+use Rattle.laws.specs.Sums.{Summed, summed-none, summed-more}
 use mathlib.Core.Path.{refl}
 use borrow.Author.Needs.{needs}
 use native.Mathlib.Omega.{arith}
@@ -20,13 +21,13 @@ abbrev μ-loop : tie.MeasureT-loop
 μ-loop o prices qs sum k q emp acc₀ last₀ i₀ acc last i = 20 - i
 
 abbrev Inv-intervals : tie.InvT-intervals
-Inv-intervals o prices qs sum₀ k₀ sum k = Upto o prices (quantityAt qs) (sum .0) k
+Inv-intervals o prices qs sum₀ k₀ sum k = Summed 12 (interval-profit o prices (quantityAt qs)) (sum .0) k
 
 abbrev μ-intervals : tie.MeasureT-intervals
 μ-intervals o prices qs sum₀ k₀ sum k = 12 - k
 
 intervals-holds : tie.Need-intervals-holds Inv-loop μ-loop Inv-intervals μ-intervals
-intervals-holds c = upto-none _ _ _
+intervals-holds c = summed-none _ _
 
 mul-q : tie.Need-mul-q Inv-loop μ-loop Inv-intervals μ-intervals
 mul-q c = search needs
@@ -92,12 +93,12 @@ times-requires-3 c κs =
 minus-requires : tie.Need-minus-requires Inv-loop μ-loop Inv-intervals μ-intervals
 minus-requires c κs =
     let z = walked ((c .before .before .before .before .before .before .before .before .before .before .before .before .before .pre) .good) ((c .before .before .before .before .before .before .before .before .before .before .before .before .before .pre) .within _ ((c .before .before .before .before .before .before .before .before .before .before .before .intervals-test) .taken)) ((c .before .before .before .before .before .before .before .before .loop) .inv) ((c .before .before .before .if1) .taken) ((c .before .before .times) .ensures .0) ((c .before .plus) .ensures) in
-    (omega (arith, (c .times3) .ensures .1), cost-room ((c .before .before .before .before .before .before .before .before .before .before .before .before .before .pre)) ((c .before .before .before .before .before .before .before .before .before .before .before .before .intervals) .inv) ((c .before .before .before .before .before .before .before .before .before .before .before .intervals-test) .taken) ((c .times3) .ensures .0) z refl)
+    (omega (arith, (c .times3) .ensures .1), cost-room ((c .before .before .before .before .before .before .before .before .before .before .before .before .before .pre)) _ ((c .before .before .before .before .before .before .before .before .before .before .before .intervals-test) .taken) z)
 
 plus-requires-3 : tie.Need-plus-requires-3 Inv-loop μ-loop Inv-intervals μ-intervals
 plus-requires-3 c κs =
     let z = walked ((c .before .before .before .before .before .before .before .before .before .before .before .before .before .before .pre) .good) ((c .before .before .before .before .before .before .before .before .before .before .before .before .before .before .pre) .within _ ((c .before .before .before .before .before .before .before .before .before .before .before .before .intervals-test) .taken)) ((c .before .before .before .before .before .before .before .before .before .loop) .inv) ((c .before .before .before .before .if1) .taken) ((c .before .before .before .times) .ensures .0) ((c .before .before .plus) .ensures) in
-    (sum-room ((c .before .before .before .before .before .before .before .before .before .before .before .before .before .before .pre)) ((c .before .before .before .before .before .before .before .before .before .before .before .before .before .intervals) .inv), profit-room ((c .before .before .before .before .before .before .before .before .before .before .before .before .before .before .pre)) ((c .before .before .before .before .before .before .before .before .before .before .before .before .before .intervals) .inv) ((c .before .before .before .before .before .before .before .before .before .before .before .before .intervals-test) .taken) ((c .before .times3) .ensures .0) z ((c .minus) .ensures))
+    (profits-room ((c .before .before .before .before .before .before .before .before .before .before .before .before .before .before .pre)) ((c .before .before .before .before .before .before .before .before .before .before .before .before .before .intervals) .inv), profit-room ((c .before .before .before .before .before .before .before .before .before .before .before .before .before .before .pre)) _ ((c .before .before .before .before .before .before .before .before .before .before .before .before .intervals-test) .taken) (profit-is ((c .before .before .before .before .before .before .before .before .before .before .before .before .before .before .args) .t1) (priceAt ((c .before .before .before .before .before .before .before .before .before .before .before .before .before .before .args) .t2) ((c .before .before .before .before .before .before .before .before .before .before .before .before .before .intervals) .k)) (quantityAt ((c .before .before .before .before .before .before .before .before .before .before .before .before .before .before .args) .t3) ((c .before .before .before .before .before .before .before .before .before .before .before .before .before .intervals) .k)) ((c .before .times3) .ensures .0) z ((c .minus) .ensures)))
 
 add-k : tie.Need-add-k Inv-loop μ-loop Inv-intervals μ-intervals
 add-k c = search needs
@@ -108,10 +109,10 @@ intervals-less c = search needs
 intervals-again : tie.Need-intervals-again Inv-loop μ-loop Inv-intervals μ-intervals
 intervals-again c =
     let z = walked ((c .before .before .before .before .before .before .before .before .before .before .before .before .before .before .before .pre) .good) ((c .before .before .before .before .before .before .before .before .before .before .before .before .before .before .before .pre) .within _ ((c .before .before .before .before .before .before .before .before .before .before .before .before .before .intervals-test) .taken)) ((c .before .before .before .before .before .before .before .before .before .before .loop) .inv) ((c .before .before .before .before .before .if1) .taken) ((c .before .before .before .before .times) .ensures .0) ((c .before .before .before .plus) .ensures) in
-    upto-more ((c .before .before .before .before .before .before .before .before .before .before .before .before .before .before .before .pre)) ((c .before .before .before .before .before .before .before .before .before .before .before .before .before .before .intervals) .inv) ((c .before .before .before .before .before .before .before .before .before .before .before .before .before .intervals-test) .taken) ((c .before .before .times3) .ensures .0) z ((c .before .minus) .ensures) ((c .plus3) .ensures)
+    summed-more ((c .before .before .before .before .before .before .before .before .before .before .before .before .before .before .intervals) .inv) ((c .before .before .before .before .before .before .before .before .before .before .before .before .before .intervals-test) .taken) ((c .plus3) .ensures) (profit-is ((c .before .before .before .before .before .before .before .before .before .before .before .before .before .before .before .args) .t1) (priceAt ((c .before .before .before .before .before .before .before .before .before .before .before .before .before .before .before .args) .t2) ((c .before .before .before .before .before .before .before .before .before .before .before .before .before .before .intervals) .k)) (quantityAt ((c .before .before .before .before .before .before .before .before .before .before .before .before .before .before .before .args) .t3) ((c .before .before .before .before .before .before .before .before .before .before .before .before .before .before .intervals) .k)) ((c .before .before .times3) .ensures .0) z ((c .before .minus) .ensures))
 
 returns : tie.Need-returns Inv-loop μ-loop Inv-intervals μ-intervals
-returns c = upto-all ((c .before .intervals) .inv) ((c .intervals-test) .left)
+returns c = profits-all _ _ _ ((c .before .intervals) .inv) ((c .intervals-test) .left)
 
 pub profit-sum-spec : {M : Type 1} → statement M
 profit-sum-spec =

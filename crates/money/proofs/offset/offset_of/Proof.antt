@@ -1,5 +1,6 @@
 use Prim.Native.Nat.{_-_}
-use Rattle.money.specs.OffsetLaws.{Offsets, offsets-none, adj-ready, offsets-room, gives-room, offsets-more, offsets-all}
+use Rattle.money.specs.OffsetLaws.{gives, adj-ready, offsets-room, gives-is, gives-room, offsets-all}
+use Rattle.laws.specs.Sums.{Summed, summed-none, summed-more}
 use Rattle.money.specs.GuaranteeLaws.{credit-room}
 use Rattle.money.specs.Units.{quantityAt}
 use Rattle.money.specs.Offset.{adj}
@@ -15,13 +16,13 @@ use Rattle.money.proofs.units.Ticks.minus.Reads as minus-reads
 use Rattle.money.proofs.units.Ticks.plus.Reads as plus-reads
 
 abbrev Inv-loop : tie.InvT-loop
-Inv-loop n prices totals entries sum₀ i₀ sum i = Offsets n entries prices totals (sum .0) i
+Inv-loop n prices totals entries sum₀ i₀ sum i = Summed n (gives n entries prices totals) (sum .0) i
 
 abbrev μ-loop : tie.MeasureT-loop
 μ-loop n prices totals entries sum₀ i₀ sum i = n - i
 
 loop-holds : tie.Need-loop-holds Inv-loop μ-loop
-loop-holds c = offsets-none _ _ _ _
+loop-holds c = summed-none _ _
 
 mul-e : tie.Need-mul-e Inv-loop μ-loop
 mul-e c = search needs
@@ -41,7 +42,7 @@ minus-requires c κs =
     (omega (arith, (c .before .before .before .before .before .before .before .pre) .0 .each ((c .before .before .before .before .before .before .loop) .i) ((c .before .before .before .before .before .loop-test) .taken) .small), credit-room r ((c .credit-of) .ensures))
 
 plus-requires : tie.Need-plus-requires Inv-loop μ-loop
-plus-requires c κs = (offsets-room _ _ ((c .before .before .before .before .before .before .before .before .pre) .0) ((c .before .before .before .before .before .before .before .before .pre) .1) ((c .before .before .before .before .before .before .before .loop) .inv), gives-room _ _ ((c .before .before .before .before .before .before .before .before .pre) .0) ((c .before .before .before .before .before .before .before .before .pre) .1) ((c .before .before .before .before .before .before .before .loop) .inv) ((c .before .before .before .before .before .before .loop-test) .taken) ((c .before .before .before .before .adj-row) .ensures) ((c .before .credit-of) .ensures) ((c .minus) .ensures))
+plus-requires c κs = (offsets-room ((c .before .before .before .before .before .before .before .before .args) .prices) ((c .before .before .before .before .before .before .before .before .args) .totals) ((c .before .before .before .before .before .before .before .before .pre) .0) ((c .before .before .before .before .before .before .before .before .pre) .1) ((c .before .before .before .before .before .before .before .loop) .inv), gives-room ((c .before .before .before .before .before .before .before .before .args) .prices) ((c .before .before .before .before .before .before .before .before .args) .totals) ((c .before .before .before .before .before .before .before .before .pre) .0) ((c .before .before .before .before .before .before .before .before .pre) .1) ((c .before .before .before .before .before .before .before .loop) .inv) ((c .before .before .before .before .before .before .loop-test) .taken) ((c .before .before .before .before .adj-row) .ensures) ((c .before .credit-of) .ensures) ((c .minus) .ensures))
 
 add-i : tie.Need-add-i Inv-loop μ-loop
 add-i c = search needs
@@ -50,10 +51,10 @@ loop-less : tie.Need-loop-less Inv-loop μ-loop
 loop-less c = search needs
 
 loop-again : tie.Need-loop-again Inv-loop μ-loop
-loop-again c = offsets-more _ _ ((c .before .before .before .before .before .before .before .before .before .pre) .0) ((c .before .before .before .before .before .before .before .before .before .pre) .1) ((c .before .before .before .before .before .before .before .before .loop) .inv) ((c .before .before .before .before .before .before .before .loop-test) .taken) ((c .before .before .before .before .before .adj-row) .ensures) ((c .before .before .credit-of) .ensures) ((c .before .minus) .ensures) ((c .plus) .ensures)
+loop-again c = summed-more ((c .before .before .before .before .before .before .before .before .loop) .inv) ((c .before .before .before .before .before .before .before .loop-test) .taken) ((c .plus) .ensures) (gives-is ((c .before .before .before .before .before .before .before .before .before .args) .prices) ((c .before .before .before .before .before .before .before .before .before .args) .totals) ((c .before .before .before .before .before .before .before .before .before .pre) .0) ((c .before .before .before .before .before .before .before .before .before .pre) .1) ((c .before .before .before .before .before .before .before .before .loop) .inv) ((c .before .before .before .before .before .before .before .loop-test) .taken) ((c .before .before .before .before .before .adj-row) .ensures) ((c .before .before .credit-of) .ensures) ((c .before .minus) .ensures))
 
 returns : tie.Need-returns Inv-loop μ-loop
-returns c = offsets-all ((c .before .loop) .inv) ((c .loop-test) .left)
+returns c = offsets-all _ _ _ _ ((c .before .loop) .inv) ((c .loop-test) .left)
 
 pub offset-of-spec : {M : Type 1} → statement M
 offset-of-spec =

@@ -1,4 +1,5 @@
 use lib.IntN.{ℤ, pos, negsuc, natAbs, _-ℤ_}
+use lib.Signed.{_<ℤ_}
 use mathlib.Core.Path.{_≡_, ap, _∙_}
 use Prim.Native.Nat.{ℕ, _+_, _≤_}
 use mir.Syntax.{w64}
@@ -31,7 +32,7 @@ add-result : tie.Need-add-result
 add-result c =
     let f : SFits w64 ((c .before .before .before .before .before .args) .self .0) = search needs in
     let x = h.plain f in
-    let l = lt-true _ _ (h.test-lt x (h.lit (pos 0)) ((c .before .before .if1) .taken)) in
+    let l : (c .before .before .before .before .before .args) .self .0 <ℤ pos 0 = lt-true _ _ (h.test-lt x (h.lit (pos 0)) ((c .before .before .if1) .taken)) in
     record { fits = omega (arith, h.size (h.back (flipped f l) (omega arith))) }
 
 returns : tie.Need-returns

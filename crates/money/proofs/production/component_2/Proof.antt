@@ -1,0 +1,26 @@
+use mathlib.Core.Path.{sym, _∙_}
+use Rattle.money.specs.Production.{C2}
+use Rattle.money.specs.ProductionLaws.{interval-of}
+use Rattle.money.specs.UnitLaws.{answer-fault, answer-amount}
+use borrow.Author.Needs.{needs}
+use Rattle.money.proofs.production.component_2.Statement.{statement}
+use Rattle.money.proofs.production.component_2.Tie as tie
+use Rattle.money.proofs.production.component_2.Reads as reads
+use Rattle.money.proofs.production.component_2.Lts as lts
+use Rattle.money.proofs.production.c2.Reads as c2-reads
+use Rattle.money.proofs.production.interval_fault.Reads as interval-fault-reads
+
+interval-fault-requires : tie.Need-interval-fault-requires
+interval-fault-requires c κs = search needs
+
+returns : tie.Need-returns
+returns c = answer-fault (C2 ((c .before .before .args) .h) ((c .before .before .args) .prices) ((c .before .before .args) .k)) ((c .before .interval-fault) .ensures) ((c .if1) .taken)
+
+c2-requires : tie.Need-c2-requires
+c2-requires c κs = interval-of ((c .before .before .args) .h) ((c .before .before .args) .prices) ((c .before .before .args) .k) (sym ((c .before .interval-fault) .ensures) ∙ (c .if1) .left)
+
+returns-2 : tie.Need-returns-2
+returns-2 c = answer-amount (sym ((c .before .before .interval-fault) .ensures) ∙ (c .before .if1) .left) ((c .c2) .ensures)
+
+pub component-2-spec : {M : Type 1} → statement M
+component-2-spec = tie.close (tie.spec interval-fault-requires returns c2-requires returns-2)

@@ -1,0 +1,79 @@
+use Rattle.laws.specs.Sums.{Summed, summed-none, summed-more, summed-all}
+use Prim.Native.Nat.{_-_}
+use lib.IntN.{pos}
+use lib.ListN.{getD}
+use Rattle.money.specs.Production.{noStart, hourPart, daySum}
+use Rattle.money.specs.ProductionLaws.{day-room, part-is, part-room, start-room}
+use borrow.Author.Needs.{needs}
+use native.Mathlib.Omega.{arith}
+use Rattle.money.proofs.production.day_sum.Statement.{statement}
+use Rattle.money.proofs.production.day_sum.Tie as tie
+use Rattle.money.proofs.production.day_sum.Reads as reads
+use Rattle.money.proofs.production.day_sum.Lts as lts
+use Rattle.money.proofs.units.CentsPerStart.ticks.Reads as ticks-reads
+use Rattle.money.proofs.units.Ticks.plus.Reads as plus-reads
+
+abbrev Inv-loop : tie.InvT-loop
+Inv-loop amounts starts sum₀ i₀ sum i = Summed 24 (hourPart amounts starts) (sum .0) i
+
+abbrev μ-loop : tie.MeasureT-loop
+μ-loop amounts starts sum₀ i₀ sum i = 24 - i
+
+loop-holds : tie.Need-loop-holds Inv-loop μ-loop
+loop-holds c = summed-none _ _
+
+mul-amount : tie.Need-mul-amount Inv-loop μ-loop
+mul-amount c = search needs
+
+array-copy-out-amount : tie.Need-array-copy-out-amount Inv-loop μ-loop
+array-copy-out-amount c = search needs
+
+mul-start : tie.Need-mul-start Inv-loop μ-loop
+mul-start c = search needs
+
+array-copy-out-start : tie.Need-array-copy-out-start Inv-loop μ-loop
+array-copy-out-start c = search needs
+
+ticks-requires : tie.Need-ticks-requires Inv-loop μ-loop
+ticks-requires c κs = search needs
+
+plus-requires : tie.Need-plus-requires Inv-loop μ-loop
+plus-requires c κs =
+    (omega (arith, (c .before .before .before .before .before .pre) .amounts ((c .before .before .before .before .loop) .i) ((c .before .before .before .loop-test) .taken)), start-room ((c .before .before .before .before .before .pre)) ((c .before .before .before .before .loop) .i) ((c .before .before .before .loop-test) .taken) ((c .ticks) .ensures))
+
+plus-requires-2 : tie.Need-plus-requires-2 Inv-loop μ-loop
+plus-requires-2 c κs =
+    (day-room ((c .before .before .before .before .before .before .pre)) ((c .before .before .before .before .before .loop) .inv), part-room ((c .before .before .before .before .before .before .pre)) ((c .before .before .before .before .before .loop) .i) ((c .before .before .before .before .loop-test) .taken) ((c .before .ticks) .ensures) ((c .plus) .ensures))
+
+add-i : tie.Need-add-i Inv-loop μ-loop
+add-i c = search needs
+
+loop-less : tie.Need-loop-less Inv-loop μ-loop
+loop-less c = search needs
+
+loop-again : tie.Need-loop-again Inv-loop μ-loop
+loop-again c =
+    summed-more ((c .before .before .before .before .before .before .loop) .inv) ((c .before .before .before .before .before .loop-test) .taken) ((c .plus2) .ensures) (part-is ((c .before .before .before .before .before .before .before .pre)) ((c .before .before .before .before .before .before .loop) .i) ((c .before .before .before .before .before .loop-test) .taken) ((c .before .before .ticks) .ensures) ((c .before .plus) .ensures))
+
+returns : tie.Need-returns Inv-loop μ-loop
+unfolding daySum
+returns c = (summed-all ((c .before .loop) .inv) ((c .loop-test) .left), day-room ((c .before .before .pre)) ((c .before .loop) .inv))
+
+pub day-sum-spec : {M : Type 1} → statement M
+day-sum-spec =
+    tie.close
+    (tie.spec
+    Inv-loop
+    μ-loop
+    loop-holds
+    mul-amount
+    array-copy-out-amount
+    mul-start
+    array-copy-out-start
+    ticks-requires
+    plus-requires
+    plus-requires-2
+    add-i
+    loop-less
+    loop-again
+    returns)

@@ -1,0 +1,30 @@
+use mathlib.Core.Path.{sym, ap, _∙_}
+use Prim.Native.Nat.{ℕ}
+use Rattle.money.specs.Units.{withinOk}
+use Rattle.money.specs.ProductionLaws.{last-none}
+use borrow.Author.Needs.{needs}
+use Rattle.money.proofs.production.reserve_within_ok.Statement.{statement}
+use Rattle.money.proofs.production.reserve_within_ok.Tie as tie
+use Rattle.money.proofs.production.reserve_within_ok.Reads as reads
+use Rattle.money.proofs.production.reserve_within_ok.Lts as lts
+use Rattle.money.proofs.offers.last_of.Reads as last-of-reads
+use Rattle.money.proofs.units.within_ok.Reads as within-ok-reads
+
+within-ok-requires : tie.Need-within-ok-requires
+within-ok-requires c κs = search needs
+
+returns : tie.Need-returns
+returns c = (c .within-ok) .ensures ∙ ap (λ (n : ℕ). withinOk ((c .before .before .before .before .before .args) .s .schedules) n) (sym (last-none ((c .before .before .before .before .before .args) .s .offer) ((c .before .if1) .taken)))
+
+last-of-requires : tie.Need-last-of-requires
+last-of-requires c κs = search needs
+
+within-ok-requires-2 : tie.Need-within-ok-requires-2
+within-ok-requires-2 c κs = search needs
+
+returns-2 : tie.Need-returns-2
+returns-2 c = (c .within-ok2) .ensures ∙ ap (λ (n : ℕ). withinOk ((c .before .before .before .before .before .before .args) .s .schedules) n) ((c .before .last-of) .ensures)
+
+pub reserve-within-ok-spec : {M : Type 1} → statement M
+reserve-within-ok-spec =
+    tie.close (tie.spec within-ok-requires returns last-of-requires within-ok-requires-2 returns-2)

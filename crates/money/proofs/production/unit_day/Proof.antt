@@ -1,0 +1,34 @@
+use mathlib.Core.Path.{sym, _∙_}
+use borrow.Author.Tests.{not-true, not-false}
+use Rattle.money.specs.declared.production.DayAnswer.the-variants as day-variants
+use Rattle.money.specs.Production.{dayAnswer}
+use Rattle.money.specs.ProductionLaws.{day-of, reversal-is}
+use borrow.Author.Needs.{needs}
+use Rattle.money.proofs.production.unit_day.Statement.{statement}
+use Rattle.money.proofs.production.unit_day.Tie as tie
+use Rattle.money.proofs.production.unit_day.Reads as reads
+use Rattle.money.proofs.production.unit_day.Lts as lts
+use Rattle.money.proofs.production.day_sum.Reads as day-sum-reads
+use Rattle.money.proofs.production.hours_ok.Reads as hours-ok-reads
+use Rattle.money.proofs.units.Ticks.lacking.Reads as lacking-reads
+
+hours-ok-requires : tie.Need-hours-ok-requires
+hours-ok-requires c κs = search needs
+
+returns : tie.Need-returns
+unfolding dayAnswer
+returns c = rw (sym ((c .before .hours-ok) .ensures) ∙ not-true _ ((c .if1) .taken))
+
+day-sum-requires : tie.Need-day-sum-requires
+day-sum-requires c κs = day-of ((c .before .before .args) .amounts) ((c .before .before .args) .starts) (sym ((c .before .hours-ok) .ensures) ∙ not-false _ ((c .if1) .left))
+
+lacking-requires : tie.Need-lacking-requires
+lacking-requires c κs = (c .day-sum) .ensures .1
+
+returns-2 : tie.Need-returns-2
+unfolding dayAnswer
+returns-2 c = rw (sym ((c .before .before .before .hours-ok) .ensures) ∙ not-false _ ((c .before .before .if1) .left)) (λ i. day-variants.Day (record { 0 = (c .before .day-sum) .ensures .0 i }) (record { 0 = reversal-is ((c .before .day-sum) .ensures .0) ((c .lacking) .ensures) i }))
+
+pub unit-day-spec : {M : Type 1} → statement M
+unit-day-spec =
+    tie.close (tie.spec hours-ok-requires returns day-sum-requires lacking-requires returns-2)

@@ -1,0 +1,26 @@
+use mathlib.Core.Path.{sym, _∙_}
+use Rattle.money.specs.Production.{hourAmount}
+use Rattle.money.specs.ProductionLaws.{unit-of}
+use Rattle.money.specs.UnitLaws.{answer-fault, answer-amount}
+use borrow.Author.Needs.{needs}
+use Rattle.money.proofs.production.unit_hour.Statement.{statement}
+use Rattle.money.proofs.production.unit_hour.Tie as tie
+use Rattle.money.proofs.production.unit_hour.Reads as reads
+use Rattle.money.proofs.production.unit_hour.Lts as lts
+use Rattle.money.proofs.production.hour_sum.Reads as hour-sum-reads
+use Rattle.money.proofs.production.unit_fault.Reads as unit-fault-reads
+
+unit-fault-requires : tie.Need-unit-fault-requires
+unit-fault-requires c κs = search needs
+
+returns : tie.Need-returns
+returns c = answer-fault (hourAmount ((c .before .before .args) .h) ((c .before .before .args) .prices)) ((c .before .unit-fault) .ensures) ((c .if1) .taken)
+
+hour-sum-requires : tie.Need-hour-sum-requires
+hour-sum-requires c κs = unit-of ((c .before .before .args) .h) ((c .before .before .args) .prices) (sym ((c .before .unit-fault) .ensures) ∙ (c .if1) .left)
+
+returns-2 : tie.Need-returns-2
+returns-2 c = answer-amount (sym ((c .before .before .unit-fault) .ensures) ∙ (c .before .if1) .left) ((c .hour-sum) .ensures)
+
+pub unit-hour-spec : {M : Type 1} → statement M
+unit-hour-spec = tie.close (tie.spec unit-fault-requires returns hour-sum-requires returns-2)

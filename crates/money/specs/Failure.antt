@@ -1,0 +1,35 @@
+-- 01, "Failure charges".
+use mathlib.Core.Bool.{Bool, _&&_}
+use Prim.Native.Nat.{ℕ, _-_}
+use lib.IntN.{ℤ, pos, _-ℤ_, _*ℤ_}
+use Rattle.laws.specs.Ints.{minℤ, maxℤ}
+use Rattle.money.specs.Refusals.{outOfRange}
+use Rattle.money.specs.declared.units.Price.{Price}
+use Rattle.money.specs.declared.units.Answer.{Answer}
+use Rattle.money.specs.declared.failure.Failure.{Failure}
+use Rattle.money.specs.Units.{priceOk, quantityOk, unless, answer}
+
+-- "dev = max(0, day-ahead quantity - pre-dispatch quantity)": on ℕ, x - y is max(0, x - y)
+abbrev pub dev : Failure → ℕ
+dev f = f .scheduled .0 - f .predispatch .0
+
+-- the lesser of two differences, none below 0, "× dev × 12 ticks"
+unfoldable pub charge : ℤ → ℤ → ℕ → ℤ
+charge x y n = minℤ (maxℤ (pos 0) x) (maxℤ (pos 0) y) *ℤ pos n *ℤ pos 12
+
+-- "Import: min(max(0, PD market price - DA offer), max(0, PD offer - DA offer)) × dev × 12 ticks"
+abbrev pub importCharge : Failure → Price → ℤ
+importCharge f pd = charge (pd .0 -ℤ f .ahead .0) (f .later .0 -ℤ f .ahead .0) (dev f)
+
+-- "Export: the same with (DA bid - PD market price) and (DA bid - PD bid)"
+abbrev pub exportCharge : Failure → Price → ℤ
+exportCharge f pd = charge (f .ahead .0 -ℤ pd .0) (f .ahead .0 -ℤ f .later .0) (dev f)
+
+unfoldable pub failureOk : Failure → Price → Bool
+failureOk f pd = priceOk pd && (quantityOk (f .scheduled) && (quantityOk (f .predispatch) && (priceOk (f .ahead) && priceOk (f .later))))
+
+abbrev pub importChargeAnswer : Failure → Price → Answer
+importChargeAnswer f pd = answer (unless (failureOk f pd) outOfRange 0) (importCharge f pd)
+
+abbrev pub exportChargeAnswer : Failure → Price → Answer
+exportChargeAnswer f pd = answer (unless (failureOk f pd) outOfRange 0) (exportCharge f pd)

@@ -1,0 +1,56 @@
+-- What the checks of a failure tell, and its charge by the tests that code makes. Assumes nothing.
+use mathlib.Core.Path.{_≡_, sym, _∙_}
+use mathlib.Core.Bool.{_&&_, true}
+use Prim.Native.Nat.{ℕ, _-_, _≤_}
+use native.Mathlib.Omega.{arith}
+use borrow.Author.Tests.{leb-true}
+use lib.IntN.{ℤ, pos, natAbs, _-ℤ_, _*ℤ_}
+use lib.Signed.{_≤ℤ_, _<ℤ_}
+use Rattle.laws.specs.Ints.{ints, dif, pos-dif, by₂, minℤ, maxℤ}
+use Rattle.laws.specs.Sums.{and-true}
+use Rattle.money.specs.declared.units.Price.{Price}
+use Rattle.money.specs.declared.failure.Failure.{Failure}
+use Rattle.money.specs.Units.{priceOk, quantityOk}
+use Rattle.money.specs.UnitLaws.{price-in}
+use Rattle.money.specs.Failure.{dev, charge, failureOk}
+
+-- a failure that passed its checks, and the hour's pre-dispatch price
+pub record Sound (f : Failure) (pd : Price) : Type 0 where
+  pub market : natAbs (pd .0) ≤ 200000
+  pub scheduled : f .scheduled .0 ≤ 100000
+  pub ahead : natAbs (f .ahead .0) ≤ 200000
+  pub later : natAbs (f .later .0) ≤ 200000
+
+pub sound-of : (f : Failure) (pd : Price) → failureOk f pd ≡ true → Sound f pd
+unfolding failureOk
+sound-of f pd e =
+    let a = and-true (priceOk pd) _ e in
+    let b = and-true (quantityOk (f .scheduled)) _ (a .1) in
+    let c = and-true (quantityOk (f .predispatch)) (priceOk (f .ahead) && priceOk (f .later)) (b .1) in
+    let d = and-true (priceOk (f .ahead)) (priceOk (f .later)) (c .1) in
+    record { market = price-in pd (a .0); scheduled = leb-true _ _ (b .0); ahead = price-in (f .ahead) (d .0); later = price-in (f .later) (d .1) }
+
+-- max(0, high - low)
+pub gap-none : (high low : ℤ) → high <ℤ low → pos 0 ≡ maxℤ (pos 0) (high -ℤ low)
+gap-none = by₂ _ (λ a a′ b b′. simp ints (omega arith))
+
+pub gap-some : (high low : ℤ) → low ≤ℤ high → high -ℤ low ≡ maxℤ (pos 0) (high -ℤ low)
+gap-some = by₂ _ (λ a a′ b b′. simp ints (omega arith))
+
+gap-within : (high low : ℤ) → natAbs high ≤ 200000 → natAbs low ≤ 200000 → natAbs (maxℤ (pos 0) (high -ℤ low)) ≤ 400000
+gap-within = by₂ _ (λ a a′ b b′. simp ints (omega arith))
+
+pub gap-size : (high low : ℤ) → natAbs high ≤ 200000 → natAbs low ≤ 200000 → {r : ℤ} → r ≡ maxℤ (pos 0) (high -ℤ low) → natAbs r ≤ 400000
+gap-size high low h k e = rw e (gap-within high low h k)
+
+-- what the calls returned: two differences, a quantity, and the charge
+pub charge-is : (x y : ℤ) (n : ℕ) {a b r : ℤ} {m : ℕ} → a ≡ maxℤ (pos 0) x → b ≡ maxℤ (pos 0) y → m ≡ n → r ≡ minℤ a b *ℤ pos m *ℤ pos 12 → r ≡ charge x y n
+unfolding charge
+charge-is x y n e f k g = g ∙ (λ i. minℤ (e i) (f i) *ℤ pos (k i) *ℤ pos 12)
+
+-- dev as 01 writes it, over ℤ
+dev-dif : (n m : ℕ) → dif (n - m) 0 ≡ maxℤ (dif 0 0) (dif n 0 -ℤ dif m 0)
+dev-dif n m = simp ints (omega arith)
+
+pub dev-is : (f : Failure) → pos (dev f) ≡ maxℤ (pos 0) (pos (f .scheduled .0) -ℤ pos (f .predispatch .0))
+dev-is f = pos-dif _ ∙ dev-dif (f .scheduled .0) (f .predispatch .0) ∙ sym (λ i. maxℤ (pos-dif 0 i) (pos-dif (f .scheduled .0) i -ℤ pos-dif (f .predispatch .0) i))

@@ -1,0 +1,447 @@
+-- What the checks of a unit's hour tell, its components and sums, and their sizes. Assumes nothing.
+use mathlib.Core.Path.{_≡_, refl, sym, ap, _∙_}
+use mathlib.Core.Bool.{Bool, true, false, cond, _&&_}
+use mathlib.Core.List.{List}
+use Prim.Native.Nat.{ℕ, zero, suc, _+_, _-_, _*_, _≤_, _<_, min, max}
+use native.Mathlib.Nat.{sub-zero}
+use native.Mathlib.Decide.{decLt}
+use native.Mathlib.Omega.{arith}
+use borrow.Author.Tests.{leb-true, ltb-true, le-leb, lt-ltb, le-ltb}
+use lib.Dec.{leb, ltb}
+use lib.IntN.{ℤ, pos, negℤ, natAbs, _+ℤ_, _-ℤ_, _*ℤ_, +ℤ-idr}
+use lib.Signed.{leZ, _≤ℤ_}
+use lib.ListN.{getD}
+use Rattle.laws.specs.Ints.{ints, dif, pos-dif, by₁, by₄, by₅, minℤ, maxℤ, le-true, true-le, min-max-neg, add-within, sub-within}
+use Rattle.laws.specs.Sums.{Σℤ, Σℤ-within, Summed, every-at, and-true}
+use Rattle.money.specs.declared.units.Price.{Price}
+use Rattle.money.specs.declared.units.Ticks.{Ticks}
+use Rattle.money.specs.declared.units.CentsPerStart.{CentsPerStart}
+use Rattle.money.specs.declared.offers.Offer.{Offer}
+use Rattle.money.specs.declared.production.Reserve.{Reserve}
+use Rattle.money.specs.declared.production.UnitHour.{UnitHour}
+use Rattle.money.specs.Units.{priceAt, pricesOk, quantitiesOk, withinOk, maxCents, unless}
+use Rattle.money.specs.Offers.{before, lastQ, offerFault, cost}
+use Rattle.money.specs.Guarantee.{profit}
+use Rattle.money.specs.Production.{shortfall, arranged, congestion, reserveNet, component4, S, D, R, U, A, K, C1, C2, C3, C4, interval, hourAmount, reserveFault, reserveNumbersOk, reservesNumbersOk, numbersFine, withinFine, listsFault, unitFault, intervalFault, noTicks, noStart, hourPart, maxHour, amountOk, hoursOk, reversal}
+use Rattle.money.specs.UnitLaws.{Moderate, Rates, prices-of, within-at, passes, neither}
+use Rattle.money.specs.OfferLaws.{Good, good-of, cost-none, abs-mul-pos, cost-size, last-size}
+use Rattle.money.specs.GuaranteeLaws.{profit-size}
+
+-- a reserve that passed its checks: its list keeps the rule, or is empty
+pub record Usable (s : Reserve) : Type 0 where
+  pub rates : Rates (s .prices)
+  pub most : s .offer .count ≤ 20
+  pub good : 0 < s .offer .count → Good (s .offer)
+  pub within : (k : ℕ) → k < 12 → S s k ≤ lastQ (s .offer)
+
+-- lists that passed theirs
+pub record ListsGood (h : UnitHour) : Type 0 where
+  pub ahead : Good (h .aheadoffer)
+  pub real : Good (h .realoffer)
+  pub spinning : h .spinning .offer .count ≤ 20
+  pub nonspinning : h .nonspinning .offer .count ≤ 20
+  pub thirty : h .thirty .offer .count ≤ 20
+
+-- an hour that passed its checks
+pub record UnitReady (h : UnitHour) (ps : List Price) : Type 0 where
+  pub rates : Rates ps
+  pub noload : h .noload .0 ≤ 100000000
+  pub ahead : Good (h .aheadoffer)
+  pub real : Good (h .realoffer)
+  pub ahead-within : (k : ℕ) → k < 12 → D h k ≤ lastQ (h .aheadoffer)
+  pub real-within : (k : ℕ) → k < 12 → D h k ≤ lastQ (h .realoffer)
+  pub spinning : Usable (h .spinning)
+  pub nonspinning : Usable (h .nonspinning)
+  pub thirty : Usable (h .thirty)
+
+-- 24 hours that passed theirs
+pub record DayReady (ts : List Ticks) (ss : List CentsPerStart) : Type 0 where
+  pub amounts : (i : ℕ) → i < 24 → natAbs (getD ts i noTicks .0) ≤ 100000000000000
+  pub starts : (i : ℕ) → i < 24 → getD ss i noStart .0 ≤ 100000000
+
+-- ---- amounts that code holds, by what they are
+-- a cost, a profit or a component of one interval
+abbrev pub Small : ℤ → Type 0
+Small z = natAbs z ≤ 2000000000000
+
+pub room : {x c : ℤ} → x ≡ c → Small c → Moderate x
+room e h = rw e (omega arith)
+
+pub two-room : {x y s c d : ℤ} → x ≡ c → y ≡ d → Small c → Small d → s ≡ x +ℤ y → Moderate s
+two-room {c = c} {d = d} e f h k g = rw (g ∙ (λ i. e i +ℤ f i)) (omega (arith, add-within c d h k))
+
+-- the lesser of two is within what the first is within
+pub lesser-in : (a b : ℕ) {q last : ℕ} → q ≡ min a b → a ≤ last → q ≤ last
+lesser-in a b e h = omega arith
+
+-- ---- a cost within an offer, and that cost less a price's value
+module _ (o : Offer) (q : ℕ) (good : Good o) (within : q ≤ lastQ o) where
+  pub in-range : q ≤ 100000
+  in-range = omega (arith, last-size o good)
+
+  spends : natAbs (cost o q) ≤ 420000000000
+  spends = cost-size o good q in-range
+
+  pub spent-room : {c : ℤ} → c ≡ cost o q → Moderate c
+  spent-room e = room e (omega (arith, spends))
+
+  module _ (p : ℤ) (rate : natAbs p ≤ 200000) where
+    value-size : natAbs (p *ℤ pos q) ≤ 20000000000
+    value-size = abs-mul-pos p q {A = 200000} {B = 100000} rate in-range
+
+    loss-size : natAbs (cost o q -ℤ p *ℤ pos q) ≤ 440000000000
+    loss-size = sub-within (cost o q) (p *ℤ pos q) spends value-size
+
+    module _ {c v l : ℤ} (e : c ≡ cost o q) (f : v ≡ p *ℤ pos (q - 0)) (g : l ≡ c -ℤ v) where
+      pub loss-is : l ≡ cost o q -ℤ p *ℤ pos q
+      loss-is = g ∙ (λ i. e i -ℤ f i) ∙ rw sub-zero
+
+      pub loss-room : Moderate l
+      loss-room = room loss-is (omega (arith, loss-size))
+
+-- ---- C1
+module _ (o : Offer) (p : ℤ) (noload q : ℕ) {l : ℤ} (e : l ≡ cost o q -ℤ p *ℤ pos q) where
+  pub shortfall-none : q < 1 → l ≡ shortfall o p noload q
+  unfolding shortfall
+  shortfall-none h = e ∙ sym (rw (le-ltb 0 q (omega arith)) (+ℤ-idr _))
+
+  pub shortfall-some : {t r : ℤ} → 1 ≤ q → t ≡ pos (noload * 10) → r ≡ l +ℤ t → r ≡ shortfall o p noload q
+  unfolding shortfall
+  shortfall-some h f g = g ∙ (λ i. e i +ℤ f i) ∙ sym (rw (lt-ltb 0 q (omega arith)))
+
+shortfall-size : (o : Offer) (p : ℤ) (noload q : ℕ) → Good o → q ≤ lastQ o → natAbs p ≤ 200000 → noload ≤ 100000000 → natAbs (shortfall o p noload q) ≤ 441000000000
+unfolding shortfall
+shortfall-size o p noload q good within rate small =
+    add-within (cost o q -ℤ p *ℤ pos q) (cond (ltb 0 q) (pos (noload * 10)) (pos 0)) (loss-size o q good within p rate) (part (ltb 0 q))
+  where
+    part : (t : Bool) → natAbs (cond t (pos (noload * 10)) (pos 0)) ≤ 1000000000
+    part true = omega arith
+    part false = omega arith
+
+-- an interval's speed no-load
+pub ten-room : {n : ℕ} {t : ℤ} → t ≡ pos (n * 10) → n ≤ 100000000 → Moderate t
+ten-room e h = rw e (omega arith)
+
+-- ---- C2: the cost between two quantities, in two offers
+module _ (o : Offer) (b a : ℕ) (good : Good o) (upper : b ≤ lastQ o) (lower : a ≤ lastQ o) where
+  step-size : natAbs (cost o b -ℤ cost o a) ≤ 840000000000
+  step-size = sub-within (cost o b) (cost o a) (spends o b good upper) (spends o a good lower)
+
+  module _ {c d x : ℤ} (e : c ≡ cost o b) (f : d ≡ cost o a) (g : x ≡ c -ℤ d) where
+    pub step-is : x ≡ cost o b -ℤ cost o a
+    step-is = g ∙ (λ i. e i -ℤ f i)
+
+    pub step-room : Moderate x
+    step-room = room step-is (omega (arith, step-size))
+
+pub arranged-is : (da rt : Offer) (b a : ℕ) {x y r : ℤ} → x ≡ cost da b -ℤ cost da a → y ≡ cost rt b -ℤ cost rt a → r ≡ x -ℤ y → r ≡ arranged da rt b a
+unfolding arranged
+arranged-is da rt b a e f g = g ∙ (λ i. e i -ℤ f i)
+
+arranged-size : (da rt : Offer) (b a : ℕ) → Good da → Good rt → b ≤ lastQ da → a ≤ lastQ da → b ≤ lastQ rt → a ≤ lastQ rt → natAbs (arranged da rt b a) ≤ 1680000000000
+unfolding arranged
+arranged-size da rt b a g g′ h k h′ k′ = sub-within (cost da b -ℤ cost da a) (cost rt b -ℤ cost rt a) (step-size da b a g h k) (step-size rt b a g′ h′ k′)
+
+-- ---- C3
+apart : (x y p b a : ℤ) → (x -ℤ p *ℤ b) -ℤ (y -ℤ p *ℤ a) ≡ x -ℤ y -ℤ p *ℤ (b -ℤ a)
+apart = by₅ _ (λ a a′ b b′ c c′ d d′ e e′. simp ints (omega arith))
+
+module _ (o : Offer) (p : ℤ) (b a : ℕ) where
+  pub congestion-is : {x y r : ℤ} → x ≡ cost o b -ℤ p *ℤ pos b → y ≡ cost o a -ℤ p *ℤ pos a → r ≡ x -ℤ y → r ≡ congestion o p b a
+  unfolding congestion
+  congestion-is e f g = g ∙ (λ i. e i -ℤ f i) ∙ apart (cost o b) (cost o a) p (pos b) (pos a)
+
+  congestion-size : Good o → b ≤ lastQ o → a ≤ lastQ o → natAbs p ≤ 200000 → natAbs (congestion o p b a) ≤ 880000000000
+  unfolding congestion
+  congestion-size g h k r = rw (← apart (cost o b) (cost o a) p (pos b) (pos a)) (sub-within (cost o b -ℤ p *ℤ pos b) (cost o a -ℤ p *ℤ pos a) (loss-size o b g h p r) (loss-size o a g k p r))
+
+-- ---- C4
+pub last-none : (o : Offer) → o .count < 1 → lastQ o ≡ 0
+last-none o h = go (o .count) h
+  where
+    go : (n : ℕ) → n < 1 → before o n ≡ 0
+    go zero l = refl
+    go (suc n) l = absurd (omega arith)
+
+module _ {s : Reserve} (u : Usable s) where
+  -- a list of which something is taken is not empty
+  pub offered : (q : ℕ) → 1 ≤ q → q ≤ lastQ (s .offer) → Good (s .offer)
+  offered q h k = by (decLt 0 (s .offer .count))
+    where
+      by : Dec (0 < s .offer .count) → Good (s .offer)
+      by (yes l) = u .good l
+      by (no n) = absurd (omega (arith, last-none (s .offer) (omega arith)))
+
+  -- nothing for nothing
+  pub idle : (k q : ℕ) → q < 1 → pos 0 ≡ reserveNet s k q
+  idle k q h =
+      let z : q ≡ 0 = omega arith in
+      let c = cost-none (s .offer) (λ j l. omega (arith, u .good (omega arith) .rising j l)) in
+      rw (z, c) (none (priceAt (s .prices) k))
+    where
+      none : (p : ℤ) → pos 0 ≡ p *ℤ pos 0 -ℤ pos 0
+      none = by₁ _ (λ a a′. simp ints (omega arith))
+
+  net-size : (k q : ℕ) → k < 12 → q ≤ lastQ (s .offer) → natAbs (reserveNet s k q) ≤ 440000000000
+  net-size k q l w = by (decLt q 1)
+    where
+      by : Dec (q < 1) → natAbs (reserveNet s k q) ≤ 440000000000
+      by (yes h) = rw (← idle k q h) (omega arith)
+      by (no h) = profit-size (s .offer) (s .prices) (λ j. q) (record { good = offered q (omega arith) w; prices = u .rates; within = λ j m. w }) k l
+
+  -- as much of the schedule as is left
+  module _ (left k : ℕ) {q : ℕ} (l : k < 12) (e : q ≡ min left (S s k)) where
+    pub net-within : q ≤ lastQ (s .offer)
+    net-within = omega (arith, u .within k l)
+
+    pub net-small : Small (reserveNet s k q)
+    net-small = omega (arith, net-size k q l net-within)
+
+-- what the calls returned: the sum of three such
+pub component4-is : (r1 r2 r3 : Reserve) (k d u : ℕ) {l1 l2 l3 q1 q2 q3 : ℕ} {x y z s r : ℤ} → l1 ≡ d - u → l2 ≡ l1 - S r1 k → l3 ≡ l2 - S r2 k
+    → q1 ≡ min l1 (S r1 k) → q2 ≡ min l2 (S r2 k) → q3 ≡ min l3 (S r3 k) → x ≡ reserveNet r1 k q1 → y ≡ reserveNet r2 k q2 → z ≡ reserveNet r3 k q3
+    → s ≡ x +ℤ y → r ≡ s +ℤ z → r ≡ component4 r1 r2 r3 k d u
+unfolding component4
+component4-is r1 r2 r3 k d u {q1 = q1} {q2 = q2} {q3 = q3} a b c a′ b′ c′ e f g h m =
+    let b″ = b ∙ ap (λ (n : ℕ). n - S r1 k) a in
+    let c″ = c ∙ ap (λ (n : ℕ). n - S r2 k) b″ in
+    let p : q1 ≡ min (d - u) (S r1 k) = a′ ∙ ap (λ (n : ℕ). min n (S r1 k)) a in
+    let q : q2 ≡ min (d - u - S r1 k) (S r2 k) = b′ ∙ ap (λ (n : ℕ). min n (S r2 k)) b″ in
+    let t : q3 ≡ min (d - u - S r1 k - S r2 k) (S r3 k) = c′ ∙ ap (λ (n : ℕ). min n (S r3 k)) c″ in
+    m ∙ (λ i. h i +ℤ g i) ∙ (λ i. e i +ℤ f i +ℤ reserveNet r3 k q3) ∙ (λ i. reserveNet r1 k (p i) +ℤ reserveNet r2 k (q i) +ℤ reserveNet r3 k (t i))
+
+-- ---- an interval and an hour
+module _ {h : UnitHour} {ps : List Price} (ready : UnitReady h ps) where
+  module _ (k : ℕ) (l : k < 12) where
+    pub C1-small : Small (C1 h ps k)
+    unfolding C1
+    C1-small =
+        let w = ready .ahead-within k l in
+        omega (arith, shortfall-size (h .aheadoffer) (priceAt ps k) (h .noload .0) (min (D h k) (min (R h k) (A h k))) (ready .ahead) (omega arith) (ready .rates k l) (ready .noload))
+
+    pub C2-small : Small (C2 h ps k)
+    unfolding C2
+    C2-small =
+        let w = ready .ahead-within k l in
+        let v = ready .real-within k l in
+        let b = min (D h k) (K h k) in
+        omega (arith, arranged-size (h .aheadoffer) (h .realoffer) b (min b (max (R h k) (A h k))) (ready .ahead) (ready .real) (omega arith) (omega arith) (omega arith) (omega arith))
+
+    pub C3-small : Small (C3 h ps k)
+    unfolding C3
+    C3-small =
+        let w = ready .real-within k l in
+        omega (arith, congestion-size (h .realoffer) (priceAt ps k) (min (R h k) (D h k)) (min (U h k) (D h k)) (ready .real) (omega arith) (omega arith) (ready .rates k l))
+
+    pub C4-small : Small (C4 h ps k)
+    unfolding C4 component4
+    C4-small =
+        let s = S (h .spinning) k in
+        let n = S (h .nonspinning) k in
+        let t = S (h .thirty) k in
+        let d = D h k - U h k in
+        let x = reserveNet (h .spinning) k (min d s) in
+        let y = reserveNet (h .nonspinning) k (min (d - s) n) in
+        let z = reserveNet (h .thirty) k (min (d - s - n) t) in
+        let e = net-size (ready .spinning) k (min d s) l (omega (arith, ready .spinning .within k l)) in
+        let f = net-size (ready .nonspinning) k (min (d - s) n) l (omega (arith, ready .nonspinning .within k l)) in
+        let g = net-size (ready .thirty) k (min (d - s - n) t) l (omega (arith, ready .thirty .within k l)) in
+        omega (arith, add-within (x +ℤ y) z (add-within x y e f) g)
+
+    interval-size : natAbs (interval h ps k) ≤ 8000000000000
+    unfolding interval
+    interval-size =
+        sub-within (C1 h ps k +ℤ C2 h ps k -ℤ C3 h ps k) (C4 h ps k)
+        (sub-within (C1 h ps k +ℤ C2 h ps k) (C3 h ps k) (add-within (C1 h ps k) (C2 h ps k) C1-small C2-small) C3-small)
+        C4-small
+
+  some-size : (n : ℕ) → n ≤ 12 → natAbs (Σℤ n (interval h ps)) ≤ 100000000000000
+  some-size n l = omega (arith, Σℤ-within 8000000000000 n (interval h ps) (λ j m. interval-size j (omega arith)))
+
+  -- no hour comes to more than `maxHour`
+  pub hour-size : natAbs (hourAmount h ps) ≤ 100000000000000
+  unfolding hourAmount
+  hour-size = some-size 12 (omega arith)
+
+pub hour-room : {h : UnitHour} {ps : List Price} {sum : ℤ} {k : ℕ} → UnitReady h ps → Summed 12 (interval h ps) sum k → Moderate sum
+hour-room {k = k} ready u = rw (u .so-far) (omega (arith, some-size ready k (u .upto)))
+
+parts : (x y z w : ℤ) → (x +ℤ y) -ℤ (z +ℤ w) ≡ x +ℤ y -ℤ z -ℤ w
+parts = by₄ _ (λ a a′ b b′ c c′ d d′. simp ints (omega arith))
+
+-- what the calls of a turn returned: the components, the two sums, and their difference
+module _ {h : UnitHour} {ps : List Price} (ready : UnitReady h ps) {k : ℕ} (l : k < 12) {x y z w s t n : ℤ} (a : x ≡ C1 h ps k) (b : y ≡ C2 h ps k) (c : z ≡ C3 h ps k) (d : w ≡ C4 h ps k) (e : s ≡ x +ℤ y) (f : t ≡ z +ℤ w) (g : n ≡ s -ℤ t) where
+  pub interval-is : n ≡ interval h ps k
+  unfolding interval
+  interval-is = g ∙ (λ i. e i -ℤ f i) ∙ (λ i. (a i +ℤ b i) -ℤ (c i +ℤ d i)) ∙ parts (C1 h ps k) (C2 h ps k) (C3 h ps k) (C4 h ps k)
+
+  pub interval-room : Moderate n
+  interval-room = rw interval-is (omega (arith, interval-size ready k l))
+
+-- ---- what the checks tell
+module _ (s : Reserve) (e : reserveFault s ≡ 0) where
+  -- a list that passed is empty or keeps its rule
+  by-list : {X : Type 0} → (s .offer .count ≤ 0 → X) → (Good (s .offer) → X) → X
+  unfolding reserveFault
+  by-list {X} f g = go (leb (s .offer .count) 0) (withinOk (s .schedules) 0) refl e
+    where
+      go : (a b : Bool) → leb (s .offer .count) 0 ≡ a → cond (a && b) 0 (offerFault (s .offer)) ≡ 0 → X
+      go true true p q = f (leb-true _ _ p)
+      go true false p q = g (good-of (s .offer) q)
+      go false b p q = g (good-of (s .offer) q)
+
+  list-most : s .offer .count ≤ 20
+  list-most = by-list (λ z. omega arith) (λ g. g .most)
+
+  usable-of : reserveNumbersOk s ≡ true → withinOk (s .schedules) (lastQ (s .offer)) ≡ true → Usable s
+  usable-of n w = record {
+    rates = prices-of (s .prices) (and-true (pricesOk (s .prices)) (quantitiesOk (s .schedules)) n .0);
+    most = list-most;
+    good = λ l. by-list (λ z. absurd (omega arith)) (λ g. g);
+    within = within-at (s .schedules) (lastQ (s .offer)) w;
+  }
+
+pub lists-of : (h : UnitHour) → listsFault h ≡ 0 → ListsGood h
+unfolding listsFault
+lists-of h e =
+    let a = neither (offerFault (h .aheadoffer)) _ e in
+    let b = neither (offerFault (h .realoffer)) _ (a .1) in
+    let c = neither (reserveFault (h .spinning)) _ (b .1) in
+    let d = neither (reserveFault (h .nonspinning)) _ (c .1) in
+    record {
+      ahead = good-of (h .aheadoffer) (a .0);
+      real = good-of (h .realoffer) (b .0);
+      spinning = list-most (h .spinning) (c .0);
+      nonspinning = list-most (h .nonspinning) (d .0);
+      thirty = list-most (h .thirty) (d .1);
+    }
+
+-- the numbers that a component reads, and the reserves'
+record Numbers (h : UnitHour) : Type 0 where
+  pub noload : h .noload .0 ≤ 100000000
+  pub spinning : reserveNumbersOk (h .spinning) ≡ true
+  pub nonspinning : reserveNumbersOk (h .nonspinning) ≡ true
+  pub thirty : reserveNumbersOk (h .thirty) ≡ true
+
+numbers-of : (h : UnitHour) → numbersFine h ≡ true → Numbers h
+unfolding numbersFine reservesNumbersOk
+numbers-of h e =
+    let a = and-true (leb (h .startup .0) maxCents) _ e .1 in
+    let b = and-true (leb (h .noload .0) maxCents) _ a in
+    let c = and-true (quantitiesOk (h .ahead)) _ (b .1) .1 in
+    let d = and-true (quantitiesOk (h .constrained)) _ c .1 in
+    let f = and-true (quantitiesOk (h .unconstrained)) _ d .1 in
+    let g = and-true (quantitiesOk (h .metered)) _ f .1 in
+    let r = and-true (quantitiesOk (h .capacity)) _ g .1 in
+    let s = and-true (reserveNumbersOk (h .spinning)) (reserveNumbersOk (h .nonspinning) && reserveNumbersOk (h .thirty)) r in
+    let n = and-true (reserveNumbersOk (h .nonspinning)) (reserveNumbersOk (h .thirty)) (s .1) in
+    record { noload = leb-true _ _ (b .0); spinning = s .0; nonspinning = n .0; thirty = n .1 }
+
+pub unit-of : (h : UnitHour) (ps : List Price) → unitFault h ps ≡ 0 → UnitReady h ps
+unfolding unitFault listsFault withinFine
+unit-of h ps e =
+    let p = passes (pricesOk ps) 4 _ e in
+    let n = passes (numbersFine h) 4 _ (p .1) in
+    let o = neither (listsFault h) (unless (withinFine h) 7 0) (n .1) in
+    let numbers = numbers-of h (n .0) in
+    let b = neither (offerFault (h .realoffer)) _ (neither (offerFault (h .aheadoffer)) _ (o .0) .1) in
+    let c = neither (reserveFault (h .spinning)) _ (b .1) in
+    let d = neither (reserveFault (h .nonspinning)) _ (c .1) in
+    let w = and-true (withinOk (h .ahead) (lastQ (h .aheadoffer))) _ (passes (withinFine h) 6 0 (o .1) .0) in
+    let v = and-true (withinOk (h .ahead) (lastQ (h .realoffer))) _ (w .1) in
+    let x = and-true (withinOk (h .spinning .schedules) (lastQ (h .spinning .offer))) _ (v .1) in
+    let y = and-true (withinOk (h .nonspinning .schedules) (lastQ (h .nonspinning .offer))) (withinOk (h .thirty .schedules) (lastQ (h .thirty .offer))) (x .1) in
+    let lists = lists-of h (o .0) in
+    record {
+      rates = prices-of ps (p .0);
+      noload = numbers .noload;
+      ahead = lists .ahead;
+      real = lists .real;
+      ahead-within = within-at (h .ahead) (lastQ (h .aheadoffer)) (w .0);
+      real-within = within-at (h .ahead) (lastQ (h .realoffer)) (v .0);
+      spinning = usable-of (h .spinning) (c .0) (numbers .spinning) (x .0);
+      nonspinning = usable-of (h .nonspinning) (d .0) (numbers .nonspinning) (y .0);
+      thirty = usable-of (h .thirty) (d .1) (numbers .thirty) (y .1);
+    }
+
+startup-of : (h : UnitHour) (ps : List Price) → unitFault h ps ≡ 0 → h .startup .0 ≤ 100000000
+unfolding unitFault numbersFine
+startup-of h ps e = leb-true _ _ (and-true (leb (h .startup .0) maxCents) _ (passes (numbersFine h) 4 _ (passes (pricesOk ps) 4 _ e .1) .0) .0)
+
+pub interval-of : (h : UnitHour) (ps : List Price) (k : ℕ) → intervalFault h ps k ≡ 0 → UnitReady h ps × (k < 12)
+unfolding intervalFault
+interval-of h ps k e =
+    let a = neither (unitFault h ps) (unless (ltb k 12) 5 0) e in
+    (unit-of h ps (a .0), ltb-true _ _ (passes (ltb k 12) 4 0 (a .1) .0))
+
+-- ---- a day
+amount-in : (t : Ticks) (s : CentsPerStart) → amountOk t s ≡ true → (natAbs (t .0) ≤ 100000000000000) × (s .0 ≤ 100000000)
+amount-in t s e =
+    let a = and-true (leZ (negℤ (pos maxHour)) (t .0)) (leZ (t .0) (pos maxHour) && leb (s .0) maxCents) e in
+    let b = and-true (leZ (t .0) (pos maxHour)) (leb (s .0) maxCents) (a .1) in
+    (both (t .0) (le-true _ _ (a .0)) (le-true _ _ (b .0)), leb-true _ _ (b .1))
+  where
+    both : (z : ℤ) → negℤ (pos 100000000000000) ≤ℤ z → z ≤ℤ pos 100000000000000 → natAbs z ≤ 100000000000000
+    both = by₁ _ (λ a a′. simp ints (omega arith))
+
+-- an hour's amount is one that a day takes
+pub amount-ok : (t : Ticks) (s : CentsPerStart) → natAbs (t .0) ≤ 100000000000000 → s .0 ≤ 100000000 → amountOk t s ≡ true
+amount-ok t s h k = rw (true-le _ _ (above (t .0) h), true-le _ _ (below (t .0) h), le-leb (s .0) maxCents k)
+  where
+    above : (z : ℤ) → natAbs z ≤ 100000000000000 → negℤ (pos 100000000000000) ≤ℤ z
+    above = by₁ _ (λ a a′. simp ints (omega arith))
+
+    below : (z : ℤ) → natAbs z ≤ 100000000000000 → z ≤ℤ pos 100000000000000
+    below = by₁ _ (λ a a′. simp ints (omega arith))
+
+pub hour-taken : (h : UnitHour) (ps : List Price) → unitFault h ps ≡ 0 → amountOk (record { 0 = hourAmount h ps }) (h .startup) ≡ true
+hour-taken h ps e = amount-ok (record { 0 = hourAmount h ps }) (h .startup) (hour-size (unit-of h ps e)) (startup-of h ps e)
+
+pub day-of : (ts : List Ticks) (ss : List CentsPerStart) → hoursOk ts ss ≡ true → DayReady ts ss
+unfolding hoursOk
+day-of ts ss e =
+    let at : (i : ℕ) → i < 24 → (natAbs (getD ts i noTicks .0) ≤ 100000000000000) × (getD ss i noStart .0 ≤ 100000000)
+    = λ i l. amount-in (getD ts i noTicks) (getD ss i noStart) (every-at 24 (λ i. amountOk (getD ts i noTicks) (getD ss i noStart)) e i l) in
+    record { amounts = λ i l. at i l .0; starts = λ i l. at i l .1 }
+
+module _ {ts : List Ticks} {ss : List CentsPerStart} (ready : DayReady ts ss) where
+  part-size : (j : ℕ) → j < 24 → natAbs (hourPart ts ss j) ≤ 100012000000000
+  part-size j l = add-within (getD ts j noTicks .0) (pos (getD ss j noStart .0 * 120)) {B = 12000000000} (ready .amounts j l) (omega (arith, ready .starts j l))
+
+  pub day-room : {sum : ℤ} {i : ℕ} → Summed 24 (hourPart ts ss) sum i → Moderate sum
+  day-room {i = i} u = rw (u .so-far) (omega (arith, u .upto, Σℤ-within 100012000000000 i (hourPart ts ss) (λ j m. part-size j (omega (arith, u .upto)))))
+
+  pub start-room : (i : ℕ) → i < 24 → {x : ℤ} → x ≡ pos (getD ss i noStart .0 * 120) → Moderate x
+  start-room i l e = rw e (omega (arith, ready .starts i l))
+
+  -- what the calls of a turn returned: the start-up's ticks, and the hour's part
+  module _ (i : ℕ) (l : i < 24) {x p : ℤ} (e : x ≡ pos (getD ss i noStart .0 * 120)) (f : p ≡ getD ts i noTicks .0 +ℤ x) where
+    pub part-is : p ≡ hourPart ts ss i
+    part-is = f ∙ ap (λ (z : ℤ). getD ts i noTicks .0 +ℤ z) e
+
+    pub part-room : Moderate p
+    part-room = rw part-is (omega (arith, part-size i l))
+
+-- the reversal as code has it, -min(0, total)
+pub reversal-is : {s t r : ℤ} → t ≡ s → r ≡ negℤ (minℤ (pos 0) t) → r ≡ reversal s
+reversal-is {s = s} e f = f ∙ ap (λ (z : ℤ). negℤ (minℤ (pos 0) z)) e ∙ min-max-neg (pos 0) s
+
+-- ---- C4's quantities as 01 writes them, over ℤ
+module _ (d u s t v : ℕ) where
+  first-dif : dif (min (d - u) s) 0 ≡ maxℤ (dif 0 0) (minℤ (dif d 0 -ℤ dif u 0) (dif s 0))
+  first-dif = simp ints (omega arith)
+
+  second-dif : dif (min (d - u - s) t) 0 ≡ maxℤ (dif 0 0) (minℤ (dif d 0 -ℤ dif u 0 -ℤ dif s 0) (dif t 0))
+  second-dif = simp ints (omega arith)
+
+  third-dif : dif (min (d - u - s - t) v) 0 ≡ maxℤ (dif 0 0) (minℤ (dif d 0 -ℤ dif u 0 -ℤ dif s 0 -ℤ dif t 0) (dif v 0))
+  third-dif = simp ints (omega arith)
+
+  pub net-quantities : (pos (min (d - u) s) ≡ maxℤ (pos 0) (minℤ (pos d -ℤ pos u) (pos s)))
+      × (pos (min (d - u - s) t) ≡ maxℤ (pos 0) (minℤ (pos d -ℤ pos u -ℤ pos s) (pos t)))
+      × (pos (min (d - u - s - t) v) ≡ maxℤ (pos 0) (minℤ (pos d -ℤ pos u -ℤ pos s -ℤ pos t) (pos v)))
+  net-quantities = (
+    pos-dif _ ∙ first-dif ∙ sym (λ i. maxℤ (pos-dif 0 i) (minℤ (pos-dif d i -ℤ pos-dif u i) (pos-dif s i))),
+    pos-dif _ ∙ second-dif ∙ sym (λ i. maxℤ (pos-dif 0 i) (minℤ (pos-dif d i -ℤ pos-dif u i -ℤ pos-dif s i) (pos-dif t i))),
+    pos-dif _ ∙ third-dif ∙ sym (λ i. maxℤ (pos-dif 0 i) (minℤ (pos-dif d i -ℤ pos-dif u i -ℤ pos-dif s i -ℤ pos-dif t i) (pos-dif v i))),
+  )
