@@ -43,6 +43,12 @@ gap-within = by₂ _ (λ a a′ b b′. simp ints (omega arith))
 pub gap-size : (high low : ℤ) → natAbs high ≤ 200000 → natAbs low ≤ 200000 → {r : ℤ} → r ≡ maxℤ (pos 0) (high -ℤ low) → natAbs r ≤ 400000
 gap-size high low h k e = rw e (gap-within high low h k)
 
+pub lesser-size : (a b : ℤ) → natAbs a ≤ 400000 → natAbs b ≤ 400000 → {r : ℤ} → r ≡ minℤ a b → natAbs r ≤ 400000
+lesser-size a b h k e = rw e (least a b h k)
+  where
+    least : (a b : ℤ) → natAbs a ≤ 400000 → natAbs b ≤ 400000 → natAbs (minℤ a b) ≤ 400000
+    least = by₂ _ (λ a a′ b b′. simp ints (omega arith))
+
 -- what the calls returned: two differences, a quantity, and the charge
 pub charge-is : (x y : ℤ) (n : ℕ) {a b r : ℤ} {m : ℕ} → a ≡ maxℤ (pos 0) x → b ≡ maxℤ (pos 0) y → m ≡ n → r ≡ minℤ a b *ℤ pos m *ℤ pos 12 → r ≡ charge x y n
 unfolding charge

@@ -43,10 +43,7 @@ fn charge_of(a: Price, b: Price, dev: Quantity) -> Ticks
     requires { ⌜ natAbs (a .0) ≤ 400000 ⌝ ∗ ⌜ natAbs (b .0) ≤ 400000 ⌝ ∗ ⌜ dev .0 ≤ 100000 ⌝ }
     ensures { λ r. ⌜ r .0 ≡ minℤ (a .0) (b .0) *ℤ pos (dev .0) *ℤ pos 12 ⌝ }
 {
-    if a.0 < b.0 {
-        return Ticks((a.0 as i64) * (dev.0 as i64) * 12);
-    }
-    Ticks((b.0 as i64) * (dev.0 as i64) * 12)
+    a.lesser(b).for_an_hour(dev)
 }
 
 fn failure_ok(f: Failure, pd: Price) -> bool

@@ -67,6 +67,23 @@ impl Price {
     {
         Ticks((self.0 as i64) * ((to.0 - from.0) as i64))
     }
+
+    // This price for a quantity over a whole hour, of twelve intervals.
+    pub(crate) fn for_an_hour(self, q: Quantity) -> Ticks
+        requires { ⌜ natAbs (self .0) ≤ 400000 ⌝ ∗ ⌜ q .0 ≤ 100000 ⌝ }
+        ensures { λ r. ⌜ r .0 ≡ self .0 *ℤ pos (q .0) *ℤ pos 12 ⌝ }
+    {
+        Ticks((self.0 as i64) * (q.0 as i64) * 12)
+    }
+
+    pub fn lesser(self, other: Price) -> Price
+        ensures { λ r. ⌜ r .0 ≡ minℤ (self .0) (other .0) ⌝ }
+    {
+        if self.0 < other.0 {
+            return self;
+        }
+        other
+    }
 }
 
 impl Quantity {

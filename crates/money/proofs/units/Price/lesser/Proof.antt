@@ -1,0 +1,27 @@
+use mir.Syntax.{w32}
+use mir.Val.{SFits}
+use Rattle.laws.specs.Ints.{minℤ}
+use Rattle.laws.specs.Held as h
+use borrow.Author.Needs.{needs}
+use native.Mathlib.Omega.{arith}
+use Rattle.money.proofs.units.Price.lesser.Statement.{statement}
+use Rattle.money.proofs.units.Price.lesser.Tie as tie
+use Rattle.money.proofs.units.Price.lesser.Reads as reads
+use Rattle.money.proofs.units.Price.lesser.Lts as lts
+
+returns : tie.Need-returns
+unfolding minℤ
+returns c =
+    let f : SFits w32 ((c .before .before .before .before .before .args) .self .0) = search needs in
+    let g : SFits w32 ((c .before .before .before .before .before .args) .other .0) = search needs in
+    rw (h.test-lt (h.plain f) (h.plain g) ((c .if1) .taken))
+
+returns-2 : tie.Need-returns-2
+unfolding minℤ
+returns-2 c =
+    let f : SFits w32 ((c .before .before .before .before .before .args) .self .0) = search needs in
+    let g : SFits w32 ((c .before .before .before .before .before .args) .other .0) = search needs in
+    rw (h.test-lt (h.plain f) (h.plain g) ((c .if1) .left))
+
+pub lesser-spec : {M : Type 1} → statement M
+lesser-spec = tie.close (tie.spec returns returns-2)
