@@ -34,8 +34,8 @@ abbrev pub leftOver : ℕ
 leftOver = 8
 
 -- closed
-abbrev pub closed : ℕ
-closed = 9
+abbrev pub bookClosed : ℕ
+bookClosed = 9
 
 -- key stands already
 abbrev pub keyStands : ℕ

@@ -15,7 +15,7 @@ pub const BEYOND_LIST: u8 = 7;
 
 pub const LEFT_OVER: u8 = 8;
 
-pub const CLOSED: u8 = 9;
+pub const BOOK_CLOSED: u8 = 9;
 
 pub const KEY_STANDS: u8 = 10;
 
