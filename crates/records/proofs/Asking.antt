@@ -1,0 +1,82 @@
+-- The key of a question, by the tests that the code makes.
+use mathlib.Core.Path.{_≡_, refl, sym, ap, _∙_}
+use mathlib.Core.List.{List, [], _∷_}
+use mathlib.Core.Bool.{Bool, true, false, cond, _&&_}
+use Prim.Native.Nat.{ℕ, zero, suc, _≤_, _<_}
+use native.Mathlib.Omega.{arith}
+use lib.Dec.{leb, eqb}
+use lib.ListN.{length}
+use borrow.Author.Tests.{eq-eqb, ne-eqb, le-leb, lt-leb}
+use Rattle.money.specs.declared.names.Name.{Name}
+use Rattle.records.specs.Reading.{Res, bad, got, _>>=_, check, from}
+use Rattle.records.specs.Numbers.{between}
+use Rattle.records.specs.Names.{decodeName, noOne, held}
+use Rattle.records.specs.Marks.{mark, hasName}
+use Rattle.records.specs.Keys.{askMark, askName, askFrom, askHour}
+use Rattle.records.specs.declared.marks.Mark.{Mark}
+use Rattle.records.specs.declared.keys.Key.{Key}
+
+pub mark-two : (s : List ℕ) → length s ≡ 2 → mark (from s 0) ≡ askMark s
+unfolding askMark from
+mark-two [] h = absurd (omega arith)
+mark-two (a ∷ []) h = absurd (omega arith)
+mark-two (a ∷ b ∷ []) h = refl
+mark-two (a ∷ b ∷ c ∷ s) h = absurd (omega arith)
+
+pub mark-other : (s : List ℕ) → (length s ≡ 2 → ⊥) → bad 2 ≡ askMark s
+unfolding askMark
+mark-other [] h = refl
+mark-other (a ∷ []) h = refl
+mark-other (a ∷ b ∷ []) h = absurd (h refl)
+mark-other (a ∷ b ∷ c ∷ s) h = refl
+
+empty : (n : List ℕ) → length n ≡ 0 → from n 0 ≡ []
+unfolding from
+empty [] e = refl
+empty (x ∷ n) e = absurd (omega arith)
+
+module _ (m : Mark) (n : List ℕ) where
+  pub name-asked : hasName m ≡ true → held (decodeName n) ≡ askName m n
+  unfolding askName
+  name-asked h = sym (ap (λ b. cond b (held (decodeName n)) (check (eqb (length n) 0) 4 (got noOne []))) h)
+
+  nameless : hasName m ≡ false → askName m n ≡ check (eqb (length n) 0) 4 (got noOne [])
+  unfolding askName
+  nameless h = ap (λ b. cond b (held (decodeName n)) (check (eqb (length n) 0) 4 (got noOne []))) h
+
+  pub name-none : hasName m ≡ false → length n ≡ 0 → got noOne (from n 0) ≡ askName m n
+  name-none h l = ap (got noOne) (empty n l) ∙ sym (nameless h ∙ ap (λ b. check b 4 (got noOne [])) (eq-eqb (length n) 0 l))
+
+  pub name-some : hasName m ≡ false → (length n ≡ 0 → ⊥) → bad 4 ≡ askName m n
+  name-some h l = sym (nameless h ∙ ap (λ b. check b 4 (got noOne [])) (ne-eqb (length n) 0 l))
+
+module _ (h : ℕ) (ns : List ℕ) where
+  pub ask-mark : (k : ℕ) → askFrom (bad k) h ns ≡ bad k
+  unfolding askFrom
+  ask-mark k = refl
+
+  pub ask-hour : (m : Mark) (t : List ℕ) → between 1 24 h ≡ false → askFrom (got m t) h ns ≡ bad 3
+  unfolding askFrom
+  ask-hour m t f = rw f
+
+  pub ask-name : (m : Mark) (t : List ℕ) (k : ℕ) → between 1 24 h ≡ true → askName m ns ≡ bad k → askFrom (got m t) h ns ≡ bad k
+  unfolding askFrom
+  ask-name m t k f g = rw (f, g)
+
+  pub ask-got : (m : Mark) (t : List ℕ) (n : Name) (u : List ℕ) → between 1 24 h ≡ true → askName m ns ≡ got n u
+      → askFrom (got m t) h ns ≡ got (record { mark = m; hour = h; name = n }) []
+  unfolding askFrom
+  ask-got m t n u f g = rw (f, g)
+
+module _ (ms : List ℕ) (h : ℕ) where
+  pub hour-mark : (k : ℕ) → askMark ms ≡ bad k → askHour ms h ≡ bad k
+  unfolding askHour
+  hour-mark k e = rw e
+
+  pub hour-out : (m : Mark) (t : List ℕ) → askMark ms ≡ got m t → between 1 24 h ≡ false → askHour ms h ≡ bad 3
+  unfolding askHour
+  hour-out m t e f = rw (e, f)
+
+  pub hour-got : (m : Mark) (t : List ℕ) → askMark ms ≡ got m t → between 1 24 h ≡ true → askHour ms h ≡ got (record { mark = m; hour = h; name = noOne }) []
+  unfolding askHour
+  hour-got m t e f = rw (e, f)

@@ -1,0 +1,13 @@
+pub mod Bytes
+pub mod Pairs
+pub mod Putting
+pub mod Some
+pub mod Spelled
+pub mod Step
+pub mod Head
+pub mod Body
+pub mod Out
+pub mod Asking
+pub mod Entries
+pub mod Viewing
+pub mod Spelling

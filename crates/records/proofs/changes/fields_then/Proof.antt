@@ -1,0 +1,50 @@
+use Rattle.records.specs.Inner.{layoutFor}
+use Rattle.records.proofs.Step.{last}
+use mathlib.Core.Path.{_≡_, sym, _∙_}
+use native.Mathlib.Omega.{arith}
+use borrow.Author.Needs.{needs}
+use Rattle.records.proofs.changes.fields_then.Statement.{statement}
+use Rattle.records.proofs.changes.fields_then.Tie as tie
+use Rattle.records.proofs.changes.fields_then.Reads as reads
+use Rattle.records.proofs.changes.fields_then.Lts as lts
+use Rattle.records.proofs.layouts.layout_then.Reads as layout-then-reads
+
+enum-told : tie.Need-enum-told
+enum-told c = search needs
+
+layout-then-requires : tie.Need-layout-then-requires
+layout-then-requires c κs = search needs
+
+enum-told-2 : tie.Need-enum-told-2
+enum-told-2 c = search needs
+
+layout-then-requires-2 : tie.Need-layout-then-requires-2
+layout-then-requires-2 c κs = search needs
+
+enum-told-3 : tie.Need-enum-told-3
+enum-told-3 c = search needs
+
+returns : tie.Need-returns
+unfolding layoutFor
+returns c = rw ((c .before .enum-told) .given .1) ((c .layout-then) .ensures)
+
+returns-2 : tie.Need-returns-2
+unfolding layoutFor
+returns-2 c = rw ((c .before .enum-told2) .given .1) ((c .layout-then2) .ensures)
+
+returns-3 : tie.Need-returns-3
+unfolding layoutFor
+returns-3 c = rw ((c .enum-told3) .given .1) (sym (last ((c .before .before .before .args) .s .now) ((c .before .before .before .args) .e) tt))
+
+pub fields-then-spec : {M : Type 1} → statement M
+fields-then-spec =
+    tie.close
+    (tie.spec
+    enum-told
+    layout-then-requires
+    enum-told-2
+    layout-then-requires-2
+    enum-told-3
+    returns
+    returns-2
+    returns-3)

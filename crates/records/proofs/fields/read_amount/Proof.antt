@@ -1,0 +1,34 @@
+use Rattle.records.specs.Numbers.{amount}
+use borrow.Author.Tests.{le-leb, lt-leb}
+use native.Mathlib.Omega.{arith}
+use borrow.Author.Needs.{needs}
+use Rattle.records.proofs.fields.read_amount.Statement.{statement}
+use Rattle.records.proofs.fields.read_amount.Tie as tie
+use Rattle.records.proofs.fields.read_amount.Reads as reads
+use Rattle.records.proofs.fields.read_amount.Lts as lts
+use Rattle.records.proofs.fields.read_word.Reads as read-word-reads
+
+read-word-requires : tie.Need-read-word-requires
+read-word-requires c κs = search needs
+
+enum-known-w : tie.Need-enum-known-w
+enum-known-w c = search needs
+
+enum-known-w-2 : tie.Need-enum-known-w-2
+enum-known-w-2 c = search needs
+
+returns : tie.Need-returns
+unfolding amount
+returns c = rw (← (c .before .before .before .before .before .read-word) .ensures, (c .before .before .before .w) .given .1, le-leb _ _ ((c .if1) .taken))
+
+returns-2 : tie.Need-returns-2
+unfolding amount
+returns-2 c = rw (← (c .before .before .before .before .before .read-word) .ensures, (c .before .before .before .w) .given .1, lt-leb _ _ ((c .if1) .left))
+
+returns-3 : tie.Need-returns-3
+unfolding amount
+returns-3 c = rw (← (c .before .before .before .read-word) .ensures, (c .before .w2) .given .1)
+
+pub read-amount-spec : {M : Type 1} → statement M
+read-amount-spec =
+    tie.close (tie.spec read-word-requires enum-known-w enum-known-w-2 returns returns-2 returns-3)

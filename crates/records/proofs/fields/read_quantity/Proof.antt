@@ -1,0 +1,52 @@
+use mathlib.Core.Path.{_≡_, sym, ap, _∙_}
+use Rattle.records.specs.Inner.{num}
+use Rattle.records.proofs.Bytes.{quantity-good, quantity-refused, quantity-bad}
+use native.Mathlib.Omega.{arith}
+use borrow.Author.Needs.{needs}
+use Rattle.records.proofs.fields.read_quantity.Statement.{statement}
+use Rattle.records.proofs.fields.read_quantity.Tie as tie
+use Rattle.records.proofs.fields.read_quantity.Reads as reads
+use Rattle.records.proofs.fields.read_quantity.Lts as lts
+use Rattle.money.proofs.units.Quantity.new.Reads as new-reads
+use Rattle.records.proofs.fields.read_word.Reads as read-word-reads
+
+read-word-requires : tie.Need-read-word-requires
+read-word-requires c κs = search needs
+
+enum-known-w : tie.Need-enum-known-w
+enum-known-w c = search needs
+
+new-requires : tie.Need-new-requires
+new-requires c κs = search needs
+
+enum-known-q : tie.Need-enum-known-q
+enum-known-q c = search needs
+
+enum-known-q-2 : tie.Need-enum-known-q-2
+enum-known-q-2 c = search needs
+
+enum-known-w-2 : tie.Need-enum-known-w-2
+enum-known-w-2 c = search needs
+
+returns : tie.Need-returns
+returns c = quantity-good ((c .before .before .before .before .before .before .before .before .before .args) .s .now) ((c .before .before .before .before .before .before .before .before .before .args) .at) ((c .before .before .before .before .before .w) .given .0 .0) ((c .before .before .before .before .before .w) .given .0 .1 .0) (sym ((c .before .before .before .before .before .before .before .read-word) .ensures) ∙ ap (num _) ((c .before .before .before .before .before .w) .given .1)) _ (sym ((c .before .before .before .new) .ensures) ∙ (c .before .q) .given .1)
+
+returns-2 : tie.Need-returns-2
+returns-2 c = quantity-refused ((c .before .before .before .before .before .before .before .before .before .args) .s .now) ((c .before .before .before .before .before .before .before .before .before .args) .at) ((c .before .before .before .before .before .w) .given .0 .0) ((c .before .before .before .before .before .w) .given .0 .1 .0) (sym ((c .before .before .before .before .before .before .before .read-word) .ensures) ∙ ap (num _) ((c .before .before .before .before .before .w) .given .1)) _ (sym ((c .before .before .before .new) .ensures) ∙ (c .before .q2) .given .1)
+
+returns-3 : tie.Need-returns-3
+returns-3 c = quantity-bad ((c .before .before .before .before .before .args) .s .now) ((c .before .before .before .before .before .args) .at) _ (sym ((c .before .before .before .read-word) .ensures) ∙ ap (num _) ((c .before .w2) .given .1))
+
+pub read-quantity-spec : {M : Type 1} → statement M
+read-quantity-spec =
+    tie.close
+    (tie.spec
+    read-word-requires
+    enum-known-w
+    new-requires
+    enum-known-q
+    enum-known-q-2
+    enum-known-w-2
+    returns
+    returns-2
+    returns-3)

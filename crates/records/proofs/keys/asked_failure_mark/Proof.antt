@@ -1,0 +1,36 @@
+use mathlib.Core.Path.{_≡_, sym, ap, _∙_}
+use Rattle.records.specs.Marks.{isFailure}
+use Rattle.records.specs.Keys.{askMark, askFailureMark}
+use Rattle.records.specs.Inner.{guarded}
+use Rattle.records.proofs.Step.{first, test, last}
+use native.Mathlib.Omega.{arith}
+use borrow.Author.Needs.{needs}
+use Rattle.records.proofs.keys.asked_failure_mark.Statement.{statement}
+use Rattle.records.proofs.keys.asked_failure_mark.Tie as tie
+use Rattle.records.proofs.keys.asked_failure_mark.Reads as reads
+use Rattle.records.proofs.keys.asked_failure_mark.Lts as lts
+use Rattle.records.proofs.fields.guard_end.Reads as guard-end-reads
+use Rattle.records.proofs.keys.asked_mark.Reads as asked-mark-reads
+use Rattle.records.proofs.marks.is_failure.Reads as is-failure-reads
+
+asked-mark-requires : tie.Need-asked-mark-requires
+asked-mark-requires c κs = search needs
+
+is-failure-requires : tie.Need-is-failure-requires
+is-failure-requires c κs = search needs
+
+guard-end-requires : tie.Need-guard-end-requires
+guard-end-requires c κs = search needs
+
+returns : tie.Need-returns
+unfolding askFailureMark
+returns c =
+    let s = (c .before .before .before .before .args) .mark .now in
+    let r = (c .before .before .asked-mark) .result in
+    let ok = isFailure (r .mark) in
+    rw ((c .guard-end) .ensures, (c .before .is-failure) .ensures)
+    (sym (first s (r .end) (r .mark) (askMark s) _ ((c .before .before .asked-mark) .ensures) ∙ test s (r .end) ok 2 _ ∙ last s (guarded (r .end) ok 2) (r .mark)))
+
+pub asked-failure-mark-spec : {M : Type 1} → statement M
+asked-failure-mark-spec =
+    tie.close (tie.spec asked-mark-requires is-failure-requires guard-end-requires returns)

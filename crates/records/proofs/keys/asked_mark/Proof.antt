@@ -1,0 +1,25 @@
+use mathlib.Core.Path.{_≡_, sym, _∙_}
+use Rattle.records.proofs.Asking.{mark-two, mark-other}
+use native.Mathlib.Omega.{arith}
+use borrow.Author.Needs.{needs}
+use Rattle.records.proofs.keys.asked_mark.Statement.{statement}
+use Rattle.records.proofs.keys.asked_mark.Tie as tie
+use Rattle.records.proofs.keys.asked_mark.Reads as reads
+use Rattle.records.proofs.keys.asked_mark.Lts as lts
+use Rattle.records.proofs.marks.mark_at.Reads as mark-at-reads
+use Rattle.records.proofs.marks.mark_no.Reads as mark-no-reads
+
+mark-at-requires : tie.Need-mark-at-requires
+mark-at-requires c κs = search needs
+
+returns : tie.Need-returns
+returns c = (c .mark-at) .ensures ∙ mark-two ((c .before .before .before .args) .mark .now) ((c .before .if1) .taken)
+
+mark-no-requires : tie.Need-mark-no-requires
+mark-no-requires c κs = search needs
+
+returns-2 : tie.Need-returns-2
+returns-2 c = rw ((c .mark-no) .ensures) (mark-other ((c .before .before .before .args) .mark .now) ((c .before .if1) .left))
+
+pub asked-mark-spec : {M : Type 1} → statement M
+asked-mark-spec = tie.close (tie.spec mark-at-requires returns mark-no-requires returns-2)

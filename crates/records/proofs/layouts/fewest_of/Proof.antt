@@ -1,0 +1,21 @@
+use mathlib.Core.Path.{_≡_, sym, _∙_}
+use Rattle.records.proofs.Head.{least-yes, least-no}
+use native.Mathlib.Omega.{arith}
+use borrow.Author.Needs.{needs}
+use Rattle.records.proofs.layouts.fewest_of.Statement.{statement}
+use Rattle.records.proofs.layouts.fewest_of.Tie as tie
+use Rattle.records.proofs.layouts.fewest_of.Reads as reads
+use Rattle.records.proofs.layouts.fewest_of.Lts as lts
+use Rattle.records.proofs.rows.within.Reads as within-reads
+
+within-requires : tie.Need-within-requires
+within-requires c κs = search needs
+
+returns : tie.Need-returns
+returns c = least-yes _ (sym ((c .before .within) .ensures) ∙ (c .if1) .taken)
+
+returns-2 : tie.Need-returns-2
+returns-2 c = least-no _ (sym ((c .before .within) .ensures) ∙ (c .if1) .left)
+
+pub fewest-of-spec : {M : Type 1} → statement M
+fewest-of-spec = tie.close (tie.spec within-requires returns returns-2)

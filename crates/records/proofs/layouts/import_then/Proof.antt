@@ -1,0 +1,56 @@
+use mathlib.Core.Path.{_≡_, sym, _∙_}
+use Rattle.records.specs.Reading.{many}
+use Rattle.records.specs.Numbers.{quantity, listFrom}
+use Rattle.records.specs.Layouts.{import, within}
+use Rattle.records.specs.Inner.{guarded}
+use Rattle.records.proofs.Step.{next, test, last}
+use native.Mathlib.Omega.{arith}
+use borrow.Author.Needs.{needs}
+use Rattle.records.proofs.layouts.import_then.Statement.{statement}
+use Rattle.records.proofs.layouts.import_then.Tie as tie
+use Rattle.records.proofs.layouts.import_then.Reads as reads
+use Rattle.records.proofs.layouts.import_then.Lts as lts
+use Rattle.records.proofs.fields.guard_end.Reads as guard-end-reads
+use Rattle.records.proofs.lists.last_quantity.Reads as last-quantity-reads
+use Rattle.records.proofs.lists.list_then.Reads as list-then-reads
+use Rattle.records.proofs.rows.quantities_then.Reads as quantities-then-reads
+use Rattle.records.proofs.rows.within.Reads as within-reads
+
+quantities-then-requires : tie.Need-quantities-then-requires
+quantities-then-requires c κs = search needs
+
+list-then-requires : tie.Need-list-then-requires
+list-then-requires c κs = search needs
+
+last-quantity-requires : tie.Need-last-quantity-requires
+last-quantity-requires c κs = (c .before .before .list-then) .ensures .few
+
+within-requires : tie.Need-within-requires
+within-requires c κs = search needs
+
+guard-end-requires : tie.Need-guard-end-requires
+guard-end-requires c κs = search needs
+
+returns : tie.Need-returns
+unfolding import
+returns c =
+    let s = (c .before .before .before .before .before .before .before .before .args) .s .now in
+    let v = (c .before .before .before .before .before .before .quantities-then) .result in
+    let o = (c .before .before .before .before .before .list-then) .result in
+    let ok = within (o .offer) (v .values) in
+    rw ((c .guard-end) .ensures, (c .before .within) .ensures, (c .before .before .last-quantity) .ensures)
+    (sym (next s ((c .before .before .before .before .before .before .before .before .args) .e) (v .end) (v .values) (many 12 quantity) _ ((c .before .before .before .before .before .before .quantities-then) .ensures)
+    ∙ next s (v .end) (o .end) (o .offer) (listFrom 1) _ ((c .before .before .before .before .before .list-then) .ensures .value)
+    ∙ test s (o .end) ok 7 _
+    ∙ last s (guarded (o .end) ok 7) _))
+
+pub import-then-spec : {M : Type 1} → statement M
+import-then-spec =
+    tie.close
+    (tie.spec
+    quantities-then-requires
+    list-then-requires
+    last-quantity-requires
+    within-requires
+    guard-end-requires
+    returns)

@@ -1,0 +1,67 @@
+use mathlib.Core.Path.{_≡_, sym, _∙_}
+use Rattle.records.specs.Reading.{many}
+use Rattle.records.specs.Numbers.{quantity, amount}
+use Rattle.records.specs.Layouts.{schedules}
+use Rattle.records.proofs.Step.{next, last}
+use native.Mathlib.Omega.{arith}
+use borrow.Author.Needs.{needs}
+use Rattle.records.proofs.layouts.schedules_then.Statement.{statement}
+use Rattle.records.proofs.layouts.schedules_then.Tie as tie
+use Rattle.records.proofs.layouts.schedules_then.Reads as reads
+use Rattle.records.proofs.layouts.schedules_then.Lts as lts
+use Rattle.records.proofs.fields.amount_then.Reads as amount-then-reads
+use Rattle.records.proofs.rows.quantities_then.Reads as quantities-then-reads
+
+amount-then-requires : tie.Need-amount-then-requires
+amount-then-requires c κs = search needs
+
+amount-then-requires-2 : tie.Need-amount-then-requires-2
+amount-then-requires-2 c κs = search needs
+
+quantities-then-requires : tie.Need-quantities-then-requires
+quantities-then-requires c κs = search needs
+
+quantities-then-requires-2 : tie.Need-quantities-then-requires-2
+quantities-then-requires-2 c κs = search needs
+
+quantities-then-requires-3 : tie.Need-quantities-then-requires-3
+quantities-then-requires-3 c κs = search needs
+
+quantities-then-requires-4 : tie.Need-quantities-then-requires-4
+quantities-then-requires-4 c κs = search needs
+
+quantities-then-requires-5 : tie.Need-quantities-then-requires-5
+quantities-then-requires-5 c κs = search needs
+
+returns : tie.Need-returns
+unfolding schedules
+returns c =
+    let s = (c .before .before .before .before .before .before .before .before .before .before .before .before .before .args) .s .now in
+    let a = (c .before .before .before .before .before .before .before .before .before .before .before .amount-then) .result in
+    let b = (c .before .before .before .before .before .before .before .before .before .before .amount-then2) .result in
+    let v2 = (c .before .before .before .before .before .before .before .before .before .quantities-then) .result in
+    let v3 = (c .before .before .before .before .before .before .before .before .quantities-then2) .result in
+    let v4 = (c .before .before .before .before .before .before .before .quantities-then3) .result in
+    let v5 = (c .before .before .before .before .before .before .quantities-then4) .result in
+    let v6 = (c .before .before .before .before .before .quantities-then5) .result in
+    sym (next s ((c .before .before .before .before .before .before .before .before .before .before .before .before .before .args) .e) (a .end) (a .value) amount _ ((c .before .before .before .before .before .before .before .before .before .before .before .amount-then) .ensures)
+    ∙ next s (a .end) (b .end) (b .value) amount _ ((c .before .before .before .before .before .before .before .before .before .before .amount-then2) .ensures)
+    ∙ next s (b .end) (v2 .end) (v2 .values) (many 12 quantity) _ ((c .before .before .before .before .before .before .before .before .before .quantities-then) .ensures)
+    ∙ next s (v2 .end) (v3 .end) (v3 .values) (many 12 quantity) _ ((c .before .before .before .before .before .before .before .before .quantities-then2) .ensures)
+    ∙ next s (v3 .end) (v4 .end) (v4 .values) (many 12 quantity) _ ((c .before .before .before .before .before .before .before .quantities-then3) .ensures)
+    ∙ next s (v4 .end) (v5 .end) (v5 .values) (many 12 quantity) _ ((c .before .before .before .before .before .before .quantities-then4) .ensures)
+    ∙ next s (v5 .end) (v6 .end) (v6 .values) (many 12 quantity) _ ((c .before .before .before .before .before .quantities-then5) .ensures)
+    ∙ last s (v6 .end) _)
+
+pub schedules-then-spec : {M : Type 1} → statement M
+schedules-then-spec =
+    tie.close
+    (tie.spec
+    amount-then-requires
+    amount-then-requires-2
+    quantities-then-requires
+    quantities-then-requires-2
+    quantities-then-requires-3
+    quantities-then-requires-4
+    quantities-then-requires-5
+    returns)

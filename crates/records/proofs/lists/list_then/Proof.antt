@@ -1,0 +1,31 @@
+use native.Mathlib.Omega.{arith}
+use borrow.Author.Needs.{needs}
+use Rattle.records.proofs.lists.list_then.Statement.{statement}
+use Rattle.records.proofs.lists.list_then.Tie as tie
+use Rattle.records.proofs.lists.list_then.Reads as reads
+use Rattle.records.proofs.lists.list_then.Lts as lts
+use Rattle.records.proofs.lists.offer_no.Reads as offer-no-reads
+use Rattle.records.proofs.lists.read_list.Reads as read-list-reads
+
+enum-known-e : tie.Need-enum-known-e
+enum-known-e c = search needs
+
+read-list-requires : tie.Need-read-list-requires
+read-list-requires c κs = search needs
+
+enum-known-e-2 : tie.Need-enum-known-e-2
+enum-known-e-2 c = search needs
+
+offer-no-requires : tie.Need-offer-no-requires
+offer-no-requires c κs = search needs
+
+returns : tie.Need-returns
+returns c = record { value = rw ((c .before .before .e) .given .1) ((c .read-list) .ensures .value); few = (c .read-list) .ensures .few }
+
+returns-2 : tie.Need-returns-2
+returns-2 c = record { value = rw ((c .offer-no) .ensures .0, (c .before .before .e2) .given .1); few = omega (arith, (c .offer-no) .ensures .1) }
+
+pub list-then-spec : {M : Type 1} → statement M
+list-then-spec =
+    tie.close
+    (tie.spec enum-known-e read-list-requires enum-known-e-2 offer-no-requires returns returns-2)

@@ -1,0 +1,99 @@
+use Rattle.records.specs.Numbers.{listFrom}
+use borrow.Author.Tests.{le-leb, lt-leb}
+use native.Mathlib.Omega.{arith}
+use borrow.Author.Needs.{needs}
+use Rattle.records.proofs.lists.read_list.Statement.{statement}
+use Rattle.records.proofs.lists.read_list.Tie as tie
+use Rattle.records.proofs.lists.read_list.Reads as reads
+use Rattle.records.proofs.lists.read_list.Lts as lts
+use Rattle.records.proofs.fields.read_byte.Reads as read-byte-reads
+use Rattle.records.proofs.lists.list_ok.Reads as list-ok-reads
+use Rattle.records.proofs.lists.offer_no.Reads as offer-no-reads
+use Rattle.records.proofs.lists.read_pairs.Reads as read-pairs-reads
+
+read-byte-requires : tie.Need-read-byte-requires
+read-byte-requires c κs = search needs
+
+enum-known-c : tie.Need-enum-known-c
+enum-known-c c = search needs
+
+offer-no-requires : tie.Need-offer-no-requires
+offer-no-requires c κs = search needs
+
+returns : tie.Need-returns
+unfolding listFrom
+returns c = record { value = rw ((c .offer-no) .ensures .0, ← (c .before .before .before .before .before .read-byte) .ensures, (c .before .before .before .c) .given .1, lt-leb _ _ ((c .before .if1) .taken)); few = omega (arith, (c .offer-no) .ensures .1) }
+
+offer-no-requires-2 : tie.Need-offer-no-requires-2
+offer-no-requires-2 c κs = search needs
+
+returns-2 : tie.Need-returns-2
+unfolding listFrom
+returns-2 c = record { value = rw ((c .offer-no2) .ensures .0, ← (c .before .before .before .before .before .before .read-byte) .ensures, (c .before .before .before .before .c) .given .1, le-leb _ _ ((c .before .before .if1) .left), lt-leb _ _ ((c .before .if2) .taken)); few = omega (arith, (c .offer-no2) .ensures .1) }
+
+cast-read-pairs : tie.Need-cast-read-pairs
+cast-read-pairs c = search needs
+
+read-pairs-requires : tie.Need-read-pairs-requires
+read-pairs-requires c κs = search needs
+
+enum-known-e : tie.Need-enum-known-e
+enum-known-e c = search needs
+
+list-ok-requires : tie.Need-list-ok-requires
+list-ok-requires c κs = search needs
+
+offer-no-requires-3 : tie.Need-offer-no-requires-3
+offer-no-requires-3 c κs = search needs
+
+enum-known-e-2 : tie.Need-enum-known-e-2
+enum-known-e-2 c = search needs
+
+offer-no-requires-4 : tie.Need-offer-no-requires-4
+offer-no-requires-4 c κs = search needs
+
+enum-known-c-2 : tie.Need-enum-known-c-2
+enum-known-c-2 c = search needs
+
+offer-no-requires-5 : tie.Need-offer-no-requires-5
+offer-no-requires-5 c κs = search needs
+
+returns-3 : tie.Need-returns-3
+unfolding listFrom
+returns-3 c = record { value = rw (← (c .before .before .before .before .before .before .before .before .before .before .before .before .read-byte) .ensures, (c .before .before .before .before .before .before .before .before .before .before .c) .given .1, le-leb _ _ ((c .before .before .before .before .before .before .before .before .if1) .left), le-leb _ _ ((c .before .before .before .before .before .before .before .if2) .left), ← (c .before .before .before .before .before .before .read-pairs) .ensures .value, (c .before .before .before .before .e) .given .1, ← (c .before .list-ok) .ensures, (c .if3) .taken); few = (c .before .before .before .before .before .before .read-pairs) .ensures .few }
+
+returns-4 : tie.Need-returns-4
+unfolding listFrom
+returns-4 c = record { value = rw ((c .offer-no3) .ensures .0, ← (c .before .before .before .before .before .before .before .before .before .before .before .before .before .read-byte) .ensures, (c .before .before .before .before .before .before .before .before .before .before .before .c) .given .1, le-leb _ _ ((c .before .before .before .before .before .before .before .before .before .if1) .left), le-leb _ _ ((c .before .before .before .before .before .before .before .before .if2) .left), ← (c .before .before .before .before .before .before .before .read-pairs) .ensures .value, (c .before .before .before .before .before .e) .given .1, ← (c .before .before .list-ok) .ensures, (c .before .if3) .left); few = omega (arith, (c .offer-no3) .ensures .1) }
+
+returns-5 : tie.Need-returns-5
+unfolding listFrom
+returns-5 c = record { value = rw ((c .offer-no4) .ensures .0, ← (c .before .before .before .before .before .before .before .before .before .before .read-byte) .ensures, (c .before .before .before .before .before .before .before .before .c) .given .1, le-leb _ _ ((c .before .before .before .before .before .before .if1) .left), le-leb _ _ ((c .before .before .before .before .before .if2) .left), ← (c .before .before .before .before .read-pairs) .ensures .value, (c .before .before .e2) .given .1); few = omega (arith, (c .offer-no4) .ensures .1) }
+
+returns-6 : tie.Need-returns-6
+unfolding listFrom
+returns-6 c = record { value = rw ((c .offer-no5) .ensures .0, ← (c .before .before .before .before .read-byte) .ensures, (c .before .before .c2) .given .1); few = omega (arith, (c .offer-no5) .ensures .1) }
+
+pub read-list-spec : {M : Type 1} → statement M
+read-list-spec =
+    tie.close
+    (tie.spec
+    read-byte-requires
+    enum-known-c
+    offer-no-requires
+    returns
+    offer-no-requires-2
+    returns-2
+    cast-read-pairs
+    read-pairs-requires
+    enum-known-e
+    list-ok-requires
+    offer-no-requires-3
+    enum-known-e-2
+    offer-no-requires-4
+    enum-known-c-2
+    offer-no-requires-5
+    returns-3
+    returns-4
+    returns-5
+    returns-6)

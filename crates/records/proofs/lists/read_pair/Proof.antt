@@ -1,0 +1,53 @@
+use Rattle.records.specs.Numbers.{pair}
+use native.Mathlib.Omega.{arith}
+use borrow.Author.Needs.{needs}
+use Rattle.records.proofs.lists.read_pair.Statement.{statement}
+use Rattle.records.proofs.lists.read_pair.Tie as tie
+use Rattle.records.proofs.lists.read_pair.Reads as reads
+use Rattle.records.proofs.lists.read_pair.Lts as lts
+use Rattle.records.proofs.fields.read_price.Reads as read-price-reads
+use Rattle.records.proofs.fields.read_quantity.Reads as read-quantity-reads
+
+read-price-requires : tie.Need-read-price-requires
+read-price-requires c κs = search needs
+
+enum-known-p : tie.Need-enum-known-p
+enum-known-p c = search needs
+
+read-quantity-requires : tie.Need-read-quantity-requires
+read-quantity-requires c κs = search needs
+
+enum-known-q : tie.Need-enum-known-q
+enum-known-q c = search needs
+
+enum-known-q-2 : tie.Need-enum-known-q-2
+enum-known-q-2 c = search needs
+
+enum-known-p-2 : tie.Need-enum-known-p-2
+enum-known-p-2 c = search needs
+
+returns : tie.Need-returns
+unfolding pair
+returns c = rw (← (c .before .before .before .before .before .before .before .read-price) .ensures, (c .before .before .before .before .before .p) .given .1, ← (c .before .before .before .read-quantity) .ensures, (c .before .q) .given .1)
+
+returns-2 : tie.Need-returns-2
+unfolding pair
+returns-2 c = rw (← (c .before .before .before .before .before .before .before .read-price) .ensures, (c .before .before .before .before .before .p) .given .1, ← (c .before .before .before .read-quantity) .ensures, (c .before .q2) .given .1)
+
+returns-3 : tie.Need-returns-3
+unfolding pair
+returns-3 c = rw (← (c .before .before .before .read-price) .ensures, (c .before .p2) .given .1)
+
+pub read-pair-spec : {M : Type 1} → statement M
+read-pair-spec =
+    tie.close
+    (tie.spec
+    read-price-requires
+    enum-known-p
+    read-quantity-requires
+    enum-known-q
+    enum-known-q-2
+    enum-known-p-2
+    returns
+    returns-2
+    returns-3)

@@ -1,0 +1,60 @@
+use mathlib.Core.Path.{_≡_, refl, sym, _∙_}
+use mathlib.Core.Bool.{true, false}
+use Rattle.records.proofs.Head.{head-short, head-is}
+use native.Mathlib.Omega.{arith}
+use borrow.Author.Needs.{needs}
+use Rattle.records.proofs.marks.head_at.Statement.{statement}
+use Rattle.records.proofs.marks.head_at.Tie as tie
+use Rattle.records.proofs.marks.head_at.Reads as reads
+use Rattle.records.proofs.marks.head_at.Lts as lts
+use Rattle.records.proofs.marks.inside_at.Reads as inside-at-reads
+use Rattle.records.proofs.marks.is.Reads as is-reads
+
+returns : tie.Need-returns
+returns c = head-short ((c .before .before .args) .want) ((c .before .before .args) .s .now) ((c .if1) .taken)
+
+shared-slice-read-a : tie.Need-shared-slice-read-a
+shared-slice-read-a c = search needs
+
+shared-slice-read-b : tie.Need-shared-slice-read-b
+shared-slice-read-b c = search needs
+
+is-requires : tie.Need-is-requires
+is-requires c κs = search needs
+
+inside-at-requires : tie.Need-inside-at-requires
+inside-at-requires c κs = search needs
+
+returns-2 : tie.Need-returns-2
+returns-2 c = (c .inside-at) .ensures ∙ head-is ((c .before .before .before .before .before .before .before .args) .want) ((c .before .before .before .before .before .before .before .args) .s .now) ((c .before .before .before .before .before .if1) .left) true _ (sym ((c .before .before .is) .ensures) ∙ (c .before .if2) .taken) refl
+
+is-requires-2 : tie.Need-is-requires-2
+is-requires-2 c κs = search needs
+
+inside-at-requires-2 : tie.Need-inside-at-requires-2
+inside-at-requires-2 c κs = search needs
+
+returns-3 : tie.Need-returns-3
+returns-3 c = (c .inside-at2) .ensures ∙ head-is ((c .before .before .before .before .before .before .before .before .before .args) .want) ((c .before .before .before .before .before .before .before .before .before .args) .s .now) ((c .before .before .before .before .before .before .before .if1) .left) false true (sym ((c .before .before .before .before .is) .ensures) ∙ (c .before .before .before .if2) .left) (sym ((c .before .before .is2) .ensures) ∙ (c .before .if3) .taken)
+
+inside-at-requires-3 : tie.Need-inside-at-requires-3
+inside-at-requires-3 c κs = search needs
+
+returns-4 : tie.Need-returns-4
+returns-4 c = (c .inside-at3) .ensures ∙ head-is ((c .before .before .before .before .before .before .before .before .before .args) .want) ((c .before .before .before .before .before .before .before .before .before .args) .s .now) ((c .before .before .before .before .before .before .before .if1) .left) false false (sym ((c .before .before .before .before .is) .ensures) ∙ (c .before .before .before .if2) .left) (sym ((c .before .before .is2) .ensures) ∙ (c .before .if3) .left)
+
+pub head-at-spec : {M : Type 1} → statement M
+head-at-spec =
+    tie.close
+    (tie.spec
+    returns
+    shared-slice-read-a
+    shared-slice-read-b
+    is-requires
+    inside-at-requires
+    returns-2
+    is-requires-2
+    inside-at-requires-2
+    returns-3
+    inside-at-requires-3
+    returns-4)

@@ -1,0 +1,31 @@
+use native.Mathlib.Omega.{arith}
+use borrow.Author.Needs.{needs}
+use Rattle.records.proofs.names.name_field_then.Statement.{statement}
+use Rattle.records.proofs.names.name_field_then.Tie as tie
+use Rattle.records.proofs.names.name_field_then.Reads as reads
+use Rattle.records.proofs.names.name_field_then.Lts as lts
+use Rattle.records.proofs.names.name_no.Reads as name-no-reads
+use Rattle.records.proofs.names.read_name.Reads as read-name-reads
+
+enum-known-e : tie.Need-enum-known-e
+enum-known-e c = search needs
+
+read-name-requires : tie.Need-read-name-requires
+read-name-requires c κs = search needs
+
+enum-known-e-2 : tie.Need-enum-known-e-2
+enum-known-e-2 c = search needs
+
+name-no-requires : tie.Need-name-no-requires
+name-no-requires c κs = search needs
+
+returns : tie.Need-returns
+returns c = record { value = rw ((c .before .before .e) .given .1) ((c .read-name) .ensures .value); few = (c .read-name) .ensures .few }
+
+returns-2 : tie.Need-returns-2
+returns-2 c = record { value = rw ((c .name-no) .ensures .0, (c .before .before .e2) .given .1); few = omega (arith, (c .name-no) .ensures .1) }
+
+pub name-field-then-spec : {M : Type 1} → statement M
+name-field-then-spec =
+    tie.close
+    (tie.spec enum-known-e read-name-requires enum-known-e-2 name-no-requires returns returns-2)

@@ -1,0 +1,59 @@
+use mathlib.Core.Path.{_≡_, sym, ap, _∙_}
+use Rattle.records.specs.Numbers.{hour}
+use Rattle.records.specs.Changes.{head, nameFor}
+use Rattle.records.specs.Inner.{then, guarded}
+use Rattle.records.specs.Views.{sameMark, ahead}
+use Rattle.records.specs.declared.marks.Kind.the-variants.{File}
+use Rattle.records.proofs.Step.{first, next, test, last}
+use borrow.Author.Needs.{needs}
+use native.Mathlib.Omega.{arith}
+use Rattle.records.proofs.views.fields_at.Statement.{statement}
+use Rattle.records.proofs.views.fields_at.Tie as tie
+use Rattle.records.proofs.views.fields_at.Reads as reads
+use Rattle.records.proofs.views.fields_at.Lts as lts
+use Rattle.records.proofs.changes.name_then.Reads as name-then-reads
+use Rattle.records.proofs.fields.guard_end.Reads as guard-end-reads
+use Rattle.records.proofs.fields.hour_then.Reads as hour-then-reads
+use Rattle.records.proofs.marks.head_at.Reads as head-at-reads
+use Rattle.records.proofs.views.same_mark.Reads as same-mark-reads
+
+head-at-requires : tie.Need-head-at-requires
+head-at-requires c κs = search needs
+
+same-mark-requires : tie.Need-same-mark-requires
+same-mark-requires c κs = search needs
+
+guard-end-requires : tie.Need-guard-end-requires
+guard-end-requires c κs = search needs
+
+hour-then-requires : tie.Need-hour-then-requires
+hour-then-requires c κs = search needs
+
+name-then-requires : tie.Need-name-then-requires
+name-then-requires c κs = search needs
+
+returns : tie.Need-returns
+unfolding ahead
+returns c =
+    let s = (c .before .before .before .before .before .before .args) .s .now in
+    let h = (c .before .before .before .before .head-at) .result in
+    let o = (c .before .hour-then) .result in
+    let n = (c .name-then) .result in
+    let ok = sameMark (h .mark) ((c .before .before .before .before .before .before .args) .mark) in
+    let g = (c .before .before .guard-end) .ensures ∙ ap (λ b. guarded (h .end) b 2) ((c .before .before .before .same-mark) .ensures) in
+    sym (first s (h .end) (record { kind = h .kind; mark = h .mark }) (head 1 s) _ ((c .before .before .before .before .head-at) .ensures)
+    ∙ test s (h .end) ok 2 _
+    ∙ next s (guarded (h .end) ok 2) (o .end) (o .hour) hour _ ((c .before .hour-then) .ensures ∙ ap (λ d. then s d hour) g)
+    ∙ next s (o .end) (n .end) (n .name) (nameFor File ((c .before .before .before .before .before .before .args) .mark)) _ ((c .name-then) .ensures .value)
+    ∙ last s (n .end) tt)
+
+pub fields-at-spec : {M : Type 1} → statement M
+fields-at-spec =
+    tie.close
+    (tie.spec
+    head-at-requires
+    same-mark-requires
+    guard-end-requires
+    hour-then-requires
+    name-then-requires
+    returns)

@@ -1,0 +1,23 @@
+use Rattle.records.proofs.Out.{head-length, wrote-front}
+use native.Mathlib.Omega.{arith}
+use borrow.Author.Needs.{needs}
+use Rattle.records.proofs.writing.head_of.Statement.{statement}
+use Rattle.records.proofs.writing.head_of.Tie as tie
+use Rattle.records.proofs.writing.head_of.Reads as reads
+use Rattle.records.proofs.writing.head_of.Lts as lts
+use Rattle.records.proofs.writing.write_head.Reads as write-head-reads
+
+slice-aggregate-write-head : tie.Need-slice-aggregate-write-head
+slice-aggregate-write-head c = search needs
+
+write-head-requires : tie.Need-write-head-requires
+write-head-requires c κs = search needs
+
+returns : tie.Need-returns
+returns c =
+    let l = head-length ((c .before .before .before .args) .kind) ((c .before .before .before .args) .key) (search needs) in
+    let w = wrote-front ((c .before .write-head) .ensures) l in
+    record { bytes = w .0; len = w .1; few = omega (arith, w .1, l) }
+
+pub head-of-spec : {M : Type 1} → statement M
+head-of-spec = tie.close (tie.spec slice-aggregate-write-head write-head-requires returns)

@@ -1,0 +1,25 @@
+-- The laws of records that upper layers cite, and no others. Their statements stand where they are proved.
+
+-- what is written is scanned back, whatever follows it; what is scanned is the written form of a change that may stand
+pub use Rattle.records.specs.ChangeLaws.{scan-write, Found, scan-got}
+-- a change that an argument is may be written, and is of the kind asked for; no fault is 0
+pub use Rattle.records.specs.ChangeLaws.{Taken, parse-fine, parse-fault}
+-- the written length is above 0; a correction's bytes behind its mark are the filed record's, which may stand too
+pub use Rattle.records.specs.ChangeLaws.{write-pos, write-co, good-co}
+-- what the view of some bytes says of them
+pub use Rattle.records.specs.ChangeLaws.{kind-pos, Read, view-bad, view-got}
+-- a mark by itself
+pub use Rattle.records.specs.ChangeLaws.{bare-exact}
+-- any mark, and changes one after the other
+pub use Rattle.records.specs.EntryLaws.{Ahead, entry-got, entry-fault, any-fault, any-good, alone, asEntry, any-back, any-close, any-change}
+-- keys, and the key of a question
+pub use Rattle.records.specs.KeyLaws.{same-true, same-refl, sameHour-same, askBytes, asked, ask-fault, askFailure-fault, askHour-fault, name-fault}
+-- bytes written at a place
+pub use Rattle.records.specs.PutLaws.{put-length, put-whole, put-front}
+-- typed views are what was read, and keep the money rules' ranges
+pub use Rattle.records.specs.ViewLaws.{prices-view, import-view, export-view, unit-view, failed-import-view, failed-export-view}
+-- the amounts of a written record are those of its fields
+pub use Rattle.records.specs.ViewLaws.{credit-view, unit-amount-view, failed-import-charge, failed-export-charge}
+pub use Rattle.records.specs.FitLaws.{PricesFit, ImportFits, FailureFits, Listed, ReserveFits, UnitFits, standing-prices, standing-import, standing-export, standing-unit, standing-failed-import, standing-failed-export}
+-- names
+pub use Rattle.records.specs.NameLaws.{Visible, Valid, decoded-valid, spelled-back, spelled-short, one-name, spelling-full}

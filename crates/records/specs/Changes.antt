@@ -1,0 +1,262 @@
+-- 01, "Records" and "Numbers a call can bring back": changes, read and written. Assumes nothing.
+use mathlib.Core.Path.{_≡_}
+use mathlib.Core.List.{List, [], _∷_, _++_}
+use mathlib.Core.Bool.{Bool, true, false, cond, _&&_, _||_}
+use Prim.Native.Nat.{ℕ, _+_, _-_}
+use lib.Dec.{leb, eqb}
+use lib.ListN.{length}
+use lib.Seq.{sets}
+use Rattle.money.specs.Refusals.{endsEarly, unknownMark, badName, leftOver, noSpace}
+use Rattle.money.specs.declared.names.Name.{Name}
+use Rattle.records.specs.Reading.{Res, bad, got, Reader, _>>=_, check, byte}
+use Rattle.records.specs.Numbers.{hour}
+use Rattle.records.specs.Names.{spell, nameField, nameOf, noOne, bytesOf, held}
+use Rattle.records.specs.Marks.{is, markBytes, mark, hasName}
+use Rattle.records.specs.Layouts.{layout, taken}
+use Rattle.records.specs.declared.marks.Mark.{Mark}
+use Rattle.records.specs.declared.marks.Mark.the-variants.{Pr}
+use Rattle.records.specs.declared.marks.Kind.{Kind}
+use Rattle.records.specs.declared.marks.Kind.the-variants.{File, Correct, Withdraw}
+use Rattle.records.specs.declared.keys.Key.{Key}
+use Rattle.records.specs.declared.scan.View.{View}
+use Rattle.records.specs.declared.parse.Parsed.{Parsed}
+use Rattle.records.specs.declared.parse.Front.{Front}
+
+-- a record: "Key: mark, hour, decoded name", and its fields as they stand in the bytes
+pub record Rec : Type 0 where
+  pub key : Key
+  pub body : List ℕ
+
+-- "Filing adds a record; `CO` replaces the one of its key; `WD` removes it"
+pub data Change : Type 0 where
+  filed : Rec → Change
+  corrected : Rec → Change
+  withdrawn : Key → Change
+
+abbrev pub keyOf : Change → Key
+keyOf (filed r) = r .key
+keyOf (corrected r) = r .key
+keyOf (withdrawn k) = k
+
+abbrev pub kind : Change → Kind
+kind (filed r) = File
+kind (corrected r) = Correct
+kind (withdrawn k) = Withdraw
+
+abbrev pub bodyOf : Change → List ℕ
+bodyOf (filed r) = r .body
+bodyOf (corrected r) = r .body
+bodyOf (withdrawn k) = []
+
+abbrev pub made : Kind → Key → List ℕ → Change
+made File k b = filed (record { key = k; body = b })
+made Correct k b = corrected (record { key = k; body = b })
+made Withdraw k b = withdrawn k
+
+-- ---- marks of changes
+
+abbrev pub leadBytes : Kind → List ℕ
+leadBytes File = []
+leadBytes Correct = 67 ∷ 79 ∷ []
+leadBytes Withdraw = 87 ∷ 68 ∷ []
+
+abbrev pub takeBackBytes : List ℕ
+takeBackBytes = 84 ∷ 66 ∷ []
+
+abbrev pub closeBytes : List ℕ
+closeBytes = 67 ∷ 76 ∷ []
+
+-- a kind of change as the number under which the code asks for it and answers it
+abbrev pub number : Kind → ℕ
+number File = 1
+number Correct = 2
+number Withdraw = 3
+
+abbrev pub takeBackNumber : ℕ
+takeBackNumber = 4
+
+abbrev pub closeNumber : ℕ
+closeNumber = 5
+
+abbrev pub kindOf : Change → ℕ
+kindOf c = number (kind c)
+
+-- ---- reading
+
+-- a change is asked for by its kind's number, or by 0 where any will do
+abbrev pub allowed : ℕ → Kind → Bool
+allowed want k = eqb want 0 || eqb want (number k)
+
+pub record Head : Type 0 where
+  pub kind : Kind
+  pub mark : Mark
+
+-- "unknown mark, or not allowed inside `CO` or `WD`"; another method's mark is refused before what stands behind it
+abbrev pub inside : ℕ → Kind → Reader Head
+inside want k s = check (allowed want k) unknownMark (mark s >>= λ m t. got (record { kind = k; mark = m }) t)
+
+-- "`CO`: one of the six above. `WD`: mark of one of the six"
+unfoldable pub head : ℕ → Reader Head
+head want [] = bad endsEarly
+head want (a ∷ []) = bad endsEarly
+head want (a ∷ b ∷ s) =
+    cond (is (leadBytes Correct) a b) (inside want Correct s)
+    (cond (is (leadBytes Withdraw) a b) (inside want Withdraw s) (inside want File (a ∷ b ∷ s)))
+
+-- "for `PR` the length byte 0; another there, or 0 elsewhere, gives 4"
+abbrev pub nameless : Kind → Reader Name
+nameless File s = got noOne s
+nameless Correct s = got noOne s
+nameless Withdraw s = byte s >>= λ n t. check (eqb n 0) badName (got noOne t)
+
+unfoldable pub nameFor : Kind → Mark → Reader Name
+nameFor k m s = cond (hasName m) (held (nameField s)) (nameless k s)
+
+-- "`WD`: mark of one of the six, hour, name": no fields
+unfoldable pub bodyFor : Kind → Mark → Reader (List ℕ)
+bodyFor File m s = taken (layout m) s
+bodyFor Correct m s = taken (layout m) s
+bodyFor Withdraw m s = got [] s
+
+-- hour, name, fields
+unfoldable pub rest : Head → Reader Change
+rest h s =
+    hour s >>= λ o t. nameFor (h .kind) (h .mark) t >>= λ n u. bodyFor (h .kind) (h .mark) u >>= λ b v.
+    got (made (h .kind) (record { mark = h .mark; hour = o; name = n }) b) v
+
+unfoldable pub change : ℕ → Reader Change
+change want s = head want s >>= λ h t. rest h t
+
+-- any of the ten marks; "`TB`, `CL`: mark only"
+pub data Entry : Type 0 where
+  changed : Change → Entry
+  takingBack : Entry
+  closing : Entry
+
+unfoldable pub entry : Reader Entry
+entry [] = bad endsEarly
+entry (a ∷ []) = bad endsEarly
+entry (a ∷ b ∷ s) =
+    cond (is takeBackBytes a b) (got takingBack s)
+    (cond (is closeBytes a b) (got closing s) (change 0 (a ∷ b ∷ s) >>= λ c t. got (changed c) t))
+
+-- ---- what an argument is: any spelling, and "bytes left over" give 8
+
+pub data Input (A : Type 0) : Type 0 where
+  fine : A → Input A
+  fault : ℕ → Input A
+
+abbrev pub whole : {A : Type 0} → Res A → Input A
+whole (bad k) = fault k
+whole (got a []) = fine a
+whole (got a (x ∷ t)) = fault leftOver
+
+-- the change of a kind, by the method that takes it
+unfoldable pub parse : ℕ → List ℕ → Input Change
+parse want s = whole (change want s)
+
+-- the change of any mark, by the call that takes them all
+unfoldable pub parseAny : List ℕ → Input Entry
+parseAny s = whole (entry s)
+
+-- a mark by itself: the number of the first fault, 0 for none
+unfoldable pub bare : List ℕ → List ℕ → ℕ
+bare m [] = endsEarly
+bare m (a ∷ []) = endsEarly
+bare m (a ∷ b ∷ s) = cond (is m a b) (cond (eqb (length s) 0) 0 leftOver) unknownMark
+
+-- ---- writing
+
+abbrev pub noName : Kind → List ℕ
+noName File = []
+noName Correct = []
+noName Withdraw = 0 ∷ []
+
+unfoldable pub nameBytes : Kind → Mark → Name → List ℕ
+nameBytes k m n = cond (hasName m) (length (spell (bytesOf n)) ∷ spell (bytesOf n)) (noName k)
+
+unfoldable pub headBytes : Kind → Key → List ℕ
+headBytes k x = leadBytes k ++ (markBytes (x .mark) ++ (x .hour ∷ nameBytes k (x .mark) (x .name)))
+
+-- the one written form: only a name has several spellings, so the fields stand as they were read
+unfoldable pub write : Change → List ℕ
+write c = headBytes (kind c) (keyOf c) ++ bodyOf c
+
+-- d with xs over its bytes from a place on
+unfoldable pub put : List ℕ → ℕ → List ℕ → List ℕ
+put d at xs = sets d at xs
+
+abbrev pub fits : Change → ℕ → List ℕ → Bool
+fits c at d = leb (at + length (write c)) (length d)
+
+-- an argument's change written at a place of lent bytes: its fault, or 13 where it does not fit, and then the bytes remain
+abbrev pub putNumber : Input Change → ℕ → List ℕ → ℕ
+putNumber (fault k) at d = k
+putNumber (fine c) at d = cond (fits c at d) 0 noSpace
+
+abbrev pub putBytes : Input Change → ℕ → List ℕ → List ℕ
+putBytes (fault k) at d = d
+putBytes (fine c) at d = cond (fits c at d) (put d at (write c)) d
+
+-- ---- what stands in a book: "the used part is the register's list as written"
+
+-- a change and its length, or nothing that is written so
+pub data Scan : Type 0 where
+  seen : Change → ℕ → Scan
+  blind : Scan
+
+abbrev pub begins : List ℕ → List ℕ → Bool
+begins [] s = true
+begins (x ∷ xs) [] = false
+begins (x ∷ xs) (y ∷ s) = eqb x y && begins xs s
+
+abbrev pub written : List ℕ → Res Change → Scan
+written s (bad k) = blind
+written s (got c t) = cond (begins (write c) s) (seen c (length (write c))) blind
+
+-- the change that bytes begin with, byte for byte as it is written
+unfoldable pub scan : List ℕ → Scan
+scan s = written s (change 0 s)
+
+-- a change that is read back wherever it is written
+unfoldable pub Good : Change → Type 0
+Good c = (t : List ℕ) → change 0 (write c ++ t) ≡ got c t
+
+-- ---- what the code answers
+
+abbrev pub noKey : Key
+noKey = record { mark = Pr; hour = 0; name = noOne }
+
+-- kind 0: nothing
+abbrev pub viewOf : Scan → View
+viewOf (seen c n) = record { kind = kindOf c; key = keyOf c; len = n }
+viewOf blind = record { kind = 0; key = noKey; len = 0 }
+
+abbrev pub entryView : Entry → View
+entryView (changed c) = viewOf (seen c (length (write c)))
+entryView takingBack = record { kind = takeBackNumber; key = noKey; len = 0 }
+entryView closing = record { kind = closeNumber; key = noKey; len = 0 }
+
+-- a reader's result with its change as the code answers it
+abbrev pub changeView : Res Change → Res View
+changeView r = r >>= λ c t. got (viewOf (seen c (length (write c)))) t
+
+abbrev pub entryRead : Res Entry → Res View
+entryRead r = r >>= λ x t. got (entryView x) t
+
+abbrev pub parsedOf : Input Change → Parsed
+parsedOf (fine c) = record { number = 0; view = viewOf (seen c (length (write c))) }
+parsedOf (fault n) = record { number = n; view = viewOf blind }
+
+abbrev pub entryOf : Input Entry → Parsed
+entryOf (fine x) = record { number = 0; view = entryView x }
+entryOf (fault n) = record { number = n; view = viewOf blind }
+
+-- the first of several changes, and the place where it ends
+abbrev pub frontOf : List ℕ → Res Entry → Front
+frontOf s (bad n) = record { number = n; view = viewOf blind; end = 0 }
+frontOf s (got x t) = record { number = 0; view = entryView x; end = length s - length t }
+
+abbrev pub inputBytes : Input Change → List ℕ
+inputBytes (fine c) = write c
+inputBytes (fault n) = []

@@ -1,0 +1,158 @@
+-- What the values that inner functions return say. No definition of 01 stands here. Assumes nothing.
+use mathlib.Core.Path.{_≡_}
+use mathlib.Core.List.{List, [], _∷_, _++_}
+use mathlib.Core.Bool.{Bool, true, false, cond}
+use Prim.Native.Nat.{ℕ, _+_, _-_, _≤_}
+use lib.Dec.{leb}
+use lib.ListN.{length, take}
+use Rattle.money.specs.declared.units.Price.{Price}
+use Rattle.money.specs.declared.units.Quantity.{Quantity}
+use Rattle.money.specs.declared.offers.Offer.{Offer}
+use Rattle.money.specs.declared.names.Name.{Name}
+use Rattle.records.specs.Reading.{Res, bad, got, Reader, from}
+use Rattle.records.specs.Layouts.{layout}
+use Rattle.records.specs.Changes.{Change, Head, made, bodyOf, change, headBytes, put}
+use Rattle.records.specs.declared.fields.End.{End}
+use Rattle.records.specs.declared.fields.End.the-variants.{At, No}
+use Rattle.records.specs.declared.fields.Num.{Num}
+use Rattle.records.specs.declared.fields.Num.the-variants.{Got, No as NoNum}
+use Rattle.records.specs.declared.fields.PriceAt.{PriceAt}
+use Rattle.records.specs.declared.fields.PriceAt.the-variants.{Got as GotPrice, No as NoPrice}
+use Rattle.records.specs.declared.fields.QuantityAt.{QuantityAt}
+use Rattle.records.specs.declared.fields.QuantityAt.the-variants.{Got as GotQuantity, No as NoQuantity}
+use Rattle.records.specs.declared.lists.PairAt.{PairAt}
+use Rattle.records.specs.declared.lists.PairAt.the-variants.{Got as GotPair, No as NoPair}
+use Rattle.records.specs.declared.lists.OfferRead.{OfferRead}
+use Rattle.records.specs.declared.layouts.Lists.{Lists}
+use Rattle.records.specs.declared.layouts.ListsRead.{ListsRead}
+use Rattle.records.specs.declared.names.Chr.{Chr}
+use Rattle.records.specs.declared.names.Chr.the-variants.{Got as GotChr, No as NoChr}
+use Rattle.records.specs.declared.names.NameRead.{NameRead}
+use Rattle.records.specs.declared.marks.Mark.{Mark}
+use Rattle.records.specs.declared.marks.Kind.{Kind}
+use Rattle.records.specs.declared.marks.Kind.the-variants.{File, Correct, Withdraw}
+use Rattle.records.specs.declared.marks.HeadRead.{HeadRead}
+use Rattle.records.specs.declared.keys.Key.{Key}
+use Rattle.records.specs.declared.changes.Read.{Read}
+use Rattle.records.specs.declared.writing.HeadOut.{HeadOut}
+use Rattle.records.specs.declared.scan.View.{View}
+use Rattle.records.specs.declared.parse.ViewRead.{ViewRead}
+
+-- ---- ends
+
+-- the value, and the rest of s from the place where its reader stopped
+abbrev pub shown : {A : Type 0} → List ℕ → End → A → Res A
+shown s (At next) v = got v (from s next)
+shown s (No k) v = bad k
+
+-- a reader run where the one before it ended
+abbrev pub then : {A : Type 0} → List ℕ → End → Reader A → Res A
+then s (At n) f = f (from s n)
+then s (No k) f = bad k
+
+-- an end, unless the test fails
+abbrev pub guarded : End → Bool → ℕ → End
+guarded (At n) true k = At n
+guarded (At n) false k = No k
+guarded (No j) ok k = No j
+
+-- an end no further than the bytes
+abbrev pub clamped : List ℕ → End → End
+clamped s (At n) = cond (leb n (length s)) (At n) (At (length s))
+clamped s (No k) = No k
+
+abbrev pub placeOf : End → ℕ
+placeOf (At n) = n
+placeOf (No k) = 0
+
+-- ---- numbers, pairs, names
+
+abbrev pub num : List ℕ → Num → Res ℕ
+num s (Got v next) = got v (from s next)
+num s (NoNum k) = bad k
+
+abbrev pub priceAt : List ℕ → PriceAt → Res Price
+priceAt s (GotPrice v next) = got v (from s next)
+priceAt s (NoPrice k) = bad k
+
+abbrev pub quantityAt : List ℕ → QuantityAt → Res Quantity
+quantityAt s (GotQuantity v next) = got v (from s next)
+quantityAt s (NoQuantity k) = bad k
+
+abbrev pub pairAt : List ℕ → PairAt → Res (Price × Quantity)
+pairAt s (GotPair p q next) = got (p, q) (from s next)
+pairAt s (NoPair k) = bad k
+
+abbrev pub chr : List ℕ → Chr → Res ℕ
+chr s (GotChr v next) = got v (from s next)
+chr s (NoChr k) = bad k
+
+-- an offer that was read; of at most 20 pairs in any case
+pub record OfferIs (s : List ℕ) (x : Res Offer) (r : OfferRead) : Type 0 where
+  pub value : shown s (r .end) (r .offer) ≡ x
+  pub few : r .offer .count ≤ 20
+
+-- the lists of a unit's hour; of at most 20 pairs each in any case
+abbrev pub Few : Lists → Type 0
+Few l = (l .ahead .count ≤ 20) × (l .real .count ≤ 20) × (l .spinning .count ≤ 20) × (l .nonspinning .count ≤ 20) × (l .thirty .count ≤ 20)
+
+pub record ListsIs (s : List ℕ) (x : Res Lists) (r : ListsRead) : Type 0 where
+  pub value : shown s (r .end) (r .lists) ≡ x
+  pub few : Few (r .lists)
+
+-- a name that was read; of at most 12 bytes in any case
+pub record Named (s : List ℕ) (x : Res Name) (r : NameRead) : Type 0 where
+  pub value : shown s (r .end) (r .name) ≡ x
+  pub few : r .name .len ≤ 12
+
+-- ---- changes
+
+abbrev pub headed : List ℕ → HeadRead → Res Head
+headed s r = shown s (r .end) (record { kind = r .kind; mark = r .mark })
+
+-- the fields of a change, none of a withdrawal
+unfoldable pub layoutFor : Kind → Mark → Reader Unit
+layoutFor File m s = layout m s
+layoutFor Correct m s = layout m s
+layoutFor Withdraw m s = got tt s
+
+abbrev pub told : List ℕ → End → Kind → Key → ℕ → Res Change
+told s (At n) k x b = got (made k x (take (n - b) (from s b))) (from s n)
+told s (No j) k x b = bad j
+
+-- a body from b to n
+pub record Stands (s : List ℕ) (n : ℕ) (k : Kind) (x : Key) (b : ℕ) : Type 0 where
+  pub low : b ≤ n
+  pub high : n ≤ length s
+  pub own : bodyOf (made k x (take (n - b) (from s b))) ≡ take (n - b) (from s b)
+
+abbrev pub Placed : List ℕ → End → Kind → Key → ℕ → Type 0
+Placed s (At n) k x b = Stands s n k x b
+Placed s (No j) k x b = Unit
+
+pub record ReadIs (s : List ℕ) (want : ℕ) (r : Read) : Type 0 where
+  pub value : told s (r .end) (r .kind) (r .key) (r .body) ≡ change want s
+  pub placed : Placed s (r .end) (r .kind) (r .key) (r .body)
+  pub few : r .key .name .len ≤ 12
+
+-- a change at the front of the bytes; it ends within them
+abbrev pub EndIn : List ℕ → End → Type 0
+EndIn s (At n) = n ≤ length s
+EndIn s (No k) = Unit
+
+pub record ViewIs (s : List ℕ) (x : Res View) (r : ViewRead) : Type 0 where
+  pub value : shown s (r .end) (r .view) ≡ x
+  pub placed : EndIn s (r .end)
+
+-- ---- writing
+
+-- xs were written at the place at of d, which is now e, and next is the place after them
+pub record Wrote (d e : List ℕ) (at next : ℕ) (xs : List ℕ) : Type 0 where
+  pub bytes : e ≡ put d at xs
+  pub after : next ≡ at + length xs
+
+-- the head of a change as it is written
+pub record HeadIs (k : Kind) (x : Key) (h : HeadOut) : Type 0 where
+  pub bytes : take (h .len) (h .bytes) ≡ headBytes k x
+  pub len : h .len ≡ length (headBytes k x)
+  pub few : h .len ≤ 44

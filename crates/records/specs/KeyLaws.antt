@@ -1,0 +1,184 @@
+-- Keys: equality as a test, and the key of a question.
+use mathlib.Core.Path.{_≡_, refl, sym, ap, ap₂, _∙_}
+use mathlib.Core.List.{List, [], _∷_, _++_}
+use mathlib.Core.Bool.{Bool, true, false, cond, _&&_}
+use Prim.Native.Nat.{ℕ, zero, suc, _≤_, _<_}
+use native.Mathlib.Omega.{arith}
+use lib.Dec.{eqb}
+use lib.ListN.{length}
+use borrow.Author.Tests.{eq-eqb, eqb-true}
+use Rattle.money.specs.declared.names.Name.{Name}
+use Rattle.records.specs.Reading.{Res, bad, got, _>>=_, check, byte}
+use Rattle.records.specs.Numbers.{between, hour}
+use Rattle.records.specs.Names.{decodeName, nameField, spell, nameOf, noOne, bytesOf, held}
+use Rattle.records.specs.Marks.{markBytes, mark, hasName, isFailure, order}
+use Rattle.records.specs.Changes.{Change, keyOf, kind, Good, nameless, nameFor, noName, nameBytes}
+use Rattle.records.specs.Keys.{eqList, sameHour, same, askMark, askName, askFailureMark, askFrom, ask, askFailure, askHour}
+use Rattle.records.specs.ReaderLaws.{bad-got, check-got, bind-got, Counted}
+use Rattle.records.specs.NameLaws.{take-pad, Spelled, field-spelled}
+use Rattle.records.specs.ChangeLaws.{and-left, and-right, Kept, good-kept, hour-range, counted-mark, counted-decode}
+use Rattle.records.specs.declared.marks.Mark.{Mark}
+use Rattle.records.specs.declared.marks.Mark.the-variants.{Pr, Im, Ex, Gh, Fi, Fe}
+use Rattle.records.specs.declared.marks.Kind.{Kind}
+use Rattle.records.specs.declared.marks.Kind.the-variants.{File, Correct, Withdraw}
+use Rattle.records.specs.declared.keys.Key.{Key}
+
+eqList-true : (xs ys : List ℕ) → eqList xs ys ≡ true → xs ≡ ys
+eqList-true [] [] h = refl
+eqList-true [] (y ∷ ys) h = absurd (let z : _≡_ {A = ℕ} 0 1 = cc in omega arith)
+eqList-true (x ∷ xs) [] h = absurd (let z : _≡_ {A = ℕ} 0 1 = cc in omega arith)
+eqList-true (x ∷ xs) (y ∷ ys) h = ap₂ (λ a l. a ∷ l) (eqb-true x y (and-left (eqb x y) _ h)) (eqList-true xs ys (and-right (eqb x y) _ h))
+
+eqList-refl : (xs : List ℕ) → eqList xs xs ≡ true
+eqList-refl [] = refl
+eqList-refl (x ∷ xs) = rw (eq-eqb x x refl) (eqList-refl xs)
+
+-- the mark of a place in the order
+abbrev atOrder : ℕ → Mark
+atOrder n = cond (eqb n 0) Pr (cond (eqb n 1) Im (cond (eqb n 2) Ex (cond (eqb n 3) Gh (cond (eqb n 4) Fi Fe))))
+
+order-back : (m : Mark) → atOrder (order m) ≡ m
+order-back Pr = refl
+order-back Im = refl
+order-back Ex = refl
+order-back Gh = refl
+order-back Fi = refl
+order-back Fe = refl
+
+order-same : (a b : Mark) → order a ≡ order b → a ≡ b
+order-same a b e = sym (order-back a) ∙ ap atOrder e ∙ order-back b
+
+pub same-true : (a b : Key) → same a b ≡ true → a ≡ b
+unfolding same sameHour
+same-true a b h =
+    let p = and-left (eqb (order (a .mark)) (order (b .mark)) && eqb (a .hour) (b .hour)) _ h in
+    let q = and-right (eqb (order (a .mark)) (order (b .mark)) && eqb (a .hour) (b .hour)) (eqb (a .name .len) (b .name .len) && eqList (a .name .bytes) (b .name .bytes)) h in
+    let m = order-same (a .mark) (b .mark) (eqb-true (order (a .mark)) (order (b .mark)) (and-left _ _ p)) in
+    let o = eqb-true (a .hour) (b .hour) (and-right (eqb (order (a .mark)) (order (b .mark))) _ p) in
+    let l = eqb-true (a .name .len) (b .name .len) (and-left _ _ q) in
+    let n = eqList-true (a .name .bytes) (b .name .bytes) (and-right (eqb (a .name .len) (b .name .len)) _ q) in
+    λ i. record { mark = m i; hour = o i; name = record { len = l i; bytes = n i } }
+
+pub same-refl : (a : Key) → same a a ≡ true
+unfolding same sameHour
+same-refl a =
+    simp (eq-eqb (order (a .mark)) (order (a .mark)) refl, eq-eqb (a .hour) (a .hour) refl, eq-eqb (a .name .len) (a .name .len) refl, eqList-refl (a .name .bytes))
+
+pub sameHour-same : (a b : Key) → sameHour a b ≡ true → (x : Key) → sameHour a x ≡ sameHour b x
+unfolding sameHour
+sameHour-same a b h x =
+    ap₂ (λ (m n : ℕ). eqb m (order (x .mark)) && eqb n (x .hour)) (eqb-true (order (a .mark)) (order (b .mark)) (and-left _ _ h)) (eqb-true (a .hour) (b .hour) (and-right (eqb (order (a .mark)) (order (b .mark))) _ h))
+
+-- ---- the key of a question
+
+askMark-bytes : (m : Mark) → askMark (markBytes m) ≡ got m []
+unfolding askMark mark
+askMark-bytes Pr = refl
+askMark-bytes Im = refl
+askMark-bytes Ex = refl
+askMark-bytes Gh = refl
+askMark-bytes Fi = refl
+askMark-bytes Fe = refl
+
+-- the bytes that ask for a key's name: its written spelling, none where the mark has none
+abbrev pub askBytes : Key → List ℕ
+askBytes k = cond (hasName (k .mark)) (spell (bytesOf (k .name))) []
+
+name-asked : (k : Kind) (m : Mark) (n : Name) → nameFor k m (nameBytes k m n ++ []) ≡ got n [] → askName m (cond (hasName m) (spell (bytesOf n)) []) ≡ got n []
+unfolding nameFor nameBytes askName
+name-asked k m n = go (hasName m)
+  where
+    less : (k : Kind) (s : List ℕ) → nameless k s ≡ got n [] → got noOne [] ≡ got n []
+    less File s e = let p : noOne ≡ n = cc in ap (λ x. got x []) p
+    less Correct s e = let p : noOne ≡ n = cc in ap (λ x. got x []) p
+    less Withdraw s e =
+        let x = bind-got (byte s) (λ j t. check (eqb j 0) 4 (got noOne t)) n [] e in
+        let y = check-got (eqb (x .0) 0) 4 (got noOne (x .1)) n [] (x .3) in
+        let p : noOne ≡ n = cc (y .1) in
+        ap (λ x. got x []) p
+
+    go : (b : Bool) → cond b (held (nameField (cond b (length (spell (bytesOf n)) ∷ spell (bytesOf n)) (noName k) ++ []))) (nameless k (cond b (length (spell (bytesOf n)) ∷ spell (bytesOf n)) (noName k) ++ [])) ≡ got n []
+        → cond b (held (decodeName (cond b (spell (bytesOf n)) []))) (check (eqb (length (cond b (spell (bytesOf n)) [])) 0) 4 (got noOne [])) ≡ got n []
+    go true f =
+        let s : List ℕ = length (spell (bytesOf n)) ∷ (spell (bytesOf n) ++ []) in
+        let x = bind-got (nameField s) (λ v t. got (nameOf v) t) n [] f in
+        let p : nameOf (x .0) ≡ n = cc (x .3) in
+        let w = field-spelled s (x .0) (x .1) (x .2) in
+        let b : bytesOf n ≡ x .0 = ap bytesOf (sym p) ∙ take-pad 0 12 (x .0) (w .few) in
+        rw (b, w .back, p)
+    go false f = less k (noName k ++ []) f
+
+-- every key that stands can be asked for
+pub asked : (c : Change) → Good c → ask (markBytes (keyOf c .mark)) (keyOf c .hour) (askBytes (keyOf c)) ≡ got (keyOf c) []
+unfolding askFrom
+asked c g =
+    let k = good-kept c g in
+    rw (askMark-bytes (keyOf c .mark), hour-range (keyOf c .hour) [] (k .hour-back []), name-asked (kind c) (keyOf c .mark) (keyOf c .name) (k .name-back []))
+
+-- no fault of a question is 0
+askMark-fault : (s : List ℕ) (k : ℕ) → askMark s ≡ bad k → 0 < k
+unfolding askMark
+askMark-fault [] k e = let q : 2 ≡ k = cc in omega arith
+askMark-fault (a ∷ []) k e = let q : 2 ≡ k = cc in omega arith
+askMark-fault (a ∷ b ∷ []) k e = counted-mark .above (a ∷ b ∷ []) k e
+askMark-fault (a ∷ b ∷ c ∷ s) k e = let q : 2 ≡ k = cc in omega arith
+
+bad-is : {A : Type 0} (j k : ℕ) → 0 < j → _≡_ {A = Res A} (bad j) (bad k) → 0 < k
+bad-is j k h e = let q : j ≡ k = cc in omega arith
+
+held-fault : (r : Res (List ℕ)) (k : ℕ) → held r ≡ bad k → r ≡ bad k
+held-fault (bad j) k e = let q : j ≡ k = cc in ap bad q
+held-fault (got v t) k e = absurd (bad-got (sym e))
+
+askName-fault : (m : Mark) (s : List ℕ) (k : ℕ) → askName m s ≡ bad k → 0 < k
+unfolding askName
+askName-fault m s k = go (hasName m) (eqb (length s) 0)
+  where
+    go : (b c : Bool) → cond b (held (decodeName s)) (check c 4 (got noOne [])) ≡ bad k → 0 < k
+    go true c e = counted-decode .above s k (held-fault (decodeName s) k e)
+    go false true e = absurd (bad-got (sym e))
+    go false false e = bad-is 4 k (omega arith) e
+
+failure-fault : (s : List ℕ) (k : ℕ) → askFailureMark s ≡ bad k → 0 < k
+unfolding askFailureMark
+failure-fault s k = go (askMark s) refl
+  where
+    only : (m : Mark) (t : List ℕ) (b : Bool) → check b 2 (got m t) ≡ bad k → 0 < k
+    only m t true e = absurd (bad-got (sym e))
+    only m t false e = bad-is 2 k (omega arith) e
+
+    go : (r : Res Mark) → askMark s ≡ r → (r >>= λ m t. check (isFailure m) 2 (got m t)) ≡ bad k → 0 < k
+    go (bad j) q e = askMark-fault s k (q ∙ (let p : j ≡ k = cc in ap bad p))
+    go (got m t) q e = only m t (isFailure m) e
+
+from-fault : (x : Res Mark) (h : ℕ) (ns : List ℕ) (k : ℕ) → ((j : ℕ) → x ≡ bad j → 0 < j) → askFrom x h ns ≡ bad k → 0 < k
+unfolding askFrom
+from-fault x h ns k = go x (between 1 24 h)
+  where
+    name : (m : Mark) (r : Res Name) → askName m ns ≡ r → _≡_ {A = Res Key} (r >>= λ n u. got (record { mark = m; hour = h; name = n }) []) (bad k) → 0 < k
+    name m (bad j) q e = askName-fault m ns k (q ∙ (let p : j ≡ k = cc in ap bad p))
+    name m (got n u) q e = absurd (bad-got (sym e))
+
+    go : (r : Res Mark) (b : Bool) → ((j : ℕ) → r ≡ bad j → 0 < j) → _≡_ {A = Res Key} (r >>= λ m t. check b 3 (askName m ns >>= λ n u. got (record { mark = m; hour = h; name = n }) [])) (bad k) → 0 < k
+    go (bad j) b i e = i k (let p : j ≡ k = cc in ap bad p)
+    go (got m t) true i e = name m (askName m ns) refl e
+    go (got m t) false i e = bad-is 3 k (omega arith) e
+
+pub ask-fault : (ms : List ℕ) (h : ℕ) (ns : List ℕ) (k : ℕ) → ask ms h ns ≡ bad k → 0 < k
+ask-fault ms h ns k e = from-fault (askMark ms) h ns k (askMark-fault ms) e
+
+pub askFailure-fault : (ms : List ℕ) (h : ℕ) (ns : List ℕ) (k : ℕ) → askFailure ms h ns ≡ bad k → 0 < k
+askFailure-fault ms h ns k e = from-fault (askFailureMark ms) h ns k (failure-fault ms) e
+
+pub askHour-fault : (ms : List ℕ) (h : ℕ) (k : ℕ) → askHour ms h ≡ bad k → 0 < k
+unfolding askHour
+askHour-fault ms h k = go (askMark ms) refl (between 1 24 h)
+  where
+    go : (r : Res Mark) → askMark ms ≡ r → (b : Bool) → _≡_ {A = Res Key} (r >>= λ m t. check b 3 (got (record { mark = m; hour = h; name = noOne }) [])) (bad k) → 0 < k
+    go (bad j) q b e = askMark-fault ms k (q ∙ (let p : j ≡ k = cc in ap bad p))
+    go (got m t) q true e = absurd (bad-got (sym e))
+    go (got m t) q false e = bad-is 3 k (omega arith) e
+
+-- nor of a name
+pub name-fault : (s : List ℕ) (k : ℕ) → held (decodeName s) ≡ bad k → 0 < k
+name-fault s k e = counted-decode .above s k (held-fault (decodeName s) k e)

@@ -1,0 +1,70 @@
+-- 01, "Records" and "Numbers a call can bring back": keys, and the key that a question asks for. Assumes nothing.
+use mathlib.Core.List.{List, [], _∷_}
+use mathlib.Core.Bool.{Bool, true, false, cond, _&&_}
+use Prim.Native.Nat.{ℕ}
+use lib.Dec.{eqb}
+use lib.ListN.{length}
+use Rattle.money.specs.Refusals.{unknownMark, badHour, badName}
+use Rattle.money.specs.declared.names.Name.{Name}
+use Rattle.records.specs.Reading.{Res, bad, got, _>>=_, check}
+use Rattle.records.specs.Numbers.{between}
+use Rattle.records.specs.Names.{decodeName, noOne, held}
+use Rattle.records.specs.Marks.{mark, hasName, isFailure, order}
+use Rattle.records.specs.Changes.{noKey}
+use Rattle.records.specs.declared.marks.Mark.{Mark}
+use Rattle.records.specs.declared.keys.Key.{Key}
+use Rattle.records.specs.declared.keys.KeyAnswer.{KeyAnswer}
+use Rattle.records.specs.declared.keys.NameAnswer.{NameAnswer}
+
+abbrev pub eqList : List ℕ → List ℕ → Bool
+eqList [] [] = true
+eqList [] (y ∷ ys) = false
+eqList (x ∷ xs) [] = false
+eqList (x ∷ xs) (y ∷ ys) = eqb x y && eqList xs ys
+
+-- the same mark and hour
+unfoldable pub sameHour : Key → Key → Bool
+sameHour a b = eqb (order (a .mark)) (order (b .mark)) && eqb (a .hour) (b .hour)
+
+-- "Key: mark, hour, decoded name"
+unfoldable pub same : Key → Key → Bool
+same a b = sameHour a b && (eqb (a .name .len) (b .name .len) && eqList (a .name .bytes) (b .name .bytes))
+
+-- ---- "Questions check 2, 3, 4, 11, 15, as far as they have a mark, hour, name, key or price."
+
+-- "A mark other than the six gives 2": bytes that are not two, too
+unfoldable pub askMark : List ℕ → Res Mark
+askMark [] = bad unknownMark
+askMark (a ∷ []) = bad unknownMark
+askMark (a ∷ b ∷ []) = mark (a ∷ b ∷ [])
+askMark (a ∷ b ∷ c ∷ s) = bad unknownMark
+
+-- "The name is lent as its spelled bytes without the length byte, none for `PR`; every other fault in it, a wrong length too, gives 4"
+unfoldable pub askName : Mark → List ℕ → Res Name
+askName m n = cond (hasName m) (held (decodeName n)) (check (eqb (length n) 0) badName (got noOne []))
+
+-- "for a failure charge also one other than `FI` or `FE`"
+unfoldable pub askFailureMark : List ℕ → Res Mark
+askFailureMark ms = askMark ms >>= λ m t. check (isFailure m) unknownMark (got m t)
+
+-- a mark, then the hour, then the name
+unfoldable pub askFrom : Res Mark → ℕ → List ℕ → Res Key
+askFrom x h ns = x >>= λ m t. check (between 1 24 h) badHour (askName m ns >>= λ n u. got (record { mark = m; hour = h; name = n }) [])
+
+abbrev pub ask : List ℕ → ℕ → List ℕ → Res Key
+ask ms h ns = askFrom (askMark ms) h ns
+
+abbrev pub askFailure : List ℕ → ℕ → List ℕ → Res Key
+askFailure ms h ns = askFrom (askFailureMark ms) h ns
+
+-- a mark and an hour alone
+unfoldable pub askHour : List ℕ → ℕ → Res Key
+askHour ms h = askMark ms >>= λ m t. check (between 1 24 h) badHour (got (record { mark = m; hour = h; name = noOne }) [])
+
+abbrev pub keyAnswer : Res Key → KeyAnswer
+keyAnswer (bad n) = record { number = n; key = noKey }
+keyAnswer (got k t) = record { number = 0; key = k }
+
+abbrev pub nameAnswer : Res Name → NameAnswer
+nameAnswer (bad n) = record { number = n; name = noOne }
+nameAnswer (got x t) = record { number = 0; name = x }

@@ -1,0 +1,88 @@
+-- 01, "Records": names, percent-decoded exactly once (RFC 3986), and their one written spelling. Assumes nothing.
+use mathlib.Core.List.{List, [], _∷_, _++_}
+use mathlib.Core.Bool.{Bool, true, false, cond, _&&_, _||_}
+use Prim.Native.Nat.{ℕ, zero, suc, _+_, _*_, _-_, _/_, _%_}
+use lib.Dec.{ltb, leb, eqb}
+use lib.ListN.{length, take}
+use Rattle.money.specs.Refusals.{badName}
+use Rattle.money.specs.declared.names.Name.{Name}
+use Rattle.records.specs.Reading.{Res, bad, got, Reader, _>>=_, check, byte, some}
+use Rattle.records.specs.Numbers.{between, pad}
+use Rattle.records.specs.declared.names.Spelling.{Spelling}
+
+-- "bytes 0x21 to 0x7E"
+unfoldable pub visible : ℕ → Bool
+visible x = between 0x21 0x7E x
+
+-- the value of a hex digit, "0" to "9", "A" to "F" or "a" to "f", and 16 of any other byte
+unfoldable pub hexVal : ℕ → ℕ
+hexVal x = cond (between 48 57 x) (x - 48) (cond (between 65 70 x) (x - 55) (cond (between 97 102 x) (x - 87) 16))
+
+-- "`%` only before two hex digits": what these two stand for
+unfoldable pub escaped : Reader ℕ
+escaped [] = bad badName
+escaped (h ∷ []) = bad badName
+escaped (h ∷ l ∷ s) =
+    check (ltb (hexVal h) 16) badName (check (ltb (hexVal l) 16) badName (check (visible (16 * hexVal h + hexVal l)) badName (got (16 * hexVal h + hexVal l) s)))
+
+-- one byte of a name, plain or escaped
+unfoldable pub one : Reader ℕ
+one [] = bad badName
+one (x ∷ s) = cond (eqb x 37) (escaped s) (check (visible x) badName (got x s))
+
+-- at most n bytes of a name, up to the end of the spelling
+unfoldable pub upTo : ℕ → Reader (List ℕ)
+upTo zero [] = got [] []
+upTo zero (x ∷ s) = bad badName
+upTo (suc n) [] = got [] []
+upTo (suc n) (x ∷ s) = one (x ∷ s) >>= λ v t. upTo n t >>= λ vs u. got (v ∷ vs) u
+
+-- "a length byte 1 to 36 .. Decoded exactly once, 1 to 12 bytes, each 0x21 to 0x7E"
+unfoldable pub decodeName : Reader (List ℕ)
+decodeName s = check (between 1 36 (length s)) badName (upTo 12 s)
+
+-- "Name: a length byte 1 to 36, then that many bytes"; "a name's length byte .. by [itself]"
+unfoldable pub nameField : Reader (List ℕ)
+nameField s = byte s >>= λ n t. check (between 1 36 n) badName (some n t >>= λ bs u. decodeName bs >>= λ vs z. got vs u)
+
+-- ---- writing
+
+-- RFC 3986, 2.3: ALPHA / DIGIT / "-" / "." / "_" / "~"
+unfoldable pub unreserved : ℕ → Bool
+unreserved x = between 65 90 x || (between 97 122 x || (between 48 57 x || (between 45 46 x || (eqb x 95 || eqb x 126))))
+
+-- a capital hex digit
+unfoldable pub digit : ℕ → ℕ
+digit n = cond (ltb n 10) (48 + n) (55 + n)
+
+-- "Writing spells RFC 3986 unreserved bytes plainly and all others as `%` and two capital hex digits"
+unfoldable pub spellByte : ℕ → List ℕ
+spellByte x = cond (unreserved x) (x ∷ []) (37 ∷ digit (x / 16) ∷ digit (x % 16) ∷ [])
+
+unfoldable pub spell : List ℕ → List ℕ
+spell [] = []
+spell (x ∷ xs) = spellByte x ++ spell xs
+
+-- ---- a decoded name as a key holds it: its length, and its bytes with zeros behind them
+
+abbrev pub nameOf : List ℕ → Name
+nameOf n = record { len = length n; bytes = pad 0 12 n }
+
+abbrev pub bytesOf : Name → List ℕ
+bytesOf n = take (n .len) (n .bytes)
+
+-- the name of a mark that has none
+abbrev pub noOne : Name
+noOne = nameOf []
+
+-- a name that was read, as a key holds it
+abbrev pub held : Res (List ℕ) → Res Name
+held r = r >>= λ n t. got (nameOf n) t
+
+-- ---- a name as it is written, with zeros behind it; none of a name that is too long
+
+abbrev pub spellingBytes : List ℕ → Spelling
+spellingBytes s = record { len = length s; bytes = pad 0 36 s }
+
+unfoldable pub spellingOf : Name → Spelling
+spellingOf n = cond (leb (n .len) 12) (spellingBytes (spell (bytesOf n))) (spellingBytes [])

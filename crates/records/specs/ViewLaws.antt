@@ -1,0 +1,145 @@
+-- Typed views: each is what was read.
+use mathlib.Core.Path.{_≡_, refl, sym, ap, _∙_}
+use mathlib.Core.List.{List, [], _∷_, _++_, append-assoc, append-nil}
+use mathlib.Core.Bool.{Bool, true, false}
+use Prim.Native.Nat.{ℕ}
+use lib.Dec.{eqb}
+use lib.ListN.{length, take, drop}
+use borrow.Author.Tests.{eq-eqb}
+use Rattle.records.specs.Reading.{Res, bad, got, Reader, _>>=_, check}
+use Rattle.records.specs.Numbers.{hour}
+use Rattle.records.specs.Marks.{markBytes, mark, order}
+use Rattle.records.specs.Layouts.{hourPrices, import, export, unit, failure, skip, layout, taken}
+use Rattle.records.specs.Changes.{Rec, Change, filed, corrected, head, nameFor, nameBytes, bodyFor, headBytes, write, Scan, seen, scan, Good}
+use Rattle.records.specs.Views.{valueOr, pricesOf, importOf, exportOf, unitHourOf, failureOf, noPrices, noImport, noExport, noUnit, noFailure, ahead, viewed, pricesIn, importIn, exportIn, unitIn, failureIn}
+use Rattle.money.specs.Guarantee.{creditAnswer}
+use Rattle.money.specs.Production.{hourAnswer}
+use Rattle.money.specs.Failure.{importChargeAnswer, exportChargeAnswer}
+use Rattle.money.specs.declared.production.UnitHour.{UnitHour}
+use Rattle.money.specs.declared.failure.Failure.{Failure}
+use Rattle.records.specs.Amounts.{creditOf, creditIn, unitAmountOf, unitAmountIn, chargeFor, chargeOf, chargeIn}
+use Rattle.records.specs.declared.layouts.HourPrices.{HourPrices}
+use Rattle.records.specs.declared.layouts.Import.{Import}
+use Rattle.records.specs.ReaderLaws.{Lawful, lawful-prices, lawful-import, lawful-export, lawful-unit, lawful-failure, Viewed, taken-view}
+use Rattle.records.specs.ChangeLaws.{Kept, good-kept, scan-got, scan-body, scan-write, good-co}
+use Rattle.records.specs.declared.marks.Mark.{Mark}
+use Rattle.records.specs.declared.marks.Mark.the-variants.{Pr, Im, Ex, Gh, Fi, Fe}
+use Rattle.records.specs.declared.marks.Kind.the-variants.{File}
+
+-- f is the layout of a mark
+pub record Layout {A : Type 0} (f : Reader A) (m : Mark) : Type 0 where
+  pub lawful : Lawful f
+  pub same : (s : List ℕ) → taken (layout m) s ≡ taken (skip f) s
+
+pub view-prices : Layout hourPrices Pr
+unfolding layout
+view-prices = record { lawful = lawful-prices; same = λ s. refl }
+
+pub view-import : Layout import Im
+unfolding layout
+view-import = record { lawful = lawful-import; same = λ s. refl }
+
+pub view-export : Layout export Ex
+unfolding layout
+view-export = record { lawful = lawful-export; same = λ s. refl }
+
+pub view-unit : Layout unit Gh
+unfolding layout
+view-unit = record { lawful = lawful-unit; same = λ s. refl }
+
+pub view-failed-import : Layout failure Fi
+unfolding layout
+view-failed-import = record { lawful = lawful-failure; same = λ s. refl }
+
+pub view-failed-export : Layout failure Fe
+unfolding layout
+view-failed-export = record { lawful = lawful-failure; same = λ s. refl }
+
+-- a record's fields, read where a change begins with it
+pub rec-view : {A : Type 0} (f : Reader A) (m : Mark) → Layout f m → (r : Rec) → r .key .mark ≡ m → Kept (filed r) → (u : List ℕ) → Viewed f (r .body ++ u) (r .body) u
+unfolding bodyFor
+rec-view f m l r e h u =
+    taken-view f (l .lawful) (r .body ++ u) (r .body) u
+    (sym (l .same (r .body ++ u)) ∙ ap (λ n. taken (layout n) (r .body ++ u)) (sym e) ∙ h .body-back u)
+
+-- the fields of a record that stands in a book: what f reads there is what it reads in front of any bytes
+pub scan-view : {A : Type 0} (f : Reader A) (m : Mark) → Layout f m → (s : List ℕ) (r : Rec) (n : ℕ) → r .key .mark ≡ m → scan s ≡ seen (filed r) n
+    → Viewed f (drop (length (headBytes File (r .key))) s) (r .body) (drop n s)
+scan-view f m l s r n e q =
+    let v = rec-view f m l r e (good-kept (filed r) (scan-got s (filed r) n q .good)) (drop n s) in
+    record { what = v .what; read = ap f (scan-body s (filed r) n q) ∙ v .read; back = v .back }
+
+-- ---- the views that the code gives
+
+head-file : (m : Mark) (t : List ℕ) → head 1 (markBytes m ++ t) ≡ got (record { kind = File; mark = m }) t
+unfolding head mark
+head-file Pr t = refl
+head-file Im t = refl
+head-file Ex t = refl
+head-file Gh t = refl
+head-file Fi t = refl
+head-file Fe t = refl
+
+ahead-written : (r : Rec) → Kept (filed r) → (u : List ℕ) → ahead (r .key .mark) (headBytes File (r .key) ++ u) ≡ got tt u
+unfolding ahead headBytes
+ahead-written r h u =
+    simp append-assoc
+    (rw (
+      head-file (r .key .mark) (r .key .hour ∷ (nameBytes File (r .key .mark) (r .key .name) ++ u)),
+      eq-eqb (order (r .key .mark)) (order (r .key .mark)) refl,
+      h .hour-back (nameBytes File (r .key .mark) (r .key .name) ++ u),
+      h .name-back u,
+    ))
+
+module _ {A : Type 0} (f : Reader A) (m : Mark) (l : Layout f m) (r : Rec) (e : r .key .mark ≡ m) where
+  filed-viewed : Good (filed r) → (u : List ℕ) → viewed m f (write (filed r) ++ u) ≡ f (r .body ++ u)
+  unfolding viewed write
+  filed-viewed g u =
+      ap (λ n. viewed n f ((headBytes File (r .key) ++ r .body) ++ u)) (sym e)
+      ∙ rw (append-assoc (headBytes File (r .key)) (r .body) u, ahead-written r (good-kept (filed r) g) (r .body ++ u))
+
+  -- bytes that begin with a filed record, whatever follows, give what its own fields give
+  pub written-view : Good (filed r) → (u : List ℕ) (d : A) → valueOr d (viewed m f (write (filed r) ++ u)) ≡ valueOr d (f (r .body))
+  written-view g u d =
+      let k = good-kept (filed r) g in
+      let v = rec-view f m l r e k u in
+      let w : f (r .body) ≡ got (v .what) [] = ap f (sym (append-nil (r .body))) ∙ v .back [] in
+      ap (valueOr d) (filed-viewed g u ∙ v .read) ∙ sym (ap (valueOr d) w)
+
+  -- and these are what was read, not what stands for nothing
+  pub own-fields : Good (filed r) → (d : A) → f (r .body) ≡ got (valueOr d (f (r .body))) []
+  own-fields g d =
+      let v = rec-view f m l r e (good-kept (filed r) g) [] in
+      let w : f (r .body) ≡ got (v .what) [] = ap f (sym (append-nil (r .body))) ∙ v .back [] in
+      w ∙ ap (λ x. got x []) (sym (ap (valueOr d) w))
+
+module _ (r : Rec) (g : Good (filed r)) (u : List ℕ) where
+  pub prices-view : r .key .mark ≡ Pr → pricesIn (write (filed r) ++ u) ≡ pricesOf r
+  prices-view e = written-view hourPrices Pr view-prices r e g u noPrices
+
+  pub import-view : r .key .mark ≡ Im → importIn (write (filed r) ++ u) ≡ importOf r
+  import-view e = written-view import Im view-import r e g u noImport
+
+  pub export-view : r .key .mark ≡ Ex → exportIn (write (filed r) ++ u) ≡ exportOf r
+  export-view e = written-view export Ex view-export r e g u noExport
+
+  pub unit-view : r .key .mark ≡ Gh → unitIn (write (filed r) ++ u) ≡ unitHourOf r
+  unit-view e = written-view unit Gh view-unit r e g u noUnit
+
+  pub failed-import-view : r .key .mark ≡ Fi → failureIn Fi (write (filed r) ++ u) ≡ failureOf r
+  failed-import-view e = written-view failure Fi view-failed-import r e g u noFailure
+
+  pub failed-export-view : r .key .mark ≡ Fe → failureIn Fe (write (filed r) ++ u) ≡ failureOf r
+  failed-export-view e = written-view failure Fe view-failed-export r e g u noFailure
+
+  pub credit-view : r .key .mark ≡ Im → (p : HourPrices) → creditIn (write (filed r) ++ u) p ≡ creditOf r p
+  credit-view e p = ap (λ (i : Import). creditAnswer (i .offer) (p .emp) (i .mqsi)) (import-view e)
+
+  pub unit-amount-view : r .key .mark ≡ Gh → (p : HourPrices) → unitAmountIn (write (filed r) ++ u) p ≡ unitAmountOf r p
+  unit-amount-view e p = ap (λ (h : UnitHour). hourAnswer h (p .emp)) (unit-view e)
+
+  pub failed-import-charge : r .key .mark ≡ Fi → (p : HourPrices) → chargeIn Fi (write (filed r) ++ u) p ≡ chargeOf r p
+  failed-import-charge e p = ap (λ (f : Failure). importChargeAnswer f (p .pd)) (failed-import-view e) ∙ sym (ap (λ (m : Mark). chargeFor m (failureOf r) p) e)
+
+  pub failed-export-charge : r .key .mark ≡ Fe → (p : HourPrices) → chargeIn Fe (write (filed r) ++ u) p ≡ chargeOf r p
+  failed-export-charge e p = ap (λ (f : Failure). exportChargeAnswer f (p .pd)) (failed-export-view e) ∙ sym (ap (λ (m : Mark). chargeFor m (failureOf r) p) e)

@@ -1,0 +1,229 @@
+use crate::fields::End;
+use crate::fields::guard_end;
+use crate::marks::Mark;
+use crate::marks::MarkRead;
+use crate::marks::has_name;
+use crate::marks::is_failure;
+use crate::marks::mark_at;
+use crate::marks::mark_no;
+use crate::marks::order;
+use crate::names::NameRead;
+use crate::names::decode;
+use crate::names::unnamed;
+use money::names::Name;
+use money::refusals::BAD_HOUR;
+use money::refusals::BAD_NAME;
+use money::refusals::UNKNOWN_MARK;
+ghost use mathlib.Core.Path.{_≡_};
+ghost use mathlib.Core.List.{List};
+ghost use Prim.Native.Nat.{ℕ};
+ghost use mathlib.Core.Bool.{Bool, true, false, _&&_};
+ghost use Rattle.records.specs.Numbers.{between};
+ghost use Rattle.records.specs.Names.{decodeName, noOne, held};
+ghost use Rattle.records.specs.Changes.{noKey};
+ghost use Rattle.records.specs.Keys.{eqList, sameHour, same, askMark, askName, askFailureMark, askFrom, ask, askFailure, askHour, keyAnswer, nameAnswer};
+ghost use Rattle.records.specs.Inner.{shown, Named};
+
+pub struct Key {
+    pub mark: Mark,
+    pub hour: u8,
+    pub name: Name,
+}
+
+// A key, or the number of the first fault in what was asked.
+pub struct KeyAnswer {
+    pub number: u8,
+    pub key: Key,
+}
+
+pub struct NameAnswer {
+    pub number: u8,
+    pub name: Name,
+}
+
+// The same mark and hour.
+pub fn same_hour(a: Key, b: Key) -> bool
+    ensures { λ r. ⌜ r ≡ sameHour a b ⌝ }
+{
+    let x = a.mark;
+    let y = b.mark;
+    if order(x) != order(y) {
+        return false;
+    }
+    a.hour == b.hour
+}
+
+fn same_bytes(a: [u8; 12], b: [u8; 12]) -> bool
+    ensures { λ r. ⌜ r ≡ eqList a b ⌝ }
+{
+    let mut i: usize = 0;
+    while i < 12 {
+        if a[i] != b[i] {
+            return false;
+        }
+        i += 1;
+    }
+    true
+}
+
+pub fn same_key(a: Key, b: Key) -> bool
+    ensures { λ r. ⌜ r ≡ same a b ⌝ }
+{
+    let x = a.name;
+    let y = b.name;
+    if same_hour(a, b) {
+        if x.len != y.len {
+            return false;
+        }
+        let p = x.bytes;
+        let q = y.bytes;
+        return same_bytes(p, q);
+    }
+    false
+}
+
+// ---- the key of a question
+
+fn asked_mark(mark: &[u8]) -> MarkRead
+    ensures { λ r. ⌜ shown (now (mark .entry)) (r .end) (r .mark) ≡ askMark (now (mark .entry)) ⌝ }
+{
+    if mark.len() == 2 {
+        return mark_at(mark, 0);
+    }
+    mark_no(UNKNOWN_MARK)
+}
+
+fn asked_name(name: &[u8], mark: Mark) -> NameRead
+    ensures { λ r. ⌜ Named (now (name .entry)) (askName mark (now (name .entry))) r ⌝ }
+{
+    if has_name(mark) {
+        return decode(name);
+    }
+    if name.len() == 0 {
+        return unnamed(End::At(0));
+    }
+    unnamed(End::No(BAD_NAME))
+}
+
+fn hour_ok(hour: u8) -> bool
+    ensures { λ r. ⌜ r ≡ between 1 24 hour ⌝ }
+{
+    if hour < 1 {
+        return false;
+    }
+    hour <= 24
+}
+
+fn key_no(n: u8) -> KeyAnswer
+    ensures { λ r. ⌜ r ≡ record { number = n; key = noKey } ⌝ }
+{
+    let bytes = [0u8; 12];
+    KeyAnswer {
+        number: n,
+        key: Key {
+            mark: Mark::Pr,
+            hour: 0,
+            name: Name { len: 0, bytes },
+        },
+    }
+}
+
+fn key_from(m: MarkRead, hour: u8, name: &[u8]) -> KeyAnswer
+    ensures { λ r. ⌜ ((s : List ℕ) → r ≡ keyAnswer (askFrom (shown s (m .end) (m .mark)) hour (now (name .entry)))) ⌝ }
+{
+    let e = m.end;
+    let k = m.mark;
+    match e {
+        End::At(_a) => {
+            if hour_ok(hour) {
+                let n = asked_name(name, k);
+                let f = n.end;
+                let x = n.name;
+                match f {
+                    End::At(_b) => KeyAnswer {
+                        number: 0,
+                        key: Key {
+                            mark: k,
+                            hour,
+                            name: x,
+                        },
+                    },
+                    End::No(j) => key_no(j),
+                }
+            } else {
+                key_no(BAD_HOUR)
+            }
+        }
+        End::No(j) => key_no(j),
+    }
+}
+
+// The key that a mark, an hour and a spelled name without its length byte ask for.
+pub fn ask_key(mark: &[u8], hour: u8, name: &[u8]) -> KeyAnswer
+    ensures { λ r. ⌜ r ≡ keyAnswer (ask (now (mark .entry)) hour (now (name .entry))) ⌝ }
+{
+    key_from(asked_mark(mark), hour, name)
+}
+
+fn asked_failure_mark(mark: &[u8]) -> MarkRead
+    ensures { λ r. ⌜ shown (now (mark .entry)) (r .end) (r .mark) ≡ askFailureMark (now (mark .entry)) ⌝ }
+{
+    let m = asked_mark(mark);
+    let e = m.end;
+    let k = m.mark;
+    let end = guard_end(e, is_failure(k), UNKNOWN_MARK);
+    MarkRead { end, mark: k }
+}
+
+// The same of a failure: another mark than FI or FE gives 2.
+pub fn ask_failure(mark: &[u8], hour: u8, name: &[u8]) -> KeyAnswer
+    ensures { λ r. ⌜ r ≡ keyAnswer (askFailure (now (mark .entry)) hour (now (name .entry))) ⌝ }
+{
+    key_from(asked_failure_mark(mark), hour, name)
+}
+
+// A mark and an hour, as a key without a name.
+pub fn ask_hour(mark: &[u8], hour: u8) -> KeyAnswer
+    ensures { λ r. ⌜ r ≡ keyAnswer (askHour (now (mark .entry)) hour) ⌝ }
+{
+    let m = asked_mark(mark);
+    let e = m.end;
+    let k = m.mark;
+    match e {
+        End::At(_a) => {
+            if hour_ok(hour) {
+                let bytes = [0u8; 12];
+                KeyAnswer {
+                    number: 0,
+                    key: Key {
+                        mark: k,
+                        hour,
+                        name: Name { len: 0, bytes },
+                    },
+                }
+            } else {
+                key_no(BAD_HOUR)
+            }
+        }
+        End::No(j) => key_no(j),
+    }
+}
+
+// The name that spelled bytes without a length byte ask for.
+pub fn ask_name(name: &[u8]) -> NameAnswer
+    ensures { λ r. ⌜ r ≡ nameAnswer (held (decodeName (now (name .entry)))) ⌝ }
+{
+    let n = decode(name);
+    let e = n.end;
+    let x = n.name;
+    match e {
+        End::At(_a) => NameAnswer { number: 0, name: x },
+        End::No(j) => {
+            let bytes = [0u8; 12];
+            NameAnswer {
+                number: j,
+                name: Name { len: 0, bytes },
+            }
+        }
+    }
+}

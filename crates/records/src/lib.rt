@@ -1,0 +1,14 @@
+// The record layer: names, the six records and the five changes, read and written.
+pub mod amounts;
+pub mod changes;
+pub mod fields;
+pub mod keys;
+pub mod layouts;
+pub mod lists;
+pub mod marks;
+pub mod names;
+pub mod parse;
+pub mod rows;
+pub mod scan;
+pub mod views;
+pub mod writing;

@@ -1,0 +1,149 @@
+use crate::fields::End;
+use crate::fields::Num;
+use crate::fields::PriceAt;
+use crate::fields::QuantityAt;
+use crate::fields::read_byte;
+use crate::fields::read_price;
+use crate::fields::read_quantity;
+use money::offers::Offer;
+use money::offers::offer_fault;
+use money::refusals::BAD_LIST;
+use money::units::Price;
+use money::units::Quantity;
+ghost use mathlib.Core.Path.{_≡_};
+ghost use Prim.Native.Nat.{ℕ, _≤_};
+ghost use Rattle.money.specs.Offers.{lastQ};
+ghost use Rattle.records.specs.Reading.{from};
+ghost use Rattle.records.specs.Numbers.{pair, pairs, listOk, listFrom};
+ghost use Rattle.records.specs.Inner.{pairAt, OfferIs, then};
+
+pub enum PairAt {
+    Got(Price, Quantity, usize),
+    No(u8),
+}
+
+pub struct OfferRead {
+    pub end: End,
+    pub offer: Offer,
+}
+
+fn read_pair(s: &[u8], at: usize) -> PairAt
+    ensures { λ r. ⌜ pairAt (now (s .entry)) r ≡ pair (from (now (s .entry)) at) ⌝ }
+{
+    let p = read_price(s, at);
+    match p {
+        PriceAt::Got(a, mid) => {
+            let q = read_quantity(s, mid);
+            match q {
+                QuantityAt::Got(b, next) => PairAt::Got(a, b, next),
+                QuantityAt::No(k) => PairAt::No(k),
+            }
+        }
+        PriceAt::No(k) => PairAt::No(k),
+    }
+}
+
+fn offer_no(k: u8) -> OfferRead
+    ensures { λ r. ⌜ (r .end ≡ End.No k) × (r .offer .count ≡ 0) ⌝ }
+{
+    let prices = [Price(0); 20];
+    let quantities = [Quantity(0); 20];
+    OfferRead {
+        end: End::No(k),
+        offer: Offer {
+            count: 0,
+            prices,
+            quantities,
+        },
+    }
+}
+
+// A number of pairs; the places behind them stay 0.
+fn read_pairs(s: &[u8], at: usize, n: usize) -> OfferRead
+    requires { ⌜ n ≤ 20 ⌝ }
+    ensures { λ r. ⌜ OfferIs (now (s .entry)) (pairs n (from (now (s .entry)) at)) r ⌝ }
+{
+    let mut prices = [Price(0); 20];
+    let mut quantities = [Quantity(0); 20];
+    let mut next = at;
+    let mut i: usize = 0;
+    while i < n {
+        let t = read_pair(s, next);
+        match t {
+            PairAt::Got(a, b, end) => {
+                prices[i] = a;
+                quantities[i] = b;
+                next = end;
+                i += 1;
+            }
+            PairAt::No(k) => {
+                return offer_no(k);
+            }
+        }
+    }
+    OfferRead {
+        end: End::At(next),
+        offer: Offer {
+            count: n as u8,
+            prices,
+            quantities,
+        },
+    }
+}
+
+// The order of a list whose numbers are in range; an empty one has none to break.
+fn list_ok(o: Offer) -> bool
+    ensures { λ r. ⌜ r ≡ listOk o ⌝ }
+{
+    if o.count == 0 {
+        return true;
+    }
+    offer_fault(o) == 0
+}
+
+fn read_list(s: &[u8], at: usize, lo: u32) -> OfferRead
+    ensures { λ r. ⌜ OfferIs (now (s .entry)) (listFrom lo (from (now (s .entry)) at)) r ⌝ }
+{
+    let c = read_byte(s, at);
+    match c {
+        Num::Got(n, first) => {
+            if n < lo {
+                return offer_no(BAD_LIST);
+            }
+            if 20 < n {
+                return offer_no(BAD_LIST);
+            }
+            let r = read_pairs(s, first, n as usize);
+            let e = r.end;
+            match e {
+                End::At(_next) => {
+                    let o = r.offer;
+                    if list_ok(o) { r } else { offer_no(BAD_LIST) }
+                }
+                End::No(k) => offer_no(k),
+            }
+        }
+        Num::No(k) => offer_no(k),
+    }
+}
+
+pub(crate) fn list_then(s: &[u8], e: End, lo: u32) -> OfferRead
+    ensures { λ r. ⌜ OfferIs (now (s .entry)) (then (now (s .entry)) e (listFrom lo)) r ⌝ }
+{
+    match e {
+        End::At(at) => read_list(s, at, lo),
+        End::No(k) => offer_no(k),
+    }
+}
+
+pub(crate) fn last_quantity(o: Offer) -> u32
+    requires { ⌜ o .count ≤ 20 ⌝ }
+    ensures { λ r. ⌜ r ≡ lastQ o ⌝ }
+{
+    let n = o.count as usize;
+    if n == 0 {
+        return 0;
+    }
+    let q = o.quantities[n - 1];
+    q.0
+}

@@ -1,0 +1,217 @@
+use crate::fields::End;
+use money::refusals::ENDS_EARLY;
+use money::refusals::UNKNOWN_MARK;
+ghost use mathlib.Core.Path.{_≡_};
+ghost use mathlib.Core.List.{List, [], _∷_};
+ghost use Rattle.records.specs.Reading.{from};
+ghost use Rattle.records.specs.Marks.{is, mark, hasName, isFailure, order, limit};
+ghost use Rattle.records.specs.Changes.{number, allowed, inside, head};
+ghost use Rattle.records.specs.Inner.{shown, headed};
+
+// The kinds of changes, as they are asked for and answered; 0 asks for any of the first three.
+pub const FILED: u8 = 1;
+
+pub const CORRECTED: u8 = 2;
+
+pub const WITHDRAWN: u8 = 3;
+
+pub const TAKE_BACK: u8 = 4;
+
+pub const CLOSE: u8 = 5;
+
+pub enum Mark {
+    Pr,
+    Im,
+    Ex,
+    Gh,
+    Fi,
+    Fe,
+}
+
+pub enum Kind {
+    File,
+    Correct,
+    Withdraw,
+}
+
+pub struct MarkRead {
+    pub end: End,
+    pub mark: Mark,
+}
+
+pub struct HeadRead {
+    pub end: End,
+    pub kind: Kind,
+    pub mark: Mark,
+}
+
+pub(crate) fn is(a: u8, b: u8, x: u8, y: u8) -> bool
+    ensures { λ r. ⌜ r ≡ is (x ∷ y ∷ []) a b ⌝ }
+{
+    if a != x {
+        return false;
+    }
+    b == y
+}
+
+pub(crate) fn mark_no(k: u8) -> MarkRead
+    ensures { λ r. ⌜ r .end ≡ End.No k ⌝ }
+{
+    MarkRead {
+        end: End::No(k),
+        mark: Mark::Pr,
+    }
+}
+
+fn marked(mark: Mark, next: usize) -> MarkRead
+    ensures { λ r. ⌜ r ≡ record { end = End.At next; mark = mark } ⌝ }
+{
+    MarkRead {
+        end: End::At(next),
+        mark,
+    }
+}
+
+pub(crate) fn mark_at(s: &[u8], at: usize) -> MarkRead
+    ensures { λ r. ⌜ shown (now (s .entry)) (r .end) (r .mark) ≡ mark (from (now (s .entry)) at) ⌝ }
+{
+    if s.len() <= at {
+        return mark_no(ENDS_EARLY);
+    }
+    if s.len() - at < 2 {
+        return mark_no(ENDS_EARLY);
+    }
+    let a = s[at];
+    let b = s[at + 1];
+    let next = at + 2;
+    if is(a, b, b'P', b'R') {
+        return marked(Mark::Pr, next);
+    }
+    if is(a, b, b'I', b'M') {
+        return marked(Mark::Im, next);
+    }
+    if is(a, b, b'E', b'X') {
+        return marked(Mark::Ex, next);
+    }
+    if is(a, b, b'G', b'H') {
+        return marked(Mark::Gh, next);
+    }
+    if is(a, b, b'F', b'I') {
+        return marked(Mark::Fi, next);
+    }
+    if is(a, b, b'F', b'E') {
+        return marked(Mark::Fe, next);
+    }
+    mark_no(UNKNOWN_MARK)
+}
+
+pub(crate) fn number(k: Kind) -> u8
+    ensures { λ r. ⌜ r ≡ number k ⌝ }
+{
+    match k {
+        Kind::File => FILED,
+        Kind::Correct => CORRECTED,
+        Kind::Withdraw => WITHDRAWN,
+    }
+}
+
+fn allowed(want: u8, k: Kind) -> bool
+    ensures { λ r. ⌜ r ≡ allowed want k ⌝ }
+{
+    if want == 0 {
+        return true;
+    }
+    want == number(k)
+}
+
+fn inside_at(s: &[u8], at: usize, want: u8, kind: Kind) -> HeadRead
+    ensures { λ r. ⌜ headed (now (s .entry)) r ≡ inside want kind (from (now (s .entry)) at) ⌝ }
+{
+    if allowed(want, kind) {
+        let m = mark_at(s, at);
+        let end = m.end;
+        let mark = m.mark;
+        HeadRead { end, kind, mark }
+    } else {
+        HeadRead {
+            end: End::No(UNKNOWN_MARK),
+            kind,
+            mark: Mark::Pr,
+        }
+    }
+}
+
+pub(crate) fn head_at(s: &[u8], want: u8) -> HeadRead
+    ensures { λ r. ⌜ headed (now (s .entry)) r ≡ head want (now (s .entry)) ⌝ }
+{
+    if s.len() < 2 {
+        return HeadRead {
+            end: End::No(ENDS_EARLY),
+            kind: Kind::File,
+            mark: Mark::Pr,
+        };
+    }
+    let a = s[0];
+    let b = s[1];
+    if is(a, b, b'C', b'O') {
+        return inside_at(s, 2, want, Kind::Correct);
+    }
+    if is(a, b, b'W', b'D') {
+        return inside_at(s, 2, want, Kind::Withdraw);
+    }
+    inside_at(s, 0, want, Kind::File)
+}
+
+pub(crate) fn has_name(m: Mark) -> bool
+    ensures { λ r. ⌜ r ≡ hasName m ⌝ }
+{
+    match m {
+        Mark::Pr => false,
+        Mark::Im => true,
+        Mark::Ex => true,
+        Mark::Gh => true,
+        Mark::Fi => true,
+        Mark::Fe => true,
+    }
+}
+
+pub fn is_failure(m: Mark) -> bool
+    ensures { λ r. ⌜ r ≡ isFailure m ⌝ }
+{
+    match m {
+        Mark::Pr => false,
+        Mark::Im => false,
+        Mark::Ex => false,
+        Mark::Gh => false,
+        Mark::Fi => true,
+        Mark::Fe => true,
+    }
+}
+
+// The place of a mark in the listing.
+pub fn order(m: Mark) -> u8
+    ensures { λ r. ⌜ r ≡ order m ⌝ }
+{
+    match m {
+        Mark::Pr => 0,
+        Mark::Im => 1,
+        Mark::Ex => 2,
+        Mark::Gh => 3,
+        Mark::Fi => 4,
+        Mark::Fe => 5,
+    }
+}
+
+// How many records of a mark an hour may hold.
+pub fn limit(m: Mark) -> u8
+    ensures { λ r. ⌜ r ≡ limit m ⌝ }
+{
+    match m {
+        Mark::Pr => 16,
+        Mark::Im => 16,
+        Mark::Ex => 16,
+        Mark::Gh => 8,
+        Mark::Fi => 16,
+        Mark::Fe => 16,
+    }
+}

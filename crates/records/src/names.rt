@@ -1,0 +1,305 @@
+use crate::fields::End;
+use crate::fields::Num;
+use crate::fields::read_byte;
+use money::names::Name;
+use money::refusals::BAD_NAME;
+use money::refusals::ENDS_EARLY;
+ghost use mathlib.Core.Path.{_≡_};
+ghost use Prim.Native.Nat.{ℕ, _+_, _≤_, _<_};
+ghost use lib.ListN.{length};
+ghost use Rattle.records.specs.Reading.{from};
+ghost use Rattle.records.specs.Names.{visible, hexVal, escaped, one, decodeName, unreserved, digit, spellByte, spell, nameField, noOne, bytesOf, held, spellingOf};
+ghost use Rattle.records.specs.Inner.{then, Named, chr, Wrote};
+
+pub struct NameRead {
+    pub end: End,
+    pub name: Name,
+}
+
+// The written spelling of a name: its length, and places for thirty-six bytes.
+pub struct Spelling {
+    pub len: u8,
+    pub bytes: [u8; 36],
+}
+
+pub enum Chr {
+    Got(u8, usize),
+    No(u8),
+}
+
+fn visible(x: u8) -> bool
+    ensures { λ r. ⌜ r ≡ visible x ⌝ }
+{
+    if x < 0x21 {
+        return false;
+    }
+    x <= 0x7E
+}
+
+fn hex(x: u8) -> u8
+    ensures { λ r. ⌜ r ≡ hexVal x ⌝ }
+{
+    if x < 48 {
+        return 16;
+    }
+    if x <= 57 {
+        return x - 48;
+    }
+    if x < 65 {
+        return 16;
+    }
+    if x <= 70 {
+        return x - 55;
+    }
+    if x < 97 {
+        return 16;
+    }
+    if x <= 102 {
+        return x - 87;
+    }
+    16
+}
+
+// the byte that % and two hex digits at a place of s stand for
+fn escaped_at(s: &[u8], at: usize) -> Chr
+    ensures { λ r. ⌜ chr (now (s .entry)) r ≡ escaped (from (now (s .entry)) at) ⌝ }
+{
+    if s.len() <= at {
+        return Chr::No(BAD_NAME);
+    }
+    if s.len() - at < 2 {
+        return Chr::No(BAD_NAME);
+    }
+    let h = hex(s[at]);
+    if 16 <= h {
+        return Chr::No(BAD_NAME);
+    }
+    let l = hex(s[at + 1]);
+    if 16 <= l {
+        return Chr::No(BAD_NAME);
+    }
+    let b = 16 * h + l;
+    if visible(b) {
+        Chr::Got(b, at + 2)
+    } else {
+        Chr::No(BAD_NAME)
+    }
+}
+
+fn one_at(s: &[u8], at: usize) -> Chr
+    requires { ⌜ at < length (now s) ⌝ }
+    ensures { λ r. ⌜ chr (now (s .entry)) r ≡ one (from (now (s .entry)) at) ⌝ }
+{
+    let x = s[at];
+    if x == 37 {
+        return escaped_at(s, at + 1);
+    }
+    if visible(x) {
+        Chr::Got(x, at + 1)
+    } else {
+        Chr::No(BAD_NAME)
+    }
+}
+
+fn name_no(k: u8) -> NameRead
+    ensures { λ r. ⌜ (r .end ≡ End.No k) × (r .name .len ≡ 0) ⌝ }
+{
+    let bytes = [0u8; 12];
+    NameRead {
+        end: End::No(k),
+        name: Name { len: 0, bytes },
+    }
+}
+
+// The name of a mark that has none.
+pub(crate) fn unnamed(end: End) -> NameRead
+    ensures { λ r. ⌜ (r .end ≡ end) × (r .name ≡ noOne) ⌝ }
+{
+    let bytes = [0u8; 12];
+    NameRead {
+        end,
+        name: Name { len: 0, bytes },
+    }
+}
+
+pub(crate) fn decode(spelled: &[u8]) -> NameRead
+    ensures { λ r. ⌜ Named (now (spelled .entry)) (held (decodeName (now (spelled .entry)))) r ⌝ }
+{
+    if spelled.len() < 1 {
+        return name_no(BAD_NAME);
+    }
+    if 36 < spelled.len() {
+        return name_no(BAD_NAME);
+    }
+    let mut bytes = [0u8; 12];
+    let mut n: usize = 0;
+    let mut at: usize = 0;
+    while at < spelled.len() {
+        if 12 <= n {
+            return name_no(BAD_NAME);
+        }
+        let b = one_at(spelled, at);
+        match b {
+            Chr::Got(v, next) => {
+                bytes[n] = v;
+                n += 1;
+                at = next;
+            }
+            Chr::No(k) => {
+                return name_no(k);
+            }
+        }
+    }
+    NameRead {
+        end: End::At(at),
+        name: Name {
+            len: n as u8,
+            bytes,
+        },
+    }
+}
+
+fn unreserved(x: u8) -> bool
+    ensures { λ r. ⌜ r ≡ unreserved x ⌝ }
+{
+    if x < 45 {
+        return false;
+    }
+    if x <= 46 {
+        return true;
+    }
+    if x < 48 {
+        return false;
+    }
+    if x <= 57 {
+        return true;
+    }
+    if x < 65 {
+        return false;
+    }
+    if x <= 90 {
+        return true;
+    }
+    if x < 97 {
+        return x == 95;
+    }
+    if x <= 122 {
+        return true;
+    }
+    x == 126
+}
+
+fn digit(n: u8) -> u8
+    requires { ⌜ n < 16 ⌝ }
+    ensures { λ r. ⌜ r ≡ digit n ⌝ }
+{
+    if n < 10 { 48 + n } else { 55 + n }
+}
+
+fn write_byte(x: u8, out: &mut [u8], at: usize) -> usize
+    requires { ⌜ at + 3 ≤ length (now out) ⌝ }
+    ensures { λ r. ⌜ Wrote (now (out .entry)) (now (out .exit)) at r (spellByte x) ⌝ }
+{
+    if unreserved(x) {
+        out[at] = x;
+        return at + 1;
+    }
+    out[at] = 37;
+    out[at + 1] = digit(x / 16);
+    out[at + 2] = digit(x % 16);
+    at + 3
+}
+
+pub(crate) fn write_name(name: Name, out: &mut [u8], at: usize) -> usize
+    requires { ⌜ (name .len ≤ 12) × (at + 36 ≤ length (now out)) ⌝ }
+    ensures { λ r. ⌜ Wrote (now (out .entry)) (now (out .exit)) at r (spell (bytesOf name)) ⌝ }
+{
+    let n = name.len as usize;
+    let mut next = at;
+    let mut i: usize = 0;
+    while i < n {
+        let x = name.bytes[i];
+        next = write_byte(x, out, next);
+        i += 1;
+    }
+    next
+}
+
+// A name as it is written, for bytes that hold no record. One of more than twelve bytes is none.
+pub fn spell_name(name: Name) -> Spelling
+    ensures { λ r. ⌜ r ≡ spellingOf name ⌝ }
+{
+    let mut bytes = [0u8; 36];
+    if 12 < name.len {
+        return Spelling { len: 0, bytes };
+    }
+    let n = write_name(name, &mut bytes, 0);
+    Spelling {
+        len: n as u8,
+        bytes,
+    }
+}
+
+fn byte_len(x: u8) -> usize
+    ensures { λ r. ⌜ (r ≡ length (spellByte x)) × (r ≤ 3) ⌝ }
+{
+    if unreserved(x) { 1 } else { 3 }
+}
+
+pub(crate) fn spelled_len(name: Name) -> usize
+    requires { ⌜ name .len ≤ 12 ⌝ }
+    ensures { λ r. ⌜ (r ≡ length (spell (bytesOf name))) × (r ≤ 36) ⌝ }
+{
+    let n = name.len as usize;
+    let mut sum: usize = 0;
+    let mut i: usize = 0;
+    while i < n {
+        let x = name.bytes[i];
+        sum += byte_len(x);
+        i += 1;
+    }
+    sum
+}
+
+fn read_name(s: &[u8], at: usize) -> NameRead
+    ensures { λ r. ⌜ Named (now (s .entry)) (held (nameField (from (now (s .entry)) at))) r ⌝ }
+{
+    let c = read_byte(s, at);
+    match c {
+        Num::Got(n, first) => {
+            if n < 1 {
+                return name_no(BAD_NAME);
+            }
+            if 36 < n {
+                return name_no(BAD_NAME);
+            }
+            let k = n as usize;
+            if s.len() < first {
+                return name_no(ENDS_EARLY);
+            }
+            if s.len() - first < k {
+                return name_no(ENDS_EARLY);
+            }
+            let r = decode(&s[first..first + k]);
+            let e = r.end;
+            let m = r.name;
+            match e {
+                End::At(_stop) => NameRead {
+                    end: End::At(first + k),
+                    name: m,
+                },
+                End::No(j) => name_no(j),
+            }
+        }
+        Num::No(k) => name_no(k),
+    }
+}
+
+pub(crate) fn name_field_then(s: &[u8], e: End) -> NameRead
+    ensures { λ r. ⌜ Named (now (s .entry)) (then (now (s .entry)) e (λ t. held (nameField t))) r ⌝ }
+{
+    match e {
+        End::At(at) => read_name(s, at),
+        End::No(k) => name_no(k),
+    }
+}

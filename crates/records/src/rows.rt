@@ -1,0 +1,123 @@
+use crate::fields::End;
+use crate::fields::PriceAt;
+use crate::fields::QuantityAt;
+use crate::fields::read_price;
+use crate::fields::read_quantity;
+use money::units::Price;
+use money::units::Quantity;
+ghost use mathlib.Core.Path.{_≡_};
+ghost use Rattle.money.specs.Units.{withinOk};
+ghost use Rattle.records.specs.Reading.{from, many};
+ghost use Rattle.records.specs.Numbers.{price, quantity};
+ghost use Rattle.records.specs.Inner.{shown, then};
+
+pub struct PriceRow {
+    pub end: End,
+    pub values: [Price; 12],
+}
+
+pub struct QuantityRow {
+    pub end: End,
+    pub values: [Quantity; 12],
+}
+
+fn read_prices(s: &[u8], at: usize) -> PriceRow
+    ensures { λ r. ⌜ shown (now (s .entry)) (r .end) (r .values) ≡ many 12 price (from (now (s .entry)) at) ⌝ }
+{
+    let mut values = [Price(0); 12];
+    let mut next = at;
+    let mut i: usize = 0;
+    while i < 12 {
+        let p = read_price(s, next);
+        match p {
+            PriceAt::Got(v, n) => {
+                values[i] = v;
+                next = n;
+                i += 1;
+            }
+            PriceAt::No(k) => {
+                return PriceRow {
+                    end: End::No(k),
+                    values,
+                };
+            }
+        }
+    }
+    PriceRow {
+        end: End::At(next),
+        values,
+    }
+}
+
+fn read_quantities(s: &[u8], at: usize) -> QuantityRow
+    ensures { λ r. ⌜ shown (now (s .entry)) (r .end) (r .values) ≡ many 12 quantity (from (now (s .entry)) at) ⌝ }
+{
+    let mut values = [Quantity(0); 12];
+    let mut next = at;
+    let mut i: usize = 0;
+    while i < 12 {
+        let q = read_quantity(s, next);
+        match q {
+            QuantityAt::Got(v, n) => {
+                values[i] = v;
+                next = n;
+                i += 1;
+            }
+            QuantityAt::No(k) => {
+                return QuantityRow {
+                    end: End::No(k),
+                    values,
+                };
+            }
+        }
+    }
+    QuantityRow {
+        end: End::At(next),
+        values,
+    }
+}
+
+pub(crate) fn prices_then(s: &[u8], e: End) -> PriceRow
+    ensures { λ r. ⌜ shown (now (s .entry)) (r .end) (r .values) ≡ then (now (s .entry)) e (many 12 price) ⌝ }
+{
+    match e {
+        End::At(at) => read_prices(s, at),
+        End::No(k) => {
+            let values = [Price(0); 12];
+            PriceRow {
+                end: End::No(k),
+                values,
+            }
+        }
+    }
+}
+
+pub(crate) fn quantities_then(s: &[u8], e: End) -> QuantityRow
+    ensures { λ r. ⌜ shown (now (s .entry)) (r .end) (r .values) ≡ then (now (s .entry)) e (many 12 quantity) ⌝ }
+{
+    match e {
+        End::At(at) => read_quantities(s, at),
+        End::No(k) => {
+            let values = [Quantity(0); 12];
+            QuantityRow {
+                end: End::No(k),
+                values,
+            }
+        }
+    }
+}
+
+// No quantity of a row lies beyond the last of a list.
+pub(crate) fn within(values: [Quantity; 12], last: u32) -> bool
+    ensures { λ r. ⌜ r ≡ withinOk values last ⌝ }
+{
+    let mut i: usize = 0;
+    while i < 12 {
+        let q = values[i];
+        if last < q.0 {
+            return false;
+        }
+        i += 1;
+    }
+    true
+}

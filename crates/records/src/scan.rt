@@ -1,0 +1,79 @@
+use crate::changes::read_change;
+use crate::fields::End;
+use crate::keys::Key;
+use crate::marks::Mark;
+use crate::marks::number;
+use crate::writing::HeadOut;
+use crate::writing::head_of;
+use money::names::Name;
+ghost use mathlib.Core.Path.{_≡_};
+ghost use Prim.Native.Nat.{ℕ, _≤_};
+ghost use lib.ListN.{take};
+ghost use Rattle.records.specs.Changes.{blind, begins, scan, viewOf};
+
+// A change as the book sees it: its kind (0 for none), its key, and its written length.
+pub struct View {
+    pub kind: u8,
+    pub key: Key,
+    pub len: usize,
+}
+
+fn starts(s: &[u8], h: HeadOut) -> bool
+    requires { ⌜ h .len ≤ 44 ⌝ }
+    ensures { λ r. ⌜ r ≡ begins (take (h .len) (h .bytes)) (now (s .entry)) ⌝ }
+{
+    let n = h.len;
+    if s.len() < n {
+        return false;
+    }
+    let mut i: usize = 0;
+    while i < n {
+        let x = h.bytes[i];
+        if s[i] != x {
+            return false;
+        }
+        i += 1;
+    }
+    true
+}
+
+pub fn nothing() -> View
+    ensures { λ r. ⌜ r ≡ viewOf blind ⌝ }
+{
+    let bytes = [0u8; 12];
+    View {
+        kind: 0,
+        key: Key {
+            mark: Mark::Pr,
+            hour: 0,
+            name: Name { len: 0, bytes },
+        },
+        len: 0,
+    }
+}
+
+// The change that some bytes of a book begin with.
+pub fn peek(s: &[u8]) -> View
+    ensures { λ r. ⌜ r ≡ viewOf (scan (now (s .entry))) ⌝ }
+{
+    let c = read_change(s, 0);
+    let e = c.end;
+    match e {
+        End::At(n) => {
+            let kind = c.kind;
+            let key = c.key;
+            let h = head_of(kind, key);
+            if starts(s, h) {
+                let len = h.len + (n - c.body);
+                View {
+                    kind: number(kind),
+                    key,
+                    len,
+                }
+            } else {
+                nothing()
+            }
+        }
+        End::No(_k) => nothing(),
+    }
+}

@@ -1,0 +1,169 @@
+use crate::changes::read_change;
+use crate::fields::End;
+use crate::keys::Key;
+use crate::marks::Kind;
+use crate::marks::Mark;
+use crate::marks::has_name;
+use crate::names::spelled_len;
+use crate::names::write_name;
+use money::names::Name;
+use money::refusals::LEFT_OVER;
+use money::refusals::NO_SPACE;
+ghost use mathlib.Core.Path.{_≡_};
+ghost use Prim.Native.Nat.{ℕ, _+_, _≤_};
+ghost use lib.ListN.{length};
+ghost use Rattle.records.specs.Marks.{markBytes};
+ghost use Rattle.records.specs.Changes.{leadBytes, noName, nameBytes, headBytes, parse, putNumber, putBytes};
+ghost use Rattle.records.specs.Inner.{Wrote, HeadIs};
+
+// The bytes of a change before its fields.
+pub struct HeadOut {
+    pub len: usize,
+    pub bytes: [u8; 44],
+}
+
+fn write_lead(kind: Kind, out: &mut [u8], at: usize) -> usize
+    requires { ⌜ at + 2 ≤ length (now out) ⌝ }
+    ensures { λ r. ⌜ Wrote (now (out .entry)) (now (out .exit)) at r (leadBytes kind) × (r ≤ at + 2) ⌝ }
+{
+    match kind {
+        Kind::File => at,
+        Kind::Correct => {
+            out[at] = b'C';
+            out[at + 1] = b'O';
+            at + 2
+        }
+        Kind::Withdraw => {
+            out[at] = b'W';
+            out[at + 1] = b'D';
+            at + 2
+        }
+    }
+}
+
+fn write_mark(mark: Mark, out: &mut [u8], at: usize) -> usize
+    requires { ⌜ at + 2 ≤ length (now out) ⌝ }
+    ensures { λ r. ⌜ Wrote (now (out .entry)) (now (out .exit)) at r (markBytes mark) × (r ≡ at + 2) ⌝ }
+{
+    match mark {
+        Mark::Pr => {
+            out[at] = b'P';
+            out[at + 1] = b'R';
+            at + 2
+        }
+        Mark::Im => {
+            out[at] = b'I';
+            out[at + 1] = b'M';
+            at + 2
+        }
+        Mark::Ex => {
+            out[at] = b'E';
+            out[at + 1] = b'X';
+            at + 2
+        }
+        Mark::Gh => {
+            out[at] = b'G';
+            out[at + 1] = b'H';
+            at + 2
+        }
+        Mark::Fi => {
+            out[at] = b'F';
+            out[at + 1] = b'I';
+            at + 2
+        }
+        Mark::Fe => {
+            out[at] = b'F';
+            out[at + 1] = b'E';
+            at + 2
+        }
+    }
+}
+
+fn write_none(kind: Kind, out: &mut [u8], at: usize) -> usize
+    requires { ⌜ at + 1 ≤ length (now out) ⌝ }
+    ensures { λ r. ⌜ Wrote (now (out .entry)) (now (out .exit)) at r (noName kind) ⌝ }
+{
+    match kind {
+        Kind::File => at,
+        Kind::Correct => at,
+        Kind::Withdraw => {
+            out[at] = 0;
+            at + 1
+        }
+    }
+}
+
+fn write_key_name(kind: Kind, mark: Mark, name: Name, out: &mut [u8], at: usize) -> usize
+    requires { ⌜ (name .len ≤ 12) × (at + 37 ≤ length (now out)) ⌝ }
+    ensures { λ r. ⌜ Wrote (now (out .entry)) (now (out .exit)) at r (nameBytes kind mark name) ⌝ }
+{
+    if has_name(mark) {
+        out[at] = spelled_len(name) as u8;
+        return write_name(name, out, at + 1);
+    }
+    write_none(kind, out, at)
+}
+
+fn write_head(kind: Kind, key: Key, out: &mut [u8]) -> usize
+    requires { ⌜ (key .name .len ≤ 12) × (44 ≤ length (now out)) ⌝ }
+    ensures { λ r. ⌜ Wrote (now (out .entry)) (now (out .exit)) 0 r (headBytes kind key) ⌝ }
+{
+    let mark = key.mark;
+    let name = key.name;
+    let a = write_lead(kind, out, 0);
+    let b = write_mark(mark, out, a);
+    out[b] = key.hour;
+    write_key_name(kind, mark, name, out, b + 1)
+}
+
+pub(crate) fn head_of(kind: Kind, key: Key) -> HeadOut
+    requires { ⌜ key .name .len ≤ 12 ⌝ }
+    ensures { λ r. ⌜ HeadIs kind key r ⌝ }
+{
+    let mut bytes = [0u8; 44];
+    let len = write_head(kind, key, &mut bytes);
+    HeadOut { len, bytes }
+}
+
+fn copy(src: &[u8], out: &mut [u8], at: usize) -> usize
+    requires { ⌜ at + length (now src) ≤ length (now out) ⌝ }
+    ensures { λ r. ⌜ Wrote (now (out .entry)) (now (out .exit)) at r (now (src .entry)) ⌝ }
+{
+    let mut i: usize = 0;
+    while i < src.len() {
+        out[at + i] = src[i];
+        i += 1;
+    }
+    at + i
+}
+
+// Writes the change that an argument's bytes are at a place of the log. 13 where it does not fit there.
+pub fn put(log: &mut [u8], at: usize, s: &[u8], want: u8) -> u8
+    ensures { λ r. ⌜ (r ≡ putNumber (parse want (now (s .entry))) at (now (log .entry))) × (now (log .exit) ≡ putBytes (parse want (now (s .entry))) at (now (log .entry))) ⌝ }
+{
+    let c = read_change(s, want);
+    let e = c.end;
+    match e {
+        End::At(n) => {
+            if n < s.len() {
+                return LEFT_OVER;
+            }
+            let kind = c.kind;
+            let key = c.key;
+            let h = head_of(kind, key);
+            let m = h.len;
+            let b = c.body;
+            let bytes = h.bytes;
+            if log.len() < at {
+                return NO_SPACE;
+            }
+            if log.len() - at < m + (n - b) {
+                return NO_SPACE;
+            }
+            let next = copy(&bytes[..m], log, at);
+            copy(&s[b..n], log, next);
+            0
+        }
+        End::No(k) => k,
+    }
+}
