@@ -1,0 +1,69 @@
+//! The differential test: the proved side and the peer, call by call.
+
+use pewatuno_bench::bridge::{self, Layer, Layers};
+use pewatuno_bench::options::{Options, USAGE};
+use pewatuno_bench::run::{run, shortcomings};
+use std::env;
+use std::process::ExitCode;
+use std::time::Instant;
+
+fn main() -> ExitCode {
+    let options = match Options::read(env::args().skip(1)) {
+        Ok(options) => options,
+        Err(fault) => {
+            eprintln!("bench: {fault}\n{USAGE}");
+            return ExitCode::from(2);
+        }
+    };
+    match bridge::open() {
+        Ok(layers) => compared(&options, layers),
+        Err(wrong) => {
+            eprintln!("bench: {wrong}");
+            ExitCode::from(2)
+        }
+    }
+}
+
+/// Runs, prints and judges.
+fn compared(options: &Options, layers: Layers) -> ExitCode {
+    print_head(options, layers);
+    let begun = Instant::now();
+    let outcome = run(options, layers, |line| println!("{line}"));
+    let seconds = begun.elapsed().as_secs_f64();
+    let (lines, is_short) = shortcomings(options, layers, &outcome);
+    print!("{}", outcome.tally);
+    for line in &lines {
+        println!("{line}");
+    }
+    if !lines.is_empty() && !is_short {
+        println!("(shorter than the gate's run, so this is no failure)");
+    }
+    let compared = outcome.tally.compared() + outcome.mismatches;
+    println!(
+        "{seconds:.1} s, {:.0} calls a second",
+        compared as f64 / seconds.max(0.001)
+    );
+    println!(
+        "bench: {compared} calls compared, {} mismatches, {} skipped{}",
+        outcome.mismatches,
+        outcome.tally.skipped(),
+        if is_short { ", numbers lacking" } else { "" }
+    );
+    match outcome.mismatches == 0 && !is_short {
+        true => ExitCode::SUCCESS,
+        false => ExitCode::FAILURE,
+    }
+}
+
+fn print_head(options: &Options, layers: Layers) {
+    let parts: Vec<&str> = options.parts.iter().map(|part| part.word()).collect();
+    println!("seed {}, parts: {}", options.seed, parts.join(", "));
+    if cfg!(feature = "mock") {
+        println!("the mock stands in for the proved side");
+    }
+    for layer in Layer::ALL {
+        if !layers.has(layer) {
+            println!("layer missing, its calls are skipped: {}", layer.words());
+        }
+    }
+}
