@@ -7,6 +7,7 @@ use money::refusals::ENDS_EARLY;
 ghost use mathlib.Core.Path.{_≡_};
 ghost use Prim.Native.Nat.{ℕ, _+_, _≤_, _<_};
 ghost use lib.ListN.{length};
+ghost use Rattle.money.specs.Refusals.{endsEarly};
 ghost use Rattle.records.specs.Reading.{from};
 ghost use Rattle.records.specs.Names.{visible, hexVal, escaped, one, decodeName, unreserved, digit, spellByte, spell, nameField, noOne, bytesOf, held, spellingOf};
 ghost use Rattle.records.specs.Inner.{then, Named, chr, Wrote};
@@ -261,6 +262,13 @@ pub(crate) fn spelled_len(name: Name) -> usize
     sum
 }
 
+// A name whose bytes are not all there.
+fn cut_short() -> NameRead
+    ensures { λ r. ⌜ (r .end ≡ End.No endsEarly) × (r .name .len ≡ 0) ⌝ }
+{
+    name_no(ENDS_EARLY)
+}
+
 fn read_name(s: &[u8], at: usize) -> NameRead
     ensures { λ r. ⌜ Named (now (s .entry)) (held (nameField (from (now (s .entry)) at))) r ⌝ }
 {
@@ -275,10 +283,10 @@ fn read_name(s: &[u8], at: usize) -> NameRead
             }
             let k = n as usize;
             if s.len() < first {
-                return name_no(ENDS_EARLY);
+                return cut_short();
             }
             if s.len() - first < k {
-                return name_no(ENDS_EARLY);
+                return cut_short();
             }
             let r = decode(&s[first..first + k]);
             let e = r.end;
