@@ -1,0 +1,62 @@
+use mathlib.Core.Path.{_≡_, sym}
+use Prim.Native.Nat.{ℕ, _≤_}
+use lib.ListN.{length, replicate, length-replicate}
+use lib.Seq.{length-take-le}
+use native.Mathlib.Omega.{arith}
+use borrow.Author.Needs.{needs}
+use Rattle.record_cases.proofs.next_case.Statement.{statement}
+use Rattle.record_cases.proofs.next_case.Tie as tie
+use Rattle.record_cases.proofs.next_case.Reads as reads
+use Rattle.record_cases.proofs.next_case.Lts as lts
+use Rattle.io.proofs.read_full.Reads as read-full-reads
+use Rattle.record_cases.proofs.case_in.Reads as case-in-reads
+use Rattle.record_cases.proofs.joined.Reads as joined-reads
+
+slice-aggregate-read-full : tie.Need-slice-aggregate-read-full
+slice-aggregate-read-full c = search needs
+
+read-full-requires : tie.Need-read-full-requires
+read-full-requires c κs = search needs
+
+returns : tie.Need-returns
+returns c = search needs
+
+array-read-joined : tie.Need-array-read-joined
+array-read-joined c = search needs
+
+array-read-joined-2 : tie.Need-array-read-joined-2
+array-read-joined-2 c = search needs
+
+joined-requires : tie.Need-joined-requires
+joined-requires c κs = search needs
+
+returns-2 : tie.Need-returns-2
+returns-2 c = search needs
+
+array-borrow-prefix-buffer : tie.Need-array-borrow-prefix-buffer
+array-borrow-prefix-buffer c = search needs
+
+slice-aggregate-case-in : tie.Need-slice-aggregate-case-in
+slice-aggregate-case-in c = sym (length-take-le {A = ℕ} _ (replicate {A = ℕ} 2048 0) (rw (length-replicate {A = ℕ} 2048 0) ((c .before .if2) .left)))
+
+case-in-requires : tie.Need-case-in-requires
+case-in-requires c κs = search needs
+
+returns-3 : tie.Need-returns-3
+returns-3 c = search needs
+
+pub next-case-spec : {M : Type 1} → statement M
+next-case-spec =
+    tie.close
+    (tie.spec
+    slice-aggregate-read-full
+    read-full-requires
+    returns
+    array-read-joined
+    array-read-joined-2
+    joined-requires
+    returns-2
+    array-borrow-prefix-buffer
+    slice-aggregate-case-in
+    case-in-requires
+    returns-3)
