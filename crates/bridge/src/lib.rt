@@ -1,5 +1,8 @@
 // The proved crates over numbers and slices, for a program in another language that holds them against its own. A slice is a
 // pointer and a count. Each function answers 0 or the number of the refusal, and leaves what it answers into alone at a refusal.
+use book::answers::Answer as Said;
+use book::answers::Done;
+use book::journal::Book;
 use money::names::name_before;
 use money::names::same_name;
 use money::refusals::ENDS_EARLY;
@@ -32,15 +35,15 @@ pub extern "C" fn pewatuno_interface() -> u32
 // Bit 0: records; bit 1: amounts of single records; bit 2: the book.
 #[no_mangle]
 pub extern "C" fn pewatuno_layers() -> u32
-    ensures { λ r. ⌜ r ≡ 3 ⌝ }
+    ensures { λ r. ⌜ r ≡ 7 ⌝ }
 {
-    3
+    7
 }
 
-// Sets the first of the numbers that are lent for an answer.
-fn tell(sizes: &mut [u64], n: u64) {
-    if 0 < sizes.len() {
-        sizes[0] = n;
+// Sets a number that is lent for an answer.
+fn set(numbers: &mut [u64], i: usize, n: u64) {
+    if i < numbers.len() {
+        numbers[i] = n;
     }
 }
 
@@ -55,7 +58,7 @@ fn write_change(want: u8, bytes: &[u8], out: &mut [u8], sizes: &mut [u64]) -> u3
     if n != 0 {
         return n as u32;
     }
-    tell(sizes, len as u64);
+    set(sizes, 0, len as u64);
     0
 }
 
@@ -65,7 +68,7 @@ fn mark_alone(number: u8, sizes: &mut [u64]) -> u32
     if number != 0 {
         return number as u32;
     }
-    tell(sizes, 0);
+    set(sizes, 0, 0);
     0
 }
 
@@ -111,7 +114,7 @@ pub extern "C" fn pewatuno_next(bytes: &[u8], sizes: &mut [u64]) -> u32 {
         return n as u32;
     }
     let end = f.end;
-    tell(sizes, end as u64);
+    set(sizes, 0, end as u64);
     0
 }
 
@@ -139,7 +142,7 @@ pub extern "C" fn pewatuno_compare(a: &[u8], b: &[u8], sizes: &mut [u64]) -> u32
     if n != 0 {
         return n as u32;
     }
-    tell(sizes, order_of(a, b));
+    set(sizes, 0, order_of(a, b));
     0
 }
 
@@ -220,47 +223,144 @@ pub extern "C" fn pewatuno_amount(prices: &[u8], bytes: &[u8], amounts: &mut [i6
     tell_amount(amounts, amount_of(prices, bytes))
 }
 
-// ---- layers that are not there yet
+// ---- the book: its number of changes, its used bytes, and 1 where it is closed
 
-const NOT_THERE: u32 = 0xffff_ffff;
-
-#[no_mangle]
-pub extern "C" fn pewatuno_change(
-    _method: u32,
-    _state: &mut [u64],
-    _lent: &mut [u8],
-    _bytes: &[u8],
-) -> u32 {
-    NOT_THERE
+fn book_of(changes: u64, used: u64, closed: u64) -> Book {
+    if 65535 < changes {
+        return Book::fresh();
+    }
+    if 4294967295 < used {
+        return Book::fresh();
+    }
+    Book {
+        changes: changes as u16,
+        used: used as u32,
+        closed: closed != 0,
+    }
 }
 
+fn book_in(state: &[u64]) -> Book {
+    if state.len() < 3 {
+        return Book::fresh();
+    }
+    book_of(state[0], state[1], state[2])
+}
+
+fn flag(b: bool) -> u64 {
+    if b { 1 } else { 0 }
+}
+
+fn hand_back(state: &mut [u64], b: Book) {
+    let changes = b.changes;
+    let used = b.used;
+    let closed = b.closed;
+    set(state, 0, changes as u64);
+    set(state, 1, used as u64);
+    set(state, 2, flag(closed));
+}
+
+fn number_of(a: Said) -> u32 {
+    match a {
+        Said::Refused(n) => n as u32,
+        Said::Accepted => 0,
+        Said::Place(_start, _len) => 0,
+        Said::Number(_n) => 0,
+    }
+}
+
+fn done(b: Book, method: u32, lent: &mut [u8], bytes: &[u8]) -> Done {
+    if method == 1 {
+        return b.file(lent, bytes);
+    }
+    if method == 2 {
+        return b.correct(lent, bytes);
+    }
+    if method == 3 {
+        return b.withdraw(lent, bytes);
+    }
+    if method == 4 {
+        return b.take_back(&lent[..], bytes);
+    }
+    if method == 5 {
+        return b.close(&lent[..], bytes);
+    }
+    b.change(lent, bytes)
+}
+
+// One of the five changes (1 to 5), or any (0).
+#[no_mangle]
+pub extern "C" fn pewatuno_change(
+    method: u32,
+    state: &mut [u64],
+    lent: &mut [u8],
+    bytes: &[u8],
+) -> u32 {
+    let b = book_in(&state[..]);
+    let d = done(b, method, lent, bytes);
+    let next = d.book;
+    let said = d.answer;
+    hand_back(state, next);
+    number_of(said)
+}
+
+fn hour_of(hour: u32) -> u8 {
+    if 255 < hour {
+        return 255;
+    }
+    hour as u8
+}
+
+fn tell_said(sizes: &mut [u64], a: Said) -> u32 {
+    match a {
+        Said::Refused(n) => n as u32,
+        Said::Accepted => 0,
+        Said::Place(start, len) => {
+            set(sizes, 0, start as u64);
+            set(sizes, 1, len as u64);
+            0
+        }
+        Said::Number(n) => {
+            set(sizes, 0, n as u64);
+            0
+        }
+    }
+}
+
+// The record of a key: where it starts, and its length.
 #[no_mangle]
 pub extern "C" fn pewatuno_record(
-    _state: &[u64],
-    _lent: &[u8],
-    _mark: &[u8],
-    _hour: u32,
-    _name: &[u8],
-    _sizes: &mut [u64],
+    state: &[u64],
+    lent: &[u8],
+    mark: &[u8],
+    hour: u32,
+    name: &[u8],
+    sizes: &mut [u64],
 ) -> u32 {
-    NOT_THERE
+    let b = book_in(state);
+    tell_said(sizes, b.record_of(lent, mark, hour_of(hour), name))
 }
 
 #[no_mangle]
 pub extern "C" fn pewatuno_count(
-    _state: &[u64],
-    _lent: &[u8],
-    _mark: &[u8],
-    _hour: u32,
-    _sizes: &mut [u64],
+    state: &[u64],
+    lent: &[u8],
+    mark: &[u8],
+    hour: u32,
+    sizes: &mut [u64],
 ) -> u32 {
-    NOT_THERE
+    let b = book_in(state);
+    tell_said(sizes, b.count_of(lent, mark, hour_of(hour)))
 }
 
 #[no_mangle]
-pub extern "C" fn pewatuno_free(_state: &[u64], _lent: &[u8], _sizes: &mut [u64]) -> u32 {
-    NOT_THERE
+pub extern "C" fn pewatuno_free(state: &[u64], lent: &[u8], sizes: &mut [u64]) -> u32 {
+    let b = book_in(state);
+    tell_said(sizes, b.free_bytes(lent))
 }
+
+// ---- layers that are not there yet
+
+const NOT_THERE: u32 = 0xffff_ffff;
 
 #[no_mangle]
 pub extern "C" fn pewatuno_guarantees(

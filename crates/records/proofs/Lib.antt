@@ -8,6 +8,7 @@ pub mod Head
 pub mod Body
 pub mod Out
 pub mod Asking
+pub mod Leading
 pub mod Entries
 pub mod Viewing
 pub mod Spelling

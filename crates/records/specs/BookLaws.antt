@@ -16,6 +16,9 @@ pub use Rattle.records.specs.EntryLaws.{Ahead, entry-got, entry-fault, a
 pub use Rattle.records.specs.KeyLaws.{same-true, same-refl, sameHour-same, askBytes, asked, ask-fault, askFailure-fault, askHour-fault, name-fault}
 -- bytes written at a place
 pub use Rattle.records.specs.PutLaws.{put-length, put-whole, put-front}
+pub use Rattle.records.specs.StoreLaws.{store-length, store-front}
+-- an hour's limit, a change's hour, keys of one name
+pub use Rattle.records.specs.HourLaws.{limit-most, limit-same, good-hour, same-at}
 -- typed views are what was read, and keep the money rules' ranges
 pub use Rattle.records.specs.ViewLaws.{prices-view, import-view, export-view, unit-view, failed-import-view, failed-export-view}
 -- the amounts of a written record are those of its fields

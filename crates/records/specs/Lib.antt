@@ -5,6 +5,7 @@ pub mod Marks
 pub mod Layouts
 pub mod Changes
 pub mod Keys
+pub mod Hours
 pub mod Views
 pub mod Amounts
 pub mod Inner
@@ -12,9 +13,12 @@ pub mod ReaderLaws
 pub mod NameLaws
 pub mod ChangeLaws
 pub mod KeyLaws
+pub mod HourLaws
 pub mod ViewLaws
 pub mod EntryLaws
 pub mod PutLaws
+pub mod StoreLaws
 pub mod FitLaws
 pub mod BookLaws
 pub mod Examples
+pub mod PriceExample

@@ -2,8 +2,10 @@
 pub mod amounts;
 pub mod changes;
 pub mod fields;
+pub mod hours;
 pub mod keys;
 pub mod layouts;
+pub mod leads;
 pub mod lists;
 pub mod marks;
 pub mod names;

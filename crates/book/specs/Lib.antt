@@ -1,0 +1,14 @@
+pub mod Layer
+pub mod Register
+pub mod Meaning
+pub mod Session
+pub mod Tables
+pub mod RegisterLaws
+pub mod ReplayLaws
+pub mod SessionLaws
+pub mod PlaceLaws
+pub mod Places
+pub mod GatherLaws
+pub mod Hours
+pub mod HourLaws
+pub mod Examples

@@ -1,0 +1,88 @@
+-- What a book and the bytes lent to it mean, and what each call owes.
+use Prim.Native.Nat.{ℕ, zero, suc, _-_}
+use mathlib.Core.Path.{_≡_}
+use mathlib.Core.List.{List, [], _∷_}
+use mathlib.Core.Bool.{cond}
+use lib.ListN.{length, take, drop}
+use lib.Dec.{leb, eqb}
+use Rattle.money.specs.Refusals.{notTogether}
+use Rattle.book.specs.Layer.{Change, Good, Scan, seen, blind, scan}
+use Rattle.book.specs.declared.journal.Book.{Book}
+use Rattle.book.specs.declared.answers.Answer.{Answer}
+use Rattle.book.specs.declared.answers.Answer.the-variants.{Accepted, Refused, Place, Number}
+use Rattle.book.specs.Register.{Reg, Call, Step, answered, becomes, stepOf, writeAll, refusal, Reply, refused, accepted, place, number, reply}
+
+-- ---- which changes a book and its bytes stand for
+
+-- a list, or 16: "book and lent bytes don't belong together"
+pub data Load : Type 0 where
+  belongs : List Change → Load
+  astray : Load
+
+-- one written change more, if it can be played
+abbrev pub onward : List Change → List ℕ → (List Change → List ℕ → Load) → Scan → Load
+onward acc rest f (seen c n) = cond (eqb (refusal acc 65535 c) 0) (f (c ∷ acc) (drop n rest)) astray
+onward acc rest f blind = astray
+
+abbrev pub ended : List Change → List ℕ → Load
+ended acc [] = belongs acc
+ended acc (b ∷ rest) = astray
+
+-- "the used part isn't the carried number of written changes, or these can't be played from fresh without a refusal":
+-- n written changes are read and played after those of acc, and then nothing is left
+unfoldable pub replay : ℕ → List Change → List ℕ → Load
+replay zero acc rest = ended acc rest
+replay (suc n) acc rest = onward acc rest (replay n) (scan rest)
+
+-- "shorter bytes lent", and else the used part
+unfoldable pub load : Book → List ℕ → Load
+load b s = cond (leb (b .used) (length s)) (replay (b .changes) [] (take (b .used) s)) astray
+
+-- a list that a book can stand for: each change is one that can be written, and is played without a refusal
+unfoldable pub Valid : List Change → Type 0
+Valid [] = Unit {0}
+Valid (c ∷ l) = Good c × (refusal l 65535 c ≡ 0) × Valid l
+
+-- ---- what a call leaves
+
+-- the book, the reply, and the bytes that are settled, from the first on
+pub record After : Type 0 where
+  pub book : Book
+  pub answer : Reply
+  pub kept : List ℕ
+
+-- "It carries its number of changes, used bytes, and open or closed"
+abbrev pub bookOf : Reg → Book
+bookOf g = record { changes = length (g .list); used = length (writeAll (g .list)); closed = g .closed }
+
+-- at a refusal or a question "book and bytes remain"; after a change "the used part is the register's list as written"
+abbrev pub settled : Book → List ℕ → Step → After
+settled b s (answered r) = record { book = b; answer = r; kept = s }
+settled b s (becomes g) = record { book = bookOf g; answer = accepted; kept = writeAll (g .list) }
+
+-- "16 comes before all others, for questions too"
+abbrev pub stepped : (ℕ → Reg → Step) → Book → List ℕ → Load → Step
+stepped f b s (belongs l) = f (length s) (record { list = l; closed = b .closed })
+stepped f b s astray = answered (refused notTogether)
+
+unfoldable pub outcome : (ℕ → Reg → Step) → Book → List ℕ → After
+outcome f b s = settled b s (stepped f b s (load b s))
+
+-- "Of answer, book and bytes only bytes past the used part are free"
+pub record Leaves (f : ℕ → Reg → Step) (b : Book) (s : List ℕ) (b′ : Book) (r : Reply) (s′ : List ℕ) : Type 0 where
+  pub book : b′ ≡ outcome f b s .book
+  pub answer : r ≡ outcome f b s .answer
+  pub size : length s′ ≡ length s
+  pub bytes : take (length (outcome f b s .kept)) s′ ≡ outcome f b s .kept
+
+-- the promise of every call, change or question
+abbrev pub Meets : Call → Book → List ℕ → Book → Reply → List ℕ → Type 0
+Meets call b s b′ r s′ = Leaves (stepOf call) b s b′ r s′
+
+-- ---- the numbers and values of an answer
+
+abbrev pub replyOf : Answer → Reply
+replyOf Accepted = accepted
+replyOf (Refused n) = refused n
+replyOf (Place start len) = place start len
+replyOf (Number n) = number n

@@ -1,0 +1,10 @@
+// The book: a participant's day as written changes in lent bytes, and three numbers that the caller keeps.
+pub mod answers;
+pub mod changes;
+pub mod hours;
+pub mod journal;
+pub mod places;
+pub mod questions;
+mod refusal;
+mod replay;
+mod survey;

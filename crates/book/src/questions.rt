@@ -1,0 +1,67 @@
+// The questions of a key, of a mark and hour, and for free bytes.
+use crate::answers::Answer;
+use crate::journal::Book;
+use crate::refusal;
+use crate::survey;
+use money::refusals::NO_SUCH_KEY;
+use money::refusals::NOT_TOGETHER;
+use records::keys::ask_hour;
+use records::keys::ask_key;
+ghost use mathlib.Core.Path.{_≡_};
+ghost use Rattle.book.specs.Register.{ask, recordOf, countOf, freeBytes};
+ghost use Rattle.book.specs.Meaning.{Meets, replyOf};
+
+impl Book {
+    // Start and length of the written record of a key, without a CO mark.
+    pub fn record_of(self, log: &[u8], mark: &[u8], hour: u8, name: &[u8]) -> Answer
+        ensures { λ r. ⌜ Meets (ask (recordOf (now (mark .entry)) hour (now (name .entry)))) self (now (log .entry)) self (replyOf r) (now (log .entry)) ⌝ }
+    {
+        let k = self.check_table(log);
+        if k.ok {
+            let q = ask_key(mark, hour, name);
+            if q.number != 0 {
+                return Answer::Refused(q.number);
+            }
+            let views = k.views;
+            let s = survey::look_in(views, self.changes as usize, q.key);
+            if s.found {
+                return Answer::Place(s.start, s.len);
+            }
+            return Answer::Refused(NO_SUCH_KEY);
+        }
+        Answer::Refused(NOT_TOGETHER)
+    }
+
+    // How many records of a mark stand in an hour.
+    pub fn count_of(self, log: &[u8], mark: &[u8], hour: u8) -> Answer
+        ensures { λ r. ⌜ Meets (ask (countOf (now (mark .entry)) hour)) self (now (log .entry)) self (replyOf r) (now (log .entry)) ⌝ }
+    {
+        let k = self.check_table(log);
+        if k.ok {
+            let q = ask_hour(mark, hour);
+            if q.number != 0 {
+                return Answer::Refused(q.number);
+            }
+            let views = k.views;
+            let s = survey::look_in(views, self.changes as usize, q.key);
+            return Answer::Number(s.count);
+        }
+        Answer::Refused(NOT_TOGETHER)
+    }
+
+    // How many bytes are left of those lent, above 65,535 counted as 65,535.
+    pub fn free_bytes(self, log: &[u8]) -> Answer
+        ensures { λ r. ⌜ Meets (ask freeBytes) self (now (log .entry)) self (replyOf r) (now (log .entry)) ⌝ }
+    {
+        let k = self.check(log);
+        if k.ok {
+            let used = self.used as usize;
+            let most = refusal::cap(log.len());
+            if most < used {
+                return Answer::Number(0);
+            }
+            return Answer::Number(most - used);
+        }
+        Answer::Refused(NOT_TOGETHER)
+    }
+}

@@ -1,0 +1,21 @@
+use Rattle.records.specs.Hours.{limitOf}
+use native.Mathlib.Omega.{arith}
+use borrow.Author.Needs.{needs}
+use Rattle.records.proofs.hours.limit_of.Statement.{statement}
+use Rattle.records.proofs.hours.limit_of.Tie as tie
+use Rattle.records.proofs.hours.limit_of.Reads as reads
+use Rattle.records.proofs.hours.limit_of.Lts as lts
+use Rattle.records.proofs.marks.limit.Reads as limit-reads
+
+limit-requires : tie.Need-limit-requires
+limit-requires c κs = search needs
+
+cast-result : tie.Need-cast-result
+cast-result c = search needs
+
+returns : tie.Need-returns
+unfolding limitOf
+returns c = (c .limit) .ensures
+
+pub limit-of-spec : {M : Type 1} → statement M
+limit-of-spec = tie.close (tie.spec limit-requires cast-result returns)

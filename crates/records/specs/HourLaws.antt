@@ -1,0 +1,59 @@
+-- An hour's limit, the hour of a change, and keys of one name.
+use mathlib.Core.Path.{_≡_, refl, sym, ap, _∙_}
+use mathlib.Core.List.{List, []}
+use mathlib.Core.Bool.{Bool, true, false, _&&_}
+use Prim.Native.Nat.{ℕ, _≤_}
+use native.Mathlib.Omega.{arith}
+use lib.Dec.{leb, eqb}
+use borrow.Author.Tests.{eq-eqb, leb-true}
+use Rattle.records.specs.Numbers.{between}
+use Rattle.records.specs.Names.{noOne}
+use Rattle.records.specs.Marks.{order, limit}
+use Rattle.records.specs.Changes.{Change, keyOf, Good}
+use Rattle.records.specs.Keys.{eqList, sameHour, same}
+use Rattle.records.specs.Hours.{limitOf, atHour, sameName}
+use Rattle.records.specs.ChangeLaws.{and-left, and-right, Kept, good-kept, hour-range}
+use Rattle.records.specs.KeyLaws.{same-true}
+use Rattle.records.specs.declared.marks.Mark.{Mark}
+use Rattle.records.specs.declared.marks.Mark.the-variants.{Pr, Im, Ex, Gh, Fi, Fe}
+use Rattle.records.specs.declared.keys.Key.{Key}
+
+pub limit-most : (k : Key) → limitOf k ≤ 16
+unfolding limitOf
+limit-most k = go (k .mark)
+  where
+    go : (m : Mark) → limit m ≤ 16
+    go Pr = omega arith
+    go Im = omega arith
+    go Ex = omega arith
+    go Gh = omega arith
+    go Fi = omega arith
+    go Fe = omega arith
+
+-- a key without its name
+unnamed : Key → Key
+unnamed k = record { mark = k .mark; hour = k .hour; name = noOne }
+
+pub limit-same : (a b : Key) → sameHour a b ≡ true → limitOf a ≡ limitOf b
+unfolding limitOf unnamed same sameHour
+limit-same a b h = ap (λ (k : Key). limit (k .mark)) (same-true (unnamed a) (unnamed b) (ap (λ (t : Bool). t && true) h))
+
+-- a change's hour is one of the day's
+pub good-hour : (c : Change) → Good c → (1 ≤ keyOf c .hour) × (keyOf c .hour ≤ 24)
+good-hour c g =
+    let t = hour-range (keyOf c .hour) [] (good-kept c g .hour-back []) in
+    (leb-true 1 (keyOf c .hour) (and-left _ _ t), leb-true (keyOf c .hour) 24 (and-right (leb 1 (keyOf c .hour)) _ t))
+
+-- a key is its mark and name, and its hour
+pub same-at : (k j : Key) (h : ℕ) → same (atHour k h) j ≡ (sameName k j && eqb h (j .hour))
+unfolding same sameHour sameName atHour
+same-at k j h =
+    go (eqb (order (k .mark)) (order (j .mark))) (eqb h (j .hour)) (eqb (k .name .len) (j .name .len) && eqList (k .name .bytes) (j .name .bytes)) (eqb (k .hour) (k .hour)) (eq-eqb (k .hour) (k .hour) refl)
+  where
+    go : (a b c d : Bool) → d ≡ true → ((a && b) && c) ≡ (((a && d) && c) && b)
+    go true true true true e = refl
+    go true true false true e = refl
+    go true false true true e = refl
+    go true false false true e = refl
+    go false b c d e = refl
+    go true b c false e = absurd (let z : _≡_ {A = ℕ} 0 1 = cc in omega arith)
