@@ -12,6 +12,7 @@ use records::amounts::failure_charge;
 use records::amounts::import_credit;
 use records::amounts::unit_amount;
 use records::keys::ask_name;
+use records::leads::bears;
 use records::marks::Mark;
 use records::parse::first_change;
 use records::parse::parse_any;
@@ -23,7 +24,10 @@ use records::writing::put;
 ghost use mathlib.Core.Path.{_≡_};
 ghost use Prim.Native.Nat.{_≤_};
 ghost use lib.ListN.{length};
-ghost use Rattle.records.specs.Changes.{parse, putNumber, putBytes};
+ghost use Rattle.book.specs.Register.{recordOf, countOf, freeBytes, stepOf};
+ghost use Rattle.book.specs.Meaning.{replyOf, outcome};
+ghost use Rattle.bridge.specs.Bridge.{compareNumber, anyNumber, writeNumber, bookFrom, bookIn, hourIn, replyNumber, askedNumber, callOf, changeNumber, filingNumber, hasAmount, amountIn, answerNumber, amountNumber};
+ghost use Rattle.records.specs.Changes.{parse, putNumber, putBytes, entry, frontOf};
 
 #[no_mangle]
 pub extern "C" fn pewatuno_interface() -> u32
@@ -72,7 +76,9 @@ fn mark_alone(number: u8, sizes: &mut [u64]) -> u32
     0
 }
 
-fn write_any(bytes: &[u8], out: &mut [u8], sizes: &mut [u64]) -> u32 {
+fn write_any(bytes: &[u8], out: &mut [u8], sizes: &mut [u64]) -> u32
+    ensures { λ r. ⌜ r ≡ anyNumber (now (bytes .entry)) (now (out .entry)) ⌝ }
+{
     let p = parse_any(bytes);
     let n = p.number;
     if n != 0 {
@@ -92,7 +98,9 @@ pub extern "C" fn pewatuno_write(
     bytes: &[u8],
     out: &mut [u8],
     sizes: &mut [u64],
-) -> u32 {
+) -> u32
+    ensures { λ r. ⌜ r ≡ writeNumber method (now (bytes .entry)) (now (out .entry)) ⌝ }
+{
     if method == 0 {
         return write_any(bytes, out, sizes);
     }
@@ -107,7 +115,9 @@ pub extern "C" fn pewatuno_write(
 
 // Where the change ends that the bytes begin with.
 #[no_mangle]
-pub extern "C" fn pewatuno_next(bytes: &[u8], sizes: &mut [u64]) -> u32 {
+pub extern "C" fn pewatuno_next(bytes: &[u8], sizes: &mut [u64]) -> u32
+    ensures { λ r. ⌜ r ≡ frontOf (now (bytes .entry)) (entry (now (bytes .entry))) .number ⌝ }
+{
     let f = first_change(bytes);
     let n = f.number;
     if n != 0 {
@@ -133,7 +143,9 @@ fn order_of(a: &[u8], b: &[u8]) -> u64 {
 
 // Two spelled names, by their decoded bytes.
 #[no_mangle]
-pub extern "C" fn pewatuno_compare(a: &[u8], b: &[u8], sizes: &mut [u64]) -> u32 {
+pub extern "C" fn pewatuno_compare(a: &[u8], b: &[u8], sizes: &mut [u64]) -> u32
+    ensures { λ r. ⌜ r ≡ compareNumber (now (a .entry)) (now (b .entry)) ⌝ }
+{
     let m = ask_name(a).number;
     if m != 0 {
         return m as u32;
@@ -148,18 +160,10 @@ pub extern "C" fn pewatuno_compare(a: &[u8], b: &[u8], sizes: &mut [u64]) -> u32
 
 // ---- amounts of single records
 
-fn bears(bytes: &[u8], a: u8, b: u8) -> bool {
-    if bytes.len() < 2 {
-        return false;
-    }
-    if bytes[0] != a {
-        return false;
-    }
-    bytes[1] == b
-}
-
 // The fault of bytes that must be a record, of a mark that has been tested.
-fn filing_fault(bytes: &[u8], marked: bool) -> u32 {
+fn filing_fault(bytes: &[u8], marked: bool) -> u32
+    ensures { λ r. ⌜ r ≡ filingNumber (now (bytes .entry)) marked ⌝ }
+{
     if bytes.len() < 2 {
         return ENDS_EARLY as u32;
     }
@@ -169,7 +173,9 @@ fn filing_fault(bytes: &[u8], marked: bool) -> u32 {
     parse_change(bytes, 1).number as u32
 }
 
-fn has_amount(bytes: &[u8]) -> bool {
+fn has_amount(bytes: &[u8]) -> bool
+    ensures { λ r. ⌜ r ≡ hasAmount (now (bytes .entry)) ⌝ }
+{
     if bears(bytes, b'I', b'M') {
         return true;
     }
@@ -182,7 +188,9 @@ fn has_amount(bytes: &[u8]) -> bool {
     bears(bytes, b'F', b'E')
 }
 
-fn amount_of(prices: &[u8], bytes: &[u8]) -> Answer {
+fn amount_of(prices: &[u8], bytes: &[u8]) -> Answer
+    ensures { λ r. ⌜ r ≡ amountIn (now (prices .entry)) (now (bytes .entry)) ⌝ }
+{
     let p = prices_of(prices);
     if bears(bytes, b'I', b'M') {
         return import_credit(bytes, p);
@@ -196,7 +204,9 @@ fn amount_of(prices: &[u8], bytes: &[u8]) -> Answer {
     failure_charge(bytes, Mark::Fe, p)
 }
 
-fn tell_amount(amounts: &mut [i64], a: Answer) -> u32 {
+fn tell_amount(amounts: &mut [i64], a: Answer) -> u32
+    ensures { λ r. ⌜ r ≡ answerNumber a ⌝ }
+{
     match a {
         Answer::Refused(n) => n as u32,
         Answer::Amount(t) => {
@@ -211,7 +221,9 @@ fn tell_amount(amounts: &mut [i64], a: Answer) -> u32 {
 
 // The credit of an IM, the amount of a GH without its start-up, the charge of an FI or FE, at the prices of a PR.
 #[no_mangle]
-pub extern "C" fn pewatuno_amount(prices: &[u8], bytes: &[u8], amounts: &mut [i64]) -> u32 {
+pub extern "C" fn pewatuno_amount(prices: &[u8], bytes: &[u8], amounts: &mut [i64]) -> u32
+    ensures { λ r. ⌜ r ≡ amountNumber (now (prices .entry)) (now (bytes .entry)) ⌝ }
+{
     let f = filing_fault(prices, bears(prices, b'P', b'R'));
     if f != 0 {
         return f;
@@ -225,7 +237,9 @@ pub extern "C" fn pewatuno_amount(prices: &[u8], bytes: &[u8], amounts: &mut [i6
 
 // ---- the book: its number of changes, its used bytes, and 1 where it is closed
 
-fn book_of(changes: u64, used: u64, closed: u64) -> Book {
+fn book_of(changes: u64, used: u64, closed: u64) -> Book
+    ensures { λ r. ⌜ r ≡ bookFrom changes used closed ⌝ }
+{
     if 65535 < changes {
         return Book::fresh();
     }
@@ -239,7 +253,9 @@ fn book_of(changes: u64, used: u64, closed: u64) -> Book {
     }
 }
 
-fn book_in(state: &[u64]) -> Book {
+fn book_in(state: &[u64]) -> Book
+    ensures { λ r. ⌜ r ≡ bookIn (now (state .entry)) ⌝ }
+{
     if state.len() < 3 {
         return Book::fresh();
     }
@@ -259,7 +275,9 @@ fn hand_back(state: &mut [u64], b: Book) {
     set(state, 2, flag(closed));
 }
 
-fn number_of(a: Said) -> u32 {
+fn number_of(a: Said) -> u32
+    ensures { λ r. ⌜ r ≡ replyNumber (replyOf a) ⌝ }
+{
     match a {
         Said::Refused(n) => n as u32,
         Said::Accepted => 0,
@@ -268,7 +286,9 @@ fn number_of(a: Said) -> u32 {
     }
 }
 
-fn done(b: Book, method: u32, lent: &mut [u8], bytes: &[u8]) -> Done {
+fn done(b: Book, method: u32, lent: &mut [u8], bytes: &[u8]) -> Done
+    ensures { λ r. ⌜ replyOf (r .answer) ≡ outcome (stepOf (callOf method (now (bytes .entry)))) b (now (lent .entry)) .answer ⌝ }
+{
     if method == 1 {
         return b.file(lent, bytes);
     }
@@ -294,7 +314,9 @@ pub extern "C" fn pewatuno_change(
     state: &mut [u64],
     lent: &mut [u8],
     bytes: &[u8],
-) -> u32 {
+) -> u32
+    ensures { λ r. ⌜ r ≡ changeNumber method (now (state .entry)) (now (lent .entry)) (now (bytes .entry)) ⌝ }
+{
     let b = book_in(&state[..]);
     let d = done(b, method, lent, bytes);
     let next = d.book;
@@ -303,14 +325,18 @@ pub extern "C" fn pewatuno_change(
     number_of(said)
 }
 
-fn hour_of(hour: u32) -> u8 {
+fn hour_of(hour: u32) -> u8
+    ensures { λ r. ⌜ r ≡ hourIn hour ⌝ }
+{
     if 255 < hour {
         return 255;
     }
     hour as u8
 }
 
-fn tell_said(sizes: &mut [u64], a: Said) -> u32 {
+fn tell_said(sizes: &mut [u64], a: Said) -> u32
+    ensures { λ r. ⌜ r ≡ replyNumber (replyOf a) ⌝ }
+{
     match a {
         Said::Refused(n) => n as u32,
         Said::Accepted => 0,
@@ -335,7 +361,9 @@ pub extern "C" fn pewatuno_record(
     hour: u32,
     name: &[u8],
     sizes: &mut [u64],
-) -> u32 {
+) -> u32
+    ensures { λ r. ⌜ r ≡ askedNumber (recordOf (now (mark .entry)) (hourIn hour) (now (name .entry))) (now (state .entry)) (now (lent .entry)) ⌝ }
+{
     let b = book_in(state);
     tell_said(sizes, b.record_of(lent, mark, hour_of(hour), name))
 }
@@ -347,13 +375,17 @@ pub extern "C" fn pewatuno_count(
     mark: &[u8],
     hour: u32,
     sizes: &mut [u64],
-) -> u32 {
+) -> u32
+    ensures { λ r. ⌜ r ≡ askedNumber (countOf (now (mark .entry)) (hourIn hour)) (now (state .entry)) (now (lent .entry)) ⌝ }
+{
     let b = book_in(state);
     tell_said(sizes, b.count_of(lent, mark, hour_of(hour)))
 }
 
 #[no_mangle]
-pub extern "C" fn pewatuno_free(state: &[u64], lent: &[u8], sizes: &mut [u64]) -> u32 {
+pub extern "C" fn pewatuno_free(state: &[u64], lent: &[u8], sizes: &mut [u64]) -> u32
+    ensures { λ r. ⌜ r ≡ askedNumber freeBytes (now (state .entry)) (now (lent .entry)) ⌝ }
+{
     let b = book_in(state);
     tell_said(sizes, b.free_bytes(lent))
 }
@@ -369,7 +401,9 @@ pub extern "C" fn pewatuno_guarantees(
     _hour: u32,
     _sizes: &mut [u64],
     _amounts: &mut [i64],
-) -> u32 {
+) -> u32
+    ensures { λ r. ⌜ r ≡ 4294967295 ⌝ }
+{
     NOT_THERE
 }
 
@@ -379,7 +413,9 @@ pub extern "C" fn pewatuno_unit_day(
     _lent: &[u8],
     _name: &[u8],
     _amounts: &mut [i64],
-) -> u32 {
+) -> u32
+    ensures { λ r. ⌜ r ≡ 4294967295 ⌝ }
+{
     NOT_THERE
 }
 
@@ -391,11 +427,15 @@ pub extern "C" fn pewatuno_failure_charge(
     _hour: u32,
     _name: &[u8],
     _amounts: &mut [i64],
-) -> u32 {
+) -> u32
+    ensures { λ r. ⌜ r ≡ 4294967295 ⌝ }
+{
     NOT_THERE
 }
 
 #[no_mangle]
-pub extern "C" fn pewatuno_hour_offset(_result: &mut [u8], _records: &[u8]) -> u32 {
+pub extern "C" fn pewatuno_hour_offset(_result: &mut [u8], _records: &[u8]) -> u32
+    ensures { λ r. ⌜ r ≡ 4294967295 ⌝ }
+{
     NOT_THERE
 }

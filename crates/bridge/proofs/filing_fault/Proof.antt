@@ -1,0 +1,45 @@
+use mathlib.Core.Path.{_≡_, sym, ap, _∙_}
+use mathlib.Core.Bool.{Bool, cond}
+use borrow.Author.Tests.{lt-ltb, le-ltb, not-true, not-false}
+use Rattle.records.specs.Changes.{parse, parsedOf}
+use Rattle.records.specs.declared.parse.Parsed.{Parsed}
+use native.Mathlib.Omega.{arith}
+use borrow.Author.Needs.{needs}
+use Rattle.bridge.proofs.filing_fault.Statement.{statement}
+use Rattle.bridge.proofs.filing_fault.Tie as tie
+use Rattle.bridge.proofs.filing_fault.Reads as reads
+use Rattle.bridge.proofs.filing_fault.Lts as lts
+use Rattle.records.proofs.parse.parse_change.Reads as parse-change-reads
+
+cast-result : tie.Need-cast-result
+cast-result c = search needs
+
+returns : tie.Need-returns
+returns c = rw (lt-ltb _ _ ((c .if1) .taken))
+
+cast-result-2 : tie.Need-cast-result-2
+cast-result-2 c = search needs
+
+returns-2 : tie.Need-returns-2
+returns-2 c = rw (le-ltb _ _ ((c .before .if1) .left)) (sym (ap (λ (b : Bool). cond b (parsedOf (parse 1 ((c .before .before .before .args) .bytes .now)) .number) 2) (not-true ((c .before .before .before .args) .marked) ((c .if2) .taken))))
+
+parse-change-requires : tie.Need-parse-change-requires
+parse-change-requires c κs = search needs
+
+cast-result-3 : tie.Need-cast-result-3
+cast-result-3 c = search needs
+
+returns-3 : tie.Need-returns-3
+returns-3 c = rw (le-ltb _ _ ((c .before .before .before .if1) .left)) (ap (λ (x : Parsed). x .number) ((c .before .parse-change) .ensures) ∙ sym (ap (λ (b : Bool). cond b (parsedOf (parse 1 ((c .before .before .before .before .before .args) .bytes .now)) .number) 2) (not-false ((c .before .before .before .before .before .args) .marked) ((c .before .before .if2) .left))))
+
+pub filing-fault-spec : {M : Type 1} → statement M
+filing-fault-spec =
+    tie.close
+    (tie.spec
+    cast-result
+    returns
+    cast-result-2
+    returns-2
+    parse-change-requires
+    cast-result-3
+    returns-3)

@@ -1,0 +1,48 @@
+use mathlib.Core.Path.{_≡_, sym, ap, _∙_}
+use Prim.Native.Nat.{ℕ}
+use Rattle.book.specs.declared.journal.Book.{Book}
+use Rattle.book.specs.Register.{Reply, ask, countOf, stepOf}
+use Rattle.book.specs.Meaning.{outcome}
+use Rattle.bridge.specs.Bridge.{replyNumber, askedNumber}
+use native.Mathlib.Omega.{arith}
+use borrow.Author.Needs.{needs}
+use Rattle.bridge.proofs.pewatuno_count.Statement.{statement}
+use Rattle.bridge.proofs.pewatuno_count.Tie as tie
+use Rattle.bridge.proofs.pewatuno_count.Reads as reads
+use Rattle.bridge.proofs.pewatuno_count.Lts as lts
+use Rattle.book.proofs.journal.Book.count_of.Reads as count-of-reads
+use Rattle.bridge.proofs.book_in.Reads as book-in-reads
+use Rattle.bridge.proofs.hour_of.Reads as hour-of-reads
+use Rattle.bridge.proofs.tell_said.Reads as tell-said-reads
+
+book-in-requires : tie.Need-book-in-requires
+book-in-requires c κs = search needs
+
+hour-of-requires : tie.Need-hour-of-requires
+hour-of-requires c κs = search needs
+
+count-of-requires : tie.Need-count-of-requires
+count-of-requires c κs = search needs
+
+tell-said-requires : tie.Need-tell-said-requires
+tell-said-requires c κs = search needs
+
+same-length : tie.Need-same-length
+same-length c = search needs
+
+returns : tie.Need-returns
+unfolding askedNumber
+returns c =
+    (c .before .before .tell-said) .ensures ∙ ap (λ (r : Reply). replyNumber r) ((c .before .before .before .count-of) .ensures .answer)
+    ∙ (λ i. replyNumber (outcome (stepOf (ask (countOf ((c .before .before .before .before .before .before .before .before .before .before .before .args) .mark .now) ((c .before .before .before .before .hour-of) .ensures i)))) ((c .before .before .before .before .before .before .book-in) .ensures i) ((c .before .before .before .before .before .before .before .before .before .before .before .args) .lent .now) .answer))
+
+pub pewatuno-count-spec : {M : Type 1} → statement M
+pewatuno-count-spec =
+    tie.close
+    (tie.spec
+    book-in-requires
+    hour-of-requires
+    count-of-requires
+    tell-said-requires
+    same-length
+    returns)

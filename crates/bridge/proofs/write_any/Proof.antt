@@ -1,0 +1,67 @@
+use mathlib.Core.Path.{_≡_, sym, ap, _∙_}
+use borrow.Author.Tests.{lt-ltb, le-ltb}
+use lib.Dec.{ltb}
+use mathlib.Core.Bool.{cond}
+use Rattle.money.specs.UnitLaws.{kept}
+use Rattle.records.specs.Changes.{parse, parseAny, entryOf, putNumber}
+use Rattle.records.specs.declared.parse.Parsed.{Parsed}
+use native.Mathlib.Omega.{arith}
+use borrow.Author.Needs.{needs}
+use Rattle.bridge.proofs.write_any.Statement.{statement}
+use Rattle.bridge.proofs.write_any.Tie as tie
+use Rattle.bridge.proofs.write_any.Reads as reads
+use Rattle.bridge.proofs.write_any.Lts as lts
+use Rattle.bridge.proofs.mark_alone.Reads as mark-alone-reads
+use Rattle.bridge.proofs.write_change.Reads as write-change-reads
+use Rattle.records.proofs.parse.parse_any.Reads as parse-any-reads
+
+parse-any-requires : tie.Need-parse-any-requires
+parse-any-requires c κs = search needs
+
+cast-result : tie.Need-cast-result
+cast-result c = search needs
+
+returns : tie.Need-returns
+returns c = kept (cond (ltb 3 (entryOf (parseAny ((c .before .before .before .before .before .args) .bytes .now)) .view .kind)) 0 (putNumber (parse 0 ((c .before .before .before .before .before .args) .bytes .now)) 0 ((c .before .before .before .before .before .args) .out .now))) (ap (λ (x : Parsed). x .number) ((c .before .parse-any) .ensures)) ((c .if1) .taken)
+
+mark-alone-requires : tie.Need-mark-alone-requires
+mark-alone-requires c κs = search needs
+
+same-length : tie.Need-same-length
+same-length c = search needs
+
+returns-2 : tie.Need-returns-2
+returns-2 c =
+    let z = sym (ap (λ (x : Parsed). x .number) ((c .before .before .before .before .before .before .before .before .parse-any) .ensures)) ∙ (c .before .before .before .before .before .before .before .if1) .left in
+    let k = sym (ap (λ (x : Parsed). ltb 3 (x .view .kind)) ((c .before .before .before .before .before .before .before .before .parse-any) .ensures)) ∙ lt-ltb _ _ ((c .before .before .before .before .if2) .taken) in
+    rw (z, k) ((c .before .before .mark-alone) .ensures)
+
+write-change-requires : tie.Need-write-change-requires
+write-change-requires c κs = search needs
+
+same-length-2 : tie.Need-same-length-2
+same-length-2 c = search needs
+
+same-length-3 : tie.Need-same-length-3
+same-length-3 c = search needs
+
+returns-3 : tie.Need-returns-3
+returns-3 c =
+    let z = sym (ap (λ (x : Parsed). x .number) ((c .before .before .before .before .before .before .before .before .before .before .before .parse-any) .ensures)) ∙ (c .before .before .before .before .before .before .before .before .before .before .if1) .left in
+    let k = sym (ap (λ (x : Parsed). ltb 3 (x .view .kind)) ((c .before .before .before .before .before .before .before .before .before .before .before .parse-any) .ensures)) ∙ le-ltb _ _ ((c .before .before .before .before .before .before .before .if2) .left) in
+    rw (z, k) ((c .before .before .before .before .write-change) .ensures .0)
+
+pub write-any-spec : {M : Type 1} → statement M
+write-any-spec =
+    tie.close
+    (tie.spec
+    parse-any-requires
+    cast-result
+    returns
+    mark-alone-requires
+    same-length
+    returns-2
+    write-change-requires
+    same-length-2
+    same-length-3
+    returns-3)

@@ -1,0 +1,89 @@
+-- What the exported functions answer: 0, or the number of the refusal. Assumes nothing.
+use mathlib.Core.Bool.{Bool, true, false, cond, not, _||_}
+use mathlib.Core.List.{List, [], _∷_}
+use Prim.Native.Nat.{ℕ, _%_}
+use lib.Dec.{ltb, eqb}
+use lib.ListN.{length, getD}
+use Rattle.laws.specs.Sums.{orElse}
+use Rattle.records.specs.Names.{decodeName, held}
+use Rattle.records.specs.Keys.{nameAnswer}
+use Rattle.money.specs.Refusals.{endsEarly, unknownMark}
+use Rattle.money.specs.declared.units.Answer.{Answer}
+use Rattle.money.specs.declared.units.Answer.the-variants.{Amount, Refused}
+use Rattle.records.specs.declared.marks.Mark.the-variants.{Fi, Fe}
+use Rattle.records.specs.Views.{pricesIn}
+use Rattle.records.specs.Amounts.{creditIn, unitAmountIn, chargeIn}
+use Rattle.records.specs.Changes.{begins, parsedOf, parse, parseAny, entryOf, putNumber, bare, takeBackBytes, closeBytes}
+use Rattle.book.specs.declared.journal.Book.{Book}
+use Rattle.book.specs.Register.{Call, file, correct, withdraw, takeBack, close, change, ask, Question, Reply, refused, accepted, place, number, amounts, stepOf}
+use Rattle.book.specs.Meaning.{outcome}
+
+-- ---- records
+
+abbrev pub nameNumber : List ℕ → ℕ
+nameNumber s = nameAnswer (held (decodeName s)) .number
+
+-- two spelled names: 4, of the first or of the second
+abbrev pub compareNumber : List ℕ → List ℕ → ℕ
+compareNumber a b = orElse (nameNumber a) (nameNumber b)
+
+-- a change of any mark, written at the start of d
+abbrev pub anyNumber : List ℕ → List ℕ → ℕ
+anyNumber s d = orElse (entryOf (parseAny s) .number) (cond (ltb 3 (entryOf (parseAny s) .view .kind)) 0 (putNumber (parse 0 s) 0 d))
+
+-- a change for a method
+abbrev pub writeNumber : ℕ → List ℕ → List ℕ → ℕ
+writeNumber m s d = cond (eqb m 0) (anyNumber s d) (cond (eqb m 4) (bare takeBackBytes s) (cond (eqb m 5) (bare closeBytes s) (putNumber (parse (m % 4) s) 0 d)))
+
+-- ---- the book
+
+-- the book that three numbers carry; a fresh one where they do not fit
+abbrev pub freshBook : Book
+freshBook = record { changes = 0; used = 0; closed = false }
+
+abbrev pub bookFrom : ℕ → ℕ → ℕ → Book
+bookFrom c u k = cond (ltb 65535 c) freshBook (cond (ltb 4294967295 u) freshBook (record { changes = c; used = u; closed = not (eqb k 0) }))
+
+unfoldable pub bookIn : List ℕ → Book
+bookIn s = cond (ltb (length s) 3) freshBook (bookFrom (getD s 0 0) (getD s 1 0) (getD s 2 0))
+
+abbrev pub hourIn : ℕ → ℕ
+hourIn h = cond (ltb 255 h) 255 h
+
+abbrev pub replyNumber : Reply → ℕ
+replyNumber (refused n) = n
+replyNumber accepted = 0
+replyNumber (place s l) = 0
+replyNumber (number n) = 0
+replyNumber (amounts l) = 0
+
+-- a question on the book that three numbers carry, over lent bytes
+unfoldable pub askedNumber : Question → List ℕ → List ℕ → ℕ
+askedNumber q state lent = replyNumber (outcome (stepOf (ask q)) (bookIn state) lent .answer)
+
+-- one of the five changes, or any
+abbrev pub callOf : ℕ → List ℕ → Call
+callOf m s = cond (eqb m 1) (file s) (cond (eqb m 2) (correct s) (cond (eqb m 3) (withdraw s) (cond (eqb m 4) (takeBack s) (cond (eqb m 5) (close s) (change s)))))
+
+unfoldable pub changeNumber : ℕ → List ℕ → List ℕ → List ℕ → ℕ
+changeNumber m state lent s = replyNumber (outcome (stepOf (callOf m s)) (bookIn state) lent .answer)
+
+-- ---- amounts of single records
+
+-- bytes that must be a record, of a mark that has been tested
+abbrev pub filingNumber : List ℕ → Bool → ℕ
+filingNumber s marked = cond (ltb (length s) 2) endsEarly (cond marked (parsedOf (parse 1 s) .number) unknownMark)
+
+abbrev pub hasAmount : List ℕ → Bool
+hasAmount s = begins (73 ∷ 77 ∷ []) s || (begins (71 ∷ 72 ∷ []) s || (begins (70 ∷ 73 ∷ []) s || begins (70 ∷ 69 ∷ []) s))
+
+abbrev pub amountIn : List ℕ → List ℕ → Answer
+amountIn p s =
+    cond (begins (73 ∷ 77 ∷ []) s) (creditIn s (pricesIn p)) (cond (begins (71 ∷ 72 ∷ []) s) (unitAmountIn s (pricesIn p)) (cond (begins (70 ∷ 73 ∷ []) s) (chargeIn Fi s (pricesIn p)) (chargeIn Fe s (pricesIn p))))
+
+abbrev pub answerNumber : Answer → ℕ
+answerNumber (Amount t) = 0
+answerNumber (Refused n) = n
+
+unfoldable pub amountNumber : List ℕ → List ℕ → ℕ
+amountNumber p s = orElse (filingNumber p (begins (80 ∷ 82 ∷ []) p)) (orElse (filingNumber s (hasAmount s)) (answerNumber (amountIn p s)))
