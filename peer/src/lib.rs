@@ -14,6 +14,7 @@
 //! - [`book`]: the book over lent bytes.
 //! - [`hour_offset_call`]: one hour's offset over numbers and bytes.
 //! - [`statement`]: the text of the day's statement.
+//! - [`text`]: records as lines of text, for people.
 
 #![forbid(unsafe_code)]
 #![warn(missing_docs)]
@@ -27,4 +28,5 @@ pub mod records;
 pub mod refusal;
 pub mod register;
 pub mod statement;
+pub mod text;
 pub mod units;

@@ -11,8 +11,8 @@ use crate::names::Name;
 use crate::units::{Hour, Price, Quantity, INTERVALS};
 
 pub use read::{
-    parse_canonical_prefix, parse_change, parse_change_prefix, parse_for, parse_hour_record,
-    parse_record_prefix,
+    parse_canonical_prefix, parse_change, parse_change_prefix, parse_change_prefix_at, parse_for,
+    parse_hour_record, parse_record_prefix,
 };
 
 /// The mark of "one of the six", in the order of the listing.

@@ -13,4 +13,5 @@ mod reading;
 mod statements;
 mod support;
 mod table_of_numbers;
+mod text_form;
 mod worked_figures;

@@ -1,0 +1,81 @@
+//! Turns records into text that people can read and compare, and back.
+
+use peer::refusal::Refusal;
+use peer::text::{make, show, Headings};
+use std::io::{self, Read, Write};
+use std::process::ExitCode;
+
+const USAGE: &str = "usage: recordtext show [-n] < records > text
+       recordtext make < text > records
+       recordtext numbers
+";
+
+/// Exit status of bad usage, and of input that can't be read.
+const TROUBLE: u8 = 2;
+
+fn main() -> ExitCode {
+    let words: Vec<String> = std::env::args().skip(1).collect();
+    let words: Vec<&str> = words.iter().map(String::as_str).collect();
+    let done = match words[..] {
+        ["show"] => show_input(Headings::None),
+        ["show", "-n"] => show_input(Headings::Places),
+        ["make"] => make_input(),
+        ["numbers"] => list_numbers(),
+        _ => {
+            eprint!("{USAGE}");
+            return ExitCode::from(TROUBLE);
+        }
+    };
+    done.unwrap_or_else(|trouble| {
+        eprintln!("recordtext: {trouble}");
+        ExitCode::from(TROUBLE)
+    })
+}
+
+fn show_input(headings: Headings) -> io::Result<ExitCode> {
+    let shown = show(&input()?, headings);
+    output(shown.text.as_bytes())?;
+    Ok(match shown.refused {
+        None => ExitCode::SUCCESS,
+        Some(refused) => failed(&refused.to_string()),
+    })
+}
+
+fn make_input() -> io::Result<ExitCode> {
+    let text = match String::from_utf8(input()?) {
+        Ok(text) => text,
+        Err(fault) => {
+            let good = &fault.as_bytes()[..fault.utf8_error().valid_up_to()];
+            let line = 1 + good.iter().filter(|&&byte| byte == b'\n').count();
+            return Ok(failed(&format!("line {line}: expected text in UTF-8")));
+        }
+    };
+    match make(&text) {
+        Ok(bytes) => output(&bytes).map(|()| ExitCode::SUCCESS),
+        Err(bad) => Ok(failed(&bad.to_string())),
+    }
+}
+
+/// The numbers that a record or a call can be refused with.
+fn list_numbers() -> io::Result<ExitCode> {
+    let lines: String = Refusal::ALL.map(|refusal| refusal.told() + "\n").concat();
+    output(lines.as_bytes())?;
+    Ok(ExitCode::SUCCESS)
+}
+
+fn failed(message: &str) -> ExitCode {
+    eprintln!("recordtext: {message}");
+    ExitCode::FAILURE
+}
+
+fn input() -> io::Result<Vec<u8>> {
+    let mut bytes = Vec::new();
+    io::stdin().lock().read_to_end(&mut bytes)?;
+    Ok(bytes)
+}
+
+fn output(bytes: &[u8]) -> io::Result<()> {
+    let mut out = io::stdout().lock();
+    out.write_all(bytes)?;
+    out.flush()
+}

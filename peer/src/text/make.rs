@@ -1,0 +1,415 @@
+//! From text to bytes.
+
+use super::layout::{self, Kind, NO_PAIRS};
+use super::words::{bad, records, Word, Words};
+use super::BadText;
+use crate::records::{parse_change_prefix, Mark};
+
+const STARTS: &str = "PR, IM, EX, GH, FI, FE, CO, WD, TB, CL, hex or broken";
+const MARKS: &str = "one of PR, IM, EX, GH, FI, FE";
+
+/// The bytes of a text. A record that reading would refuse (1 to 7) is a
+/// fault of its line, unless it is marked as `broken`.
+pub fn make(text: &str) -> Result<Vec<u8>, BadText> {
+    let mut bytes = Vec::new();
+    for words in records(text)? {
+        bytes.extend(make_record(words)?);
+    }
+    Ok(bytes)
+}
+
+/// The bytes of one record or `hex` line.
+fn make_record(words: Words) -> Result<Vec<u8>, BadText> {
+    let line = words[0].line;
+    let mut record = Maker::new(&words);
+    if record.skip("hex") {
+        record.hex()?;
+        return Ok(record.out);
+    }
+    let meant_broken = record.skip("broken");
+    record.change()?;
+    record.end()?;
+    match (parse_change_prefix(&record.out), meant_broken) {
+        (Err(refusal), false) => {
+            let told = refusal.told();
+            let advice = "write 'broken' before a record that is meant to be refused";
+            Err(bad(line, format!("refused with {told}; {advice}")))
+        }
+        (Ok(_), true) => Err(bad(line, "marked as broken, but it breaks no rule")),
+        _ => Ok(record.out),
+    }
+}
+
+/// Goes through the words of a record and lays out its bytes.
+struct Maker<'a> {
+    words: &'a [Word<'a>],
+    /// The line of the last word taken.
+    line: usize,
+    out: Vec<u8>,
+}
+
+impl<'a> Maker<'a> {
+    fn new(words: &'a [Word<'a>]) -> Maker<'a> {
+        Maker {
+            words,
+            line: words.first().map_or(1, |word| word.line),
+            out: Vec::new(),
+        }
+    }
+
+    /// A record of any of the ten marks.
+    fn change(&mut self) -> Result<(), BadText> {
+        match self.word(STARTS)?.text {
+            letters @ ("TB" | "CL") => self.put(letters.as_bytes()),
+            "WD" => {
+                self.put(b"WD");
+                self.withdrawal()?;
+            }
+            "CO" => {
+                self.put(b"CO");
+                let mark = self.mark()?;
+                self.filed(mark)?;
+            }
+            letters => match Mark::of_bytes(letters.as_bytes()) {
+                Some(mark) => self.filed(mark)?,
+                None => return Err(self.found(STARTS, letters)),
+            },
+        }
+        Ok(())
+    }
+
+    /// A mark where only the six are allowed.
+    fn mark(&mut self) -> Result<Mark, BadText> {
+        let letters = self.word(MARKS)?.text;
+        Mark::of_bytes(letters.as_bytes()).ok_or_else(|| self.found(MARKS, letters))
+    }
+
+    /// Mark, hour and name; for `PR` the name is left out.
+    fn withdrawal(&mut self) -> Result<(), BadText> {
+        let mark = self.mark()?;
+        self.put(&mark.bytes());
+        self.hour()?;
+        if !layout::is_named(mark) && self.words.is_empty() {
+            self.put(&[0]);
+            return Ok(());
+        }
+        self.name()
+    }
+
+    /// A record of one of the six marks.
+    fn filed(&mut self, mark: Mark) -> Result<(), BadText> {
+        self.put(&mark.bytes());
+        self.hour()?;
+        if layout::is_named(mark) {
+            self.name()?;
+        }
+        for &(label, kind) in layout::fields(mark) {
+            self.label(label)?;
+            match kind {
+                Kind::Prices(count) => self.numbers(label, count, price_bytes)?,
+                Kind::Amounts(count) => self.numbers(label, count, amount_bytes)?,
+                Kind::List => self.list(label)?,
+            }
+        }
+        Ok(())
+    }
+
+    fn hour(&mut self) -> Result<(), BadText> {
+        const HOUR: &str = "the hour, 1 to 24";
+        let text = self.word(HOUR)?.text;
+        let hour: u8 = text.parse().map_err(|_| self.found(HOUR, text))?;
+        self.put(&[hour]);
+        Ok(())
+    }
+
+    /// A name as spelled, between quotes where it would be misread.
+    fn name(&mut self) -> Result<(), BadText> {
+        let text = self.word("a name")?.text;
+        let spelled = match text.strip_prefix('"') {
+            None => text,
+            Some(rest) => match rest.strip_suffix('"') {
+                Some(inner) => inner,
+                None => return Err(self.found("a quote at the end of the name", text)),
+            },
+        };
+        let Ok(length) = u8::try_from(spelled.len()) else {
+            return Err(self.found("a name of at most 255 bytes", text));
+        };
+        self.put(&[length]);
+        self.put(spelled.as_bytes());
+        Ok(())
+    }
+
+    fn label(&mut self, label: &str) -> Result<(), BadText> {
+        let expected = format!("the word {label}");
+        let text = self.word(&expected)?.text;
+        if text == label {
+            Ok(())
+        } else {
+            Err(self.found(&expected, text))
+        }
+    }
+
+    /// So many numbers, each alone or as `TIMESxNUMBER`.
+    fn numbers(&mut self, label: &str, count: usize, of: Layer) -> Result<(), BadText> {
+        let mut got = 0;
+        while got < count {
+            let expected = format!("number {} of {count} for {label}", got + 1);
+            let text = self.word(&expected)?.text;
+            let (times, number) = match text.split_once('x') {
+                Some((times, number)) => (times.parse().ok(), of(number)),
+                None => (Some(1), of(text)),
+            };
+            let (Some(times), Some(number)) = (times, number) else {
+                return Err(self.found(&expected, text));
+            };
+            if times == 0 || times > count - got {
+                let left = count - got;
+                return Err(self.found(&format!("{left} more of {count} for {label}"), text));
+            }
+            self.put(&number.repeat(times));
+            got += times;
+        }
+        Ok(())
+    }
+
+    /// Pairs as far as words have an `@`, or the word for none.
+    fn list(&mut self, label: &str) -> Result<(), BadText> {
+        let count_at = self.out.len();
+        self.put(&[0]);
+        if self.skip(NO_PAIRS) {
+            return Ok(());
+        }
+        let expected = format!("PRICE@QUANTITY for {label}, or {NO_PAIRS}");
+        let mut first = self.word(&expected)?;
+        loop {
+            let pair = pair_bytes(first.text).ok_or_else(|| self.found(&expected, first.text))?;
+            self.put(&pair);
+            match self.out[count_at].checked_add(1) {
+                Some(count) => self.out[count_at] = count,
+                None => return Err(bad(self.line, format!("{label} has more than 255 pairs"))),
+            }
+            match self.words.first() {
+                Some(word) if word.text.contains('@') => first = self.word(&expected)?,
+                _ => return Ok(()),
+            }
+        }
+    }
+
+    /// Raw bytes, two hex digits each, together or apart.
+    fn hex(&mut self) -> Result<(), BadText> {
+        const DIGITS: &str = "pairs of hex digits";
+        self.peek(DIGITS)?;
+        while !self.words.is_empty() {
+            let text = self.word(DIGITS)?.text;
+            let bytes = hex_bytes(text).ok_or_else(|| self.found(DIGITS, text))?;
+            self.put(&bytes);
+        }
+        Ok(())
+    }
+
+    /// Nothing may follow.
+    fn end(&mut self) -> Result<(), BadText> {
+        match self.words.first() {
+            None => Ok(()),
+            Some(word) => {
+                self.line = word.line;
+                Err(self.found("the end of the record", word.text))
+            }
+        }
+    }
+
+    fn put(&mut self, bytes: &[u8]) {
+        self.out.extend(bytes);
+    }
+
+    /// Takes the next word if it is this one.
+    fn skip(&mut self, text: &str) -> bool {
+        let is_next = self.words.first().is_some_and(|word| word.text == text);
+        if is_next {
+            self.words = &self.words[1..];
+        }
+        is_next
+    }
+
+    fn peek(&self, expected: &str) -> Result<Word<'a>, BadText> {
+        self.words.first().copied().ok_or_else(|| {
+            let message = format!("expected {expected}, but the record ends here");
+            bad(self.line, message)
+        })
+    }
+
+    fn word(&mut self, expected: &str) -> Result<Word<'a>, BadText> {
+        let word = self.peek(expected)?;
+        self.words = &self.words[1..];
+        self.line = word.line;
+        Ok(word)
+    }
+
+    fn found(&self, expected: &str, text: &str) -> BadText {
+        bad(self.line, format!("expected {expected}, found '{text}'"))
+    }
+}
+
+/// The four bytes of a number, none if it is none or doesn't fit.
+type Layer = fn(&str) -> Option<[u8; 4]>;
+
+fn price_bytes(text: &str) -> Option<[u8; 4]> {
+    text.parse().ok().map(i32::to_le_bytes)
+}
+
+fn amount_bytes(text: &str) -> Option<[u8; 4]> {
+    text.parse().ok().map(u32::to_le_bytes)
+}
+
+fn pair_bytes(text: &str) -> Option<Vec<u8>> {
+    let (price, quantity) = text.split_once('@')?;
+    Some([price_bytes(price)?, amount_bytes(quantity)?].concat())
+}
+
+fn hex_bytes(text: &str) -> Option<Vec<u8>> {
+    let digits = text.chars().map(|digit| digit.to_digit(16));
+    let digits: Vec<u32> = digits.collect::<Option<_>>()?;
+    let pairs = digits.chunks_exact(2);
+    let whole = pairs.remainder().is_empty();
+    whole.then(|| pairs.map(|pair| (pair[0] << 4 | pair[1]) as u8).collect())
+}
+
+#[cfg(test)]
+mod tests {
+    use super::*;
+    use crate::records::raw::{self, RawName};
+
+    fn fault(text: &str) -> String {
+        make(text).expect_err("a fault").to_string()
+    }
+
+    #[test]
+    fn the_papers_hour() {
+        let text = "PR 5 emp 12x3000 pd 3000 # prices\n\
+                    IM 5 A%2FB mqsi 12x100\n  offer 4000@100\n\nEX 5 D mqsw 6x250 250 5x250\n";
+        let bytes = [
+            raw::price(5, [3000; 12], 3000),
+            raw::import(5, &RawName::of(b"A%2FB"), [100; 12], &[(4000, 100)]),
+            raw::export(5, &RawName::of(b"D"), [250; 12]),
+        ];
+        assert_eq!(make(text).unwrap(), bytes.concat());
+        assert_eq!(make("# nothing\n\n").unwrap(), b"");
+    }
+
+    #[test]
+    fn marks_without_fields_and_withdrawals() {
+        assert_eq!(
+            make("TB\nCL\nWD PR 7\nWD FI 7 A").unwrap(),
+            b"TBCLWDPR\x07\x00WDFI\x07\x01A"
+        );
+    }
+
+    #[test]
+    fn broken_records_and_raw_bytes() {
+        assert_eq!(make("hex 50").unwrap(), b"P");
+        assert_eq!(make("hex 5a5A 00 fF\n  01").unwrap(), b"ZZ\x00\xff\x01");
+        assert_eq!(make("broken WD EX 1 \"\"").unwrap(), b"WDEX\x01\x00");
+        assert_eq!(make("broken WD PR 1 A").unwrap(), b"WDPR\x01\x01A");
+        assert_eq!(
+            make("broken IM 1 N mqsi 12x0 offer none").unwrap(),
+            raw::import(1, &RawName::of(b"N"), [0; 12], &[])
+        );
+        assert_eq!(
+            fault("broken TB"),
+            "line 1: marked as broken, but it breaks no rule"
+        );
+    }
+
+    #[test]
+    fn a_broken_rule_is_a_fault_of_its_line() {
+        assert_eq!(
+            fault("TB\n\nIM 1 N mqsi 12x0 offer 2000@10\n  1999@20"),
+            "line 3: refused with 6: a list breaks its rule; \
+             write 'broken' before a record that is meant to be refused"
+        );
+    }
+
+    #[test]
+    fn what_was_expected_stands_in_the_message() {
+        for (text, message) in [
+            (
+                "XX 1",
+                "expected PR, IM, EX, GH, FI, FE, CO, WD, TB, CL, hex or broken, found 'XX'",
+            ),
+            (
+                "CO TB",
+                "expected one of PR, IM, EX, GH, FI, FE, found 'TB'",
+            ),
+            ("PR five", "expected the hour, 1 to 24, found 'five'"),
+            ("PR 256", "expected the hour, 1 to 24, found '256'"),
+            ("EX 1", "expected a name, but the record ends here"),
+            ("WD EX 1", "expected a name, but the record ends here"),
+            (
+                "WD EX 1 \"A",
+                "expected a quote at the end of the name, found '\"A'",
+            ),
+            (
+                "WD EX 1 \"",
+                "expected a quote at the end of the name, found '\"'",
+            ),
+            ("EX 1 A mqsi 12x0", "expected the word mqsw, found 'mqsi'"),
+            (
+                "EX 1 A mqsw 11x0",
+                "expected number 12 of 12 for mqsw, but the record ends here",
+            ),
+            (
+                "EX 1 A mqsw 11x0 y",
+                "expected number 12 of 12 for mqsw, found 'y'",
+            ),
+            (
+                "EX 1 A mqsw 10x0 3x1",
+                "expected 2 more of 12 for mqsw, found '3x1'",
+            ),
+            (
+                "EX 1 A mqsw 0x1 12x0",
+                "expected 12 more of 12 for mqsw, found '0x1'",
+            ),
+            (
+                "EX 1 A mqsw 12x-1",
+                "expected number 1 of 12 for mqsw, found '12x-1'",
+            ),
+            (
+                "EX 1 A mqsw 12x0 0",
+                "expected the end of the record, found '0'",
+            ),
+            (
+                "IM 1 A mqsi 12x0 offer",
+                "expected PRICE@QUANTITY for offer, or none, but the record ends here",
+            ),
+            (
+                "IM 1 A mqsi 12x0 offer 5@",
+                "expected PRICE@QUANTITY for offer, or none, found '5@'",
+            ),
+            ("hex 5", "expected pairs of hex digits, found '5'"),
+            (
+                "hex",
+                "expected pairs of hex digits, but the record ends here",
+            ),
+            (
+                "PR 1 emp 12x3000000000 pd 0",
+                "expected number 1 of 12 for emp, found '12x3000000000'",
+            ),
+        ] {
+            assert_eq!(fault(text), format!("line 1: {message}"));
+        }
+        assert_eq!(
+            fault("TB\nGH 1 G\n  start 1\n  noload 2"),
+            "line 4: expected the word no-load, found 'noload'"
+        );
+    }
+
+    #[test]
+    fn more_pairs_than_a_count_byte_holds() {
+        let pairs = " 1@1".repeat(256);
+        assert_eq!(
+            fault(&format!("broken IM 1 N mqsi 12x0 offer{pairs}")),
+            "line 1: offer has more than 255 pairs"
+        );
+    }
+}
