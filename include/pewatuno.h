@@ -1,0 +1,93 @@
+/*
+ * pewatuno.h - the wheel offset of one hour, from its records.
+ *
+ * Link with -lpewatuno.
+ *
+ *     unsigned char bytes[8];
+ *     uint32_t number = pewatuno_hour_offset(bytes, sizeof bytes, records, length);
+ *
+ *     if (number == 0) {
+ *         int64_t ticks = pewatuno_ticks(bytes);     // 1/120 cent each
+ *         ...
+ *     } else if (number == PEWATUNO_PRICE_MISSING) {
+ *         ...                                        // bytes is as it was
+ *     }
+ */
+#ifndef PEWATUNO_H
+#define PEWATUNO_H
+
+#include <stddef.h>
+#include <stdint.h>
+
+#ifdef __cplusplus
+extern "C" {
+#endif
+
+/* Bytes of the result. */
+#define PEWATUNO_RESULT_LENGTH 8
+
+/* Ticks in a cent. */
+#define PEWATUNO_TICKS_PER_CENT 120
+
+/*
+ * The numbers of the settlement book. An hour's offset is refused with 1 to
+ * 7, 10, 12 or 15; the others belong to calls of the book and to its programs.
+ */
+#define PEWATUNO_ENDS_EARLY 1            /* the bytes end early */
+#define PEWATUNO_MARK_UNKNOWN 2          /* the mark is unknown, or not allowed inside CO or WD */
+#define PEWATUNO_HOUR_OUTSIDE 3          /* the hour is not 1 to 24 */
+#define PEWATUNO_NAME_FAULT 4            /* the name breaks its rule */
+#define PEWATUNO_NUMBER_OUTSIDE 5        /* a number is outside its range */
+#define PEWATUNO_LIST_FAULT 6            /* a list breaks its rule */
+#define PEWATUNO_BEYOND_LIST 7           /* a schedule lies beyond its list */
+#define PEWATUNO_BYTES_LEFT_OVER 8       /* bytes are left over */
+#define PEWATUNO_CLOSED 9                /* the day is closed */
+#define PEWATUNO_KEY_STANDS 10           /* the key stands already */
+#define PEWATUNO_NO_SUCH_KEY 11          /* there is no such key */
+#define PEWATUNO_HOUR_FULL 12            /* the hour holds 16 of that mark (8 for GH) */
+#define PEWATUNO_NO_SPACE 13             /* free bytes are short, or 512 changes are listed */
+#define PEWATUNO_NOTHING_TO_TAKE_BACK 14 /* there is nothing to take back */
+#define PEWATUNO_PRICE_MISSING 15        /* a price that is needed is not filed */
+#define PEWATUNO_NOT_TOGETHER 16         /* book and lent bytes do not belong together */
+
+/*
+ * Works the wheel offset of one hour from its PR, IM and EX records, which
+ * stand back to back in any order in records[0 .. records_len - 1].
+ *
+ * Returns 0 and puts the offset into the eight result bytes (ticks of 1/120
+ * cent, signed, little-endian; it may be negative), or returns a number and
+ * leaves them as they were:
+ *
+ *   5   result_len is not 8; this comes before all else
+ *   2   another mark than PR, IM or EX
+ *   3   an hour outside 1 to 24, or another hour than the first record's
+ *   10  a second PR, or a name twice under one mark, in any spelling
+ *   12  a 17th import or export
+ *   15  imports without PR
+ *   1, 4, 5, 6, 7 as above
+ *
+ * No records, or exports alone, have offset 0.
+ *
+ * Neither pointer may be null, not even for length 0, and the two ranges must
+ * not overlap. Any alignment will do. The records are only read, and nothing is
+ * kept from one call to the next.
+ */
+uint32_t pewatuno_hour_offset(uint8_t *result, size_t result_len,
+                              const uint8_t *records, size_t records_len);
+
+/* The ticks in eight result bytes, whatever the byte order of the machine. */
+static inline int64_t pewatuno_ticks(const uint8_t *result)
+{
+    uint64_t ticks = 0;
+    int place;
+
+    for (place = PEWATUNO_RESULT_LENGTH - 1; place >= 0; place--)
+        ticks = ticks << 8 | result[place];
+    return (int64_t)ticks;
+}
+
+#ifdef __cplusplus
+}
+#endif
+
+#endif
