@@ -1,0 +1,77 @@
+# What one does with the repository. `make help` lists it.
+
+VERSION = 0.1.0
+PREFIX = /usr/local
+DESTDIR =
+SAMPLE = ordinary
+
+RT = rt
+CARGO = cargo
+INSTALL = install
+
+SETTLE = target/bin/settle
+ARCHIVE = target/staticlib/libhour_offset.a
+RECORDTEXT = peer/target/release/recordtext
+
+bin = $(DESTDIR)$(PREFIX)/bin
+include = $(DESTDIR)$(PREFIX)/include
+lib = $(DESTDIR)$(PREFIX)/lib
+man = $(DESTDIR)$(PREFIX)/share/man
+
+installed = $(bin)/settle $(bin)/recordtext $(include)/pewatuno.h $(lib)/libpewatuno.a $(lib)/pkgconfig/pewatuno.pc \
+	$(man)/man1/settle.1 $(man)/man1/recordtext.1 $(man)/man3/pewatuno_hour_offset.3
+
+.PHONY: help build settle archive peer sample test bench install uninstall clean
+
+help:
+	@echo 'make build      prove and build the program settle and the archive for C, build recordtext'
+	@echo 'make sample     prove and build settle, and settle a sample day (SAMPLE=$(SAMPLE); see samples/README.md)'
+	@echo 'make test       run every test, from nothing'
+	@echo 'make bench      hold the proved side against the independent one, and time both'
+	@echo 'make install    install what build made (PREFIX=$(PREFIX), DESTDIR=$(DESTDIR))'
+	@echo 'make uninstall  remove what install put there'
+	@echo 'make clean      remove everything that was built'
+
+build: settle archive peer
+
+# What has not changed is not proved again.
+settle:
+	$(RT) check settle
+
+archive:
+	$(RT) staticlib hour_offset
+
+peer:
+	$(CARGO) build --offline --release --manifest-path peer/Cargo.toml
+
+sample: settle
+	$(SETTLE) < samples/$(SAMPLE).rec
+
+test:
+	./test
+
+bench:
+	$(RT) staticlib bridge
+	$(CARGO) run --offline --release --manifest-path bench/Cargo.toml --bin bench
+	$(CARGO) run --offline --release --manifest-path bench/Cargo.toml --bin speed
+
+# Builds nothing, so that it can run with other rights than the build.
+install:
+	@for file in $(SETTLE) $(RECORDTEXT) $(ARCHIVE); do \
+		[ -f $$file ] || { echo "$$file is not there: run 'make build' first" >&2; exit 1; }; \
+	done
+	$(INSTALL) -d $(bin) $(include) $(lib)/pkgconfig $(man)/man1 $(man)/man3
+	$(INSTALL) -m 755 $(SETTLE) $(bin)/settle
+	$(INSTALL) -m 755 $(RECORDTEXT) $(bin)/recordtext
+	$(INSTALL) -m 644 include/pewatuno.h $(include)/pewatuno.h
+	$(INSTALL) -m 644 $(ARCHIVE) $(lib)/libpewatuno.a
+	sed 's|@PREFIX@|$(PREFIX)|; s|@VERSION@|$(VERSION)|' pewatuno.pc.in > $(lib)/pkgconfig/pewatuno.pc
+	chmod 644 $(lib)/pkgconfig/pewatuno.pc
+	$(INSTALL) -m 644 man/settle.1 man/recordtext.1 $(man)/man1
+	$(INSTALL) -m 644 man/pewatuno_hour_offset.3 $(man)/man3
+
+uninstall:
+	rm -f $(installed)
+
+clean:
+	rm -rf target peer/target bench/target
