@@ -10,6 +10,7 @@ mod money_by_formula;
 mod offset_calls;
 mod questions_asked;
 mod reading;
+mod sample_days;
 mod statements;
 mod support;
 mod table_of_numbers;
