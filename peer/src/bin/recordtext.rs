@@ -74,8 +74,11 @@ fn input() -> io::Result<Vec<u8>> {
     Ok(bytes)
 }
 
+/// Writes; a reader that wants no more, as `head`, is no trouble.
 fn output(bytes: &[u8]) -> io::Result<()> {
     let mut out = io::stdout().lock();
-    out.write_all(bytes)?;
-    out.flush()
+    match out.write_all(bytes).and_then(|()| out.flush()) {
+        Err(fault) if fault.kind() == io::ErrorKind::BrokenPipe => Ok(()),
+        written => written,
+    }
 }

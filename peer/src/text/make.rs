@@ -181,19 +181,16 @@ impl<'a> Maker<'a> {
             return Ok(());
         }
         let expected = format!("PRICE@QUANTITY for {label}, or {NO_PAIRS}");
-        let mut first = self.word(&expected)?;
-        loop {
-            let pair = pair_bytes(first.text).ok_or_else(|| self.found(&expected, first.text))?;
+        let mut count = 0;
+        while count == 0 || self.words.first().is_some_and(is_pair) {
+            let text = self.word(&expected)?.text;
+            let pair = pair_bytes(text).ok_or_else(|| self.found(&expected, text))?;
             self.put(&pair);
-            match self.out[count_at].checked_add(1) {
-                Some(count) => self.out[count_at] = count,
-                None => return Err(bad(self.line, format!("{label} has more than 255 pairs"))),
-            }
-            match self.words.first() {
-                Some(word) if word.text.contains('@') => first = self.word(&expected)?,
-                _ => return Ok(()),
-            }
+            count += 1;
         }
+        self.out[count_at] = u8::try_from(count)
+            .map_err(|_| bad(self.line, format!("{label} has more than 255 pairs")))?;
+        Ok(())
     }
 
     /// Raw bytes, two hex digits each, together or apart.
@@ -260,6 +257,10 @@ fn price_bytes(text: &str) -> Option<[u8; 4]> {
 
 fn amount_bytes(text: &str) -> Option<[u8; 4]> {
     text.parse().ok().map(u32::to_le_bytes)
+}
+
+fn is_pair(word: &Word) -> bool {
+    word.text.contains('@')
 }
 
 fn pair_bytes(text: &str) -> Option<Vec<u8>> {
@@ -330,72 +331,75 @@ mod tests {
         );
     }
 
+    /// Texts of one line, and what is said of them.
+    const FAULTS: &[(&str, &str)] = &[
+        (
+            "XX 1",
+            "expected PR, IM, EX, GH, FI, FE, CO, WD, TB, CL, hex or broken, found 'XX'",
+        ),
+        (
+            "CO TB",
+            "expected one of PR, IM, EX, GH, FI, FE, found 'TB'",
+        ),
+        ("PR five", "expected the hour, 1 to 24, found 'five'"),
+        ("PR 256", "expected the hour, 1 to 24, found '256'"),
+        ("EX 1", "expected a name, but the record ends here"),
+        ("WD EX 1", "expected a name, but the record ends here"),
+        (
+            "WD EX 1 \"A",
+            "expected a quote at the end of the name, found '\"A'",
+        ),
+        (
+            "WD EX 1 \"",
+            "expected a quote at the end of the name, found '\"'",
+        ),
+        ("EX 1 A mqsi 12x0", "expected the word mqsw, found 'mqsi'"),
+        (
+            "EX 1 A mqsw 11x0",
+            "expected number 12 of 12 for mqsw, but the record ends here",
+        ),
+        (
+            "EX 1 A mqsw 11x0 y",
+            "expected number 12 of 12 for mqsw, found 'y'",
+        ),
+        (
+            "EX 1 A mqsw 10x0 3x1",
+            "expected 2 more of 12 for mqsw, found '3x1'",
+        ),
+        (
+            "EX 1 A mqsw 0x1 12x0",
+            "expected 12 more of 12 for mqsw, found '0x1'",
+        ),
+        (
+            "EX 1 A mqsw 12x-1",
+            "expected number 1 of 12 for mqsw, found '12x-1'",
+        ),
+        (
+            "EX 1 A mqsw 12x0 0",
+            "expected the end of the record, found '0'",
+        ),
+        (
+            "IM 1 A mqsi 12x0 offer",
+            "expected PRICE@QUANTITY for offer, or none, but the record ends here",
+        ),
+        (
+            "IM 1 A mqsi 12x0 offer 5@",
+            "expected PRICE@QUANTITY for offer, or none, found '5@'",
+        ),
+        ("hex 5", "expected pairs of hex digits, found '5'"),
+        (
+            "hex",
+            "expected pairs of hex digits, but the record ends here",
+        ),
+        (
+            "PR 1 emp 12x3000000000 pd 0",
+            "expected number 1 of 12 for emp, found '12x3000000000'",
+        ),
+    ];
+
     #[test]
     fn what_was_expected_stands_in_the_message() {
-        for (text, message) in [
-            (
-                "XX 1",
-                "expected PR, IM, EX, GH, FI, FE, CO, WD, TB, CL, hex or broken, found 'XX'",
-            ),
-            (
-                "CO TB",
-                "expected one of PR, IM, EX, GH, FI, FE, found 'TB'",
-            ),
-            ("PR five", "expected the hour, 1 to 24, found 'five'"),
-            ("PR 256", "expected the hour, 1 to 24, found '256'"),
-            ("EX 1", "expected a name, but the record ends here"),
-            ("WD EX 1", "expected a name, but the record ends here"),
-            (
-                "WD EX 1 \"A",
-                "expected a quote at the end of the name, found '\"A'",
-            ),
-            (
-                "WD EX 1 \"",
-                "expected a quote at the end of the name, found '\"'",
-            ),
-            ("EX 1 A mqsi 12x0", "expected the word mqsw, found 'mqsi'"),
-            (
-                "EX 1 A mqsw 11x0",
-                "expected number 12 of 12 for mqsw, but the record ends here",
-            ),
-            (
-                "EX 1 A mqsw 11x0 y",
-                "expected number 12 of 12 for mqsw, found 'y'",
-            ),
-            (
-                "EX 1 A mqsw 10x0 3x1",
-                "expected 2 more of 12 for mqsw, found '3x1'",
-            ),
-            (
-                "EX 1 A mqsw 0x1 12x0",
-                "expected 12 more of 12 for mqsw, found '0x1'",
-            ),
-            (
-                "EX 1 A mqsw 12x-1",
-                "expected number 1 of 12 for mqsw, found '12x-1'",
-            ),
-            (
-                "EX 1 A mqsw 12x0 0",
-                "expected the end of the record, found '0'",
-            ),
-            (
-                "IM 1 A mqsi 12x0 offer",
-                "expected PRICE@QUANTITY for offer, or none, but the record ends here",
-            ),
-            (
-                "IM 1 A mqsi 12x0 offer 5@",
-                "expected PRICE@QUANTITY for offer, or none, found '5@'",
-            ),
-            ("hex 5", "expected pairs of hex digits, found '5'"),
-            (
-                "hex",
-                "expected pairs of hex digits, but the record ends here",
-            ),
-            (
-                "PR 1 emp 12x3000000000 pd 0",
-                "expected number 1 of 12 for emp, found '12x3000000000'",
-            ),
-        ] {
+        for (text, message) in FAULTS {
             assert_eq!(fault(text), format!("line 1: {message}"));
         }
         assert_eq!(
