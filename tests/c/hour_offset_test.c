@@ -5,9 +5,9 @@
  *
  *     hour_offset_test EXAMPLE.rec NEGATIVE.rec
  *
- * Faults go to standard error and make the status 1. Standard output has the
- * answers to all cut and damaged records, to be compared with those of the
- * independent implementation, and a last line with counts.
+ * Faults go to standard error, with a last line of counts, and make the status
+ * 1. Standard output has the answers to all cut and damaged records, to be
+ * compared with those of the independent implementation.
  */
 #include <inttypes.h>
 #include <stdio.h>
@@ -29,6 +29,8 @@ struct answer {
     int64_t ticks;
 };
 
+#define TOLD 20 /* so many faults are told, all are counted */
+
 static long passed, failed;
 
 static void check(int holds, const char *what)
@@ -37,8 +39,9 @@ static void check(int holds, const char *what)
         passed++;
         return;
     }
+    if (failed < TOLD)
+        fprintf(stderr, "FAILED: %s\n", what);
     failed++;
-    fprintf(stderr, "FAILED: %s\n", what);
 }
 
 /* A block of exactly this length. */
@@ -166,10 +169,12 @@ static void test_alignment(const struct bytes *example)
 {
     uint8_t *result = block(PEWATUNO_RESULT_LENGTH + 1), *lent = block(example->length + 1);
 
+    memset(result, FILLED, PEWATUNO_RESULT_LENGTH + 1);
     memcpy(lent + 1, example->at, example->length);
     check(pewatuno_hour_offset(result + 1, PEWATUNO_RESULT_LENGTH, lent + 1, example->length) == 0,
           "any alignment will do");
     check(pewatuno_ticks(result + 1) == 9000 * 120, "any alignment gives the offset");
+    check(result[0] == FILLED, "the byte before the result stays");
     free(result);
     free(lent);
 }
@@ -375,6 +380,6 @@ int main(int count, char **words)
     test_full_hour(&example);
     sweep("example", &example);
     sweep("negative-offset", &negative);
-    printf("%ld checks passed, %ld failed\n", passed, failed);
+    fprintf(stderr, "    %ld checks passed, %ld failed\n", passed, failed);
     return failed == 0 ? 0 : 1;
 }
