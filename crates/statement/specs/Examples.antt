@@ -1,0 +1,71 @@
+-- 01's cases of printed lines, those marked (P) among them, and some of their neighbours: one list, one test. Assumes nothing.
+use mathlib.Core.Path.{_≡_, refl}
+use mathlib.Core.Bool.{Bool, true, _&&_}
+use mathlib.Core.List.{List, [], _∷_}
+use Prim.Native.Nat.{ℕ}
+use Prim.Native.Char.{code}
+use Prim.Native.String.{String, [] as end, _∷_ as next}
+use lib.Dec.{eqb}
+use lib.IntN.{ℤ, pos, negsuc}
+use lib.ListN.{length}
+use Rattle.money.specs.Units.{centsOf}
+use Rattle.records.specs.Names.{nameOf, spell, spellByte, unreserved, digit}
+use Rattle.records.specs.Keys.{eqList}
+use Rattle.statement.specs.Decimal.{twoDigits, digits, decimal}
+use Rattle.statement.specs.Lines.{whenBytes, kindBytes, nameBytes, sign, dollars, number, figure, lineBytes, textOf}
+use Rattle.statement.specs.declared.lines.Kind.{Kind}
+use Rattle.statement.specs.declared.lines.Kind.the-variants.{Iog, Off, Ifc, Efc, Pcg, Rev, Err}
+use Rattle.statement.specs.declared.lines.Line.{Line}
+
+-- ---- what they are made of
+abbrev bytes : String → List ℕ
+bytes end = []
+bytes (next c s) = code c ∷ bytes s
+
+-- no name is `-`
+abbrev line : ℕ → Kind → String → ℤ → Line
+line h k n z = record { hour = h; kind = k; name = nameOf (bytes n); cents = record { 0 = z } }
+
+-- an amount of ticks, as it is printed
+abbrev amount : ℕ → Kind → String → ℤ → Line
+amount h k n t = line h k n (centsOf t)
+
+-- ---- cases
+pub data Case : Type 0 where
+  -- the lines, and all of their text
+  shows : List Line → String → Case
+  -- a line, and the length of its text
+  takes : Line → ℕ → Case
+
+abbrev pub holds : Case → Bool
+holds (shows ls s) = eqList (textOf ls) (bytes s)
+holds (takes l n) = eqb (length (lineBytes l)) n
+
+abbrev pub all : List Case → Bool
+all [] = true
+all (c ∷ cs) = holds c && all cs
+
+abbrev pub cases : List Case
+cases =
+    -- (P) hour 5: "All of the output"
+    shows
+    (amount 5 Iog "A/B" (pos 1200000) ∷ amount 5 Iog "C" (pos 480000) ∷ amount 5 Off "" (pos 1080000) ∷ [])
+    "05 IOG A%2FB 100.00\n05 IOG C 40.00\n05 OFF - 90.00\n"
+    -- (P) "offset -110,000 ticks, printed -9.17"
+    ∷ shows (amount 5 Off "" (negsuc 109999) ∷ []) "05 OFF - -9.17\n"
+    -- half a cent goes away from zero; zero has no sign, whatever it was rounded from
+    ∷ shows (amount 12 Ifc "A" (pos 60) ∷ amount 12 Efc "A" (negsuc 59) ∷ []) "12 IFC A 0.01\n12 EFC A -0.01\n"
+    ∷ shows (amount 0 Pcg "U1" (pos 0) ∷ amount 0 Rev "U1" (negsuc 58) ∷ []) "DD PCG U1 0.00\nDD REV U1 0.00\n"
+    -- "Where a price lacks": a plain number
+    ∷ shows (line 5 Err "" (pos 15) ∷ line 0 Err "U1" (pos 15) ∷ []) "05 ERR - 15\nDD ERR U1 15\n"
+    -- nine digits of dollars, no separators
+    ∷ shows (line 0 Pcg "U1" (pos 12345678901) ∷ line 0 Rev "U1" (negsuc 99999999999) ∷ []) "DD PCG U1 123456789.01\nDD REV U1 -1000000000.00\n"
+    -- a name of more than its twelve bytes is none
+    ∷ shows (line 24 Iog "ABCDEFGHIJKL" (pos 105) ∷ line 24 Iog "ABCDEFGHIJKLM" (pos 105) ∷ []) "24 IOG ABCDEFGHIJKL 1.05\n24 IOG - 1.05\n"
+    -- the longest line
+    ∷ takes (line 24 Pcg "////////////" (negsuc 9223372036854775807)) 66
+    ∷ []
+
+pub examples : all cases ≡ true
+unfolding textOf lineBytes whenBytes twoDigits kindBytes nameBytes spell spellByte unreserved digit figure sign dollars number decimal digits centsOf
+examples = refl

@@ -1,0 +1,6 @@
+pub mod Decimal
+pub mod DecimalLaws
+pub mod Lines
+pub mod LineLaws
+pub mod Inner
+pub mod Examples

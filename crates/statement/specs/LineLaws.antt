@@ -1,0 +1,186 @@
+-- Laws of lines and of their text. Assumes nothing.
+use mathlib.Core.Path.{_≡_, refl, sym, ap, _∙_}
+use mathlib.Core.List.{List, [], _∷_, _++_, append-assoc, append-nil}
+use mathlib.Core.Bool.{Bool, true, false, cond, _&&_}
+use Prim.Native.Nat.{ℕ, _+_, _*_, _/_, _%_, _≤_, _<_}
+use native.Mathlib.Omega.{arith}
+use native.Mathlib.Numerals.{add-one}
+use lib.Dec.{leb, eqb, ltb→lt}
+use lib.IntN.{ℤ, pos, negsuc, natAbs}
+use lib.Signed.{_≤ℤ_, _<ℤ_}
+use lib.ListN.{length, take, drop, getD, length-append, length-take, take-append-drop}
+use lib.Seq.{take-suc, take-take}
+use borrow.Author.Tests.{le-leb, lt-leb, leb-true}
+use Rattle.money.specs.declared.names.Name.{Name}
+use Rattle.records.specs.Numbers.{pad}
+use Rattle.records.specs.Names.{spell, bytesOf, spellingOf, spellingBytes}
+use Rattle.records.specs.NameLaws.{spell-length, take-pad}
+use Rattle.records.specs.declared.names.Spelling.{Spelling}
+use Rattle.statement.specs.Decimal.{twoDigits, decimal}
+use Rattle.statement.specs.DecimalLaws.{decimal-length}
+use Rattle.statement.specs.Lines.{whenBytes, kindBytes, isNumber, nameBytes, sign, dollars, number, figure, lineBytes, textOf}
+use Rattle.statement.specs.declared.lines.Kind.{Kind}
+use Rattle.statement.specs.declared.lines.Kind.the-variants.{Iog, Off, Ifc, Efc, Pcg, Rev, Err}
+use Rattle.statement.specs.declared.lines.Line.{Line}
+
+-- ---- signs
+pub sign-below : (z : ℤ) → z <ℤ pos 0 → sign z ≡ 45 ∷ []
+unfolding sign
+sign-below (pos n) h = let l : n < 0 = ltb→lt n 0 (h .lt) in absurd (omega arith)
+sign-below (negsuc n) h = refl
+
+pub sign-above : (z : ℤ) → pos 0 ≤ℤ z → sign z ≡ []
+unfolding sign
+sign-above (pos n) h = refl
+sign-above (negsuc n) h = absurd (h .le)
+
+-- ---- names
+pub name-none : (n : Name) → n .len ≡ 0 → nameBytes n ≡ 45 ∷ []
+unfolding nameBytes
+name-none n h = rw h
+
+pub name-long : (n : Name) → 12 < n .len → nameBytes n ≡ 45 ∷ []
+unfolding nameBytes
+name-long n h = rw (le-leb 1 (n .len) (omega arith), lt-leb (n .len) 12 h)
+
+pub name-some : (n : Name) → 1 ≤ n .len → n .len ≤ 12 → nameBytes n ≡ spell (bytesOf n)
+unfolding nameBytes
+name-some n h k = rw (le-leb 1 (n .len) h, le-leb (n .len) 12 k)
+
+spelled-most : (n : Name) → n .len ≤ 12 → length (spell (bytesOf n)) ≤ 36
+spelled-most n h = omega (arith, spell-length (bytesOf n), length-take (n .len) (n .bytes))
+
+-- the spelling that records gives of a name is what its line shows
+pub record Spells (n : Name) (s : Spelling) : Type 0 where
+  pub bytes : take (s .len) (s .bytes) ≡ nameBytes n
+  pub few : s .len ≤ 36
+  pub within : s .len ≤ length (s .bytes)
+  pub all : s .len ≡ length (take (s .len) (s .bytes))
+
+spelling-is : (n : Name) → n .len ≤ 12 → spellingOf n ≡ spellingBytes (spell (bytesOf n))
+unfolding spellingOf
+spelling-is n h = rw (le-leb (n .len) 12 h)
+
+pub spells : (n : Name) (s : Spelling) → 1 ≤ n .len → n .len ≤ 12 → s ≡ spellingOf n → Spells n s
+spells n s h k e =
+    let q : s ≡ spellingBytes (spell (bytesOf n)) = e ∙ spelling-is n k in
+    let xs : List ℕ = spell (bytesOf n) in
+    let m : length xs ≤ 36 = spelled-most n k in
+    let p : take (length xs) (pad 0 36 xs) ≡ xs = take-pad 0 36 xs m in
+    rw q (record {
+      bytes = p ∙ sym (name-some n h k);
+      few = m;
+      within = omega (arith, ap length p, length-take (length xs) (pad 0 36 xs));
+      all = ap length (sym p);
+    })
+
+pub name-length : (n : Name) → length (nameBytes n) ≤ 36
+unfolding nameBytes
+name-length n = go (leb 1 (n .len)) (leb (n .len) 12) refl
+  where
+    go : (a b : Bool) → leb (n .len) 12 ≡ b → length (cond (a && b) (spell (bytesOf n)) (45 ∷ [])) ≤ 36
+    go true true e = spelled-most n (leb-true (n .len) 12 e)
+    go true false e = omega arith
+    go false b e = omega arith
+
+-- ---- times and kinds
+pub when-length : (h : ℕ) → length (whenBytes h) ≡ 2
+unfolding whenBytes twoDigits
+when-length h = go (eqb h 0)
+  where
+    go : (b : Bool) → length (cond b (68 ∷ 68 ∷ []) ((48 + h / 10) ∷ (48 + h % 10) ∷ [])) ≡ 2
+    go true = refl
+    go false = refl
+
+pub kind-length : (k : Kind) → length (kindBytes k) ≡ 3
+unfolding kindBytes
+kind-length Iog = refl
+kind-length Off = refl
+kind-length Ifc = refl
+kind-length Efc = refl
+kind-length Pcg = refl
+kind-length Rev = refl
+kind-length Err = refl
+
+-- ---- figures
+pub figure-number : (k : Kind) (z : ℤ) → isNumber k ≡ true → figure k z ≡ sign z ++ decimal (natAbs z)
+unfolding figure number
+figure-number k z e = rw e
+
+pub figure-dollars : (k : Kind) (z : ℤ) → isNumber k ≡ false → figure k z ≡ sign z ++ decimal (natAbs z / 100) ++ (46 ∷ []) ++ twoDigits (natAbs z % 100)
+unfolding figure dollars
+figure-dollars k z e = rw e
+
+pub sign-length : (z : ℤ) → length (sign z) ≤ 1
+unfolding sign
+sign-length (pos n) = omega arith
+sign-length (negsuc n) = omega arith
+
+-- the magnitude of an i64
+abbrev pub Fits64 : ℤ → Type 0
+Fits64 z = natAbs z ≤ 9223372036854775808
+
+pub number-digits : (n : ℕ) → n ≤ 9223372036854775808 → length (decimal n) ≤ 19
+number-digits n h = decimal-length 18 n (omega arith)
+
+pub dollar-digits : (n : ℕ) → n ≤ 9223372036854775808 → length (decimal (n / 100)) ≤ 17
+dollar-digits n h = decimal-length 16 (n / 100) (omega arith)
+
+pub two-length : (n : ℕ) → length (twoDigits n) ≡ 2
+unfolding twoDigits
+two-length n = refl
+
+pub figure-length : (k : Kind) (z : ℤ) → Fits64 z → length (figure k z) ≤ 21
+figure-length k z h = go (isNumber k) refl
+  where
+    go : (b : Bool) → isNumber k ≡ b → length (figure k z) ≤ 21
+    go true e = rw (figure-number k z e, length-append) (omega (arith, sign-length z, number-digits (natAbs z) h))
+    go false e = rw (figure-dollars k z e) (simp length-append (omega (arith, sign-length z, dollar-digits (natAbs z) h, two-length (natAbs z % 100))))
+
+-- ---- lines
+
+-- the longest line has 66 bytes
+pub line-length : (l : Line) → Fits64 (l .cents .0) → length (lineBytes l) ≤ 66
+unfolding lineBytes
+line-length l h = simp length-append (omega (arith, when-length (l .hour), kind-length (l .kind), name-length (l .name), figure-length (l .kind) (l .cents .0) h))
+
+pub text-cons : (l : Line) (ls : List Line) → textOf (l ∷ ls) ≡ lineBytes l ++ textOf ls
+unfolding textOf
+text-cons l ls = refl
+
+pub text-none : textOf [] ≡ []
+unfolding textOf
+text-none = refl
+
+pub text-one : (l : Line) → textOf (l ∷ []) ≡ lineBytes l
+unfolding textOf
+text-one l = append-nil (lineBytes l)
+
+pub text-append : (xs ys : List Line) → textOf (xs ++ ys) ≡ textOf xs ++ textOf ys
+unfolding textOf
+text-append [] ys = refl
+text-append (x ∷ xs) ys = rw (text-append xs ys, append-assoc)
+
+abbrev pub EachFits : List Line → Type 0
+EachFits [] = Unit
+EachFits (l ∷ ls) = Fits64 (l .cents .0) × EachFits ls
+
+pub each-append : (xs ys : List Line) → EachFits xs → EachFits ys → EachFits (xs ++ ys)
+each-append [] ys h k = k
+each-append (x ∷ xs) ys h k = (h .0, each-append xs ys (h .1) k)
+
+pub text-length : (ls : List Line) → EachFits ls → length (textOf ls) ≤ 66 * length ls
+unfolding textOf
+text-length [] h = omega arith
+text-length (l ∷ ls) h = rw (text-cons l ls, length-append) (omega (arith, line-length l (h .0), text-length ls (h .1)))
+
+-- one more line of a list
+pub text-more : (ls : List Line) (i : ℕ) (d : Line) → i < length ls → textOf (take (i + 1) ls) ≡ textOf (take i ls) ++ lineBytes (getD ls i d)
+text-more ls i d h = rw (add-one, take-suc ls i d h, text-append (take i ls) (getD ls i d ∷ [])) (ap (λ (xs : List ℕ). textOf (take i ls) ++ xs) (text-one (getD ls i d)))
+
+-- the text of fewer lines is no longer
+pub text-fewer : (ls : List Line) (i n : ℕ) → i ≤ n → length (textOf (take i ls)) ≤ length (textOf (take n ls))
+text-fewer ls i n h =
+    let xs : List Line = take n ls in
+    let e : textOf (take i ls) ++ textOf (drop i xs) ≡ textOf xs = ap (λ (ys : List Line). textOf ys ++ textOf (drop i xs)) (sym (take-take i n ls h)) ∙ sym (text-append (take i xs) (drop i xs)) ∙ ap textOf (take-append-drop i xs) in
+    omega (arith, ap length e, length-append (textOf (take i ls)) (textOf (drop i xs)))

@@ -1,0 +1,3 @@
+// The statement: the text of its lines.
+pub mod lines;
+pub mod texts;
