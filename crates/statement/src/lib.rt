@@ -1,3 +1,4 @@
-// The statement: the text of its lines.
+// The statement: the text of its lines, and sheets of lines.
 pub mod lines;
+pub mod sheets;
 pub mod texts;
