@@ -14,7 +14,7 @@ use Rattle.money.specs.declared.units.Quantity.{Quantity}
 use Rattle.money.specs.declared.units.Answer.{Answer}
 use Rattle.money.specs.declared.units.Answer.the-variants.{Refused}
 use Rattle.money.specs.declared.imports.Import.{Import}
-use Rattle.money.specs.Units.{noPrice, noQuantity, priceOk, quantityAt, quantitiesOk, withinOk, sameℤ, unless, answer}
+use Rattle.money.specs.Units.{noPrice, noQuantity, priceOk, quantityAt, rowOf, quantitiesOk, withinOk, sameℤ, unless, answer}
 use Rattle.money.specs.Offers.{lastQ, offerFault}
 use Rattle.money.specs.Guarantee.{credit}
 use Rattle.money.specs.Names.{nameOf, nameBefore, sameName, nameOk}
@@ -73,6 +73,10 @@ listFault n ps es = firstOf n (faultAt ps es)
 -- "12 export totals (each at most 1,600,000)"
 abbrev pub totalOk : Quantity → Bool
 totalOk t = leb (t .0) 1600000
+
+-- "sum of all MQSW", for twelve intervals: totals with one row of quantities more, none above 1,600,001, which the offset refuses
+unfoldable pub totalsWith : List Quantity → List Quantity → List Quantity
+totalsWith ts ms = rowOf 0 12 (λ (k : ℕ). min (quantityAt ts k + quantityAt ms k) 1600001)
 
 abbrev pub rateOk : List Price → List Quantity → ℕ → Bool
 rateOk ps ts k = priceOk (getD ps k noPrice) && totalOk (getD ts k noQuantity)

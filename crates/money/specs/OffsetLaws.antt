@@ -1,22 +1,25 @@
 -- Lists of imports, what their checks tell, and the loops over them. Assumes nothing.
 use mathlib.Core.Path.{_≡_, refl, sym, ap, _∙_, subst}
-use mathlib.Core.Bool.{Bool, true, false, cond, _&&_}
+use mathlib.Core.Bool.{Bool, true, false, cond, not, _&&_}
 use mathlib.Core.List.{List}
 use Prim.Native.Nat.{ℕ, zero, suc, _+_, _-_, _*_, _≤_, _<_, zero-le, min}
 use native.Mathlib.Omega.{arith}
+use borrow.Author.Tests.{le-leb}
+use lib.Dec.{leb}
 use lib.IntN.{ℤ, pos, negℤ, natAbs, _+ℤ_, _-ℤ_}
 use lib.ListN.{getD, length}
 use Rattle.laws.specs.Ints.{sub-within}
-use Rattle.laws.specs.Sums.{Σℤ, Σℕ, Summed, summed-all, Σℕ-more, Σℤ-sub, Σℤ-within, Σℕ-within, every-at, and-true, firstOf-zero}
+use Rattle.laws.specs.Sums.{Σℤ, Σℕ, Summed, summed-all, Σℕ-more, Σℤ-sub, Σℤ-within, Σℕ-within, every-at, every-yes, and-true, orElse, firstOf-zero, firstOf-none}
 use Rattle.money.specs.declared.units.Price.{Price}
 use Rattle.money.specs.declared.units.Quantity.{Quantity}
+use Rattle.money.specs.declared.units.Answer.the-variants.{Amount, Refused}
 use Rattle.money.specs.declared.imports.Import.{Import}
-use Rattle.money.specs.Units.{noPrice, noQuantity, quantityAt, priceOk, quantitiesOk, withinOk, sameℤ}
+use Rattle.money.specs.Units.{noPrice, noQuantity, quantityAt, rowOf, priceOk, pricesOk, quantitiesOk, withinOk, sameℤ, unless, answer}
 use Rattle.money.specs.Offers.{lastQ, offerFault}
 use Rattle.money.specs.Guarantee.{credit}
-use Rattle.money.specs.Names.{nameOk}
-use Rattle.money.specs.Offset.{entry, mqsi, upTo, counted, reach, adj, offset, entryFault, faultAt, listFault, totalOk, rateOk, ratesOk}
-use Rattle.money.specs.UnitLaws.{Moderate, Rates, price-in, passes, neither, same-is}
+use Rattle.money.specs.Names.{nameOk, sameName}
+use Rattle.money.specs.Offset.{entry, mqsi, upTo, counted, reach, adj, offset, entryFault, freshName, faultAt, listFault, totalOk, totalsWith, rateOk, ratesOk, offsetAnswer}
+use Rattle.money.specs.UnitLaws.{Moderate, Rates, price-in, passes, neither, same-is, same-true, row-at, row-same}
 use Rattle.money.specs.OfferLaws.{Good, last-size}
 use Rattle.money.specs.GuaranteeLaws.{Ready, ready-of, credit-size, credit-ext}
 
@@ -121,3 +124,38 @@ listed-of n ps es m r h = record { most = m; each = λ i l. sound-of ps (entry e
 pub rates-of : (ps : List Price) (ts : List Quantity) → ratesOk ps ts ≡ true → Rates ps
 unfolding ratesOk
 rates-of ps ts h = λ k l. price-in (getD ps k noPrice) (and-true (priceOk (getD ps k noPrice)) (totalOk (getD ts k noQuantity)) (every-at 12 (rateOk ps ts) h k l) .0)
+
+-- ---- totals, and a list that no check refuses
+pub totals-at : (ts ms : List Quantity) (k : ℕ) → k < 12 → quantityAt (totalsWith ts ms) k ≡ min (quantityAt ts k + quantityAt ms k) 1600001
+unfolding totalsWith
+totals-at ts ms k l = row-at 12 (λ (k : ℕ). min (quantityAt ts k + quantityAt ms k) 1600001) k l
+
+-- a row more, where no total comes to more than 1,600,000
+pub totals-more : (ts ms : List Quantity) (f : ℕ → ℕ) → ((k : ℕ) → k < 12 → quantityAt ts k ≡ f k) → ((k : ℕ) → k < 12 → f k + quantityAt ms k ≤ 1600000)
+    → totalsWith ts ms ≡ rowOf 0 12 (λ (k : ℕ). f k + quantityAt ms k)
+unfolding totalsWith
+totals-more ts ms f h m =
+    row-same 12 (λ (k : ℕ). min (quantityAt ts k + quantityAt ms k) 1600001) (λ (k : ℕ). f k + quantityAt ms k) (λ k l. omega (arith, h k l, m k l))
+
+pub rates-ok : (ps : List Price) (ts : List Quantity) → pricesOk ps ≡ true → ((k : ℕ) → k < 12 → quantityAt ts k ≤ 1600000) → ratesOk ps ts ≡ true
+unfolding ratesOk pricesOk
+rates-ok ps ts h m = every-yes 12 (rateOk ps ts) (λ k l. rw (every-at 12 (λ k. priceOk (getD ps k noPrice)) h k l, le-leb (quantityAt ts k) 1600000 (m k l)))
+
+-- an entry of which each part is in order
+pub entry-fine : (ps : List Price) (e : Import) → nameOk (e .name) ≡ true → quantitiesOk (e .quantities) ≡ true → offerFault (e .offer) ≡ 0
+    → withinOk (e .quantities) (lastQ (e .offer)) ≡ true → e .credit .0 ≡ credit (e .offer) ps (mqsi e) → entryFault ps e ≡ 0
+unfolding entryFault
+entry-fine ps e a b c d f = rw (a, b, c, d, same-true (e .credit .0) (credit (e .offer) ps (mqsi e)) f)
+
+-- entries in order, each of its own name
+pub offset-amount : (n : ℕ) (es : List Import) (ps : List Price) (ts : List Quantity) → n ≤ 16 → ratesOk ps ts ≡ true
+    → ((i : ℕ) → i < n → entryFault ps (entry es i) ≡ 0)
+    → ((i j : ℕ) → i < n → j < i → sameName (entry es i .name) (entry es j .name) ≡ false)
+    → offsetAnswer n es ps ts ≡ Amount (record { 0 = offset n es ps ts })
+unfolding offsetAnswer listFault faultAt freshName
+offset-amount n es ps ts m r h d =
+    let fresh : (i : ℕ) → i < n → freshName es i ≡ true
+    = λ i l. every-yes i (λ j. not (sameName (entry es i .name) (entry es j .name))) (λ j k. ap not (d i j l k)) in
+    let none : listFault n ps es ≡ 0
+    = firstOf-none n (faultAt ps es) (λ i l. (λ x. orElse (h i l x) (unless (fresh i l x) 10 0))) in
+    (λ x. cond (le-leb n 16 m x) (cond (r x) (answer (none x) (offset n es ps ts)) (Refused 5)) (Refused 12))

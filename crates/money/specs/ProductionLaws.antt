@@ -12,17 +12,18 @@ use lib.IntN.{ℤ, pos, negℤ, natAbs, _+ℤ_, _-ℤ_, _*ℤ_, +ℤ-idr}
 use lib.Signed.{leZ, _≤ℤ_}
 use lib.ListN.{getD}
 use Rattle.laws.specs.Ints.{ints, dif, pos-dif, by₁, by₄, by₅, minℤ, maxℤ, le-true, true-le, min-max-neg, add-within, sub-within}
-use Rattle.laws.specs.Sums.{Σℤ, Σℤ-within, Summed, every-at, and-true}
+use Rattle.laws.specs.Sums.{Σℤ, Σℤ-within, Summed, every-at, every-yes, and-true}
 use Rattle.money.specs.declared.units.Price.{Price}
 use Rattle.money.specs.declared.units.Ticks.{Ticks}
 use Rattle.money.specs.declared.units.CentsPerStart.{CentsPerStart}
 use Rattle.money.specs.declared.offers.Offer.{Offer}
 use Rattle.money.specs.declared.production.Reserve.{Reserve}
 use Rattle.money.specs.declared.production.UnitHour.{UnitHour}
+use Rattle.money.specs.declared.production.DayAnswer.the-variants.{Day}
 use Rattle.money.specs.Units.{priceAt, pricesOk, quantitiesOk, withinOk, maxCents, unless}
 use Rattle.money.specs.Offers.{before, lastQ, offerFault, cost}
 use Rattle.money.specs.Guarantee.{profit}
-use Rattle.money.specs.Production.{shortfall, arranged, congestion, reserveNet, component4, S, D, R, U, A, K, C1, C2, C3, C4, interval, hourAmount, reserveFault, reserveNumbersOk, reservesNumbersOk, numbersFine, withinFine, listsFault, unitFault, intervalFault, noTicks, noStart, hourPart, maxHour, amountOk, hoursOk, reversal}
+use Rattle.money.specs.Production.{shortfall, arranged, congestion, reserveNet, component4, S, D, R, U, A, K, C1, C2, C3, C4, interval, hourAmount, reserveFault, reserveNumbersOk, reservesNumbersOk, numbersFine, withinFine, listsFault, unitFault, intervalFault, noTicks, noStart, hourPart, maxHour, daySum, amountOk, hoursOk, reversal, dayAnswer, hourAnswer}
 use Rattle.money.specs.UnitLaws.{Moderate, Rates, prices-of, within-at, passes, neither}
 use Rattle.money.specs.OfferLaws.{Good, good-of, cost-none, abs-mul-pos, cost-size, last-size}
 use Rattle.money.specs.GuaranteeLaws.{profit-size}
@@ -421,6 +422,11 @@ module _ {ts : List Ticks} {ss : List CentsPerStart} (ready : DayReady ts ss) wh
 
     pub part-room : Moderate p
     part-room = rw part-is (omega (arith, part-size i l))
+
+pub day-amount : (ts : List Ticks) (ss : List CentsPerStart) → ((i : ℕ) → i < 24 → amountOk (getD ts i noTicks) (getD ss i noStart) ≡ true)
+    → dayAnswer ts ss ≡ Day (record { 0 = daySum ts ss }) (record { 0 = reversal (daySum ts ss) })
+unfolding dayAnswer hoursOk
+day-amount ts ss h = rw (every-yes 24 (λ i. amountOk (getD ts i noTicks) (getD ss i noStart)) h)
 
 -- the reversal as code has it, -min(0, total)
 pub reversal-is : {s t r : ℤ} → t ≡ s → r ≡ negℤ (minℤ (pos 0) t) → r ≡ reversal s

@@ -1,7 +1,7 @@
 -- Laws of units, of tests and refusals, and of rows of twelve quantities. Assumes nothing.
 use mathlib.Core.Path.{_≡_, refl, sym, ap, _∙_, subst}
 use mathlib.Core.Bool.{Bool, true, false, cond, _&&_}
-use mathlib.Core.List.{List, map}
+use mathlib.Core.List.{List, [], _∷_, map}
 use Prim.Native.Nat.{ℕ, zero, suc, _+_, _-_, _*_, _/_, _≤_, _<_, zero-le}
 use native.Mathlib.Omega.{arith}
 use borrow.Author.Tests.{leb-true}
@@ -20,7 +20,7 @@ use Rattle.money.specs.declared.units.Price.{Price}
 use Rattle.money.specs.declared.units.Quantity.{Quantity}
 use Rattle.money.specs.declared.units.Answer.{Answer}
 use Rattle.money.specs.declared.units.Answer.the-variants.{Amount, Refused}
-use Rattle.money.specs.Units.{minPrice, maxPrice, noPrice, noQuantity, priceOk, priceAt, quantityAt, pricesOk, withinOk, sameℤ, unless, answer, centsOf}
+use Rattle.money.specs.Units.{minPrice, maxPrice, noPrice, noQuantity, priceOk, quantityOk, priceAt, quantityAt, rowOf, pricesOk, quantitiesOk, withinOk, sameℤ, unless, answer, centsOf}
 
 -- an amount that any sum or difference of two such still holds in 64 bits
 abbrev pub Moderate : ℤ → Type 0
@@ -50,6 +50,10 @@ prices-of ps h = λ k l. price-in (getD ps k noPrice) (every-at 12 (λ k. priceO
 pub within-at : (qs : List Quantity) (last : ℕ) → withinOk qs last ≡ true → (k : ℕ) → k < 12 → quantityAt qs k ≤ last
 unfolding withinOk
 within-at qs last w k l = leb-true _ _ (every-at 12 (λ k. leb (quantityAt qs k) last) w k l)
+
+pub quantity-most : (qs : List Quantity) → quantitiesOk qs ≡ true → (k : ℕ) → k < 12 → quantityAt qs k ≤ 100000
+unfolding quantitiesOk
+quantity-most qs h k l = leb-true _ _ (every-at 12 (λ k. quantityOk (getD qs k noQuantity)) h k l)
 
 pub passes : (b : Bool) (n r : ℕ) → unless b (suc n) r ≡ 0 → (b ≡ true) × (r ≡ 0)
 passes true n r e = (refl, e)
@@ -183,3 +187,38 @@ filled-more {row = row} {f = f} {k = k} {v = v} r l e = record {
       (λ q. subst (λ (i : ℕ). quantityAt (set row k v) i ≡ f i) (sym q) (ap (λ (x : Quantity). x .0) (getD-set-same row k v noQuantity (omega (arith, r .long))) ∙ e))
       (λ q. ap (λ (x : Quantity). x .0) (getD-set-other row k j v noQuantity (λ z. omega arith)) ∙ r .so-far j q);
 }
+
+-- ---- a row by a function of its index
+at-from : (i n : ℕ) (f : ℕ → ℕ) (k : ℕ) → k < n → quantityAt (rowOf i n f) k ≡ f (i + k)
+unfolding rowOf
+at-from i zero f k l = absurd (omega arith)
+at-from i (suc n) f zero l = ap f (omega arith)
+at-from i (suc n) f (suc k) l = at-from (i + 1) n f k (omega arith) ∙ ap f (omega arith)
+
+same-from : (i n : ℕ) (f g : ℕ → ℕ) → ((k : ℕ) → k < n → f (i + k) ≡ g (i + k)) → rowOf i n f ≡ rowOf i n g
+unfolding rowOf
+same-from i zero f g h = refl
+same-from i (suc n) f g h =
+    let a : f i ≡ g i = ap f (omega arith) ∙ h 0 (omega arith) ∙ ap g (omega arith) in
+    let t = same-from (i + 1) n f g (λ k l. ap f (omega arith) ∙ h (suc k) (omega arith) ∙ ap g (omega arith)) in
+    (λ x. record { 0 = a x } ∷ t x)
+
+built-from : (i n : ℕ) (f : ℕ → ℕ) (row : List Quantity) → length row ≡ n → ((k : ℕ) → k < n → quantityAt row k ≡ f (i + k)) → row ≡ rowOf i n f
+unfolding rowOf
+built-from i zero f [] e h = refl
+built-from i zero f (q ∷ row) e h = absurd (omega arith)
+built-from i (suc n) f [] e h = absurd (omega arith)
+built-from i (suc n) f (q ∷ row) e h =
+    let a : q .0 ≡ f i = h 0 (omega arith) ∙ ap f (omega arith) in
+    let t = built-from (i + 1) n f row (omega arith) (λ k l. h (suc k) (omega arith) ∙ ap f (omega arith)) in
+    (λ x. record { 0 = a x } ∷ t x)
+
+pub row-at : (n : ℕ) (f : ℕ → ℕ) (k : ℕ) → k < n → quantityAt (rowOf 0 n f) k ≡ f k
+row-at n f k l = at-from 0 n f k l ∙ ap f (omega arith)
+
+pub row-same : (n : ℕ) (f g : ℕ → ℕ) → ((k : ℕ) → k < n → f k ≡ g k) → rowOf 0 n f ≡ rowOf 0 n g
+row-same n f g h = same-from 0 n f g (λ k l. ap f (omega arith) ∙ h k l ∙ ap g (omega arith))
+
+-- a row that is filled to its end
+pub filled-all : {row : List Quantity} {f : ℕ → ℕ} {k : ℕ} → Filled row f k → 12 ≤ k → row ≡ rowOf 0 12 f
+filled-all {row = row} {f = f} r h = built-from 0 12 f row (r .long) (λ j l. r .so-far j (omega arith) ∙ ap f (omega arith))

@@ -1,7 +1,7 @@
 -- 01, "Units and offers": prices, quantities and money, and what a call answers.
 use mathlib.Core.Path.{_≡_}
 use mathlib.Core.Bool.{Bool, cond, _&&_}
-use mathlib.Core.List.{List}
+use mathlib.Core.List.{List, [], _∷_}
 use Prim.Native.Nat.{ℕ, zero, suc, _+_, _/_}
 use lib.IntN.{ℤ, pos, negsuc, negℤ}
 use lib.Signed.{leZ}
@@ -60,6 +60,11 @@ priceAt ps k = getD ps k noPrice .0
 
 abbrev pub quantityAt : List Quantity → ℕ → ℕ
 quantityAt qs k = getD qs k noQuantity .0
+
+-- n quantities f i, f (i + 1), ..
+unfoldable pub rowOf : ℕ → ℕ → (ℕ → ℕ) → List Quantity
+rowOf i zero f = []
+rowOf i (suc n) f = record { 0 = f i } ∷ rowOf (i + 1) n f
 
 unfoldable pub pricesOk : List Price → Bool
 pricesOk ps = every 12 (λ k. priceOk (getD ps k noPrice))

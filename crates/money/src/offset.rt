@@ -4,7 +4,7 @@ ghost use mathlib.Core.Bool.{_&&_};
 ghost use lib.Dec.{leb};
 ghost use lib.ListN.{length};
 ghost use Rattle.money.specs.Units.{priceOk, quantityAt};
-ghost use Rattle.money.specs.Offset.{mqsi, counted, reach, adj, offset, totalOk, ratesOk, offsetAnswer};
+ghost use Rattle.money.specs.Offset.{mqsi, counted, reach, adj, offset, totalOk, totalsWith, ratesOk, offsetAnswer};
 ghost use Rattle.money.specs.UnitLaws.{Rates};
 ghost use Rattle.money.specs.OffsetLaws.{Listed};
 ghost use Rattle.money.specs.LentLaws.{startOf, addOf, finishOf};
@@ -24,17 +24,29 @@ use crate::units::Ticks;
 // What an hour's sixteen exports can come to.
 pub const TOTAL_MAX: Quantity = Quantity(1600000);
 
-// Twelve sums, each with one more quantity.
-fn added(sums: [Quantity; 12], more: [Quantity; 12]) -> [Quantity; 12]
-    requires { ⌜ ((k : ℕ) → k < 12 → quantityAt sums k + quantityAt more k ≤ 1600000) ⌝ }
-    ensures { λ r. ⌜ ((k : ℕ) → k < 12 → quantityAt r k ≡ quantityAt sums k + quantityAt more k) ⌝ }
+// A total with one quantity more. What would come to more than TOTAL_MAX is TOTAL_MAX + 1, which the offset refuses.
+fn total_with(total: Quantity, more: Quantity) -> Quantity
+    ensures { λ r. ⌜ r .0 ≡ min (total .0 + more .0) 1600001 ⌝ }
+{
+    if TOTAL_MAX.0 < total.0 {
+        return Quantity(TOTAL_MAX.0 + 1);
+    }
+    if TOTAL_MAX.0 - total.0 < more.0 {
+        return Quantity(TOTAL_MAX.0 + 1);
+    }
+    Quantity(total.0 + more.0)
+}
+
+// Twelve totals, each with one quantity more.
+pub fn totals_with(totals: [Quantity; 12], more: [Quantity; 12]) -> [Quantity; 12]
+    ensures { λ r. ⌜ r ≡ totalsWith totals more ⌝ }
 {
     let mut row = [Quantity(0); 12];
     let mut k: usize = 0;
     while k < 12 {
-        let a = sums[k];
+        let a = totals[k];
         let b = more[k];
-        row[k] = Quantity(a.0 + b.0);
+        row[k] = total_with(a, b);
         k = k + 1;
     }
     row
@@ -47,7 +59,7 @@ fn counted_in(sums: [Quantity; 12], a: Import, e: Import) -> [Quantity; 12]
 {
     if up_to(a, e) {
         let more = a.quantities;
-        return added(sums, more);
+        return totals_with(sums, more);
     }
     sums
 }

@@ -12,6 +12,7 @@ use Rattle.records.specs.Names.{decodeName, noOne, held}
 use Rattle.records.specs.Marks.{mark, hasName, isFailure, order}
 use Rattle.records.specs.Changes.{noKey}
 use Rattle.records.specs.declared.marks.Mark.{Mark}
+use Rattle.records.specs.declared.marks.Mark.the-variants.{Gh}
 use Rattle.records.specs.declared.keys.Key.{Key}
 use Rattle.records.specs.declared.keys.KeyAnswer.{KeyAnswer}
 use Rattle.records.specs.declared.keys.NameAnswer.{NameAnswer}
@@ -58,8 +59,15 @@ abbrev pub askFailure : List ℕ → ℕ → List ℕ → Res Key
 askFailure ms h ns = askFrom (askFailureMark ms) h ns
 
 -- a mark and an hour alone
+unfoldable pub askHourOf : Mark → ℕ → Res Key
+askHourOf m h = check (between 1 24 h) badHour (got (record { mark = m; hour = h; name = noOne }) [])
+
 unfoldable pub askHour : List ℕ → ℕ → Res Key
-askHour ms h = askMark ms >>= λ m t. check (between 1 24 h) badHour (got (record { mark = m; hour = h; name = noOne }) [])
+askHour ms h = askMark ms >>= λ m t. askHourOf m h
+
+-- "a unit's day" has a name only: the hour of this key is not used
+unfoldable pub askUnit : List ℕ → Res Key
+askUnit ns = held (decodeName ns) >>= λ n u. got (record { mark = Gh; hour = 1; name = n }) []
 
 abbrev pub keyAnswer : Res Key → KeyAnswer
 keyAnswer (bad n) = record { number = n; key = noKey }

@@ -21,7 +21,7 @@ ghost use mathlib.Core.Bool.{Bool, true, false, _&&_};
 ghost use Rattle.records.specs.Numbers.{between};
 ghost use Rattle.records.specs.Names.{decodeName, noOne, held};
 ghost use Rattle.records.specs.Changes.{noKey};
-ghost use Rattle.records.specs.Keys.{eqList, sameHour, same, askMark, askName, askFailureMark, askFrom, ask, askFailure, askHour, keyAnswer, nameAnswer};
+ghost use Rattle.records.specs.Keys.{eqList, sameHour, same, askMark, askName, askFailureMark, askFrom, ask, askFailure, askHourOf, askHour, askUnit, keyAnswer, nameAnswer};
 ghost use Rattle.records.specs.Inner.{shown, Named};
 
 pub struct Key {
@@ -183,6 +183,24 @@ pub fn ask_failure(mark: &[u8], hour: u8, name: &[u8]) -> KeyAnswer
 }
 
 // A mark and an hour, as a key without a name.
+pub fn hour_key(mark: Mark, hour: u8) -> KeyAnswer
+    ensures { λ r. ⌜ r ≡ keyAnswer (askHourOf mark hour) ⌝ }
+{
+    if hour_ok(hour) {
+        let bytes = [0u8; 12];
+        return KeyAnswer {
+            number: 0,
+            key: Key {
+                mark,
+                hour,
+                name: Name { len: 0, bytes },
+            },
+        };
+    }
+    key_no(BAD_HOUR)
+}
+
+// The same, asked for by the mark's bytes.
 pub fn ask_hour(mark: &[u8], hour: u8) -> KeyAnswer
     ensures { λ r. ⌜ r ≡ keyAnswer (askHour (now (mark .entry)) hour) ⌝ }
 {
@@ -190,21 +208,27 @@ pub fn ask_hour(mark: &[u8], hour: u8) -> KeyAnswer
     let e = m.end;
     let k = m.mark;
     match e {
-        End::At(_a) => {
-            if hour_ok(hour) {
-                let bytes = [0u8; 12];
-                KeyAnswer {
-                    number: 0,
-                    key: Key {
-                        mark: k,
-                        hour,
-                        name: Name { len: 0, bytes },
-                    },
-                }
-            } else {
-                key_no(BAD_HOUR)
-            }
-        }
+        End::At(_a) => hour_key(k, hour),
+        End::No(j) => key_no(j),
+    }
+}
+
+// The key of a unit that a spelled name asks for: its day has a name only, so the hour of this key is not used.
+pub fn unit_key(name: &[u8]) -> KeyAnswer
+    ensures { λ r. ⌜ r ≡ keyAnswer (askUnit (now (name .entry))) ⌝ }
+{
+    let n = decode(name);
+    let e = n.end;
+    let x = n.name;
+    match e {
+        End::At(_a) => KeyAnswer {
+            number: 0,
+            key: Key {
+                mark: Mark::Gh,
+                hour: 1,
+                name: x,
+            },
+        },
         End::No(j) => key_no(j),
     }
 }

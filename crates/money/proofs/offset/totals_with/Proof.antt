@@ -1,19 +1,21 @@
-use Prim.Native.Nat.{_-_, _+_}
+use Prim.Native.Nat.{ℕ, _-_, _+_, min}
 use mathlib.Core.Path.{refl}
 use Rattle.money.specs.Units.{quantityAt}
-use Rattle.money.specs.UnitLaws.{Filled, filled-none, filled-more}
+use Rattle.money.specs.UnitLaws.{Filled, filled-none, filled-more, filled-all}
+use Rattle.money.specs.Offset.{totalsWith}
 use borrow.Author.Needs.{needs}
 use native.Mathlib.Omega.{arith}
-use Rattle.money.proofs.offset.added.Statement.{statement}
-use Rattle.money.proofs.offset.added.Tie as tie
-use Rattle.money.proofs.offset.added.Reads as reads
-use Rattle.money.proofs.offset.added.Lts as lts
+use Rattle.money.proofs.offset.totals_with.Statement.{statement}
+use Rattle.money.proofs.offset.totals_with.Tie as tie
+use Rattle.money.proofs.offset.totals_with.Reads as reads
+use Rattle.money.proofs.offset.totals_with.Lts as lts
+use Rattle.money.proofs.offset.total_with.Reads as total-with-reads
 
 abbrev Inv-loop : tie.InvT-loop
-Inv-loop sums more row₀ k₀ row k = Filled row (λ j. quantityAt sums j + quantityAt more j) k
+Inv-loop totals more row₀ k₀ row k = Filled row (λ (j : ℕ). min (quantityAt totals j + quantityAt more j) 1600001) k
 
 abbrev μ-loop : tie.MeasureT-loop
-μ-loop sums more row₀ k₀ row k = 12 - k
+μ-loop totals more row₀ k₀ row k = 12 - k
 
 loop-holds : tie.Need-loop-holds Inv-loop μ-loop
 loop-holds c = filled-none _ _ refl
@@ -30,8 +32,8 @@ mul-b c = search needs
 array-copy-out-b : tie.Need-array-copy-out-b Inv-loop μ-loop
 array-copy-out-b c = search needs
 
-add-t17 : tie.Need-add-t17 Inv-loop μ-loop
-add-t17 c = record { fits = omega (arith, (c .before .before .before .before .before .before .pre) ((c .before .before .before .before .before .loop) .k) ((c .before .before .before .before .loop-test) .taken)) }
+total-with-requires : tie.Need-total-with-requires Inv-loop μ-loop
+total-with-requires c κs = search needs
 
 mul-row : tie.Need-mul-row Inv-loop μ-loop
 mul-row c = search needs
@@ -46,13 +48,14 @@ loop-less : tie.Need-loop-less Inv-loop μ-loop
 loop-less c = search needs
 
 loop-again : tie.Need-loop-again Inv-loop μ-loop
-loop-again c = filled-more ((c .before .before .before .before .before .loop) .inv) ((c .before .before .before .before .loop-test) .taken) refl
+loop-again c = filled-more ((c .before .before .before .before .loop) .inv) ((c .before .before .before .loop-test) .taken) ((c .total-with) .ensures)
 
 returns : tie.Need-returns Inv-loop μ-loop
-returns c = λ k h. (c .before .loop) .inv .so-far k (omega (arith, (c .loop-test) .left))
+unfolding totalsWith
+returns c = filled-all ((c .before .loop) .inv) ((c .loop-test) .left)
 
-pub added-spec : {M : Type 1} → statement M
-added-spec =
+pub totals-with-spec : {M : Type 1} → statement M
+totals-with-spec =
     tie.close
     (tie.spec
     Inv-loop
@@ -62,7 +65,7 @@ added-spec =
     array-copy-out-a
     mul-b
     array-copy-out-b
-    add-t17
+    total-with-requires
     mul-row
     array-set-from-row
     add-k
