@@ -12,8 +12,9 @@ use Rattle.records.specs.Reading.{Res, bad, got, _>>=_, check, from}
 use Rattle.records.specs.Numbers.{between}
 use Rattle.records.specs.Names.{decodeName, noOne, held}
 use Rattle.records.specs.Marks.{mark, hasName}
-use Rattle.records.specs.Keys.{askMark, askName, askFrom, askHour}
+use Rattle.records.specs.Keys.{askMark, askName, askFrom, askHourOf, askHour, askUnit}
 use Rattle.records.specs.declared.marks.Mark.{Mark}
+use Rattle.records.specs.declared.marks.Mark.the-variants.{Gh}
 use Rattle.records.specs.declared.keys.Key.{Key}
 
 pub mark-two : (s : List ℕ) → length s ≡ 2 → mark (from s 0) ≡ askMark s
@@ -68,15 +69,29 @@ module _ (h : ℕ) (ns : List ℕ) where
   unfolding askFrom
   ask-got m t n u f g = rw (f, g)
 
+module _ (m : Mark) (h : ℕ) where
+  pub hour-out : between 1 24 h ≡ false → askHourOf m h ≡ bad 3
+  unfolding askHourOf
+  hour-out f = rw f
+
+  pub hour-got : between 1 24 h ≡ true → askHourOf m h ≡ got (record { mark = m; hour = h; name = noOne }) []
+  unfolding askHourOf
+  hour-got f = rw f
+
 module _ (ms : List ℕ) (h : ℕ) where
   pub hour-mark : (k : ℕ) → askMark ms ≡ bad k → askHour ms h ≡ bad k
   unfolding askHour
   hour-mark k e = rw e
 
-  pub hour-out : (m : Mark) (t : List ℕ) → askMark ms ≡ got m t → between 1 24 h ≡ false → askHour ms h ≡ bad 3
+  pub hour-of : (m : Mark) (t : List ℕ) → askMark ms ≡ got m t → askHour ms h ≡ askHourOf m h
   unfolding askHour
-  hour-out m t e f = rw (e, f)
+  hour-of m t e = rw e
 
-  pub hour-got : (m : Mark) (t : List ℕ) → askMark ms ≡ got m t → between 1 24 h ≡ true → askHour ms h ≡ got (record { mark = m; hour = h; name = noOne }) []
-  unfolding askHour
-  hour-got m t e f = rw (e, f)
+module _ (ns : List ℕ) where
+  pub unit-fault : (k : ℕ) → held (decodeName ns) ≡ bad k → askUnit ns ≡ bad k
+  unfolding askUnit
+  unit-fault k e = rw e
+
+  pub unit-got : (n : Name) (t : List ℕ) → held (decodeName ns) ≡ got n t → askUnit ns ≡ got (record { mark = Gh; hour = 1; name = n }) []
+  unfolding askUnit
+  unit-got n t e = rw e

@@ -6,14 +6,15 @@ use Prim.Native.Nat.{ℕ, _≤_}
 use native.Mathlib.Omega.{arith}
 use lib.Dec.{leb, eqb}
 use borrow.Author.Tests.{eq-eqb, leb-true}
+use Rattle.records.specs.Reading.{Res, got, _>>=_}
 use Rattle.records.specs.Numbers.{between}
-use Rattle.records.specs.Names.{noOne}
-use Rattle.records.specs.Marks.{order, limit}
-use Rattle.records.specs.Changes.{Change, keyOf, Good}
-use Rattle.records.specs.Keys.{eqList, sameHour, same}
+use Rattle.records.specs.Names.{spell, bytesOf, noOne}
+use Rattle.records.specs.Marks.{hasName, order, limit}
+use Rattle.records.specs.Changes.{Rec, Change, filed, keyOf, Good}
+use Rattle.records.specs.Keys.{eqList, sameHour, same, askUnit}
 use Rattle.records.specs.Hours.{limitOf, atHour, sameName}
 use Rattle.records.specs.ChangeLaws.{and-left, and-right, Kept, good-kept, hour-range}
-use Rattle.records.specs.KeyLaws.{same-true}
+use Rattle.records.specs.KeyLaws.{same-true, own-name}
 use Rattle.records.specs.declared.marks.Mark.{Mark}
 use Rattle.records.specs.declared.marks.Mark.the-variants.{Pr, Im, Ex, Gh, Fi, Fe}
 use Rattle.records.specs.declared.keys.Key.{Key}
@@ -57,3 +58,10 @@ same-at k j h =
     go true false false true e = refl
     go false b c d e = refl
     go true b c false e = absurd (let z : _≡_ {A = ℕ} 0 1 = cc in omega arith)
+
+-- the name of a unit that stands can be asked for
+pub unit-asked : (r : Rec) → Good (filed r) → r .key .mark ≡ Gh → askUnit (spell (bytesOf (r .key .name))) ≡ got (atHour (r .key) 1) []
+unfolding askUnit atHour
+unit-asked r g e =
+    (λ i. own-name r g (ap hasName e) i >>= λ n u. got (record { mark = Gh; hour = 1; name = n }) [])
+    ∙ ap (λ (m : Mark). got (record { mark = m; hour = 1; name = r .key .name }) []) (sym e)

@@ -1,7 +1,7 @@
 -- Keys: equality as a test, and the key of a question.
 use mathlib.Core.Path.{_≡_, refl, sym, ap, ap₂, _∙_}
 use mathlib.Core.List.{List, [], _∷_, _++_}
-use mathlib.Core.Bool.{Bool, true, false, cond, _&&_}
+use mathlib.Core.Bool.{Bool, true, false, cond, true≢false, _&&_}
 use Prim.Native.Nat.{ℕ, zero, suc, _≤_, _<_}
 use native.Mathlib.Omega.{arith}
 use lib.Dec.{eqb}
@@ -12,8 +12,8 @@ use Rattle.records.specs.Reading.{Res, bad, got, _>>=_, check, byte}
 use Rattle.records.specs.Numbers.{between, hour}
 use Rattle.records.specs.Names.{decodeName, nameField, spell, nameOf, noOne, bytesOf, held}
 use Rattle.records.specs.Marks.{markBytes, mark, hasName, isFailure, order}
-use Rattle.records.specs.Changes.{Change, keyOf, kind, Good, nameless, nameFor, noName, nameBytes}
-use Rattle.records.specs.Keys.{eqList, sameHour, same, askMark, askName, askFailureMark, askFrom, ask, askFailure, askHour}
+use Rattle.records.specs.Changes.{Rec, Change, filed, keyOf, kind, Good, nameless, nameFor, noName, nameBytes}
+use Rattle.records.specs.Keys.{eqList, sameHour, same, askMark, askName, askFailureMark, askFrom, ask, askFailure, askHourOf, askHour, askUnit}
 use Rattle.records.specs.ReaderLaws.{bad-got, check-got, bind-got, Counted}
 use Rattle.records.specs.NameLaws.{take-pad, Spelled, field-spelled}
 use Rattle.records.specs.ChangeLaws.{and-left, and-right, Kept, good-kept, hour-range, counted-mark, counted-decode}
@@ -170,15 +170,51 @@ ask-fault ms h ns k e = from-fault (askMark ms) h ns k (askMark-fault ms) e
 pub askFailure-fault : (ms : List ℕ) (h : ℕ) (ns : List ℕ) (k : ℕ) → askFailure ms h ns ≡ bad k → 0 < k
 askFailure-fault ms h ns k e = from-fault (askFailureMark ms) h ns k (failure-fault ms) e
 
+pub askHourOf-fault : (m : Mark) (h : ℕ) (k : ℕ) → askHourOf m h ≡ bad k → 0 < k
+unfolding askHourOf
+askHourOf-fault m h k = go (between 1 24 h)
+  where
+    go : (b : Bool) → _≡_ {A = Res Key} (check b 3 (got (record { mark = m; hour = h; name = noOne }) [])) (bad k) → 0 < k
+    go true e = absurd (bad-got (sym e))
+    go false e = bad-is 3 k (omega arith) e
+
 pub askHour-fault : (ms : List ℕ) (h : ℕ) (k : ℕ) → askHour ms h ≡ bad k → 0 < k
 unfolding askHour
-askHour-fault ms h k = go (askMark ms) refl (between 1 24 h)
+askHour-fault ms h k = go (askMark ms) refl
   where
-    go : (r : Res Mark) → askMark ms ≡ r → (b : Bool) → _≡_ {A = Res Key} (r >>= λ m t. check b 3 (got (record { mark = m; hour = h; name = noOne }) [])) (bad k) → 0 < k
-    go (bad j) q b e = askMark-fault ms k (q ∙ (let p : j ≡ k = cc in ap bad p))
-    go (got m t) q true e = absurd (bad-got (sym e))
-    go (got m t) q false e = bad-is 3 k (omega arith) e
+    go : (r : Res Mark) → askMark ms ≡ r → (r >>= λ m t. askHourOf m h) ≡ bad k → 0 < k
+    go (bad j) q e = askMark-fault ms k (q ∙ (let p : j ≡ k = cc in ap bad p))
+    go (got m t) q e = askHourOf-fault m h k e
 
 -- nor of a name
 pub name-fault : (s : List ℕ) (k : ℕ) → held (decodeName s) ≡ bad k → 0 < k
 name-fault s k e = counted-decode .above s k (held-fault (decodeName s) k e)
+
+pub askUnit-fault : (ns : List ℕ) (k : ℕ) → askUnit ns ≡ bad k → 0 < k
+unfolding askUnit
+askUnit-fault ns k = go (held (decodeName ns)) refl
+  where
+    go : (r : Res Name) → held (decodeName ns) ≡ r → _≡_ {A = Res Key} (r >>= λ n u. got (record { mark = Gh; hour = 1; name = n }) []) (bad k) → 0 < k
+    go (bad j) q e = name-fault ns k (q ∙ (let p : j ≡ k = cc in ap bad p))
+    go (got n u) q e = absurd (bad-got (sym e))
+
+-- ---- the names of records that stand
+
+name-own : (r : Rec) → Good (filed r) → askName (r .key .mark) (askBytes (r .key)) ≡ got (r .key .name) []
+name-own r g = name-asked File (r .key .mark) (r .key .name) (good-kept (filed r) g .name-back [])
+
+-- a name that stands is the one that its written spelling decodes to
+pub own-name : (r : Rec) → Good (filed r) → hasName (r .key .mark) ≡ true → held (decodeName (spell (bytesOf (r .key .name)))) ≡ got (r .key .name) []
+unfolding askName
+own-name r g h = sym (λ i. cond (h i) (held (decodeName (cond (h i) (spell (bytesOf (r .key .name))) []))) (check (eqb (length (cond (h i) (spell (bytesOf (r .key .name))) [])) 0) 4 (got noOne []))) ∙ name-own r g
+
+-- two records of one mark and hour have names of other bytes, unless their keys are the same
+pub names-apart : (a b : Rec) → Good (filed a) → Good (filed b) → sameHour (a .key) (b .key) ≡ true → same (a .key) (b .key) ≡ false → bytesOf (a .key .name) ≡ bytesOf (b .key .name) → ⊥
+unfolding sameHour
+names-apart a b g h s d e =
+    let m = order-same (a .key .mark) (b .key .mark) (eqb-true (order (a .key .mark)) (order (b .key .mark)) (and-left _ _ s)) in
+    let o = eqb-true (a .key .hour) (b .key .hour) (and-right (eqb (order (a .key .mark)) (order (b .key .mark))) _ s) in
+    let q : got (a .key .name) [] ≡ got (b .key .name) [] = sym (name-own a g) ∙ (λ i. askName (m i) (cond (hasName (m i)) (spell (e i)) [])) ∙ name-own b h in
+    let n : a .key .name ≡ b .key .name = cc in
+    let k : a .key ≡ b .key = λ i. record { mark = m i; hour = o i; name = n i } in
+    true≢false (sym (same-refl (a .key)) ∙ ap (same (a .key)) k ∙ d)
