@@ -1,6 +1,6 @@
 -- What the checks of a failure tell, and its charge by the tests that code makes. Assumes nothing.
-use mathlib.Core.Path.{_≡_, sym, _∙_}
-use mathlib.Core.Bool.{_&&_, true}
+use mathlib.Core.Path.{_≡_, sym, ap, _∙_}
+use mathlib.Core.Bool.{Bool, _&&_, true}
 use Prim.Native.Nat.{ℕ, _-_, _≤_}
 use native.Mathlib.Omega.{arith}
 use borrow.Author.Tests.{leb-true}
@@ -9,10 +9,11 @@ use lib.Signed.{_≤ℤ_, _<ℤ_}
 use Rattle.laws.specs.Ints.{ints, dif, pos-dif, by₂, minℤ, maxℤ}
 use Rattle.laws.specs.Sums.{and-true}
 use Rattle.money.specs.declared.units.Price.{Price}
+use Rattle.money.specs.declared.units.Answer.the-variants.{Amount}
 use Rattle.money.specs.declared.failure.Failure.{Failure}
-use Rattle.money.specs.Units.{priceOk, quantityOk}
+use Rattle.money.specs.Units.{priceOk, quantityOk, unless, answer}
 use Rattle.money.specs.UnitLaws.{price-in}
-use Rattle.money.specs.Failure.{dev, charge, failureOk}
+use Rattle.money.specs.Failure.{dev, charge, importCharge, exportCharge, failureOk, importChargeAnswer, exportChargeAnswer}
 
 -- a failure that passed its checks, and the hour's pre-dispatch price
 pub record Sound (f : Failure) (pd : Price) : Type 0 where
@@ -29,6 +30,19 @@ sound-of f pd e =
     let c = and-true (quantityOk (f .predispatch)) (priceOk (f .ahead) && priceOk (f .later)) (b .1) in
     let d = and-true (priceOk (f .ahead)) (priceOk (f .later)) (c .1) in
     record { market = price-in pd (a .0); scheduled = leb-true _ _ (b .0); ahead = price-in (f .ahead) (d .0); later = price-in (f .later) (d .1) }
+
+-- and the other way: parts in range pass
+pub failure-fine : (f : Failure) (pd : Price) → priceOk pd ≡ true → quantityOk (f .scheduled) ≡ true → quantityOk (f .predispatch) ≡ true → priceOk (f .ahead) ≡ true → priceOk (f .later) ≡ true
+    → failureOk f pd ≡ true
+unfolding failureOk
+failure-fine f pd a b c d e = rw (a, b, c, d, e)
+
+module _ (f : Failure) (pd : Price) (ok : failureOk f pd ≡ true) where
+  pub import-charged : importChargeAnswer f pd ≡ Amount (record { 0 = importCharge f pd })
+  import-charged = ap (λ (b : Bool). answer (unless b 5 0) (importCharge f pd)) ok
+
+  pub export-charged : exportChargeAnswer f pd ≡ Amount (record { 0 = exportCharge f pd })
+  export-charged = ap (λ (b : Bool). answer (unless b 5 0) (exportCharge f pd)) ok
 
 -- max(0, high - low)
 pub gap-none : (high low : ℤ) → high <ℤ low → pos 0 ≡ maxℤ (pos 0) (high -ℤ low)

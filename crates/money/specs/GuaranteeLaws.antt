@@ -7,13 +7,14 @@ use native.Mathlib.Nat.{sub-zero}
 use native.Mathlib.Omega.{arith}
 use lib.IntN.{ℤ, pos, negℤ, natAbs, _+ℤ_, _-ℤ_, _*ℤ_}
 use Rattle.laws.specs.Ints.{ints, by₁, minℤ, sub-within}
-use Rattle.laws.specs.Sums.{Σℤ, Σℤ-ext, Σℤ-within, Summed, summed-all}
+use Rattle.laws.specs.Sums.{Σℤ, Σℤ-ext, Σℤ-within, Summed, summed-all, orElse}
 use Rattle.money.specs.declared.units.Price.{Price}
 use Rattle.money.specs.declared.units.Quantity.{Quantity}
+use Rattle.money.specs.declared.units.Answer.the-variants.{Amount}
 use Rattle.money.specs.declared.offers.Offer.{Offer}
-use Rattle.money.specs.Units.{priceAt, quantityAt, withinOk}
+use Rattle.money.specs.Units.{priceAt, quantityAt, pricesOk, quantitiesOk, withinOk, unless, answer}
 use Rattle.money.specs.Offers.{lastQ, offerFault, cost}
-use Rattle.money.specs.Guarantee.{profit, profits, credit}
+use Rattle.money.specs.Guarantee.{profit, profits, credit, creditAnswer}
 use Rattle.money.specs.UnitLaws.{Moderate, Rates, within-at}
 use Rattle.money.specs.OfferLaws.{Good, good-of, abs-mul-pos, cost-size, last-size}
 
@@ -76,3 +77,12 @@ credit-room {o = o} {ps = ps} {q = q} r e = rw e (omega (arith, credit-size o ps
 pub credit-ext : (o : Offer) (ps : List Price) (q q′ : ℕ → ℕ) → ((k : ℕ) → k < 12 → q k ≡ q′ k) → credit o ps q ≡ credit o ps q′
 unfolding profits
 credit-ext o ps q q′ h = ap (λ (z : ℤ). negℤ (minℤ (pos 0) z)) (Σℤ-ext 12 _ _ (λ k l. ap (λ (x : ℕ). profit o (priceAt ps k) x) (h k l)))
+
+-- a credit that no check refuses
+pub credit-given : (o : Offer) (ps : List Price) (qs : List Quantity) → pricesOk ps ≡ true → quantitiesOk qs ≡ true → offerFault o ≡ 0 → withinOk qs (lastQ o) ≡ true
+    → creditAnswer o ps qs ≡ Amount (record { 0 = credit o ps (quantityAt qs) })
+unfolding creditAnswer
+credit-given o ps qs a b c d = ap (λ (n : ℕ). answer n (credit o ps (quantityAt qs))) none
+  where
+    none : unless (pricesOk ps) 5 (unless (quantitiesOk qs) 5 (orElse (offerFault o) (unless (withinOk qs (lastQ o)) 7 0))) ≡ 0
+    none = rw (a, b, c, d)

@@ -6,11 +6,11 @@ use mathlib.Core.List.{List, [], _∷_}
 use Prim.Native.Nat.{ℕ, zero, suc, _+_, _≤_, _<_, min}
 use native.Mathlib.Numerals.{add-one}
 use native.Mathlib.Omega.{arith}
-use borrow.Author.Tests.{lt-ltb, le-ltb, ltb-true, ltb-false, eq-eqb, ne-eqb, eqb-true, leb-true}
+use borrow.Author.Tests.{lt-ltb, le-ltb, ltb-true, ltb-false, eq-eqb, ne-eqb, eqb-true, leb-true, le-leb}
 use lib.Dec.{ltb, leb, eqb}
 use lib.ListN.{getD, take, drop, length, length-take, drop-of-length-le}
 use lib.Seq.{drop-cons, getD-take, take-all}
-use Rattle.laws.specs.Sums.{never, on, below-or, and-true, every}
+use Rattle.laws.specs.Sums.{never, on, below-or, and-true, every, every-yes}
 use Rattle.money.specs.declared.names.Name.{Name}
 use Rattle.money.specs.Names.{nameOf, nameBefore, sameBytes, sameName, nameByteOk, nameOk}
 
@@ -117,6 +117,10 @@ unfolding nameOk
 named-of a h =
     let x = and-true (leb 1 (a .len) && leb (a .len) 12) (every (a .len) (λ i. nameByteOk (getD (a .bytes) i 0))) h in
     leb-true _ _ (and-true (leb 1 (a .len)) (leb (a .len) 12) (x .0) .1)
+
+pub name-fine : (a : Name) → 1 ≤ a .len → a .len ≤ 12 → ((i : ℕ) → i < a .len → nameByteOk (getD (a .bytes) i 0) ≡ true) → nameOk a ≡ true
+unfolding nameOk
+name-fine a h k v = rw (le-leb 1 (a .len) h, le-leb (a .len) 12 k, every-yes (a .len) (λ i. nameByteOk (getD (a .bytes) i 0)) v)
 
 -- ---- what a loop over the places that are used finds, of the names
 module _ (a b : Name) (ha : length (a .bytes) ≡ 12) (hb : length (b .bytes) ≡ 12) {m n : ℕ} (em : m ≡ min (a .len) 12) (en : n ≡ min (b .len) 12) where

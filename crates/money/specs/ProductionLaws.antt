@@ -12,15 +12,16 @@ use lib.IntN.{ℤ, pos, negℤ, natAbs, _+ℤ_, _-ℤ_, _*ℤ_, +ℤ-idr}
 use lib.Signed.{leZ, _≤ℤ_}
 use lib.ListN.{getD}
 use Rattle.laws.specs.Ints.{ints, dif, pos-dif, by₁, by₄, by₅, minℤ, maxℤ, le-true, true-le, min-max-neg, add-within, sub-within}
-use Rattle.laws.specs.Sums.{Σℤ, Σℤ-within, Summed, every-at, every-yes, and-true}
+use Rattle.laws.specs.Sums.{Σℤ, Σℤ-within, Summed, every-at, every-yes, and-true, orElse}
 use Rattle.money.specs.declared.units.Price.{Price}
 use Rattle.money.specs.declared.units.Ticks.{Ticks}
+use Rattle.money.specs.declared.units.Answer.the-variants.{Amount}
 use Rattle.money.specs.declared.units.CentsPerStart.{CentsPerStart}
 use Rattle.money.specs.declared.offers.Offer.{Offer}
 use Rattle.money.specs.declared.production.Reserve.{Reserve}
 use Rattle.money.specs.declared.production.UnitHour.{UnitHour}
 use Rattle.money.specs.declared.production.DayAnswer.the-variants.{Day}
-use Rattle.money.specs.Units.{priceAt, pricesOk, quantitiesOk, withinOk, maxCents, unless}
+use Rattle.money.specs.Units.{priceAt, pricesOk, quantitiesOk, withinOk, maxCents, unless, answer}
 use Rattle.money.specs.Offers.{before, lastQ, offerFault, cost}
 use Rattle.money.specs.Guarantee.{profit}
 use Rattle.money.specs.Production.{shortfall, arranged, congestion, reserveNet, component4, S, D, R, U, A, K, C1, C2, C3, C4, interval, hourAmount, reserveFault, reserveNumbersOk, reservesNumbersOk, numbersFine, withinFine, listsFault, unitFault, intervalFault, noTicks, noStart, hourPart, maxHour, daySum, amountOk, hoursOk, reversal, dayAnswer, hourAnswer}
@@ -374,6 +375,46 @@ unfolding intervalFault
 interval-of h ps k e =
     let a = neither (unitFault h ps) (unless (ltb k 12) 5 0) e in
     (unit-of h ps (a .0), ltb-true _ _ (passes (ltb k 12) 4 0 (a .1) .0))
+
+-- ---- and the other way: parts in order pass
+pub reserve-full : (s : Reserve) → offerFault (s .offer) ≡ 0 → reserveFault s ≡ 0
+unfolding reserveFault
+reserve-full s e = go (leb (s .offer .count) 0 && withinOk (s .schedules) 0)
+  where
+    go : (b : Bool) → cond b 0 (offerFault (s .offer)) ≡ 0
+    go true = refl
+    go false = e
+
+pub reserve-empty : (s : Reserve) → s .offer .count ≡ 0 → withinOk (s .schedules) (lastQ (s .offer)) ≡ true → reserveFault s ≡ 0
+unfolding reserveFault
+reserve-empty s e w =
+    let z : withinOk (s .schedules) 0 ≡ true = ap (withinOk (s .schedules)) (sym (last-none (s .offer) (omega arith))) ∙ w in
+    rw (le-leb (s .offer .count) 0 (omega arith), z)
+
+module _ (h : UnitHour) where
+  pub numbers-fine : h .startup .0 ≤ maxCents → h .noload .0 ≤ maxCents
+      → quantitiesOk (h .ahead) ≡ true → quantitiesOk (h .constrained) ≡ true → quantitiesOk (h .unconstrained) ≡ true → quantitiesOk (h .metered) ≡ true → quantitiesOk (h .capacity) ≡ true
+      → reserveNumbersOk (h .spinning) ≡ true → reserveNumbersOk (h .nonspinning) ≡ true → reserveNumbersOk (h .thirty) ≡ true → numbersFine h ≡ true
+  unfolding numbersFine reservesNumbersOk
+  numbers-fine a b c d e f g x y z =
+      (λ i. le-leb (h .startup .0) maxCents a i && (le-leb (h .noload .0) maxCents b i && (c i && (d i && (e i && (f i && (g i && (x i && (y i && z i)))))))))
+
+  pub lists-fine : offerFault (h .aheadoffer) ≡ 0 → offerFault (h .realoffer) ≡ 0 → reserveFault (h .spinning) ≡ 0 → reserveFault (h .nonspinning) ≡ 0 → reserveFault (h .thirty) ≡ 0 → listsFault h ≡ 0
+  unfolding listsFault
+  lists-fine a b c d e = (λ i. orElse (a i) (orElse (b i) (orElse (c i) (orElse (d i) (e i)))))
+
+  pub within-fine : withinOk (h .ahead) (lastQ (h .aheadoffer)) ≡ true → withinOk (h .ahead) (lastQ (h .realoffer)) ≡ true → withinOk (h .spinning .schedules) (lastQ (h .spinning .offer)) ≡ true
+      → withinOk (h .nonspinning .schedules) (lastQ (h .nonspinning .offer)) ≡ true → withinOk (h .thirty .schedules) (lastQ (h .thirty .offer)) ≡ true → withinFine h ≡ true
+  unfolding withinFine
+  within-fine a b c d e = (λ i. a i && (b i && (c i && (d i && e i))))
+
+  pub unit-fine : (ps : List Price) → pricesOk ps ≡ true → numbersFine h ≡ true → listsFault h ≡ 0 → withinFine h ≡ true → unitFault h ps ≡ 0
+  unfolding unitFault
+  unit-fine ps a b c d = (λ i. unless (a i) 5 (unless (b i) 5 (orElse (c i) (unless (d i) 7 0))))
+
+-- an hour's amount that no check refuses
+pub hour-given : (h : UnitHour) (ps : List Price) → unitFault h ps ≡ 0 → hourAnswer h ps ≡ Amount (record { 0 = hourAmount h ps })
+hour-given h ps e = ap (λ (n : ℕ). answer n (hourAmount h ps)) e
 
 -- ---- a day
 amount-in : (t : Ticks) (s : CentsPerStart) → amountOk t s ≡ true → (natAbs (t .0) ≤ 100000000000000) × (s .0 ≤ 100000000)

@@ -14,15 +14,27 @@ pub use Rattle.records.specs.ChangeLaws.{bare-exact}
 pub use Rattle.records.specs.EntryLaws.{Ahead, entry-got, entry-fault, any-fault, any-good, alone, asEntry, any-back, any-close, any-change}
 -- keys, and the key of a question
 pub use Rattle.records.specs.KeyLaws.{same-true, same-refl, sameHour-same, askBytes, asked, ask-fault, askFailure-fault, askHour-fault, name-fault}
+-- the key of a mark and hour, and of a unit: no fault is 0
+pub use Rattle.records.specs.KeyLaws.{askHourOf-fault, askUnit-fault}
+-- two keys of one mark and hour have names of other bytes, unless they are the same
+pub use Rattle.records.specs.KeyLaws.{names-apart}
 -- bytes written at a place
 pub use Rattle.records.specs.PutLaws.{put-length, put-whole, put-front}
 pub use Rattle.records.specs.StoreLaws.{store-length, store-front}
 -- an hour's limit, a change's hour, keys of one name
 pub use Rattle.records.specs.HourLaws.{limit-most, limit-same, good-hour, same-at}
+-- the name of a unit that stands can be asked for
+pub use Rattle.records.specs.HourLaws.{unit-asked}
 -- typed views are what was read, and keep the money rules' ranges
 pub use Rattle.records.specs.ViewLaws.{prices-view, import-view, export-view, unit-view, failed-import-view, failed-export-view}
 -- the amounts of a written record are those of its fields
 pub use Rattle.records.specs.ViewLaws.{credit-view, unit-amount-view, failed-import-charge, failed-export-charge}
 pub use Rattle.records.specs.FitLaws.{PricesFit, ImportFits, FailureFits, Listed, ReserveFits, UnitFits, standing-prices, standing-import, standing-export, standing-unit, standing-failed-import, standing-failed-export}
+-- what the amounts of a standing record come to: none is refused at prices that stand
+pub use Rattle.records.specs.AmountLaws.{credit-amount, unit-amount, charge-amount}
+-- an import as the offset takes it: as its bytes give it, and without a fault
+pub use Rattle.records.specs.AmountLaws.{entry-view, entry-sound}
+-- a unit's hour as its day takes it
+pub use Rattle.records.specs.AmountLaws.{unit-ready}
 -- names
 pub use Rattle.records.specs.NameLaws.{Visible, Valid, decoded-valid, spelled-back, spelled-short, one-name, spelling-full}

@@ -19,6 +19,7 @@ pub mod EntryLaws
 pub mod PutLaws
 pub mod StoreLaws
 pub mod FitLaws
+pub mod AmountLaws
 pub mod BookLaws
 pub mod Examples
 pub mod PriceExample

@@ -1,0 +1,126 @@
+-- No amount of a record that stands is refused, at prices that stand: what it comes to, and what the offset and the day take of it.
+use mathlib.Core.Path.{_≡_, refl, sym, ap, _∙_, subst}
+use mathlib.Core.List.{List, [], _∷_, _++_}
+use mathlib.Core.Bool.{Bool, true, false, _&&_, true≢false}
+use Prim.Native.Nat.{ℕ, zero, suc, _≤_, _<_}
+use native.Mathlib.Omega.{arith}
+use native.Mathlib.Nat.{not-suc-le-zero, le-of-suc-le-suc}
+use lib.ListN.{length, getD}
+use Rattle.money.specs.Units.{pricesOk, quantitiesOk}
+use Rattle.money.specs.Names.{nameByteOk, nameOk}
+use Rattle.money.specs.Offset.{entryFault}
+use Rattle.money.specs.Production.{amountOk, reserveFault, reserveNumbersOk, unitFault}
+use Rattle.money.specs.GuaranteeLaws.{credit-given}
+use Rattle.money.specs.NameLaws.{name-fine}
+use Rattle.money.specs.OffsetLaws.{entry-fine}
+use Rattle.money.specs.ProductionLaws.{reserve-full, reserve-empty, numbers-fine, lists-fine, within-fine, unit-fine, hour-given, hour-taken}
+use Rattle.money.specs.FailureLaws.{failure-fine, import-charged, export-charged}
+use Rattle.money.specs.declared.units.Answer.{Answer}
+use Rattle.money.specs.declared.units.Answer.the-variants.{Amount}
+use Rattle.money.specs.declared.production.Reserve.{Reserve}
+use Rattle.money.specs.declared.production.UnitHour.{UnitHour}
+use Rattle.money.specs.declared.failure.Failure.{Failure}
+use Rattle.money.specs.declared.names.Name.{Name}
+use Rattle.records.specs.Reading.{got}
+use Rattle.records.specs.Numbers.{pad}
+use Rattle.records.specs.Names.{visible, decodeName, spell, nameOf, bytesOf}
+use Rattle.records.specs.Marks.{hasName, isFailure}
+use Rattle.records.specs.Changes.{Rec, filed, write, Scan, scan, viewOf, Good}
+use Rattle.records.specs.Views.{importOf, unitHourOf, failureOf}
+use Rattle.records.specs.Amounts.{creditOf, unitAmountOf, chargeFor, chargeOf, creditTicks, unitTicks, chargeTicksFor, chargeTicks, ticksOf, offsetEntry, offsetEntryIn}
+use Rattle.records.specs.ReaderLaws.{bind-got}
+use Rattle.records.specs.NameLaws.{Visible, Valid, decoded-valid}
+use Rattle.records.specs.ChangeLaws.{scan-write}
+use Rattle.records.specs.KeyLaws.{own-name}
+use Rattle.records.specs.ViewLaws.{import-view, credit-view}
+use Rattle.records.specs.FitLaws.{PricesFit, ImportFits, FailureFits, Listed, full, empty, ReserveFits, UnitFits, standing-import, standing-unit, standing-failed-import, standing-failed-export}
+use Rattle.records.specs.declared.marks.Mark.{Mark}
+use Rattle.records.specs.declared.marks.Mark.the-variants.{Pr, Im, Ex, Gh, Fi, Fe}
+use Rattle.records.specs.declared.layouts.HourPrices.{HourPrices}
+
+-- ---- names
+
+bytes-fine : (k : ℕ) (v : List ℕ) → length v ≤ k → Visible v → (i : ℕ) → i < length v → nameByteOk (getD (pad 0 k v) i 0) ≡ true
+unfolding visible
+bytes-fine k [] h s i l = absurd (not-suc-le-zero l)
+bytes-fine zero (x ∷ v) h s i l = absurd (not-suc-le-zero h)
+bytes-fine (suc k) (x ∷ v) h s zero l = s .0
+bytes-fine (suc k) (x ∷ v) h s (suc i) l = bytes-fine k v (le-of-suc-le-suc h) (s .1) i (le-of-suc-le-suc l)
+
+-- a name that stands keeps the money rules' rule
+name-sound : (r : Rec) → Good (filed r) → hasName (r .key .mark) ≡ true → nameOk (r .key .name) ≡ true
+name-sound r g h =
+    let x = bind-got (decodeName (spell (bytesOf (r .key .name)))) (λ n t. got (nameOf n) t) (r .key .name) [] (own-name r g h) in
+    let p : nameOf (x .0) ≡ r .key .name = cc (x .3) in
+    let v = decoded-valid (spell (bytesOf (r .key .name))) (x .0) (x .1) (x .2) in
+    subst (λ (n : Name). nameOk n ≡ true) p (name-fine (nameOf (x .0)) (v .some) (v .few) (bytes-fine 12 (x .0) (v .few) (v .seen)))
+
+-- ---- an import
+
+module _ (r : Rec) (p : HourPrices) (g : Good (filed r)) (e : r .key .mark ≡ Im) (f : PricesFit p) where
+  pub credit-amount : creditOf r p ≡ Amount (record { 0 = creditTicks r p })
+  unfolding creditTicks
+  credit-amount =
+      let i = standing-import r g e in
+      credit-given (importOf r .offer) (p .emp) (importOf r .mqsi) (f .emp) (i .mqsi) (i .offer) (i .inside)
+
+  pub entry-sound : entryFault (p .emp) (offsetEntry p r) ≡ 0
+  unfolding creditTicks
+  entry-sound =
+      let i = standing-import r g e in
+      entry-fine (p .emp) (offsetEntry p r) (name-sound r g (ap hasName e)) (i .mqsi) (i .offer) (i .inside) refl
+
+-- bytes that begin with a filed import, whatever follows, give its entry
+pub entry-view : (r : Rec) (p : HourPrices) (u : List ℕ) → Good (filed r) → r .key .mark ≡ Im → PricesFit p → offsetEntryIn (write (filed r) ++ u) p ≡ offsetEntry p r
+entry-view r p u g e f =
+    let s = scan-write (filed r) u g in
+    let c = ap ticksOf (credit-view r g u e p ∙ credit-amount r p g e f) in
+    let i = import-view r g u e in
+    (λ x. record { name = viewOf (s x) .key .name; credit = c x; quantities = i x .mqsi; offer = i x .offer })
+
+-- ---- a unit's hour
+
+reserve-sound : (s : Reserve) → ReserveFits s → reserveFault s ≡ 0
+reserve-sound s f = go (f .offer)
+  where
+    go : Listed (s .offer) → reserveFault s ≡ 0
+    go (full e) = reserve-full s e
+    go (empty e) = reserve-empty s e (f .inside)
+
+numbers-sound : (s : Reserve) → ReserveFits s → reserveNumbersOk s ≡ true
+numbers-sound s f = (λ i. f .prices i && f .schedules i)
+
+unit-sound : (h : UnitHour) (p : HourPrices) → UnitFits h → PricesFit p → unitFault h (p .emp) ≡ 0
+unit-sound h p u f =
+    unit-fine h (p .emp) (f .emp)
+    (numbers-fine h (u .startup) (u .noload) (u .ahead) (u .constrained) (u .unconstrained) (u .metered) (u .capacity)
+    (numbers-sound (h .spinning) (u .spinning)) (numbers-sound (h .nonspinning) (u .nonspinning)) (numbers-sound (h .thirty) (u .thirty)))
+    (lists-fine h (u .aheadoffer) (u .realoffer) (reserve-sound (h .spinning) (u .spinning)) (reserve-sound (h .nonspinning) (u .nonspinning)) (reserve-sound (h .thirty) (u .thirty)))
+    (within-fine h (u .inahead) (u .inreal) (u .spinning .inside) (u .nonspinning .inside) (u .thirty .inside))
+
+module _ (r : Rec) (p : HourPrices) (g : Good (filed r)) (e : r .key .mark ≡ Gh) (f : PricesFit p) where
+  pub unit-amount : unitAmountOf r p ≡ Amount (record { 0 = unitTicks r p })
+  unfolding unitTicks
+  unit-amount = hour-given (unitHourOf r) (p .emp) (unit-sound (unitHourOf r) p (standing-unit r g e) f)
+
+  pub unit-ready : amountOk (record { 0 = unitTicks r p }) (unitHourOf r .startup) ≡ true
+  unfolding unitTicks
+  unit-ready = hour-taken (unitHourOf r) (p .emp) (unit-sound (unitHourOf r) p (standing-unit r g e) f)
+
+-- ---- a failure
+
+pub charge-amount : (r : Rec) (p : HourPrices) → Good (filed r) → isFailure (r .key .mark) ≡ true → PricesFit p → chargeOf r p ≡ Amount (record { 0 = chargeTicks r p })
+unfolding chargeTicks
+charge-amount r p g h f = go (r .key .mark) refl h
+  where
+    go : (m : Mark) → r .key .mark ≡ m → isFailure m ≡ true → chargeFor m (failureOf r) p ≡ Amount (record { 0 = chargeTicksFor m (failureOf r) p })
+    go Pr e b = absurd (true≢false (sym b))
+    go Im e b = absurd (true≢false (sym b))
+    go Ex e b = absurd (true≢false (sym b))
+    go Gh e b = absurd (true≢false (sym b))
+    go Fi e b =
+        let s = standing-failed-import r g e in
+        import-charged (failureOf r) (p .pd) (failure-fine (failureOf r) (p .pd) (f .pd) (s .scheduled) (s .predispatch) (s .ahead) (s .later))
+    go Fe e b =
+        let s = standing-failed-export r g e in
+        export-charged (failureOf r) (p .pd) (failure-fine (failureOf r) (p .pd) (f .pd) (s .scheduled) (s .predispatch) (s .ahead) (s .later))
