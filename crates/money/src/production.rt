@@ -186,17 +186,30 @@ fn c4(h: UnitHour, prices: [Price; 12], k: usize) -> Ticks
     component_4_of(r1, r2, r3, k, d, u)
 }
 
-// The sum of the twelve intervals of a checked hour.
+// The sum of the twelve intervals of a checked hour. Its lists are taken out once, not in each interval.
 fn hour_sum(h: UnitHour, prices: [Price; 12]) -> Ticks
     requires { ⌜ UnitReady h prices ⌝ }
     ensures { λ x. ⌜ x .0 ≡ hourAmount h prices ⌝ }
 {
+    let da = h.aheadoffer;
+    let rt = h.realoffer;
+    let r1 = h.spinning;
+    let r2 = h.nonspinning;
+    let r3 = h.thirty;
     let mut sum = Ticks(0);
     let mut k: usize = 0;
     while k < 12 {
-        let paid = c1(h, prices, k).plus(c2(h, prices, k));
-        let earned = c3(h, prices, k).plus(c4(h, prices, k));
-        sum = sum.plus(paid.minus(earned));
+        let emp = prices[k];
+        let d = h.ahead[k];
+        let r = h.constrained[k];
+        let u = h.unconstrained[k];
+        let a = h.metered[k];
+        let cap = h.capacity[k];
+        let x1 = component_1_of(da, emp, h.noload, d, r, a);
+        let x2 = component_2_of(da, rt, d, r, a, cap);
+        let x3 = component_3_of(rt, emp, d, r, u);
+        let x4 = component_4_of(r1, r2, r3, k, d, u);
+        sum = sum.plus(x1.plus(x2).minus(x3.plus(x4)));
         k = k + 1;
     }
     sum
