@@ -24,7 +24,7 @@ use crate::units::Ticks;
 // What an hour's sixteen exports can come to.
 pub const TOTAL_MAX: Quantity = Quantity(1600000);
 
-// A total with one quantity more. What would come to more than TOTAL_MAX is TOTAL_MAX + 1, which the offset refuses.
+// A total with one quantity more, no further than TOTAL_MAX + 1.
 fn total_with(total: Quantity, more: Quantity) -> Quantity
     ensures { λ r. ⌜ r .0 ≡ min (total .0 + more .0) 1600001 ⌝ }
 {
@@ -37,7 +37,7 @@ fn total_with(total: Quantity, more: Quantity) -> Quantity
     Quantity(total.0 + more.0)
 }
 
-// Twelve totals, each with one quantity more.
+// Twelve totals, each with one quantity more. What would come to more than TOTAL_MAX is TOTAL_MAX + 1, which the offset refuses.
 pub fn totals_with(totals: [Quantity; 12], more: [Quantity; 12]) -> [Quantity; 12]
     ensures { λ r. ⌜ r ≡ totalsWith totals more ⌝ }
 {

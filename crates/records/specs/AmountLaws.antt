@@ -1,12 +1,10 @@
 -- No amount of a record that stands is refused, at prices that stand: what it comes to, and what the offset and the day take of it.
 use mathlib.Core.Path.{_≡_, refl, sym, ap, _∙_, subst}
 use mathlib.Core.List.{List, [], _∷_, _++_}
-use mathlib.Core.Bool.{Bool, true, false, _&&_, true≢false}
+use mathlib.Core.Bool.{true, _&&_, true≢false}
 use Prim.Native.Nat.{ℕ, zero, suc, _≤_, _<_}
-use native.Mathlib.Omega.{arith}
 use native.Mathlib.Nat.{not-suc-le-zero, le-of-suc-le-suc}
 use lib.ListN.{length, getD}
-use Rattle.money.specs.Units.{pricesOk, quantitiesOk}
 use Rattle.money.specs.Names.{nameByteOk, nameOk}
 use Rattle.money.specs.Offset.{entryFault}
 use Rattle.money.specs.Production.{amountOk, reserveFault, reserveNumbersOk, unitFault}
@@ -15,17 +13,15 @@ use Rattle.money.specs.NameLaws.{name-fine}
 use Rattle.money.specs.OffsetLaws.{entry-fine}
 use Rattle.money.specs.ProductionLaws.{reserve-full, reserve-empty, numbers-fine, lists-fine, within-fine, unit-fine, hour-given, hour-taken}
 use Rattle.money.specs.FailureLaws.{failure-fine, import-charged, export-charged}
-use Rattle.money.specs.declared.units.Answer.{Answer}
 use Rattle.money.specs.declared.units.Answer.the-variants.{Amount}
 use Rattle.money.specs.declared.production.Reserve.{Reserve}
 use Rattle.money.specs.declared.production.UnitHour.{UnitHour}
-use Rattle.money.specs.declared.failure.Failure.{Failure}
 use Rattle.money.specs.declared.names.Name.{Name}
 use Rattle.records.specs.Reading.{got}
 use Rattle.records.specs.Numbers.{pad}
 use Rattle.records.specs.Names.{visible, decodeName, spell, nameOf, bytesOf}
 use Rattle.records.specs.Marks.{hasName, isFailure}
-use Rattle.records.specs.Changes.{Rec, filed, write, Scan, scan, viewOf, Good}
+use Rattle.records.specs.Changes.{Rec, filed, write, viewOf, Good}
 use Rattle.records.specs.Views.{importOf, unitHourOf, failureOf}
 use Rattle.records.specs.Amounts.{creditOf, unitAmountOf, chargeFor, chargeOf, creditTicks, unitTicks, chargeTicksFor, chargeTicks, ticksOf, offsetEntry, offsetEntryIn}
 use Rattle.records.specs.ReaderLaws.{bind-got}
