@@ -1,18 +1,38 @@
--- The pass finds exactly the standing records of a mark and hour: a record stands where it is written if the newest change of its key wrote it there.
-use Prim.Native.Nat.{ℕ, _+_, _-_, _≤_, _<_}
+-- A pass over the changes finds exactly the standing records: a record stands where it is written if the newest change of its key wrote it there.
+use Prim.Native.Nat.{ℕ, _+_, _≤_, _<_}
 use mathlib.Core.Path.{_≡_, refl, sym, ap, ap₂, _∙_, subst}
-use mathlib.Core.List.{List, [], _∷_, _++_, append-assoc}
-use mathlib.Core.Bool.{Bool, true, false, cond, not}
+use mathlib.Core.List.{List, [], _∷_, _++_, append-assoc, map}
+use mathlib.Core.Bool.{Bool, true, false, cond, not, _&&_}
 use native.Mathlib.Omega.{arith}
 use lib.ListN.{length, length-append}
 use lib.Dec.{eqb}
 use borrow.Author.Tests.{eq-eqb, ne-eqb}
-use Rattle.book.specs.Layer.{Key, Rec, Change, filed, corrected, withdrawn, keyOf, kindOf, write, same, sameHour, same-true, same-refl, write-pos, write-co}
-use Rattle.book.specs.Register.{writeAll, without, play, standing}
-use Rattle.book.specs.Tables.{survey}
-use Rattle.book.specs.Places.{offset, live, gather, starts}
+use Rattle.book.specs.Layer.{Key, Rec, Change, filed, corrected, withdrawn, keyOf, kindOf, write, same, sameHour, nameOf, nameBefore, same-true, same-refl, write-pos, write-co}
+use Rattle.book.specs.Register.{writeAll, without, standing}
+use Rattle.book.specs.declared.places.Spot.{Spot}
+use Rattle.book.specs.ByName.{inOrder, byName}
+use Rattle.book.specs.Tables.{survey, viewed}
+use Rattle.book.specs.Places.{offset, liveAt, spotOf, putSpot}
 use Rattle.book.specs.RegisterLaws.{by-test, true≠false, same-turned}
 
+-- ---- what a pass collects: of the keys that it picks, each put to the rest with the place of its record
+pub record Pass (B : Type 0) : Type 0 where
+  pub pick : Key → Bool
+  pub put : Key → ℕ → B → B
+  pub none : B
+
+-- from the changes l, of which all are listed
+unfoldable pub gather : {B : Type 0} → Pass B → List Change → List Change → B
+gather p all [] = p .none
+gather p all (c ∷ l) =
+    cond (p .pick (keyOf c) && liveAt (survey (keyOf c) all) (viewed c) (length (writeAll l))) (p .put (keyOf c) (length (writeAll l) + offset (kindOf c)) (gather p all l)) (gather p all l)
+
+-- from the records themselves
+unfoldable pub collect : {B : Type 0} → Pass B → List Change → List Rec → B
+collect p all [] = p .none
+collect p all (r ∷ rs) = cond (p .pick (r .key)) (p .put (r .key) (survey (r .key) all .start) (collect p all rs)) (collect p all rs)
+
+-- ---- the changes after a place
 touched : Key → List Change → Bool
 touched k [] = false
 touched k (c ∷ cs) = cond (same k (keyOf c)) true (touched k cs)
@@ -80,87 +100,117 @@ left-snoc newer c (r ∷ rs) =
     ∙ sym (ap (λ (b : Bool). left newer (cond b (without (keyOf c) rs) (r ∷ without (keyOf c) rs))) t))
 
 -- what the newest change of a key says of it
-own : (c : Change) (l : List Change) → eqb (kindOf c) 3 ≡ false → (survey (keyOf c) (c ∷ l) .found ≡ true) × (survey (keyOf c) (c ∷ l) .start ≡ length (writeAll l) + offset c)
+own : (c : Change) (l : List Change) → eqb (kindOf c) 3 ≡ false → (survey (keyOf c) (c ∷ l) .found ≡ true) × (survey (keyOf c) (c ∷ l) .start ≡ length (writeAll l) + offset (kindOf c))
 unfolding survey
 own (filed r) l n = (ap (λ (b : Bool). cond b true (survey (r .key) l .found)) (same-refl (r .key)), ap (λ (b : Bool). cond b (length (writeAll l)) (survey (r .key) l .start)) (same-refl (r .key)) ∙ omega arith)
 own (corrected r) l n = (ap (λ (b : Bool). cond b true (survey (r .key) l .found)) (same-refl (r .key)), ap (λ (b : Bool). cond b (length (writeAll l) + 2) (survey (r .key) l .start)) (same-refl (r .key)))
 own (withdrawn k) l n = true≠false refl n
 
-short : (c : Change) → offset c < length (write c)
+short : (c : Change) → offset (kindOf c) < length (write c)
 short (filed r) = write-pos (filed r)
 short (corrected r) = omega (arith, write-co r .0, write-pos (filed r))
 short (withdrawn k) = write-pos (withdrawn k)
 
-module _ (k : Key) (newer : List Change) (c : Change) (l : List Change) (n : eqb (kindOf c) 3 ≡ false) where
-  live-touched : touched (keyOf c) newer ≡ true → live k (newer ++ (c ∷ l)) c (length (writeAll l)) ≡ false
-  unfolding writeAll
+module _ (newer : List Change) (c : Change) (l : List Change) (n : eqb (kindOf c) 3 ≡ false) where
+  live-touched : touched (keyOf c) newer ≡ true → liveAt (survey (keyOf c) (newer ++ (c ∷ l))) (viewed c) (length (writeAll l)) ≡ false
+  unfolding writeAll liveAt
   live-touched h =
       let s = survey (keyOf c) (newer ++ (c ∷ l)) in
       let w = beyond (keyOf c) newer (c ∷ l) h in
-      let e : eqb (s .start) (length (writeAll l) + offset c) ≡ false =
-      ne-eqb (s .start) (length (writeAll l) + offset c) (λ z. omega (arith, w, z, length-append (writeAll l) (write c), short c)) in
-      ap (λ (b : Bool). cond b false (cond (sameHour k (keyOf c)) (cond (s .found) (eqb (s .start) (length (writeAll l) + offset c)) false) false)) n
-      ∙ ap (λ (b : Bool). cond (sameHour k (keyOf c)) (cond (s .found) b false) false) e ∙ go (sameHour k (keyOf c)) (s .found)
+      let e : eqb (s .start) (length (writeAll l) + offset (kindOf c)) ≡ false =
+      ne-eqb (s .start) (length (writeAll l) + offset (kindOf c)) (λ z. omega (arith, w, z, length-append (writeAll l) (write c), short c)) in
+      ap (λ (b : Bool). cond b false (cond (s .found) (eqb (s .start) (length (writeAll l) + offset (kindOf c))) false)) n
+      ∙ ap (λ (b : Bool). cond (s .found) b false) e ∙ go (s .found)
     where
-      go : (a b : Bool) → cond a (cond b false false) false ≡ false
-      go true true = refl
-      go true false = refl
-      go false b = refl
+      go : (b : Bool) → cond b false false ≡ false
+      go true = refl
+      go false = refl
 
   live-own : touched (keyOf c) newer ≡ false
-      → (live k (newer ++ (c ∷ l)) c (length (writeAll l)) ≡ sameHour k (keyOf c)) × (survey (keyOf c) (newer ++ (c ∷ l)) .start ≡ length (writeAll l) + offset c)
+      → (liveAt (survey (keyOf c) (newer ++ (c ∷ l))) (viewed c) (length (writeAll l)) ≡ true) × (survey (keyOf c) (newer ++ (c ∷ l)) .start ≡ length (writeAll l) + offset (kindOf c))
+  unfolding liveAt
   live-own h =
       let s = survey (keyOf c) (newer ++ (c ∷ l)) in
       let p = passed (keyOf c) newer (c ∷ l) h in
       let o = own c l n in
-      let st : s .start ≡ length (writeAll l) + offset c = p .1 ∙ o .1 in (
-        ap (λ (b : Bool). cond b false (cond (sameHour k (keyOf c)) (cond (s .found) (eqb (s .start) (length (writeAll l) + offset c)) false) false)) n
-            ∙ ap₂ (λ (f e : Bool). cond (sameHour k (keyOf c)) (cond f e false) false) (p .0 ∙ o .0) (eq-eqb (s .start) (length (writeAll l) + offset c) st)
-            ∙ go (sameHour k (keyOf c)),
+      let st : s .start ≡ length (writeAll l) + offset (kindOf c) = p .1 ∙ o .1 in (
+        ap (λ (b : Bool). cond b false (cond (s .found) (eqb (s .start) (length (writeAll l) + offset (kindOf c))) false)) n
+            ∙ ap₂ (λ (f e : Bool). cond f e false) (p .0 ∙ o .0) (eq-eqb (s .start) (length (writeAll l) + offset (kindOf c)) st),
         st,
       )
-    where
-      go : (a : Bool) → cond a true false ≡ a
-      go true = refl
-      go false = refl
 
-  -- the pass at a record, against the record itself
-  at-own : (r : Rec) → keyOf c ≡ r .key → (rs : List Rec) (t : List ℕ) → t ≡ starts k (newer ++ (c ∷ l)) (left newer rs)
-      → cond (live k (newer ++ (c ∷ l)) c (length (writeAll l))) ((length (writeAll l) + offset c) ∷ t) t ≡ starts k (newer ++ (c ∷ l)) (left newer (r ∷ rs))
-  unfolding left starts
+unpicked : {B : Type 0} (a : Bool) (x y : B) → cond (a && false) x y ≡ y
+unpicked true x y = refl
+unpicked false x y = refl
+
+picked : {B : Type 0} (a : Bool) (x y : B) → cond (a && true) x y ≡ cond a x y
+picked true x y = refl
+picked false x y = refl
+
+-- the pass at a record, against the record itself
+module _ {B : Type 0} (p : Pass B) (newer : List Change) (c : Change) (l : List Change) (n : eqb (kindOf c) 3 ≡ false) where
+  at-own : (r : Rec) → keyOf c ≡ r .key → (rs : List Rec) (t : B) → t ≡ collect p (newer ++ (c ∷ l)) (left newer rs)
+      → cond (p .pick (keyOf c) && liveAt (survey (keyOf c) (newer ++ (c ∷ l))) (viewed c) (length (writeAll l))) (p .put (keyOf c) (length (writeAll l) + offset (kindOf c)) t) t
+      ≡ collect p (newer ++ (c ∷ l)) (left newer (r ∷ rs))
+  unfolding left collect
   at-own r e rs t et =
+      let all = newer ++ (c ∷ l) in
+      let x = p .put (keyOf c) (length (writeAll l) + offset (kindOf c)) t in
+      let rest = collect p all (left newer rs) in
       by-test (touched (keyOf c) newer)
-      (λ h. ap (λ (b : Bool). cond b ((length (writeAll l) + offset c) ∷ t) t) (live-touched h) ∙ et
-      ∙ sym (ap (λ (b : Bool). starts k (newer ++ (c ∷ l)) (cond b (left newer rs) (r ∷ left newer rs))) (ap (λ (y : Key). touched y newer) (sym e) ∙ h)))
-      (λ h. let w = live-own h in
-      ap (λ (b : Bool). cond b ((length (writeAll l) + offset c) ∷ t) t) (w .0)
-      ∙ ap₂ (λ (x : ℕ) (y : List ℕ). cond (sameHour k (keyOf c)) (x ∷ y) y) (sym (w .1)) et
-      ∙ ap (λ (y : Key). cond (sameHour k y) (survey y (newer ++ (c ∷ l)) .start ∷ starts k (newer ++ (c ∷ l)) (left newer rs)) (starts k (newer ++ (c ∷ l)) (left newer rs))) e
-      ∙ sym (ap (λ (b : Bool). starts k (newer ++ (c ∷ l)) (cond b (left newer rs) (r ∷ left newer rs))) (ap (λ (y : Key). touched y newer) (sym e) ∙ h)))
+      (λ h. ap (λ (b : Bool). cond (p .pick (keyOf c) && b) x t) (live-touched newer c l n h) ∙ unpicked (p .pick (keyOf c)) x t ∙ et
+      ∙ sym (ap (λ (b : Bool). collect p all (cond b (left newer rs) (r ∷ left newer rs))) (ap (λ (y : Key). touched y newer) (sym e) ∙ h)))
+      (λ h. let w = live-own newer c l n h in
+      ap (λ (b : Bool). cond (p .pick (keyOf c) && b) x t) (w .0) ∙ picked (p .pick (keyOf c)) x t
+      ∙ ap₂ (λ (m : ℕ) (y : B). cond (p .pick (keyOf c)) (p .put (keyOf c) m y) y) (sym (w .1)) et
+      ∙ ap (λ (y : Key). cond (p .pick y) (p .put y (survey y all .start) rest) rest) e
+      ∙ sym (ap (λ (b : Bool). collect p all (cond b (left newer rs) (r ∷ left newer rs))) (ap (λ (y : Key). touched y newer) (sym e) ∙ h)))
 
-gather-left : (k : Key) (newer l : List Change) → gather k (newer ++ l) l ≡ starts k (newer ++ l) (left newer (standing l))
-unfolding gather standing
-gather-left k newer [] = unfold left starts in refl
-gather-left k newer (c ∷ l) = go c (gather-left k (newer ++ (c ∷ [])) l)
+gather-left : {B : Type 0} (p : Pass B) (newer l : List Change) → gather p (newer ++ l) l ≡ collect p (newer ++ l) (left newer (standing l))
+unfolding gather standing liveAt
+gather-left p newer [] = unfold left collect in refl
+gather-left p newer (c ∷ l) =
+    step c (subst (λ (x : List Change). gather p x l ≡ collect p x (left (newer ++ (c ∷ [])) (standing l))) (append-assoc newer (c ∷ []) l) (gather-left p (newer ++ (c ∷ [])) l)
+    ∙ ap (collect p (newer ++ (c ∷ l))) (left-snoc newer c (standing l)))
   where
-    go : (c : Change) → gather k ((newer ++ (c ∷ [])) ++ l) l ≡ starts k ((newer ++ (c ∷ [])) ++ l) (left (newer ++ (c ∷ [])) (standing l))
-        → cond (live k (newer ++ (c ∷ l)) c (length (writeAll l))) ((length (writeAll l) + offset c) ∷ gather k (newer ++ (c ∷ l)) l) (gather k (newer ++ (c ∷ l)) l)
-        ≡ starts k (newer ++ (c ∷ l)) (left newer (play c (standing l)))
-    go c ih = go′ c (subst (λ (x : List Change). gather k x l ≡ starts k x (left (newer ++ (c ∷ [])) (standing l))) (append-assoc newer (c ∷ []) l) ih
-        ∙ ap (starts k (newer ++ (c ∷ l))) (left-snoc newer c (standing l)))
-      where
-        go′ : (c : Change) → gather k (newer ++ (c ∷ l)) l ≡ starts k (newer ++ (c ∷ l)) (left newer (without (keyOf c) (standing l)))
-            → cond (live k (newer ++ (c ∷ l)) c (length (writeAll l))) ((length (writeAll l) + offset c) ∷ gather k (newer ++ (c ∷ l)) l) (gather k (newer ++ (c ∷ l)) l)
-            ≡ starts k (newer ++ (c ∷ l)) (left newer (play c (standing l)))
-        go′ (filed r) e = at-own k newer (filed r) l refl r refl (without (r .key) (standing l)) _ e
-        go′ (corrected r) e = at-own k newer (corrected r) l refl r refl (without (r .key) (standing l)) _ e
-        go′ (withdrawn j) e = e
+    step : (c : Change) → gather p (newer ++ (c ∷ l)) l ≡ collect p (newer ++ (c ∷ l)) (left newer (without (keyOf c) (standing l)))
+        → gather p (newer ++ (c ∷ l)) (c ∷ l) ≡ collect p (newer ++ (c ∷ l)) (left newer (standing (c ∷ l)))
+    step (filed r) e = at-own p newer (filed r) l refl r refl (without (r .key) (standing l)) _ e
+    step (corrected r) e = at-own p newer (corrected r) l refl r refl (without (r .key) (standing l)) _ e
+    step (withdrawn j) e = unpicked (p .pick j) _ _ ∙ e
 
 left-none : (rs : List Rec) → left [] rs ≡ rs
 unfolding left touched
 left-none [] = refl
 left-none (r ∷ rs) = ap (λ (x : List Rec). r ∷ x) (left-none rs)
 
--- the pass finds exactly the standing records of the mark and hour, each at its place
-pub gather-standing : (k : Key) (l : List Change) → gather k l l ≡ starts k l (standing l)
-gather-standing k l = gather-left k [] l ∙ ap (starts k l) (left-none (standing l))
+-- the pass finds exactly the standing records, each at its place
+pub gather-standing : {B : Type 0} (p : Pass B) (l : List Change) → gather p l l ≡ collect p l (standing l)
+gather-standing p l = gather-left p [] l ∙ ap (collect p l) (left-none (standing l))
+
+-- ---- the records of a mark and hour, by name
+abbrev pub hourPass : Key → Pass (List Spot)
+hourPass k = record { pick = sameHour k; put = λ (j : Key) (x : ℕ) (xs : List Spot). putSpot (record { name = j .name; start = x }) xs; none = [] }
+
+put-in-order : (all : List Change) (r : Rec) (xs : List Rec) → putSpot (spotOf all r) (map (spotOf all) xs) ≡ map (spotOf all) (inOrder r xs)
+unfolding putSpot inOrder
+put-in-order all r [] = refl
+put-in-order all r (x ∷ xs) = go (nameBefore (nameOf (r .key .name)) (nameOf (x .key .name))) (put-in-order all r xs)
+  where
+    go : (b : Bool) → putSpot (spotOf all r) (map (spotOf all) xs) ≡ map (spotOf all) (inOrder r xs)
+        → cond b (spotOf all r ∷ map (spotOf all) (x ∷ xs)) (spotOf all x ∷ putSpot (spotOf all r) (map (spotOf all) xs)) ≡ map (spotOf all) (cond b (r ∷ x ∷ xs) (x ∷ inOrder r xs))
+    go true e = refl
+    go false e = ap (λ (y : List Spot). spotOf all x ∷ y) e
+
+collect-by-name : (k : Key) (all : List Change) (rs : List Rec) → collect (hourPass k) all rs ≡ map (spotOf all) (byName k rs)
+unfolding collect byName
+collect-by-name k all [] = refl
+collect-by-name k all (r ∷ rs) = go (sameHour k (r .key)) (collect-by-name k all rs)
+  where
+    go : (b : Bool) → collect (hourPass k) all rs ≡ map (spotOf all) (byName k rs)
+        → cond b (putSpot (spotOf all r) (collect (hourPass k) all rs)) (collect (hourPass k) all rs) ≡ map (spotOf all) (cond b (inOrder r (byName k rs)) (byName k rs))
+    go true e = ap (putSpot (spotOf all r)) e ∙ put-in-order all r (byName k rs)
+    go false e = e
+
+pub hour-standing : (k : Key) (l : List Change) → gather (hourPass k) l l ≡ map (spotOf l) (byName k (standing l))
+hour-standing k l = gather-standing (hourPass k) l ∙ collect-by-name k l (standing l)

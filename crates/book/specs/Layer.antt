@@ -11,9 +11,12 @@ pub use Rattle.records.specs.declared.keys.KeyAnswer.{KeyAnswer}
 pub use Rattle.records.specs.Changes.{Rec, Change, filed, corrected, withdrawn, keyOf, kindOf, write, Good, Input, fine, fault, parse, Scan, seen, blind, scan, bare, begins, takeBackBytes, closeBytes, viewOf, parsedOf, putBytes}
 -- keys, the keys of questions, limits, marks
 pub use Rattle.records.specs.Reading.{bad, got}
-pub use Rattle.records.specs.Marks.{markBytes}
+pub use Rattle.records.specs.Marks.{markBytes, order}
 pub use Rattle.records.specs.Keys.{same, sameHour, askHour, keyAnswer}
 pub use Rattle.records.specs.Hours.{limitOf, sameName, atHour}
+-- decoded names and their order
+pub use Rattle.money.specs.declared.names.Name.{Name}
+pub use Rattle.money.specs.Names.{nameOf, nameBefore}
 -- laws
 pub use Rattle.records.specs.BookLaws.{scan-write, Found, scan-got, Taken, parse-fine, parse-fault, write-pos, write-co, same-true, same-refl, sameHour-same, bare-exact, Read, view-bad, view-got, askBytes, asked, ask-fault, askHour-fault, limit-most, limit-same, good-hour, same-at, store-front, store-length}
 pub use Rattle.records.specs.PriceExample.{priceBytes, priceRecord, price-read, price-length, price-limit}

@@ -1,5 +1,6 @@
 pub mod Layer
 pub mod Register
+pub mod ByName
 pub mod Meaning
 pub mod Session
 pub mod Tables

@@ -1,64 +1,50 @@
--- The places of the standing records of a mark and hour, and of a name in every hour, as one pass over the views finds them.
-use Prim.Native.Nat.{ℕ, _+_, _-_}
-use mathlib.Core.List.{List, [], _∷_, _++_}
-use mathlib.Core.Bool.{Bool, true, false, cond}
-use lib.ListN.{length, take, set}
+-- The places of the standing records of a mark and hour, by decoded name, as one pass over the views finds them.
+use Prim.Native.Nat.{ℕ, _+_}
+use mathlib.Core.List.{List, [], _∷_, map}
+use mathlib.Core.Bool.{Bool, false, cond}
+use lib.ListN.{take}
 use lib.Dec.{eqb}
 use Rattle.money.specs.Refusals.{notTogether}
-use Rattle.book.specs.Layer.{Key, View, Rec, Change, filed, corrected, withdrawn, keyOf, kindOf, sameHour, Asked, got, bad}
+use Rattle.book.specs.Layer.{View, Rec, Change, nameOf, nameBefore, Asked, got, bad}
 use Rattle.book.specs.declared.survey.Survey.{Survey}
+use Rattle.book.specs.declared.places.Spot.{Spot}
 use Rattle.book.specs.declared.places.Places.{Places}
 use Rattle.book.specs.declared.places.Hour.{Hour}
-use Rattle.book.specs.Register.{writeAll, standing}
+use Rattle.book.specs.Register.{standing}
+use Rattle.book.specs.ByName.{byName}
 use Rattle.book.specs.Meaning.{Load, belongs, astray}
 use Rattle.book.specs.Tables.{survey}
 
--- ---- a mark and hour
-
 -- the length of the mark before a corrected record
-abbrev pub offset : Change → ℕ
-offset (filed r) = 0
-offset (corrected r) = 2
-offset (withdrawn k) = 0
+abbrev pub offset : ℕ → ℕ
+offset kind = cond (eqb kind 2) 2 0
 
-abbrev pub live : Key → List Change → Change → ℕ → Bool
-live k all c q = cond (eqb (kindOf c) 3) false (cond (sameHour k (keyOf c)) (cond (survey (keyOf c) all .found) (eqb (survey (keyOf c) all .start) (q + offset c)) false) false)
+-- whether the change at q wrote the record that stands under its key, by the survey of its key
+unfoldable pub liveAt : Survey → View → ℕ → Bool
+liveAt s v q = cond (eqb (v .kind) 3) false (cond (s .found) (eqb (s .start) (q + offset (v .kind))) false)
 
--- what the pass collects
-unfoldable pub gather : Key → List Change → List Change → List ℕ
-gather k all [] = []
-gather k all (c ∷ l) = cond (live k all c (length (writeAll l))) ((length (writeAll l) + offset c) ∷ gather k all l) (gather k all l)
+-- a standing record's decoded name, and where it is written
+abbrev pub spotOf : List Change → Rec → Spot
+spotOf l r = record { name = r .key .name; start = survey (r .key) l .start }
 
--- where the records of a mark and hour are written
-unfoldable pub starts : Key → List Change → List Rec → List ℕ
-starts k all [] = []
-starts k all (r ∷ rs) = cond (sameHour k (r .key)) (survey (r .key) all .start ∷ starts k all rs) (starts k all rs)
+-- a spot before the first whose name comes after its own
+unfoldable pub putSpot : Spot → List Spot → List Spot
+putSpot s [] = s ∷ []
+putSpot s (x ∷ xs) = cond (nameBefore (nameOf (s .name)) (nameOf (x .name))) (s ∷ x ∷ xs) (x ∷ putSpot s xs)
 
--- oldest first
-unfoldable pub rev : List ℕ → List ℕ
-rev [] = []
-rev (x ∷ xs) = rev xs ++ (x ∷ [])
-
--- whether the change at q wrote the record that stands under its key, of a mark and hour, by the survey of its key
-unfoldable pub liveAt : Key → Survey → View → ℕ → Bool
-liveAt k s v q =
-    cond (eqb (v .kind) 3) false
-    (cond (sameHour k (v .key)) (cond (s .found) (eqb (s .start) (q + cond (eqb (v .kind) 2) 2 0)) false) false)
-
-abbrev pub pushed : Bool → ℕ → Places → Places
-pushed true x p = record { n = p .n + 1; at = set (p .at) (p .n) x }
-pushed false x p = p
+abbrev pub spots : Places → List Spot
+spots p = take (p .n) (p .at)
 
 -- the answer: places, or a number
 pub data Listing : Type 0 where
-  these : List ℕ → Listing
+  these : List Spot → Listing
   no : ℕ → Listing
 
--- 16, then 2, 3; then where the standing records of the mark and hour are written, oldest first
+-- 16, then 2, 3; then where the standing records of the mark and hour are written, by name
 abbrev pub hourPlaces : Asked → Load → Listing
 hourPlaces a astray = no notTogether
 hourPlaces (bad n) (belongs l) = no n
-hourPlaces (got k t) (belongs l) = these (rev (starts k l (standing l)))
+hourPlaces (got k t) (belongs l) = these (map (spotOf l) (byName k (standing l)))
 
 abbrev pub listingOf : Hour → Listing
-listingOf h = cond (eqb (h .number) 0) (these (take (h .places .n) (h .places .at))) (no (h .number))
+listingOf h = cond (eqb (h .number) 0) (these (spots (h .places))) (no (h .number))

@@ -25,7 +25,7 @@ gather-in-requires : tie.Need-gather-in-requires
 gather-in-requires c κs = (stored ((c .before .before .before .before .before .before .before .before .before .args) .self) ((c .before .before .before .before .before .before .before .before .before .args) .log .now) ((c .before .before .before .before .before .before .check-table) .result) ((c .before .before .before .before .before .before .check-table) .ensures) (is-tabled ((c .before .before .before .before .before .before .before .before .before .args) .self) ((c .before .before .before .before .before .before .before .before .before .args) .log .now) ((c .before .before .before .before .before .before .check-table) .result) ((c .before .before .before .before .before .before .check-table) .ensures) ((c .before .before .before .before .before .if1) .taken)))
 
 returns-2 : tie.Need-returns-2
-returns-2 c = places-at ((c .before .before .before .before .before .before .before .before .before .before .args) .mark .now) ((c .before .before .before .before .before .before .before .before .before .before .args) .hour) ((is-tabled ((c .before .before .before .before .before .before .before .before .before .before .args) .self) ((c .before .before .before .before .before .before .before .before .before .before .args) .log .now) ((c .before .before .before .before .before .before .before .check-table) .result) ((c .before .before .before .before .before .before .before .check-table) .ensures) ((c .before .before .before .before .before .before .if1) .taken)) .list) (load ((c .before .before .before .before .before .before .before .before .before .before .args) .self) ((c .before .before .before .before .before .before .before .before .before .before .args) .log .now)) ((is-tabled ((c .before .before .before .before .before .before .before .before .before .before .args) .self) ((c .before .before .before .before .before .before .before .before .before .before .args) .log .now) ((c .before .before .before .before .before .before .before .check-table) .result) ((c .before .before .before .before .before .before .before .check-table) .ensures) ((c .before .before .before .before .before .before .if1) .taken)) .is) ((c .before .before .before .before .before .ask-hour) .result) ((c .before .before .before .before .before .ask-hour) .ensures) ((c .before .before .before .if2) .left) ((c .gather-in) .result) ((c .gather-in) .ensures ((is-tabled ((c .before .before .before .before .before .before .before .before .before .before .args) .self) ((c .before .before .before .before .before .before .before .before .before .before .args) .log .now) ((c .before .before .before .before .before .before .before .check-table) .result) ((c .before .before .before .before .before .before .before .check-table) .ensures) ((c .before .before .before .before .before .before .if1) .taken)) .list) ((c .before .before .before .before .before .before .before .check-table) .ensures .kept ((is-tabled ((c .before .before .before .before .before .before .before .before .before .before .args) .self) ((c .before .before .before .before .before .before .before .before .before .before .args) .log .now) ((c .before .before .before .before .before .before .before .check-table) .result) ((c .before .before .before .before .before .before .before .check-table) .ensures) ((c .before .before .before .before .before .before .if1) .taken)) .list) ((is-tabled ((c .before .before .before .before .before .before .before .before .before .before .args) .self) ((c .before .before .before .before .before .before .before .before .before .before .args) .log .now) ((c .before .before .before .before .before .before .before .check-table) .result) ((c .before .before .before .before .before .before .before .check-table) .ensures) ((c .before .before .before .before .before .before .if1) .taken)) .is)) ((is-tabled ((c .before .before .before .before .before .before .before .before .before .before .args) .self) ((c .before .before .before .before .before .before .before .before .before .before .args) .log .now) ((c .before .before .before .before .before .before .before .check-table) .result) ((c .before .before .before .before .before .before .before .check-table) .ensures) ((c .before .before .before .before .before .before .if1) .taken)) .count-is))
+returns-2 c = places-at ((c .before .before .before .before .before .before .before .before .before .before .args) .mark .now) ((c .before .before .before .before .before .before .before .before .before .before .args) .hour) ((is-tabled ((c .before .before .before .before .before .before .before .before .before .before .args) .self) ((c .before .before .before .before .before .before .before .before .before .before .args) .log .now) ((c .before .before .before .before .before .before .before .check-table) .result) ((c .before .before .before .before .before .before .before .check-table) .ensures) ((c .before .before .before .before .before .before .if1) .taken)) .list) (load ((c .before .before .before .before .before .before .before .before .before .before .args) .self) ((c .before .before .before .before .before .before .before .before .before .before .args) .log .now)) ((is-tabled ((c .before .before .before .before .before .before .before .before .before .before .args) .self) ((c .before .before .before .before .before .before .before .before .before .before .args) .log .now) ((c .before .before .before .before .before .before .before .check-table) .result) ((c .before .before .before .before .before .before .before .check-table) .ensures) ((c .before .before .before .before .before .before .if1) .taken)) .is) ((c .before .before .before .before .before .ask-hour) .result) ((c .before .before .before .before .before .ask-hour) .ensures) ((c .before .before .before .if2) .left) ((c .gather-in) .result) ((c .gather-in) .ensures .0 ((is-tabled ((c .before .before .before .before .before .before .before .before .before .before .args) .self) ((c .before .before .before .before .before .before .before .before .before .before .args) .log .now) ((c .before .before .before .before .before .before .before .check-table) .result) ((c .before .before .before .before .before .before .before .check-table) .ensures) ((c .before .before .before .before .before .before .if1) .taken)) .list) ((c .before .before .before .before .before .before .before .check-table) .ensures .kept ((is-tabled ((c .before .before .before .before .before .before .before .before .before .before .args) .self) ((c .before .before .before .before .before .before .before .before .before .before .args) .log .now) ((c .before .before .before .before .before .before .before .check-table) .result) ((c .before .before .before .before .before .before .before .check-table) .ensures) ((c .before .before .before .before .before .before .if1) .taken)) .list) ((is-tabled ((c .before .before .before .before .before .before .before .before .before .before .args) .self) ((c .before .before .before .before .before .before .before .before .before .before .args) .log .now) ((c .before .before .before .before .before .before .before .check-table) .result) ((c .before .before .before .before .before .before .before .check-table) .ensures) ((c .before .before .before .before .before .before .if1) .taken)) .is)) ((is-tabled ((c .before .before .before .before .before .before .before .before .before .before .args) .self) ((c .before .before .before .before .before .before .before .before .before .before .args) .log .now) ((c .before .before .before .before .before .before .before .check-table) .result) ((c .before .before .before .before .before .before .before .check-table) .ensures) ((c .before .before .before .before .before .before .if1) .taken)) .count-is))
 
 no-places-requires-2 : tie.Need-no-places-requires-2
 no-places-requires-2 c κs = search needs
