@@ -4,4 +4,5 @@ pub mod Replaying
 pub mod Answering
 pub mod Inserting
 pub mod Gathering
+pub mod Naming
 pub mod Hourly

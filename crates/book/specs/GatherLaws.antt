@@ -7,10 +7,10 @@ use native.Mathlib.Omega.{arith}
 use lib.ListN.{length, length-append}
 use lib.Dec.{eqb}
 use borrow.Author.Tests.{eq-eqb, ne-eqb}
-use Rattle.book.specs.Layer.{Key, Rec, Change, filed, corrected, withdrawn, keyOf, kindOf, write, same, sameHour, nameOf, nameBefore, same-true, same-refl, write-pos, write-co}
+use Rattle.book.specs.Layer.{Key, Name, Rec, Change, filed, corrected, withdrawn, keyOf, kindOf, write, same, sameHour, nameOf, nameBefore, same-true, same-refl, write-pos, write-co}
 use Rattle.book.specs.Register.{writeAll, without, standing}
 use Rattle.book.specs.declared.places.Spot.{Spot}
-use Rattle.book.specs.ByName.{inOrder, byName}
+use Rattle.book.specs.ByName.{inOrder, byName, addName, sameMark, namesOf}
 use Rattle.book.specs.Tables.{survey, viewed}
 use Rattle.book.specs.Places.{offset, liveAt, spotOf, putSpot}
 use Rattle.book.specs.RegisterLaws.{by-test, true≠false, same-turned}
@@ -214,3 +214,15 @@ collect-by-name k all (r ∷ rs) = go (sameHour k (r .key)) (collect-by-name k a
 
 pub hour-standing : (k : Key) (l : List Change) → gather (hourPass k) l l ≡ map (spotOf l) (byName k (standing l))
 hour-standing k l = gather-standing (hourPass k) l ∙ collect-by-name k l (standing l)
+
+-- ---- the names of a mark
+abbrev pub markPass : Key → Pass (List Name)
+markPass k = record { pick = sameMark k; put = λ (j : Key) (x : ℕ) (xs : List Name). addName (j .name) xs; none = [] }
+
+collect-names : (k : Key) (all : List Change) (rs : List Rec) → collect (markPass k) all rs ≡ namesOf k rs
+unfolding collect namesOf
+collect-names k all [] = refl
+collect-names k all (r ∷ rs) = ap (λ (xs : List Name). cond (sameMark k (r .key)) (addName (r .key .name) xs) xs) (collect-names k all rs)
+
+pub mark-standing : (k : Key) (l : List Change) → gather (markPass k) l l ≡ namesOf k (standing l)
+mark-standing k l = gather-standing (markPass k) l ∙ collect-names k l (standing l)

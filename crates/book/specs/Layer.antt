@@ -12,6 +12,8 @@ pub use Rattle.records.specs.Changes.{Rec, Change, filed, corrected, withdrawn,
 -- keys, the keys of questions, limits, marks
 pub use Rattle.records.specs.Reading.{bad, got}
 pub use Rattle.records.specs.Marks.{markBytes, order}
+pub use Rattle.records.specs.declared.marks.Mark.the-variants.{Gh}
+pub use Rattle.records.specs.Names.{noOne}
 pub use Rattle.records.specs.Keys.{same, sameHour, askHour, keyAnswer}
 pub use Rattle.records.specs.Hours.{limitOf, sameName, atHour}
 -- decoded names and their order

@@ -9,6 +9,7 @@ pub mod ReplayLaws
 pub mod SessionLaws
 pub mod PlaceLaws
 pub mod Places
+pub mod Units
 pub mod GatherLaws
 pub mod Hours
 pub mod HourLaws

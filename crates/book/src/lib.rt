@@ -8,3 +8,4 @@ pub mod questions;
 mod refusal;
 mod replay;
 mod survey;
+pub mod units;

@@ -39,7 +39,7 @@ pub struct Hour {
 }
 
 // Where a change at q has its record.
-pub(crate) fn place_of(kind: u8, q: usize) -> usize
+fn place_of(kind: u8, q: usize) -> usize
     requires { ⌜ q < 9223372036854775808 ⌝ }
     ensures { λ r. ⌜ r ≡ q + offset kind ⌝ }
 {
