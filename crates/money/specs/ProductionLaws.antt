@@ -492,3 +492,8 @@ module _ (d u s t v : ℕ) where
     pos-dif _ ∙ second-dif ∙ sym (λ i. maxℤ (pos-dif 0 i) (minℤ (pos-dif d i -ℤ pos-dif u i -ℤ pos-dif s i) (pos-dif t i))),
     pos-dif _ ∙ third-dif ∙ sym (λ i. maxℤ (pos-dif 0 i) (minℤ (pos-dif d i -ℤ pos-dif u i -ℤ pos-dif s i -ℤ pos-dif t i) (pos-dif v i))),
   )
+
+-- a day's sum, hour by hour
+pub day-sum : (ts : List Ticks) (ss : List CentsPerStart) → daySum ts ss ≡ Σℤ 24 (hourPart ts ss)
+unfolding daySum
+day-sum ts ss = refl

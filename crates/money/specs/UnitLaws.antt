@@ -222,3 +222,8 @@ row-same n f g h = same-from 0 n f g (λ k l. ap f (omega arith) ∙ h k l ∙ a
 -- a row that is filled to its end
 pub filled-all : {row : List Quantity} {f : ℕ → ℕ} {k : ℕ} → Filled row f k → 12 ≤ k → row ≡ rowOf 0 12 f
 filled-all {row = row} {f = f} r h = built-from 0 12 f row (r .long) (λ j l. r .so-far j (omega arith) ∙ ap f (omega arith))
+
+-- nothing in twelve intervals
+pub row-none : replicate 12 noQuantity ≡ rowOf 0 12 (λ (k : ℕ). 0)
+unfolding rowOf
+row-none = refl

@@ -23,12 +23,12 @@ use Rattle.records.specs.Names.{visible, decodeName, spell, nameOf, byte
 use Rattle.records.specs.Marks.{hasName, isFailure}
 use Rattle.records.specs.Changes.{Rec, filed, write, viewOf, Good}
 use Rattle.records.specs.Views.{importOf, unitHourOf, failureOf}
-use Rattle.records.specs.Amounts.{creditOf, unitAmountOf, chargeFor, chargeOf, creditTicks, unitTicks, chargeTicksFor, chargeTicks, ticksOf, offsetEntry, offsetEntryIn}
+use Rattle.records.specs.Amounts.{creditOf, unitAmountOf, chargeFor, chargeOf, creditTicks, unitTicks, chargeTicksFor, chargeTicks, ticksOf, offsetEntry, offsetEntryIn, unitPartIn, chargeIn}
 use Rattle.records.specs.ReaderLaws.{bind-got}
 use Rattle.records.specs.NameLaws.{Visible, Valid, decoded-valid}
 use Rattle.records.specs.ChangeLaws.{scan-write}
 use Rattle.records.specs.KeyLaws.{own-name}
-use Rattle.records.specs.ViewLaws.{import-view, credit-view}
+use Rattle.records.specs.ViewLaws.{import-view, credit-view, failed-import-charge, failed-export-charge, unit-amount-view, unit-view}
 use Rattle.records.specs.FitLaws.{PricesFit, ImportFits, FailureFits, Listed, full, empty, ReserveFits, UnitFits, standing-import, standing-unit, standing-failed-import, standing-failed-export}
 use Rattle.records.specs.declared.marks.Mark.{Mark}
 use Rattle.records.specs.declared.marks.Mark.the-variants.{Pr, Im, Ex, Gh, Fi, Fe}
@@ -120,3 +120,23 @@ charge-amount r p g h f = go (r .key .mark) refl h
     go Fe e b =
         let s = standing-failed-export r g e in
         export-charged (failureOf r) (p .pd) (failure-fine (failureOf r) (p .pd) (f .pd) (s .scheduled) (s .predispatch) (s .ahead) (s .later))
+
+-- the same in bytes that begin with the record as it was filed
+pub charge-written : (r : Rec) (p : HourPrices) (u : List ℕ) → Good (filed r) → isFailure (r .key .mark) ≡ true → PricesFit p
+    → chargeIn (r .key .mark) (write (filed r) ++ u) p ≡ Amount (record { 0 = chargeTicks r p })
+charge-written r p u g h f = go (r .key .mark) refl h ∙ charge-amount r p g h f
+  where
+    go : (m : Mark) → r .key .mark ≡ m → isFailure m ≡ true → chargeIn m (write (filed r) ++ u) p ≡ chargeOf r p
+    go Pr e b = absurd (true≢false (sym b))
+    go Im e b = absurd (true≢false (sym b))
+    go Ex e b = absurd (true≢false (sym b))
+    go Gh e b = absurd (true≢false (sym b))
+    go Fi e b = failed-import-charge r g u e p
+    go Fe e b = failed-export-charge r g u e p
+
+pub unit-written : (r : Rec) (p : HourPrices) (u : List ℕ) → Good (filed r) → r .key .mark ≡ Gh → PricesFit p
+    → unitPartIn (write (filed r) ++ u) p ≡ record { ticks = record { 0 = unitTicks r p }; start = unitHourOf r .startup }
+unit-written r p u g e f =
+    let a = ap ticksOf (unit-amount-view r g u e p ∙ unit-amount r p g e f) in
+    let b = ap (λ (h : UnitHour). h .startup) (unit-view r g u e) in
+    (λ i. record { ticks = a i; start = b i })

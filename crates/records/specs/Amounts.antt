@@ -4,7 +4,12 @@ use mathlib.Core.List.{List}
 use Prim.Native.Nat.{ℕ}
 use lib.IntN.{ℤ, pos}
 use Rattle.money.specs.Refusals.{unknownMark}
-use Rattle.money.specs.Units.{quantityAt}
+pub use Rattle.money.specs.Units.{quantityAt}
+-- the money rules that an upper layer's definitions name: an hour's offset and export totals, a unit's day
+pub use Rattle.money.specs.Units.{noQuantity, rowOf}
+pub use Rattle.money.specs.Offset.{noImport, entry, entryFault, totalsWith, offset, offsetAnswer}
+pub use Rattle.money.specs.Production.{amountOk, hourPart, daySum, dayAnswer, reversal, noTicks, noStart}
+pub use Rattle.money.specs.Names.{nameOf, nameBefore, sameName}
 use Rattle.money.specs.Guarantee.{credit, creditAnswer}
 use Rattle.money.specs.Production.{hourAmount, hourAnswer}
 use Rattle.money.specs.Failure.{importCharge, exportCharge, importChargeAnswer, exportChargeAnswer}
@@ -18,6 +23,7 @@ use Rattle.records.specs.Views.{importOf, importIn, unitHourOf, unitIn, 
 use Rattle.records.specs.declared.marks.Mark.{Mark}
 use Rattle.records.specs.declared.marks.Mark.the-variants.{Pr, Im, Ex, Gh, Fi, Fe}
 use Rattle.records.specs.declared.layouts.HourPrices.{HourPrices}
+use Rattle.records.specs.declared.amounts.UnitPart.{UnitPart}
 
 -- "An import's credit for an hour"
 abbrev pub creditOf : Rec → HourPrices → Answer
@@ -87,3 +93,7 @@ ticksOf (Refused n) = record { 0 = pos 0 }
 -- the same in bytes that begin with the import as it was filed
 abbrev pub offsetEntryIn : List ℕ → HourPrices → Import
 offsetEntryIn s p = record { name = viewOf (scan s) .key .name; credit = ticksOf (creditIn s p); quantities = importIn s .mqsi; offer = importIn s .offer }
+
+-- what a unit's hour adds to its day
+abbrev pub unitPartIn : List ℕ → HourPrices → UnitPart
+unitPartIn s p = record { ticks = ticksOf (unitAmountIn s p); start = unitIn s .startup }

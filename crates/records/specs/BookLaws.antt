@@ -12,17 +12,21 @@ pub use Rattle.records.specs.ChangeLaws.{kind-pos, Read, view-bad, view-
 pub use Rattle.records.specs.ChangeLaws.{bare-exact}
 -- any mark, and changes one after the other
 pub use Rattle.records.specs.EntryLaws.{Ahead, entry-got, entry-fault, any-fault, any-good, alone, asEntry, any-back, any-close, any-change}
+-- the first of several changes, with more bytes behind and by itself; a fault in any mark
+pub use Rattle.records.specs.FirmLaws.{entry-more, entry-alone, entry-firm, Unread, entry-bad}
 -- keys, and the key of a question
-pub use Rattle.records.specs.KeyLaws.{same-true, same-refl, sameHour-same, askBytes, asked, ask-fault, askFailure-fault, askHour-fault, name-fault}
+pub use Rattle.records.specs.KeyLaws.{same-true, same-refl, sameHour-same, hour-parts, askBytes, asked, ask-fault, askFailure-fault, askHour-fault, name-fault}
 -- the key of a mark and hour, and of a unit: no fault is 0
 pub use Rattle.records.specs.KeyLaws.{askHourOf-fault, askUnit-fault}
+-- what such a key is; a failure's key has a failure's mark
+pub use Rattle.records.specs.KeyLaws.{hour-asked, unit-marked, failure-marked}
 -- two keys of one mark and hour have names of other bytes, unless they are the same
 pub use Rattle.records.specs.KeyLaws.{names-apart}
 -- bytes written at a place
 pub use Rattle.records.specs.PutLaws.{put-length, put-whole, put-front}
 pub use Rattle.records.specs.StoreLaws.{store-length, store-front}
 -- an hour's limit, a change's hour, keys of one name
-pub use Rattle.records.specs.HourLaws.{limit-most, limit-same, good-hour, same-at}
+pub use Rattle.records.specs.HourLaws.{limit-most, limit-same, good-hour, same-at, at-hour}
 -- the name of a unit that stands can be asked for
 pub use Rattle.records.specs.HourLaws.{unit-asked}
 -- typed views are what was read, and keep the money rules' ranges
@@ -31,10 +35,16 @@ pub use Rattle.records.specs.ViewLaws.{prices-view, import-view, export-
 pub use Rattle.records.specs.ViewLaws.{credit-view, unit-amount-view, failed-import-charge, failed-export-charge}
 pub use Rattle.records.specs.FitLaws.{PricesFit, ImportFits, FailureFits, Listed, ReserveFits, UnitFits, standing-prices, standing-import, standing-export, standing-unit, standing-failed-import, standing-failed-export}
 -- what the amounts of a standing record come to: none is refused at prices that stand
-pub use Rattle.records.specs.AmountLaws.{credit-amount, unit-amount, charge-amount}
+pub use Rattle.records.specs.AmountLaws.{credit-amount, unit-amount, charge-amount, unit-written, charge-written}
 -- an import as the offset takes it: as its bytes give it, and without a fault
 pub use Rattle.records.specs.AmountLaws.{entry-view, entry-sound}
 -- a unit's hour as its day takes it
 pub use Rattle.records.specs.AmountLaws.{unit-ready}
 -- names
 pub use Rattle.records.specs.NameLaws.{Visible, Valid, decoded-valid, spelled-back, spelled-short, one-name, spelling-full}
+-- of the money rules: rows of totals, the offset and a day that are not refused, names
+pub use Rattle.money.specs.UnitLaws.{row-at, row-same, row-none, quantity-most}
+pub use Rattle.money.specs.OffsetLaws.{totals-more, rates-ok, offset-amount}
+pub use Rattle.money.specs.LentLaws.{answer-front}
+pub use Rattle.money.specs.ProductionLaws.{day-amount, day-sum, amount-ok}
+pub use Rattle.money.specs.NameLaws.{same-names, name-trans, name-tri, name-self}

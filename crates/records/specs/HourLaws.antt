@@ -59,6 +59,10 @@ same-at k j h =
     go false b c d e = refl
     go true b c false e = absurd (let z : _≡_ {A = ℕ} 0 1 = cc in omega arith)
 
+pub at-hour : (k : Key) (h : ℕ) → atHour k h ≡ record { mark = k .mark; hour = h; name = k .name }
+unfolding atHour
+at-hour k h = refl
+
 -- the name of a unit that stands can be asked for
 pub unit-asked : (r : Rec) → Good (filed r) → r .key .mark ≡ Gh → askUnit (spell (bytesOf (r .key .name))) ≡ got (atHour (r .key) 1) []
 unfolding askUnit atHour

@@ -64,6 +64,13 @@ unfolding same sameHour
 same-refl a =
     simp (eq-eqb (order (a .mark)) (order (a .mark)) refl, eq-eqb (a .hour) (a .hour) refl, eq-eqb (a .name .len) (a .name .len) refl, eqList-refl (a .name .bytes))
 
+pub hour-parts : (a b : Key) → sameHour a b ≡ true → (a .mark ≡ b .mark) × (a .hour ≡ b .hour)
+unfolding sameHour
+hour-parts a b h = (
+  order-same (a .mark) (b .mark) (eqb-true (order (a .mark)) (order (b .mark)) (and-left _ _ h)),
+  eqb-true (a .hour) (b .hour) (and-right (eqb (order (a .mark)) (order (b .mark))) _ h),
+)
+
 pub sameHour-same : (a b : Key) → sameHour a b ≡ true → (x : Key) → sameHour a x ≡ sameHour b x
 unfolding sameHour
 sameHour-same a b h x =
@@ -218,3 +225,26 @@ names-apart a b g h s d e =
     let n : a .key .name ≡ b .key .name = cc in
     let k : a .key ≡ b .key = λ i. record { mark = m i; hour = o i; name = n i } in
     true≢false (sym (same-refl (a .key)) ∙ ap (same (a .key)) k ∙ d)
+
+-- ---- what the key of a question is
+
+got-value : {A : Type 0} {a b : A} {s t : List ℕ} → _≡_ {A = Res A} (got a s) (got b t) → a ≡ b
+got-value e = cc
+
+pub hour-asked : (m : Mark) (h : ℕ) (k : Key) (t : List ℕ) → askHourOf m h ≡ got k t → k ≡ record { mark = m; hour = h; name = noOne }
+unfolding askHourOf
+hour-asked m h k t e = sym (got-value (check-got (between 1 24 h) 3 (got (record { mark = m; hour = h; name = noOne }) []) k t e .1))
+
+pub unit-marked : (ns : List ℕ) (k : Key) (t : List ℕ) → askUnit ns ≡ got k t → k .mark ≡ Gh
+unfolding askUnit
+unit-marked ns k t e = let x = bind-got (held (decodeName ns)) (λ n u. got (record { mark = Gh; hour = 1; name = n }) []) k t e in ap (λ (y : Key). y .mark) (sym (got-value (x .3)))
+
+pub failure-marked : (ms : List ℕ) (h : ℕ) (ns : List ℕ) (k : Key) (t : List ℕ) → askFailure ms h ns ≡ got k t → isFailure (k .mark) ≡ true
+unfolding askFrom askFailureMark
+failure-marked ms h ns k t e =
+    let x = bind-got (askFailureMark ms) (λ m v. check (between 1 24 h) 3 (askName m ns >>= λ n u. got (record { mark = m; hour = h; name = n }) [])) k t e in
+    let c = check-got (between 1 24 h) 3 (askName (x .0) ns >>= λ n u. got (record { mark = x .0; hour = h; name = n }) []) k t (x .3) in
+    let y = bind-got (askName (x .0) ns) (λ n u. got (record { mark = x .0; hour = h; name = n }) []) k t (c .1) in
+    let w = bind-got (askMark ms) (λ m v. check (isFailure m) 2 (got m v)) (x .0) (x .1) (x .2) in
+    let d = check-got (isFailure (w .0)) 2 (got (w .0) (w .1)) (x .0) (x .1) (w .3) in
+    ap (λ (z : Key). isFailure (z .mark)) (sym (got-value (y .3))) ∙ ap isFailure (sym (got-value (d .1))) ∙ d .0

@@ -16,6 +16,7 @@ pub mod KeyLaws
 pub mod HourLaws
 pub mod ViewLaws
 pub mod EntryLaws
+pub mod FirmLaws
 pub mod PutLaws
 pub mod StoreLaws
 pub mod FitLaws

@@ -1,6 +1,7 @@
 use crate::layouts::HourPrices;
 use crate::marks::Mark;
 use crate::scan::peek;
+use crate::views::export_of;
 use crate::views::failure_of;
 use crate::views::import_of;
 use crate::views::unit_of_hour;
@@ -8,12 +9,19 @@ use money::failure::export_charge;
 use money::failure::import_charge;
 use money::guarantee::hour_credit;
 use money::imports::Import;
+use money::offset::offset_core;
+use money::offset::totals_with;
+use money::production::DayAnswer;
+use money::production::unit_day;
 use money::production::unit_hour;
 use money::refusals::UNKNOWN_MARK;
 use money::units::Answer;
+use money::units::CentsPerStart;
+use money::units::Quantity;
 use money::units::Ticks;
 ghost use mathlib.Core.Path.{_≡_};
-ghost use Rattle.records.specs.Amounts.{creditIn, unitAmountIn, chargeIn, ticksOf, offsetEntryIn};
+ghost use Rattle.records.specs.Views.{exportIn};
+ghost use Rattle.records.specs.Amounts.{totalsWith, offsetAnswer, dayAnswer, creditIn, unitAmountIn, chargeIn, ticksOf, offsetEntryIn, unitPartIn};
 
 // The credit of the import that bytes begin with, at its hour's prices.
 pub fn import_credit(s: &[u8], prices: HourPrices) -> Answer
@@ -77,4 +85,59 @@ pub fn offset_entry(s: &[u8], prices: HourPrices) -> Import
         quantities,
         offer,
     }
+}
+
+// What a unit's hour adds to its day: its amount, and its start-up.
+pub struct UnitPart {
+    pub ticks: Ticks,
+    pub start: CentsPerStart,
+}
+
+// Of the unit's hour that bytes begin with, at its hour's prices.
+pub fn unit_part(s: &[u8], prices: HourPrices) -> UnitPart
+    ensures { λ r. ⌜ r ≡ unitPartIn (now (s .entry)) prices ⌝ }
+{
+    let u = unit_of_hour(s);
+    let start = u.startup;
+    let emp = prices.emp;
+    let ticks = ticks_of(unit_hour(u, emp));
+    UnitPart { ticks, start }
+}
+
+// The charge of the failure that bytes begin with, 0 where it is refused.
+pub fn charge_ticks(s: &[u8], mark: Mark, prices: HourPrices) -> Ticks
+    ensures { λ r. ⌜ r ≡ ticksOf (chargeIn mark (now (s .entry)) prices) ⌝ }
+{
+    ticks_of(failure_charge(s, mark, prices))
+}
+
+// ---- what an hour and a day come to, from what the functions above give
+
+// The export totals with those of the export that bytes begin with.
+pub fn totals_with_export(s: &[u8], totals: [Quantity; 12]) -> [Quantity; 12]
+    ensures { λ r. ⌜ r ≡ totalsWith totals (exportIn (now (s .entry)) .mqsw) ⌝ }
+{
+    let x = export_of(s);
+    let more = x.mqsw;
+    totals_with(totals, more)
+}
+
+// The offset of the first `count` entries, or the number of the refusal.
+pub fn hour_offset(
+    count: u8,
+    entries: [Import; 16],
+    prices: HourPrices,
+    totals: [Quantity; 12],
+) -> Answer
+    ensures { λ r. ⌜ r ≡ offsetAnswer count entries (prices .emp) totals ⌝ }
+{
+    let emp = prices.emp;
+    offset_core(count, entries, emp, totals)
+}
+
+// The day total and the reversal of 24 hours' amounts and start-ups.
+pub fn day_of(ticks: [Ticks; 24], starts: [CentsPerStart; 24]) -> DayAnswer
+    ensures { λ r. ⌜ r ≡ dayAnswer ticks starts ⌝ }
+{
+    unit_day(ticks, starts)
 }

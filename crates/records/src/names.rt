@@ -2,12 +2,14 @@ use crate::fields::End;
 use crate::fields::Num;
 use crate::fields::read_byte;
 use money::names::Name;
+use money::names::name_before;
 use money::refusals::BAD_NAME;
 use money::refusals::ENDS_EARLY;
 ghost use mathlib.Core.Path.{_≡_};
 ghost use Prim.Native.Nat.{ℕ, _+_, _≤_, _<_};
 ghost use lib.ListN.{length};
 ghost use Rattle.money.specs.Refusals.{endsEarly};
+ghost use Rattle.money.specs.Names.{nameOf, nameBefore};
 ghost use Rattle.records.specs.Reading.{from};
 ghost use Rattle.records.specs.Names.{visible, hexVal, escaped, one, decodeName, unreserved, digit, spellByte, spell, nameField, noOne, bytesOf, held, spellingOf};
 ghost use Rattle.records.specs.Inner.{then, Named, chr, Wrote};
@@ -310,4 +312,11 @@ pub(crate) fn name_field_then(s: &[u8], e: End) -> NameRead
         End::At(at) => read_name(s, at),
         End::No(k) => name_no(k),
     }
+}
+
+// Decoded names in byte order, a prefix first.
+pub fn comes_before(a: Name, b: Name) -> bool
+    ensures { λ r. ⌜ r ≡ nameBefore (nameOf a) (nameOf b) ⌝ }
+{
+    name_before(a, b)
 }
