@@ -13,7 +13,7 @@ use Rattle.book.specs.declared.journal.Book.{Book}
 use Rattle.book.specs.declared.survey.Survey.{Survey}
 use Rattle.book.specs.declared.replay.Checked.{Checked}
 use Rattle.book.specs.declared.replay.Table.{Table}
-use Rattle.book.specs.Register.{Reg, change, ask, recordOf, countOf, freeBytes, Reply, refused, accepted, place, number, amounts, Step, answered, becomes, stepOf, listed, judged, takenBack, closing, general, shorter, unless-closed, bareTakeBack, bareClose, keyed, answer, placeOf, writeAll, refusal, room, capped, stands, count, standing}
+use Rattle.book.specs.Register.{Reg, change, ask, recordOf, countOf, freeBytes, Reply, refused, accepted, place, number, guarantees, unitDay, charge, Step, answered, becomes, stepOf, listed, judged, takenBack, closing, general, shorter, unless-closed, bareTakeBack, bareClose, keyed, answer, placeOf, writeAll, refusal, room, capped, stands, count, standing}
 use Rattle.book.specs.Meaning.{Load, belongs, astray, replay, load, Valid, After, bookOf, settled, stepped, outcome, Leaves, Meets}
 use Rattle.book.specs.Tables.{Tabled, Stored, checkedOf, survey, numberOf, replied, judge}
 use Rattle.book.specs.ReplayLaws.{replay-sound}
@@ -39,7 +39,7 @@ pub record Loaded (b : Book) (s : List ℕ) : Type 0 where
   pub size : length (writeAll list) ≡ b .used
   pub count-is : length list ≡ b .changes
 
-loaded-from : (b : Book) (s : List ℕ) (l : List Change) → load b s ≡ belongs l → Loaded b s
+pub loaded-from : (b : Book) (s : List ℕ) (l : List Change) → load b s ≡ belongs l → Loaded b s
 unfolding Valid writeAll
 loaded-from b s l e = go (leb (b .used) (length s)) refl
   where
@@ -137,7 +137,9 @@ replied-by (refused m) n e z = ap refused (sym e)
 replied-by accepted n e z = absurd (z e)
 replied-by (place x y) n e z = absurd (z e)
 replied-by (number m) n e z = absurd (z e)
-replied-by (amounts xs) n e z = absurd (z e)
+replied-by (guarantees cs o) n e z = absurd (z e)
+replied-by (unitDay t v) n e z = absurd (z e)
+replied-by (charge t) n e z = absurd (z e)
 
 pub refused-by : (st : Step) (n : ℕ) → n ≡ numberOf st → (n ≡ 0 → ⊥) → st ≡ answered (refused n)
 refused-by (answered r) n e z = ap answered (replied-by r n e z)
@@ -339,11 +341,11 @@ module _ (b : Book) (s rec : List ℕ) (b′ : Book) (r : Reply) (s′ : List �
       (subst⁻¹ (λ (t : Bool). Leaves (cond t (closing (bareClose rec)) (listed (parse 0 rec))) b s b′ r s′) f m)
 
 -- a question with a key
-keyed-wrong : (a : Asked) (f : Key → Reply) (r : KeyAnswer) → r ≡ keyAnswer a → (r .number ≡ 0 → ⊥) → keyed a f ≡ refused (r .number)
+pub keyed-wrong : (a : Asked) (f : Key → Reply) (r : KeyAnswer) → r ≡ keyAnswer a → (r .number ≡ 0 → ⊥) → keyed a f ≡ refused (r .number)
 keyed-wrong (got k t) f r e z = absurd (z (ap (λ (y : KeyAnswer). y .number) e))
 keyed-wrong (bad n) f r e z = ap refused (sym (ap (λ (y : KeyAnswer). y .number) e))
 
-keyed-right : (a : Asked) (f : Key → Reply) (r : KeyAnswer) → ((n : ℕ) → a ≡ bad n → 0 < n) → r ≡ keyAnswer a → r .number ≡ 0 → keyed a f ≡ f (r .key)
+pub keyed-right : (a : Asked) (f : Key → Reply) (r : KeyAnswer) → ((n : ℕ) → a ≡ bad n → 0 < n) → r ≡ keyAnswer a → r .number ≡ 0 → keyed a f ≡ f (r .key)
 keyed-right (got k t) f r w e z = ap f (sym (ap (λ (y : KeyAnswer). y .key) e))
 keyed-right (bad n) f r w e z = absurd (omega (arith, w n refl, sym (ap (λ (y : KeyAnswer). y .number) e) ∙ z))
 

@@ -61,6 +61,12 @@ slot-written (corrected r) q =
     ap (slot (q + 2)) e ∙ slot-some (q + 2) (length (write (filed r))) (write-pos (filed r))
 slot-written (withdrawn k) q = refl
 
+-- it begins within what is written then
+start-within : (c : Change) (q : ℕ) → startOf q (viewed c) ≤ q + length (write c)
+start-within (filed r) q = omega arith
+start-within (corrected r) q = omega (arith, write-co r .0)
+start-within (withdrawn k) q = omega arith
+
 -- ---- one change more
 module _ (k : Key) (c : Change) (l : List Change) (d : Day) (h : DayIs k l d) (low : 1 ≤ keyOf c .hour) where
   other-hour : (j : ℕ) → (sameName k (keyOf c) && eqb (1 + j) (keyOf c .hour)) ≡ false → placeOf (atHour k (1 + j)) (c ∷ l) ≡ placeOf (atHour k (1 + j)) l
@@ -93,16 +99,29 @@ module _ (k : Key) (c : Change) (l : List Change) (d : Day) (h : DayIs k l d) (l
         (getD-set-other (d .len) (keyOf c .hour - 1) j _ 0 p)
         ∙ h .is j lt ∙ sym (other-hour j (ap₂ _&&_ t e))
 
+    starts-within : (j : ℕ) → j < 24 → (b : Bool) → eqb (1 + j) (keyOf c .hour) ≡ b → getD (day-set .start) j 0 ≤ length (writeAll (c ∷ l))
+    unfolding day-set writeAll
+    starts-within j lt true e =
+        let p : j ≡ keyOf c .hour - 1 = omega (arith, eqb-true (1 + j) (keyOf c .hour) e) in
+        let w = ap (λ (m : ℕ). getD (set (d .start) (keyOf c .hour - 1) (startOf (length (writeAll l)) (viewed c))) m 0) p
+        ∙ getD-set-same (d .start) (keyOf c .hour - 1) (startOf (length (writeAll l)) (viewed c)) 0 (omega (arith, h .starts, p)) in
+        omega (arith, w, start-within c (length (writeAll l)), length-append (writeAll l) (write c))
+    starts-within j lt false e =
+        let p : (j ≡ keyOf c .hour - 1) → ⊥ = λ y. eqb-false (1 + j) (keyOf c .hour) e (omega arith) in
+        let w = getD-set-other (d .start) (keyOf c .hour - 1) j (startOf (length (writeAll l)) (viewed c)) 0 p in
+        omega (arith, w, h .inside j lt, length-append (writeAll l) (write c))
+
     day-here : DayIs k (c ∷ l) day-set
     unfolding day-set
     day-here = record {
       starts = length-set (d .start) _ _ ∙ h .starts;
       lens = length-set (d .len) _ _ ∙ h .lens;
       is = λ j lt. at-hour j lt (eqb (1 + j) (keyOf c .hour)) refl;
+      inside = λ j lt. starts-within j lt (eqb (1 + j) (keyOf c .hour)) refl;
     }
 
   pub day-more : DayIs k (c ∷ l) (dayNoted k (length (writeAll l)) (viewed c) d)
-  unfolding dayNoted day-set
+  unfolding dayNoted day-set writeAll
   day-more =
       by-test (sameName k (keyOf c))
       (λ t. subst⁻¹ (λ (y : Bool). DayIs k (c ∷ l) (cond y (day-set t) d)) t (day-here t))
@@ -110,7 +129,12 @@ module _ (k : Key) (c : Change) (l : List Change) (d : Day) (h : DayIs k l d) (l
         start = set (d .start) (keyOf c .hour - 1) (startOf (length (writeAll l)) (viewed c));
         len = set (d .len) (keyOf c .hour - 1) (lenOf (viewed c));
       }) d)) t
-      (record { starts = h .starts; lens = h .lens; is = λ j lt. h .is j lt ∙ sym (other-hour j (ap (λ (b : Bool). b && eqb (1 + j) (keyOf c .hour)) t)) }))
+      (record {
+        starts = h .starts;
+        lens = h .lens;
+        is = λ j lt. h .is j lt ∙ sym (other-hour j (ap (λ (b : Bool). b && eqb (1 + j) (keyOf c .hour)) t));
+        inside = λ j lt. omega (arith, h .inside j lt, length-append (writeAll l) (write c));
+      }))
 
 -- ---- the loop
 pub record Dayed (k : Key) (views : List View) (n i q : ℕ) (d : Day) : Type 0 where
@@ -130,7 +154,7 @@ dayed-start k views n =
       inside = omega arith;
       at-is = λ l kept e. ap (λ (y : List Change). length (writeAll y)) (sym (drop-of-length-le l {i = n - 0} (omega arith)));
       is = λ l kept e. subst⁻¹ (λ (y : List Change). DayIs k y (record { start = replicate 24 0; len = replicate 24 0 })) (drop-of-length-le l {i = n - 0} (omega arith))
-          (record { starts = refl; lens = refl; is = λ j lt. ap₂ slot (none-yet 24 j) (none-yet 24 j) });
+          (record { starts = refl; lens = refl; is = λ j lt. ap₂ slot (none-yet 24 j) (none-yet 24 j); inside = λ j lt. omega (arith, none-yet 24 j) });
     }
 
 -- an hour's place is there for every change

@@ -6,3 +6,8 @@ pub mod Inserting
 pub mod Gathering
 pub mod Naming
 pub mod Hourly
+pub mod Totalling
+pub mod Pairing
+pub mod DayAnswering
+pub mod ChargeAnswering
+pub mod Guaranteeing

@@ -1,5 +1,5 @@
 -- The records of a mark and name in each hour, as one pass over the views finds them.
-use Prim.Native.Nat.{ℕ, zero, suc, _+_, _-_, _<_}
+use Prim.Native.Nat.{ℕ, zero, suc, _+_, _-_, _≤_, _<_}
 use mathlib.Core.Path.{_≡_}
 use mathlib.Core.List.{List, [], _∷_}
 use mathlib.Core.Bool.{cond}
@@ -9,7 +9,7 @@ use Rattle.money.specs.Refusals.{noSuchKey, notTogether}
 use Rattle.book.specs.Layer.{Key, View, Change, sameName, atHour, Asked, got, bad}
 use Rattle.book.specs.declared.hours.Day.{Day}
 use Rattle.book.specs.declared.hours.Hourly.{Hourly}
-use Rattle.book.specs.Register.{Reply, refused, place, placeOf}
+use Rattle.book.specs.Register.{writeAll, Reply, refused, place, placeOf}
 use Rattle.book.specs.Meaning.{Load, belongs, astray}
 
 -- n values, from that of h on
@@ -58,3 +58,5 @@ pub record DayIs (k : Key) (l : List Change) (d : Day) : Type 0 where
   pub starts : length (d .start) ≡ 24
   pub lens : length (d .len) ≡ 24
   pub is : (j : ℕ) → j < 24 → slot (getD (d .start) j 0) (getD (d .len) j 0) ≡ placeOf (atHour k (1 + j)) l
+  -- where none stands too
+  pub inside : (j : ℕ) → j < 24 → getD (d .start) j 0 ≤ length (writeAll l)

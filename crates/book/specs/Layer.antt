@@ -11,16 +11,32 @@ pub use Rattle.records.specs.declared.keys.KeyAnswer.{KeyAnswer}
 pub use Rattle.records.specs.Changes.{Rec, Change, filed, corrected, withdrawn, keyOf, kindOf, write, Good, Input, fine, fault, parse, Scan, seen, blind, scan, bare, begins, takeBackBytes, closeBytes, viewOf, parsedOf, putBytes}
 -- keys, the keys of questions, limits, marks
 pub use Rattle.records.specs.Reading.{bad, got}
-pub use Rattle.records.specs.Marks.{markBytes, order}
-pub use Rattle.records.specs.declared.marks.Mark.the-variants.{Gh}
-pub use Rattle.records.specs.Names.{noOne}
-pub use Rattle.records.specs.Keys.{same, sameHour, askHour, keyAnswer}
+pub use Rattle.records.specs.declared.marks.Mark.{Mark}
+pub use Rattle.records.specs.declared.marks.Mark.the-variants.{Pr, Im, Ex, Gh, Fi, Fe}
+pub use Rattle.records.specs.Marks.{markBytes, order, isFailure}
+pub use Rattle.records.specs.Keys.{same, sameHour, askHour, askHourOf, askUnit, askFailure, keyAnswer}
 pub use Rattle.records.specs.Hours.{limitOf, sameName, atHour}
 -- decoded names and their order
 pub use Rattle.money.specs.declared.names.Name.{Name}
-pub use Rattle.money.specs.Names.{nameOf, nameBefore}
+pub use Rattle.records.specs.Names.{noOne}
+-- amounts: what a record is to the money rules, and the rules themselves
+pub use Rattle.records.specs.declared.layouts.HourPrices.{HourPrices}
+pub use Rattle.records.specs.declared.amounts.UnitPart.{UnitPart}
+pub use Rattle.records.specs.Views.{pricesOf, exportOf, unitHourOf, pricesIn, exportIn, unitIn}
+pub use Rattle.records.specs.Amounts.{quantityAt, noQuantity, rowOf, entry, entryFault, totalsWith, offset, offsetAnswer, amountOk, hourPart, daySum, dayAnswer, reversal, noTicks, noStart, nameOf, nameBefore}
+pub use Rattle.records.specs.Amounts.{creditTicks, unitTicks, startCents, chargeTicks, offsetEntry, offsetEntryIn, unitAmountIn, unitPartIn, chargeIn, ticksOf}
+pub use Rattle.money.specs.declared.units.Quantity.{Quantity}
+pub use Rattle.money.specs.declared.units.Ticks.{Ticks}
+pub use Rattle.money.specs.declared.imports.Import.{Import}
+pub use Rattle.money.specs.declared.units.Answer.{Answer}
+pub use Rattle.money.specs.declared.units.Answer.the-variants.{Amount}
+pub use Rattle.money.specs.declared.production.DayAnswer.{DayAnswer}
+pub use Rattle.money.specs.declared.production.DayAnswer.the-variants.{Day, Refused}
+pub use Rattle.money.specs.declared.units.CentsPerStart.{CentsPerStart}
 -- laws
-pub use Rattle.records.specs.BookLaws.{scan-write, Found, scan-got, Taken, parse-fine, parse-fault, write-pos, write-co, same-true, same-refl, sameHour-same, bare-exact, Read, view-bad, view-got, askBytes, asked, ask-fault, askHour-fault, limit-most, limit-same, good-hour, same-at, store-front, store-length}
+pub use Rattle.records.specs.BookLaws.{scan-write, Found, scan-got, Taken, parse-fine, parse-fault, write-pos, write-co, good-co, same-true, same-refl, sameHour-same, hour-parts, bare-exact, Read, view-bad, view-got, askBytes, asked, ask-fault, askHour-fault, askHourOf-fault, askUnit-fault, askFailure-fault, hour-asked, unit-marked, failure-marked, names-apart, limit-most, limit-same, good-hour, same-at, at-hour, store-front, store-length}
+pub use Rattle.records.specs.BookLaws.{PricesFit, prices-view, standing-prices, export-view, standing-export, unit-written, charge-written, entry-view, entry-sound, unit-ready}
+pub use Rattle.records.specs.BookLaws.{row-at, row-same, row-none, quantity-most, totals-more, rates-ok, offset-amount, answer-front, day-amount, day-sum, amount-ok, same-names, name-trans, name-tri, name-self}
 pub use Rattle.records.specs.PriceExample.{priceBytes, priceRecord, price-read, price-length, price-limit}
 
 -- a key that was asked for, or the number of the first fault

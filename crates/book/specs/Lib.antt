@@ -1,4 +1,6 @@
 pub mod Layer
+pub mod Replies
+pub mod Amounts
 pub mod Register
 pub mod ByName
 pub mod Meaning
@@ -9,6 +11,13 @@ pub mod ReplayLaws
 pub mod SessionLaws
 pub mod PlaceLaws
 pub mod Places
+pub mod Built
+pub mod Worked
+pub mod StandLaws
+pub mod WorkedLaws
+pub mod DayLaws
+pub mod ChargeLaws
+pub mod OrderLaws
 pub mod Units
 pub mod GatherLaws
 pub mod Hours

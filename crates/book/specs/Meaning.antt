@@ -5,12 +5,15 @@ use mathlib.Core.List.{List, [], _∷_}
 use mathlib.Core.Bool.{cond}
 use lib.ListN.{length, take, drop}
 use lib.Dec.{leb, eqb}
-use Rattle.money.specs.Refusals.{notTogether}
-use Rattle.book.specs.Layer.{Change, Good, Scan, seen, blind, scan}
+use Rattle.money.specs.Refusals.{unknownMark, notTogether}
+use Rattle.book.specs.Layer.{Key, Change, Good, Scan, seen, blind, scan, Mark, isFailure, Asked, got, bad, askHourOf}
 use Rattle.book.specs.declared.journal.Book.{Book}
 use Rattle.book.specs.declared.answers.Answer.{Answer}
-use Rattle.book.specs.declared.answers.Answer.the-variants.{Accepted, Refused, Place, Number}
-use Rattle.book.specs.Register.{Reg, Call, Step, answered, becomes, stepOf, writeAll, refusal, Reply, refused, accepted, place, number, reply}
+use Rattle.book.specs.declared.answers.Answer.the-variants.{Accepted, Refused, Place, Number, Day, Charge}
+use Rattle.book.specs.declared.answers.Guarantees.{Guarantees}
+use Rattle.book.specs.declared.answers.Charges as answers
+use Rattle.book.specs.Amounts.{Charges, charged, no, chargesOf, priceOf}
+use Rattle.book.specs.Register.{Reg, standing, startIn, Call, Step, answered, becomes, stepOf, writeAll, refusal, Reply, refused, accepted, place, number, guarantees, unitDay, charge, reply}
 
 -- ---- which changes a book and its bytes stand for
 
@@ -86,3 +89,23 @@ replyOf Accepted = accepted
 replyOf (Refused n) = refused n
 replyOf (Place start len) = place start len
 replyOf (Number n) = number n
+replyOf (Day total reversal) = unitDay (total .0) (reversal .0)
+replyOf (Charge t) = charge (t .0)
+
+-- an hour's guarantees stand beside their number
+abbrev pub guaranteesReply : Guarantees → Reply
+guaranteesReply g = cond (eqb (g .number) 0) (guarantees (take (g .credits .n) (g .credits .list)) (g .offset .0)) (refused (g .number))
+
+-- ---- the charges of a mark and hour
+
+abbrev pub chargesKeyed : List Change → Asked → Charges
+chargesKeyed l (bad n) = no n
+chargesKeyed l (got k t) = chargesOf (startIn l) k (standing l) (priceOf (standing l))
+
+-- 16, then 2, 3, then 15 where failures stand
+abbrev pub hourCharges : Mark → ℕ → Load → Charges
+hourCharges m h astray = no notTogether
+hourCharges m h (belongs l) = cond (isFailure m) (chargesKeyed l (askHourOf m h)) (no unknownMark)
+
+abbrev pub chargesReply : answers.Charges → Charges
+chargesReply c = cond (eqb (c .number) 0) (charged (take (c .charges .n) (c .charges .list))) (no (c .number))

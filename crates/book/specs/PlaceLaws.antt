@@ -11,7 +11,8 @@ use Rattle.book.specs.Layer.{Key, Rec, Change, filed, corrected, withdra
 use Rattle.book.specs.Register.{writeAll, without, play, standing, stands, place, refused, written, placeOf}
 use Rattle.book.specs.Tables.{survey}
 use Rattle.book.specs.Meaning.{Valid}
-use Rattle.book.specs.Session.{Pick, is, nil, pick, Shows}
+use Rattle.book.specs.Session.{Shows}
+use Rattle.book.specs.Amounts.{Pick, is, nil, pick}
 use Rattle.book.specs.RegisterLaws.{by-test, true≠false, survey-found, stands-without-other, stands-without-self}
 
 pick-without : (k j : Key) (xs : List Rec) → same k j ≡ false → pick k (without j xs) ≡ pick k xs
@@ -108,7 +109,7 @@ survey-place k (c ∷ l) = go (same k (keyOf c)) (survey-place k l)
     go false ih = ih
 
 -- what does not stand is not picked
-pick-none : (k : Key) (xs : List Rec) → stands k xs ≡ false → pick k xs ≡ nil
+pub pick-none : (k : Key) (xs : List Rec) → stands k xs ≡ false → pick k xs ≡ nil
 unfolding stands pick
 pick-none k [] h = refl
 pick-none k (x ∷ xs) h =

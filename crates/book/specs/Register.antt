@@ -2,11 +2,12 @@
 use Prim.Native.Nat.{ℕ, zero, suc, _+_, _-_}
 use mathlib.Core.List.{List, [], _∷_, _++_}
 use mathlib.Core.Bool.{Bool, true, false, cond}
-use lib.IntN.{ℤ}
 use lib.ListN.{length}
 use lib.Dec.{ltb, leb}
 use Rattle.money.specs.Refusals.{bookClosed, keyStands, noSuchKey, hourFull, noSpace, nothingToTakeBack, notTogether}
-use Rattle.book.specs.Layer.{Key, Rec, Change, filed, corrected, withdrawn, keyOf, write, Input, fine, fault, parse, bare, same, sameHour, Asked, got, bad, keyAsked, askHour, limitOf, begins, takeBackBytes, closeBytes}
+use Rattle.book.specs.Layer.{Key, Rec, Change, filed, corrected, withdrawn, keyOf, write, Input, fine, fault, parse, bare, same, sameHour, Asked, got, bad, keyAsked, askHour, askHourOf, askUnit, askFailure, Im, limitOf, begins, takeBackBytes, closeBytes}
+pub use Rattle.book.specs.Replies.{Reply, refused, accepted, place, number, guarantees, unitDay, charge}
+use Rattle.book.specs.Amounts.{guaranteesOf, unitDayOf, chargeOf, priceOf}
 
 -- "State: a list of accepted changes, and open or closed."
 pub record Reg : Type 0 where
@@ -71,18 +72,6 @@ refusal l lent (withdrawn k) = cond (stands k (standing l)) (roomFor l lent (wit
 
 -- ---- what a call brings back
 
--- an amount in ticks, and the decoded name that it belongs to, where it has one
-pub record Amount : Type 0 where
-  pub name : List ℕ
-  pub ticks : ℤ
-
-pub data Reply : Type 0 where
-  refused : ℕ → Reply
-  accepted : Reply
-  place : ℕ → ℕ → Reply
-  number : ℕ → Reply
-  amounts : List Amount → Reply
-
 -- a call either leaves the register as it is, or is accepted and makes it another
 pub data Step : Type 0 where
   answered : Reply → Step
@@ -136,22 +125,41 @@ unfoldable pub placeOf : Key → List Change → Reply
 placeOf k [] = refused noSuchKey
 placeOf k (c ∷ l) = cond (same k (keyOf c)) (written c (length (writeAll l))) (placeOf k l)
 
--- mark, hour and spelled name as they are lent; an hour's guarantees, a unit's day and a failure charge have their place here
+-- where the record of a key is written
+abbrev pub startFrom : Reply → ℕ
+startFrom (refused n) = 0
+startFrom accepted = 0
+startFrom (place start len) = start
+startFrom (number n) = 0
+startFrom (guarantees cs o) = 0
+startFrom (unitDay t v) = 0
+startFrom (charge t) = 0
+
+unfoldable pub startIn : List Change → Key → ℕ
+startIn l k = startFrom (placeOf k l)
+
+-- "the record of a key .., counts by mark and hour, free bytes, an hour's guarantees, a unit's day, a failure charge": mark, hour and spelled name as they are lent
 pub data Question : Type 0 where
   recordOf : List ℕ → ℕ → List ℕ → Question
   countOf : List ℕ → ℕ → Question
   freeBytes : Question
+  hourGuarantees : ℕ → Question
+  dayOf : List ℕ → Question
+  failureCharge : List ℕ → ℕ → List ℕ → Question
 
 -- "Questions check 2, 3, 4, 11, 15"
 abbrev pub keyed : Asked → (Key → Reply) → Reply
 keyed (got k t) f = f k
 keyed (bad n) f = refused n
 
--- "the record of a key, counts by mark and hour, free bytes"
+-- "answered from these by the formulas above": the prices are those of the same standing records
 abbrev pub answer : Question → ℕ → Reg → Reply
 answer (recordOf m h n) lent g = keyed (keyAsked m h n) (λ k. placeOf k (g .list))
 answer (countOf m h) lent g = keyed (askHour m h) (λ k. number (count k (standing (g .list))))
 answer freeBytes lent g = number (capped lent - length (writeAll (g .list)))
+answer (hourGuarantees h) lent g = keyed (askHourOf Im h) (λ (k : Key). guaranteesOf (startIn (g .list)) (standing (g .list)) (priceOf (standing (g .list))) (k .hour))
+answer (dayOf n) lent g = keyed (askUnit n) (λ (k : Key). unitDayOf k (standing (g .list)) (priceOf (standing (g .list))))
+answer (failureCharge m h n) lent g = keyed (askFailure m h n) (λ (k : Key). chargeOf k (standing (g .list)) (priceOf (standing (g .list))))
 
 abbrev pub asking : Question → ℕ → Reg → Step
 asking q lent g = answered (answer q lent g)

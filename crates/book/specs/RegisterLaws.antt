@@ -49,7 +49,7 @@ without-none k (x ∷ xs) h =
     (λ t. ap (λ (b : Bool). cond b (without k xs) (x ∷ without k xs)) t ∙ ap (λ (y : List Rec). x ∷ y) (without-none k xs (sym (ap (λ (b : Bool). cond b true (stands k xs)) t) ∙ h)))
 
 -- no key twice
-pub Once : List Rec → Type 0
+unfoldable pub Once : List Rec → Type 0
 Once [] = Unit {0}
 Once (x ∷ xs) = (stands (x .key) xs ≡ false) × Once xs
 

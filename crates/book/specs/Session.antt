@@ -9,6 +9,7 @@ use Rattle.book.specs.declared.journal.Book.{Book}
 use Rattle.book.specs.Layer.{Key, Rec, filed, write, same, keyAsked, got, markBytes, askBytes, takeBackBytes}
 use Rattle.book.specs.Register.{Call, takeBack, ask, Question, answer, placeOf, standing, stands, writeAll, Reply, refused, accepted, place, Turn, run, told}
 use Rattle.book.specs.Meaning.{Meets, bookOf, Valid}
+use Rattle.book.specs.Amounts.{Pick, is, nil, pick}
 
 -- "each call gets the book as last handed back, and as much of its used part as is lent stands as it was left; the lent length may differ from call to call".
 -- Newest first. `held` is the used part as it was left. A call is lent some bytes s; after it the used part is made of these as the call left them, and of what was not lent
@@ -28,15 +29,6 @@ pub data Undo {ts : List Turn} {rs : List Reply} {b : Book} {held : List ℕ} (b
       → Undo before (suc n) (record { call = takeBack takeBackBytes; lent = length s } ∷ us) (r ∷ qs) d′ (take (d′ .used) (s′ ++ drop (length s) kept))
 
 -- ---- what is claimed
-
--- the standing record of a key, if there is one
-pub data Pick : Type 0 where
-  is : Rec → Pick
-  nil : Pick
-
-unfoldable pub pick : Key → List Rec → Pick
-pick k [] = nil
-pick k (x ∷ xs) = cond (same k (x .key)) (is x) (pick k xs)
 
 -- an answer that tells where a record stands in some bytes as it is filed
 pub record Shown (x : Rec) (bytes : List ℕ) (r : Reply) : Type 0 where

@@ -12,7 +12,8 @@ use Rattle.book.specs.Layer.{Change, bare-exact, takeBackBytes}
 use Rattle.book.specs.declared.journal.Book.{Book}
 use Rattle.book.specs.Register.{Reg, Call, takeBack, ask, Question, answer, placeOf, standing, Step, answered, becomes, refused, accepted, stepOf, called, shorter, unless-closed, after, writeAll, Reply, reply, Turn, run, told}
 use Rattle.book.specs.Meaning.{After, bookOf, settled, Meets, Valid}
-use Rattle.book.specs.Session.{Session, start, next, Undo, undone, undo, pick, Shows, Agrees, Restored, Holds, Throughout}
+use Rattle.book.specs.Amounts.{pick}
+use Rattle.book.specs.Session.{Session, start, next, Undo, undone, undo, Shows, Agrees, Restored, Holds, Throughout}
 use Rattle.book.specs.ReplayLaws.{called-valid, outcome-is}
 use Rattle.book.specs.PlaceLaws.{place-shows, standing-asked}
 

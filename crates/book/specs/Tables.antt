@@ -10,7 +10,7 @@ use Rattle.book.specs.Layer.{Key, View, Change, keyOf, kindOf, write, sa
 use Rattle.book.specs.declared.survey.Survey.{Survey}
 use Rattle.book.specs.declared.replay.Checked.{Checked}
 use Rattle.book.specs.declared.replay.Table.{Table}
-use Rattle.book.specs.Register.{writeAll, room, Reply, refused, accepted, place, number, amounts, Step, answered, becomes}
+use Rattle.book.specs.Register.{writeAll, room, Reply, refused, accepted, place, number, guarantees, unitDay, charge, Step, answered, becomes}
 use Rattle.book.specs.Meaning.{Load, belongs, astray, Valid}
 
 abbrev pub viewed : Change → View
@@ -71,7 +71,9 @@ replied (refused n) = n
 replied accepted = 0
 replied (place a b) = 0
 replied (number n) = 0
-replied (amounts xs) = 0
+replied (guarantees cs o) = 0
+replied (unitDay t v) = 0
+replied (charge t) = 0
 
 abbrev pub numberOf : Step → ℕ
 numberOf (answered r) = replied r

@@ -1,9 +1,13 @@
 // The book: a participant's day as written changes in lent bytes, and three numbers that the caller keeps.
 pub mod answers;
 pub mod changes;
+pub mod days;
+pub mod failures;
+pub mod guarantees;
 pub mod hours;
 pub mod journal;
 pub mod places;
+mod prices;
 pub mod questions;
 mod refusal;
 mod replay;

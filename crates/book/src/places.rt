@@ -2,11 +2,11 @@
 use crate::journal::Book;
 use crate::survey;
 use money::names::Name;
-use money::names::name_before;
 use money::refusals::NOT_TOGETHER;
 use records::keys::Key;
 use records::keys::ask_hour;
 use records::keys::same_hour;
+use records::names::comes_before;
 use records::scan::View;
 ghost use mathlib.Core.Path.{_≡_};
 ghost use mathlib.Core.Bool.{cond, true, _&&_};
@@ -87,7 +87,7 @@ fn slot_for(p: Places, s: Spot) -> usize
     let mut i: usize = 0;
     while i < n {
         let x = p.at[i];
-        if name_before(s.name, x.name) {
+        if comes_before(s.name, x.name) {
             return i;
         }
         i = i + 1;
@@ -159,7 +159,7 @@ pub(crate) fn gather_in(views: [View; 512], n: usize, key: Key) -> Places
 }
 
 fn no_places(number: u8) -> Hour
-    ensures { λ r. ⌜ r .number ≡ number ⌝ }
+    ensures { λ r. ⌜ (r .number ≡ number) × (r .places .n ≤ 16) ⌝ }
 {
     let places = no_spots();
     Hour { number, places }
@@ -168,7 +168,7 @@ fn no_places(number: u8) -> Hour
 impl Book {
     // The standing records of a mark and hour, by decoded name, and where each is written.
     pub fn places_of(self, log: &[u8], mark: &[u8], hour: u8) -> Hour
-        ensures { λ r. ⌜ listingOf r ≡ hourPlaces (askHour (now (mark .entry)) hour) (load self (now (log .entry))) ⌝ }
+        ensures { λ r. ⌜ (listingOf r ≡ hourPlaces (askHour (now (mark .entry)) hour) (load self (now (log .entry)))) × (r .places .n ≤ 16) ⌝ }
     {
         let k = self.check_table(log);
         if k.ok {

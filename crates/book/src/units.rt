@@ -2,11 +2,11 @@
 use crate::journal::Book;
 use crate::places::standing_in;
 use money::names::Name;
-use money::names::name_before;
 use money::refusals::NOT_TOGETHER;
 use records::keys::Key;
 use records::marks::Mark;
 use records::marks::order;
+use records::names::comes_before;
 use records::scan::View;
 ghost use mathlib.Core.Path.{_≡_};
 ghost use mathlib.Core.Bool.{cond, true, _&&_};
@@ -68,10 +68,10 @@ fn slot_of(u: Units, name: Name) -> Slot
     let mut i: usize = 0;
     while i < n {
         let x = u.names[i];
-        if name_before(name, x) {
+        if comes_before(name, x) {
             return Slot { at: i, new: true };
         }
-        if !name_before(x, name) {
+        if !comes_before(x, name) {
             return Slot { at: i, new: false };
         }
         i = i + 1;
@@ -154,7 +154,7 @@ fn gh_key() -> Key
 impl Book {
     // The names of the units, by decoded name in byte order.
     pub fn units(self, log: &[u8]) -> UnitList
-        ensures { λ r. ⌜ unitListOf r ≡ unitNames (load self (now (log .entry))) ⌝ }
+        ensures { λ r. ⌜ (unitListOf r ≡ unitNames (load self (now (log .entry)))) × (r .units .n ≤ 512) ⌝ }
     {
         let k = self.check_table(log);
         if k.ok {

@@ -25,17 +25,17 @@ mul-x c = search needs
 element-copy-out-x : tie.Need-element-copy-out-x Inv-loop μ-loop
 element-copy-out-x c = search needs
 
-name-before-requires : tie.Need-name-before-requires Inv-loop μ-loop
-name-before-requires c κs = search needs
+comes-before-requires : tie.Need-comes-before-requires Inv-loop μ-loop
+comes-before-requires c κs = search needs
 
 returns : tie.Need-returns Inv-loop μ-loop
-returns c = let z : length ((c .before .before .before .before .before .args) .t1 .names) ≡ 512 = search (needs, unmapped) in (omega (arith, (c .before .before .before .loop-test) .taken), name-here ((c .before .before .before .before .before .args) .name) ((c .before .before .before .before .before .args) .t1) ((c .before .before .before .before .loop) .i) ((c .before .before .before .before .loop) .inv) (omega arith) _ ((c .before .before .before .loop-test) .taken) ((c .before .name-before) .ensures) ((c .if1) .taken))
+returns c = let z : length ((c .before .before .before .before .before .args) .t1 .names) ≡ 512 = search (needs, unmapped) in (omega (arith, (c .before .before .before .loop-test) .taken), name-here ((c .before .before .before .before .before .args) .name) ((c .before .before .before .before .before .args) .t1) ((c .before .before .before .before .loop) .i) ((c .before .before .before .before .loop) .inv) (omega arith) _ ((c .before .before .before .loop-test) .taken) ((c .before .comes-before) .ensures) ((c .if1) .taken))
 
-name-before-requires-2 : tie.Need-name-before-requires-2 Inv-loop μ-loop
-name-before-requires-2 c κs = search needs
+comes-before-requires-2 : tie.Need-comes-before-requires-2 Inv-loop μ-loop
+comes-before-requires-2 c κs = search needs
 
 returns-2 : tie.Need-returns-2 Inv-loop μ-loop
-returns-2 c = let z : length ((c .before .before .before .before .before .before .before .args) .t1 .names) ≡ 512 = search (needs, unmapped) in (omega (arith, (c .before .before .before .before .before .loop-test) .taken), name-there ((c .before .before .before .before .before .before .before .args) .name) ((c .before .before .before .before .before .before .before .args) .t1) ((c .before .before .before .before .before .before .loop) .i) ((c .before .before .before .before .before .before .loop) .inv) (omega arith) _ ((c .before .before .before .before .before .loop-test) .taken) ((c .before .before .before .name-before) .ensures) ((c .before .before .if1) .left) ((c .before .name-before2) .ensures) (not-true _ ((c .if2) .taken)))
+returns-2 c = let z : length ((c .before .before .before .before .before .before .before .args) .t1 .names) ≡ 512 = search (needs, unmapped) in (omega (arith, (c .before .before .before .before .before .loop-test) .taken), name-there ((c .before .before .before .before .before .before .before .args) .name) ((c .before .before .before .before .before .before .before .args) .t1) ((c .before .before .before .before .before .before .loop) .i) ((c .before .before .before .before .before .before .loop) .inv) (omega arith) _ ((c .before .before .before .before .before .loop-test) .taken) ((c .before .before .before .comes-before) .ensures) ((c .before .before .if1) .left) ((c .before .comes-before2) .ensures) (not-true _ ((c .if2) .taken)))
 
 add-i : tie.Need-add-i Inv-loop μ-loop
 add-i c = search needs
@@ -44,7 +44,7 @@ loop-less : tie.Need-loop-less Inv-loop μ-loop
 loop-less c = omega (arith, (c .before .before .before .before .before .loop-test) .taken)
 
 loop-again : tie.Need-loop-again Inv-loop μ-loop
-loop-again c = let z : length ((c .before .before .before .before .before .before .before .args) .t1 .names) ≡ 512 = search (needs, unmapped) in name-on ((c .before .before .before .before .before .before .before .args) .name) ((c .before .before .before .before .before .before .before .args) .t1) ((c .before .before .before .before .before .before .loop) .i) ((c .before .before .before .before .before .before .loop) .inv) (omega arith) _ ((c .before .before .before .before .before .loop-test) .taken) ((c .before .before .before .name-before) .ensures) ((c .before .before .if1) .left) ((c .before .name-before2) .ensures) (not-false _ ((c .if2) .left))
+loop-again c = let z : length ((c .before .before .before .before .before .before .before .args) .t1 .names) ≡ 512 = search (needs, unmapped) in name-on ((c .before .before .before .before .before .before .before .args) .name) ((c .before .before .before .before .before .before .before .args) .t1) ((c .before .before .before .before .before .before .loop) .i) ((c .before .before .before .before .before .before .loop) .inv) (omega arith) _ ((c .before .before .before .before .before .loop-test) .taken) ((c .before .before .before .comes-before) .ensures) ((c .before .before .if1) .left) ((c .before .comes-before2) .ensures) (not-false _ ((c .if2) .left))
 
 returns-3 : tie.Need-returns-3 Inv-loop μ-loop
 returns-3 c = let z : length ((c .before .before .args) .t1 .names) ≡ 512 = search (needs, unmapped) in (omega arith, name-end ((c .before .before .args) .name) ((c .before .before .args) .t1) ((c .before .loop) .i) ((c .before .loop) .inv) (omega arith) ((c .loop-test) .left))
@@ -58,9 +58,9 @@ slot-of-spec =
     loop-holds
     mul-x
     element-copy-out-x
-    name-before-requires
+    comes-before-requires
     returns
-    name-before-requires-2
+    comes-before-requires-2
     returns-2
     add-i
     loop-less

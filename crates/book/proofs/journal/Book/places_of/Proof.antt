@@ -16,7 +16,7 @@ no-places-requires : tie.Need-no-places-requires
 no-places-requires c κs = search needs
 
 returns : tie.Need-returns
-returns c = places-no (askHour ((c .before .before .before .before .before .before .before .before .args) .mark .now) ((c .before .before .before .before .before .before .before .before .args) .hour)) (load ((c .before .before .before .before .before .before .before .before .args) .self) ((c .before .before .before .before .before .before .before .before .args) .log .now)) ((c .no-places) .result) ((c .before .before .before .ask-hour) .result .number) ((c .no-places) .ensures) (places-wrong ((c .before .before .before .before .before .before .before .before .args) .mark .now) ((c .before .before .before .before .before .before .before .before .args) .hour) ((is-tabled ((c .before .before .before .before .before .before .before .before .args) .self) ((c .before .before .before .before .before .before .before .before .args) .log .now) ((c .before .before .before .before .before .check-table) .result) ((c .before .before .before .before .before .check-table) .ensures) ((c .before .before .before .before .if1) .taken)) .list) (load ((c .before .before .before .before .before .before .before .before .args) .self) ((c .before .before .before .before .before .before .before .before .args) .log .now)) ((is-tabled ((c .before .before .before .before .before .before .before .before .args) .self) ((c .before .before .before .before .before .before .before .before .args) .log .now) ((c .before .before .before .before .before .check-table) .result) ((c .before .before .before .before .before .check-table) .ensures) ((c .before .before .before .before .if1) .taken)) .is) ((c .before .before .before .ask-hour) .result) ((c .before .before .before .ask-hour) .ensures) ((c .before .if2) .taken)) ((c .before .if2) .taken)
+returns c = (places-no (askHour ((c .before .before .before .before .before .before .before .before .args) .mark .now) ((c .before .before .before .before .before .before .before .before .args) .hour)) (load ((c .before .before .before .before .before .before .before .before .args) .self) ((c .before .before .before .before .before .before .before .before .args) .log .now)) ((c .no-places) .result) ((c .before .before .before .ask-hour) .result .number) ((c .no-places) .ensures .0) (places-wrong ((c .before .before .before .before .before .before .before .before .args) .mark .now) ((c .before .before .before .before .before .before .before .before .args) .hour) ((is-tabled ((c .before .before .before .before .before .before .before .before .args) .self) ((c .before .before .before .before .before .before .before .before .args) .log .now) ((c .before .before .before .before .before .check-table) .result) ((c .before .before .before .before .before .check-table) .ensures) ((c .before .before .before .before .if1) .taken)) .list) (load ((c .before .before .before .before .before .before .before .before .args) .self) ((c .before .before .before .before .before .before .before .before .args) .log .now)) ((is-tabled ((c .before .before .before .before .before .before .before .before .args) .self) ((c .before .before .before .before .before .before .before .before .args) .log .now) ((c .before .before .before .before .before .check-table) .result) ((c .before .before .before .before .before .check-table) .ensures) ((c .before .before .before .before .if1) .taken)) .is) ((c .before .before .before .ask-hour) .result) ((c .before .before .before .ask-hour) .ensures) ((c .before .if2) .taken)) ((c .before .if2) .taken), (c .no-places) .ensures .1)
 
 cast-gather-in : tie.Need-cast-gather-in
 cast-gather-in c = search needs
@@ -25,13 +25,13 @@ gather-in-requires : tie.Need-gather-in-requires
 gather-in-requires c κs = (stored ((c .before .before .before .before .before .before .before .before .before .args) .self) ((c .before .before .before .before .before .before .before .before .before .args) .log .now) ((c .before .before .before .before .before .before .check-table) .result) ((c .before .before .before .before .before .before .check-table) .ensures) (is-tabled ((c .before .before .before .before .before .before .before .before .before .args) .self) ((c .before .before .before .before .before .before .before .before .before .args) .log .now) ((c .before .before .before .before .before .before .check-table) .result) ((c .before .before .before .before .before .before .check-table) .ensures) ((c .before .before .before .before .before .if1) .taken)))
 
 returns-2 : tie.Need-returns-2
-returns-2 c = places-at ((c .before .before .before .before .before .before .before .before .before .before .args) .mark .now) ((c .before .before .before .before .before .before .before .before .before .before .args) .hour) ((is-tabled ((c .before .before .before .before .before .before .before .before .before .before .args) .self) ((c .before .before .before .before .before .before .before .before .before .before .args) .log .now) ((c .before .before .before .before .before .before .before .check-table) .result) ((c .before .before .before .before .before .before .before .check-table) .ensures) ((c .before .before .before .before .before .before .if1) .taken)) .list) (load ((c .before .before .before .before .before .before .before .before .before .before .args) .self) ((c .before .before .before .before .before .before .before .before .before .before .args) .log .now)) ((is-tabled ((c .before .before .before .before .before .before .before .before .before .before .args) .self) ((c .before .before .before .before .before .before .before .before .before .before .args) .log .now) ((c .before .before .before .before .before .before .before .check-table) .result) ((c .before .before .before .before .before .before .before .check-table) .ensures) ((c .before .before .before .before .before .before .if1) .taken)) .is) ((c .before .before .before .before .before .ask-hour) .result) ((c .before .before .before .before .before .ask-hour) .ensures) ((c .before .before .before .if2) .left) ((c .gather-in) .result) ((c .gather-in) .ensures .0 ((is-tabled ((c .before .before .before .before .before .before .before .before .before .before .args) .self) ((c .before .before .before .before .before .before .before .before .before .before .args) .log .now) ((c .before .before .before .before .before .before .before .check-table) .result) ((c .before .before .before .before .before .before .before .check-table) .ensures) ((c .before .before .before .before .before .before .if1) .taken)) .list) ((c .before .before .before .before .before .before .before .check-table) .ensures .kept ((is-tabled ((c .before .before .before .before .before .before .before .before .before .before .args) .self) ((c .before .before .before .before .before .before .before .before .before .before .args) .log .now) ((c .before .before .before .before .before .before .before .check-table) .result) ((c .before .before .before .before .before .before .before .check-table) .ensures) ((c .before .before .before .before .before .before .if1) .taken)) .list) ((is-tabled ((c .before .before .before .before .before .before .before .before .before .before .args) .self) ((c .before .before .before .before .before .before .before .before .before .before .args) .log .now) ((c .before .before .before .before .before .before .before .check-table) .result) ((c .before .before .before .before .before .before .before .check-table) .ensures) ((c .before .before .before .before .before .before .if1) .taken)) .is)) ((is-tabled ((c .before .before .before .before .before .before .before .before .before .before .args) .self) ((c .before .before .before .before .before .before .before .before .before .before .args) .log .now) ((c .before .before .before .before .before .before .before .check-table) .result) ((c .before .before .before .before .before .before .before .check-table) .ensures) ((c .before .before .before .before .before .before .if1) .taken)) .count-is))
+returns-2 c = (places-at ((c .before .before .before .before .before .before .before .before .before .before .args) .mark .now) ((c .before .before .before .before .before .before .before .before .before .before .args) .hour) ((is-tabled ((c .before .before .before .before .before .before .before .before .before .before .args) .self) ((c .before .before .before .before .before .before .before .before .before .before .args) .log .now) ((c .before .before .before .before .before .before .before .check-table) .result) ((c .before .before .before .before .before .before .before .check-table) .ensures) ((c .before .before .before .before .before .before .if1) .taken)) .list) (load ((c .before .before .before .before .before .before .before .before .before .before .args) .self) ((c .before .before .before .before .before .before .before .before .before .before .args) .log .now)) ((is-tabled ((c .before .before .before .before .before .before .before .before .before .before .args) .self) ((c .before .before .before .before .before .before .before .before .before .before .args) .log .now) ((c .before .before .before .before .before .before .before .check-table) .result) ((c .before .before .before .before .before .before .before .check-table) .ensures) ((c .before .before .before .before .before .before .if1) .taken)) .is) ((c .before .before .before .before .before .ask-hour) .result) ((c .before .before .before .before .before .ask-hour) .ensures) ((c .before .before .before .if2) .left) ((c .gather-in) .result) ((c .gather-in) .ensures .0 ((is-tabled ((c .before .before .before .before .before .before .before .before .before .before .args) .self) ((c .before .before .before .before .before .before .before .before .before .before .args) .log .now) ((c .before .before .before .before .before .before .before .check-table) .result) ((c .before .before .before .before .before .before .before .check-table) .ensures) ((c .before .before .before .before .before .before .if1) .taken)) .list) ((c .before .before .before .before .before .before .before .check-table) .ensures .kept ((is-tabled ((c .before .before .before .before .before .before .before .before .before .before .args) .self) ((c .before .before .before .before .before .before .before .before .before .before .args) .log .now) ((c .before .before .before .before .before .before .before .check-table) .result) ((c .before .before .before .before .before .before .before .check-table) .ensures) ((c .before .before .before .before .before .before .if1) .taken)) .list) ((is-tabled ((c .before .before .before .before .before .before .before .before .before .before .args) .self) ((c .before .before .before .before .before .before .before .before .before .before .args) .log .now) ((c .before .before .before .before .before .before .before .check-table) .result) ((c .before .before .before .before .before .before .before .check-table) .ensures) ((c .before .before .before .before .before .before .if1) .taken)) .is)) ((is-tabled ((c .before .before .before .before .before .before .before .before .before .before .args) .self) ((c .before .before .before .before .before .before .before .before .before .before .args) .log .now) ((c .before .before .before .before .before .before .before .check-table) .result) ((c .before .before .before .before .before .before .before .check-table) .ensures) ((c .before .before .before .before .before .before .if1) .taken)) .count-is)), (c .gather-in) .ensures .1)
 
 no-places-requires-2 : tie.Need-no-places-requires-2
 no-places-requires-2 c κs = search needs
 
 returns-3 : tie.Need-returns-3
-returns-3 c = places-astray (askHour ((c .before .before .before .before .before .args) .mark .now) ((c .before .before .before .before .before .args) .hour)) (load ((c .before .before .before .before .before .args) .self) ((c .before .before .before .before .before .args) .log .now)) ((c .no-places2) .result) ((c .no-places2) .ensures) (not-tabled ((c .before .before .before .before .before .args) .self) ((c .before .before .before .before .before .args) .log .now) ((c .before .before .check-table) .result) ((c .before .before .check-table) .ensures) ((c .before .if1) .left))
+returns-3 c = (places-astray (askHour ((c .before .before .before .before .before .args) .mark .now) ((c .before .before .before .before .before .args) .hour)) (load ((c .before .before .before .before .before .args) .self) ((c .before .before .before .before .before .args) .log .now)) ((c .no-places2) .result) ((c .no-places2) .ensures .0) (not-tabled ((c .before .before .before .before .before .args) .self) ((c .before .before .before .before .before .args) .log .now) ((c .before .before .check-table) .result) ((c .before .before .check-table) .ensures) ((c .before .if1) .left)), (c .no-places2) .ensures .1)
 
 pub places-of-spec : {M : Type 1} → statement M
 places-of-spec =

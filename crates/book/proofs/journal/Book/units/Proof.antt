@@ -1,3 +1,4 @@
+use native.Mathlib.Omega.{arith}
 use Rattle.book.proofs.Answering.{is-tabled, not-tabled, stored}
 use Rattle.book.specs.Meaning.{load}
 use Rattle.book.specs.Units.{unitNames}
@@ -20,15 +21,17 @@ names-in-requires : tie.Need-names-in-requires
 names-in-requires c κs = stored ((c .before .before .before .before .before .before .args) .self) ((c .before .before .before .before .before .before .args) .log .now) ((c .before .before .before .before .check-table) .result) ((c .before .before .before .before .check-table) .ensures) (is-tabled ((c .before .before .before .before .before .before .args) .self) ((c .before .before .before .before .before .before .args) .log .now) ((c .before .before .before .before .check-table) .result) ((c .before .before .before .before .check-table) .ensures) ((c .before .before .before .if1) .taken))
 
 returns : tie.Need-returns
-returns c =
-    let x = is-tabled ((c .before .before .before .before .before .before .before .args) .self) ((c .before .before .before .before .before .before .before .args) .log .now) ((c .before .before .before .before .before .check-table) .result) ((c .before .before .before .before .before .check-table) .ensures) ((c .before .before .before .before .if1) .taken) in
-    units-at (load ((c .before .before .before .before .before .before .before .args) .self) ((c .before .before .before .before .before .before .before .args) .log .now)) (x .list) (x .is) ((c .before .gh-key) .result) ((c .before .gh-key) .ensures) ((c .names-in) .result) ((c .names-in) .ensures .0 (x .list) ((c .before .before .before .before .before .check-table) .ensures .kept (x .list) (x .is)) (x .count-is))
+returns c = (
+  let x = is-tabled ((c .before .before .before .before .before .before .before .args) .self) ((c .before .before .before .before .before .before .before .args) .log .now) ((c .before .before .before .before .before .check-table) .result) ((c .before .before .before .before .before .check-table) .ensures) ((c .before .before .before .before .if1) .taken) in
+      units-at (load ((c .before .before .before .before .before .before .before .args) .self) ((c .before .before .before .before .before .before .before .args) .log .now)) (x .list) (x .is) ((c .before .gh-key) .result) ((c .before .gh-key) .ensures) ((c .names-in) .result) ((c .names-in) .ensures .0 (x .list) ((c .before .before .before .before .before .check-table) .ensures .kept (x .list) (x .is)) (x .count-is)),
+  (c .names-in) .ensures .1,
+)
 
 no-names-requires : tie.Need-no-names-requires
 no-names-requires c κs = search needs
 
 returns-2 : tie.Need-returns-2
-returns-2 c = sym (ap unitNames (not-tabled ((c .before .before .before .before .args) .self) ((c .before .before .before .before .args) .log .now) ((c .before .before .check-table) .result) ((c .before .before .check-table) .ensures) ((c .before .if1) .left)))
+returns-2 c = (sym (ap unitNames (not-tabled ((c .before .before .before .before .args) .self) ((c .before .before .before .before .args) .log .now) ((c .before .before .check-table) .result) ((c .before .before .check-table) .ensures) ((c .before .if1) .left))), omega (arith, (c .no-names) .ensures))
 
 pub units-spec : {M : Type 1} → statement M
 units-spec =

@@ -1,0 +1,58 @@
+use Prim.Native.Nat.{_-_}
+use Rattle.book.proofs.DayAnswering.{Filled, filled-none, filled-more, filled-all}
+use borrow.Author.Needs.{needs}
+use Rattle.book.proofs.days.parts_of.Statement.{statement}
+use Rattle.book.proofs.days.parts_of.Tie as tie
+
+abbrev Inv-loop : tie.InvT-loop
+Inv-loop log units prices d₀ j₀ d j = Filled log units prices (d .ticks) (d .starts) j
+
+abbrev μ-loop : tie.MeasureT-loop
+μ-loop log units prices d₀ j₀ d j = 24 - j
+
+loop-holds : tie.Need-loop-holds Inv-loop μ-loop
+loop-holds c = filled-none _ _ _
+
+part-at-requires : tie.Need-part-at-requires Inv-loop μ-loop
+part-at-requires c κs = ((c .before .before .before .pre) .0, ((c .before .before .before .pre) .1, (c .loop-test) .taken))
+
+mul-t : tie.Need-mul-t Inv-loop μ-loop
+mul-t c = search needs
+
+element-set-from-t : tie.Need-element-set-from-t Inv-loop μ-loop
+element-set-from-t c = search needs
+
+mul-s : tie.Need-mul-s Inv-loop μ-loop
+mul-s c = search needs
+
+element-set-from-s : tie.Need-element-set-from-s Inv-loop μ-loop
+element-set-from-s c = search needs
+
+add-j : tie.Need-add-j Inv-loop μ-loop
+add-j c = search needs
+
+loop-less : tie.Need-loop-less Inv-loop μ-loop
+loop-less c = search needs
+
+loop-again : tie.Need-loop-again Inv-loop μ-loop
+loop-again c = filled-more ((c .before .before .before .before .loop) .inv) ((c .before .before .before .loop-test) .taken) ((c .before .before .part-at) .result) ((c .before .before .part-at) .ensures)
+
+returns : tie.Need-returns Inv-loop μ-loop
+returns c = filled-all ((c .before .loop) .inv) ((c .loop-test) .left)
+
+pub parts-of-spec : {M : Type 1} → statement M
+parts-of-spec =
+    tie.close
+    (tie.spec
+    Inv-loop
+    μ-loop
+    loop-holds
+    part-at-requires
+    mul-t
+    element-set-from-t
+    mul-s
+    element-set-from-s
+    add-j
+    loop-less
+    loop-again
+    returns)

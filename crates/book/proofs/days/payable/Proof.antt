@@ -1,0 +1,67 @@
+use mathlib.Core.Path.{sym, _∙_}
+use mathlib.Core.Bool.{_||_, not}
+use Prim.Native.Nat.{ℕ, _-_}
+use lib.ListN.{getD}
+use lib.Dec.{eqb}
+use borrow.Author.Tests.{not-true, not-false}
+use Rattle.laws.specs.Sums.{Passed, passed-none, passed-more, passed-all, every-no}
+use borrow.Author.Needs.{needs}
+use Rattle.book.proofs.days.payable.Statement.{statement}
+use Rattle.book.proofs.days.payable.Tie as tie
+
+abbrev Inv-loop : tie.InvT-loop
+Inv-loop units prices j₀ j = Passed 24 (λ (j : ℕ). eqb (getD (units .len) j 0) 0 || not (eqb (getD (prices .len) j 0) 0)) j
+
+abbrev μ-loop : tie.MeasureT-loop
+μ-loop units prices j₀ j = 24 - j
+
+loop-holds : tie.Need-loop-holds Inv-loop μ-loop
+loop-holds c = passed-none _ _
+
+mul-u : tie.Need-mul-u Inv-loop μ-loop
+mul-u c = search needs
+
+element-copy-out-u : tie.Need-element-copy-out-u Inv-loop μ-loop
+element-copy-out-u c = search needs
+
+mul-p : tie.Need-mul-p Inv-loop μ-loop
+mul-p c = search needs
+
+element-copy-out-p : tie.Need-element-copy-out-p Inv-loop μ-loop
+element-copy-out-p c = search needs
+
+hour-payable-requires : tie.Need-hour-payable-requires Inv-loop μ-loop
+hour-payable-requires c κs = search needs
+
+returns : tie.Need-returns Inv-loop μ-loop
+returns c = sym (every-no 24 ((c .before .before .before .before .before .loop) .j) (λ (j : ℕ). eqb (getD ((c .before .before .before .before .before .before .args) .t1 .len) j 0) 0 || not (eqb (getD ((c .before .before .before .before .before .before .args) .t2 .len) j 0) 0)) ((c .before .before .before .before .loop-test) .taken) (sym ((c .before .hour-payable) .ensures) ∙ not-true _ ((c .if1) .taken)))
+
+add-j : tie.Need-add-j Inv-loop μ-loop
+add-j c = search needs
+
+loop-less : tie.Need-loop-less Inv-loop μ-loop
+loop-less c = search needs
+
+loop-again : tie.Need-loop-again Inv-loop μ-loop
+loop-again c = passed-more ((c .before .before .before .before .before .loop) .inv) ((c .before .before .before .before .loop-test) .taken) (sym ((c .before .hour-payable) .ensures) ∙ not-false _ ((c .if1) .left))
+
+returns-2 : tie.Need-returns-2 Inv-loop μ-loop
+returns-2 c = sym (passed-all ((c .before .loop) .inv) ((c .loop-test) .left))
+
+pub payable-spec : {M : Type 1} → statement M
+payable-spec =
+    tie.close
+    (tie.spec
+    Inv-loop
+    μ-loop
+    loop-holds
+    mul-u
+    element-copy-out-u
+    mul-p
+    element-copy-out-p
+    hour-payable-requires
+    returns
+    add-j
+    loop-less
+    loop-again
+    returns-2)

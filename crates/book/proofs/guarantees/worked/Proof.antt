@@ -1,0 +1,75 @@
+use Prim.Native.Nat.{ℕ}
+use mathlib.Core.Path.{_≡_, sym, ap, ap₂, _∙_}
+use native.Mathlib.Omega.{arith}
+use mathlib.Core.List.{List}
+use lib.ListN.{length}
+use Rattle.book.specs.Register.{Reply}
+use Rattle.book.specs.Layer.{Import}
+use Rattle.book.proofs.Inserting.{unmapped}
+use Rattle.book.proofs.Guaranteeing.{worked-offset, worked-is, never-refused}
+use borrow.Author.Needs.{needs}
+use Rattle.book.proofs.guarantees.worked.Statement.{statement}
+use Rattle.book.proofs.guarantees.worked.Tie as tie
+use Rattle.book.proofs.guarantees.worked.Reads as reads
+use Rattle.book.proofs.guarantees.worked.Lts as lts
+use Rattle.book.proofs.guarantees.credits_of.Reads as credits-of-reads
+use Rattle.book.proofs.guarantees.entries_at.Reads as entries-at-reads
+use Rattle.book.proofs.guarantees.named.Reads as named-reads
+use Rattle.book.proofs.guarantees.no_guarantees.Reads as no-guarantees-reads
+use Rattle.book.proofs.guarantees.totals_at.Reads as totals-at-reads
+use Rattle.records.proofs.amounts.hour_offset.Reads as hour-offset-reads
+
+entries-at-requires : tie.Need-entries-at-requires
+entries-at-requires c κs = search needs
+
+totals-at-requires : tie.Need-totals-at-requires
+totals-at-requires c κs = search needs
+
+cast-hour-offset : tie.Need-cast-hour-offset
+cast-hour-offset c = search needs
+
+hour-offset-requires : tie.Need-hour-offset-requires
+hour-offset-requires c κs = search needs
+
+enum-known-a : tie.Need-enum-known-a
+enum-known-a c = search needs
+
+credits-of-requires : tie.Need-credits-of-requires
+credits-of-requires c κs = search needs
+
+named-requires : tie.Need-named-requires
+named-requires c κs = search needs
+
+enum-known-a-2 : tie.Need-enum-known-a-2
+enum-known-a-2 c = search needs
+
+no-guarantees-requires : tie.Need-no-guarantees-requires
+no-guarantees-requires c κs = search needs
+
+returns : tie.Need-returns
+returns c = let la : length ((c .before .before .before .before .before .before .before .before .before .before .args) .imports .at) ≡ 16 = search (needs, unmapped) in (
+  worked-is ((c .before .before .before .before .before .before .before .before .before .before .args) .log .now) ((c .before .before .before .before .before .before .before .before .before .before .args) .imports) ((c .before .before .before .before .before .before .before .before .before .before .args) .exports) ((c .before .before .before .before .before .before .before .before .before .before .args) .prices) ((c .before .before .before .before .before .before .before .before .entries-at) .result) ((c .before .before .before .before .before .before .before .before .entries-at) .ensures) ((c .before .credits-of) .result) ((c .before .credits-of) .ensures) ((c .named) .result) ((c .named) .ensures .0) _
+      (sym ((c .before .before .before .a) .given .1) ∙ (c .before .before .before .before .before .hour-offset) .ensures ∙ worked-offset ((c .before .before .before .before .before .before .before .before .before .before .args) .log .now) ((c .before .before .before .before .before .before .before .before .before .before .args) .imports) ((c .before .before .before .before .before .before .before .before .before .before .args) .exports) ((c .before .before .before .before .before .before .before .before .before .before .args) .prices) ((c .before .before .before .before .before .before .before .before .before .before .pre)) la ((c .before .before .before .before .before .before .before .before .entries-at) .result) ((c .before .before .before .before .before .before .before .before .entries-at) .ensures) ((c .before .before .before .before .before .before .before .totals-at) .result) ((c .before .before .before .before .before .before .before .totals-at) .ensures)),
+  (c .named) .ensures .1,
+)
+
+returns-2 : tie.Need-returns-2
+returns-2 c = let la : length ((c .before .before .before .before .before .before .before .before .before .args) .imports .at) ≡ 16 = search (needs, unmapped) in
+    never-refused
+    (sym ((c .before .before .a2) .given .1) ∙ (c .before .before .before .before .hour-offset) .ensures ∙ worked-offset ((c .before .before .before .before .before .before .before .before .before .args) .log .now) ((c .before .before .before .before .before .before .before .before .before .args) .imports) ((c .before .before .before .before .before .before .before .before .before .args) .exports) ((c .before .before .before .before .before .before .before .before .before .args) .prices) ((c .before .before .before .before .before .before .before .before .before .pre)) la ((c .before .before .before .before .before .before .before .entries-at) .result) ((c .before .before .before .before .before .before .before .entries-at) .ensures) ((c .before .before .before .before .before .before .totals-at) .result) ((c .before .before .before .before .before .before .totals-at) .ensures))
+
+pub worked-spec : {M : Type 1} → statement M
+worked-spec =
+    tie.close
+    (tie.spec
+    entries-at-requires
+    totals-at-requires
+    cast-hour-offset
+    hour-offset-requires
+    enum-known-a
+    credits-of-requires
+    named-requires
+    enum-known-a-2
+    no-guarantees-requires
+    returns
+    returns-2)

@@ -1,0 +1,124 @@
+-- The amounts of 01 over two things: the standing records, and the price of an hour. In 01 the price is one of the same standing records
+-- (`priceOf`); nothing else here looks for it. Hours of a day are counted from 0, so the j-th is hour 1 + j.
+use Prim.Native.Nat.{ℕ, _+_, _*_}
+use mathlib.Core.List.{List, [], _∷_, map}
+use mathlib.Core.Bool.{Bool, true, false, cond, not}
+use lib.IntN.{ℤ, pos, _+ℤ_}
+use lib.ListN.{length}
+use Rattle.laws.specs.Sums.{Σℤ, every}
+use Rattle.money.specs.Refusals.{noSuchKey, priceMissing}
+use Rattle.book.specs.Layer.{Key, Rec, Mark, Pr, Im, Ex, HourPrices, noOne, same, atHour, Quantity, pricesOf, exportOf, quantityAt, rowOf, offset, offsetEntry, creditTicks, unitTicks, startCents, reversal, chargeTicks}
+use Rattle.book.specs.declared.answers.NamedAmount.{NamedAmount}
+use Rattle.book.specs.ByName.{byName}
+use Rattle.book.specs.Replies.{Reply, refused, guarantees, unitDay, charge}
+
+-- the standing record of a key, if there is one
+pub data Pick : Type 0 where
+  is : Rec → Pick
+  nil : Pick
+
+unfoldable pub pick : Key → List Rec → Pick
+pick k [] = nil
+pick k (x ∷ xs) = cond (same k (x .key)) (is x) (pick k xs)
+
+-- ---- the price of an hour
+
+pub data Price : Type 0 where
+  priced : HourPrices → Price
+  unpriced : Price
+
+-- a mark and hour, without a name
+abbrev pub hourKey : Mark → ℕ → Key
+hourKey m h = record { mark = m; hour = h; name = noOne }
+
+abbrev pub priceFrom : Pick → Price
+priceFrom (is r) = priced (pricesOf r)
+priceFrom nil = unpriced
+
+-- "their hour's `PR`"
+unfoldable pub priceOf : List Rec → ℕ → Price
+priceOf rs h = priceFrom (pick (hourKey Pr h) rs)
+
+-- ---- an hour's guarantees
+
+-- an import's credit, with the place where its record is written
+abbrev pub creditAt : (Key → ℕ) → HourPrices → Rec → NamedAmount
+creditAt at p r = record { name = r .key .name; start = at (r .key); ticks = record { 0 = creditTicks r p } }
+
+-- "sum of all MQSW"
+unfoldable pub exported : List Rec → ℕ → ℕ
+exported [] k = 0
+exported (r ∷ rs) k = quantityAt (exportOf r .mqsw) k + exported rs k
+
+abbrev pub totalsOf : List Rec → List Quantity
+totalsOf es = rowOf 0 12 (exported es)
+
+-- of the imports and exports of the hour; "an hour without imports has offset 0 and needs none"
+abbrev pub guaranteesAt : (Key → ℕ) → Price → List Rec → List Rec → Reply
+guaranteesAt at q [] es = guarantees [] (pos 0)
+guaranteesAt at unpriced (i ∷ rest) es = refused priceMissing
+guaranteesAt at (priced p) (i ∷ rest) es =
+    guarantees (map (creditAt at p) (i ∷ rest)) (offset (length (i ∷ rest)) (map (offsetEntry p) (i ∷ rest)) (p .emp) (totalsOf es))
+
+-- "`IOG` per import by name"
+unfoldable pub guaranteesOf : (Key → ℕ) → List Rec → (ℕ → Price) → ℕ → Reply
+guaranteesOf at rs price h = guaranteesAt at (price h) (byName (hourKey Im h) rs) (byName (hourKey Ex h) rs)
+
+-- ---- a unit's day
+
+-- what an hour adds: "C1 + C2 - C3 - C4 over all its intervals, plus its start-up amounts (120 ticks a cent)"
+abbrev pub hourTicks : Pick → Price → ℤ
+hourTicks nil q = pos 0
+hourTicks (is r) unpriced = pos 0
+hourTicks (is r) (priced p) = unitTicks r p +ℤ pos (startCents r * 120)
+
+abbrev pub absent : Pick → Bool
+absent (is r) = false
+absent nil = true
+
+-- "each `GH` hour" needs its price
+abbrev pub payable : Pick → Price → Bool
+payable nil q = true
+payable (is r) (priced p) = true
+payable (is r) unpriced = false
+
+-- the unit's record of the j-th hour
+abbrev pub unitAt : Key → List Rec → ℕ → Pick
+unitAt k rs j = pick (atHour k (1 + j)) rs
+
+-- "Day total of a unit"
+unfoldable pub dayTotal : Key → List Rec → (ℕ → Price) → ℤ
+dayTotal k rs price = Σℤ 24 (λ (j : ℕ). hourTicks (unitAt k rs j) (price (1 + j)))
+
+-- "A unit without `GH` gives 11", then 15; "The reversal is max(0, -total)"
+unfoldable pub unitDayOf : Key → List Rec → (ℕ → Price) → Reply
+unitDayOf k rs price =
+    cond (every 24 (λ (j : ℕ). absent (unitAt k rs j))) (refused noSuchKey)
+    (cond (every 24 (λ (j : ℕ). payable (unitAt k rs j) (price (1 + j)))) (unitDay (dayTotal k rs price) (reversal (dayTotal k rs price))) (refused priceMissing))
+
+-- ---- failure charges
+
+abbrev pub chargeAt : Pick → Price → Reply
+chargeAt nil q = refused noSuchKey
+chargeAt (is r) unpriced = refused priceMissing
+chargeAt (is r) (priced p) = charge (chargeTicks r p)
+
+-- of a key
+unfoldable pub chargeOf : Key → List Rec → (ℕ → Price) → Reply
+chargeOf k rs price = chargeAt (pick k rs) (price (k .hour))
+
+-- all of a mark and hour by name, for the statement; or a number
+pub data Charges : Type 0 where
+  charged : List NamedAmount → Charges
+  no : ℕ → Charges
+
+abbrev pub chargeLine : (Key → ℕ) → HourPrices → Rec → NamedAmount
+chargeLine at p r = record { name = r .key .name; start = at (r .key); ticks = record { 0 = chargeTicks r p } }
+
+abbrev pub chargesAt : (Key → ℕ) → Price → List Rec → Charges
+chargesAt at q [] = charged []
+chargesAt at unpriced (f ∷ fs) = no priceMissing
+chargesAt at (priced p) (f ∷ fs) = charged (map (chargeLine at p) (f ∷ fs))
+
+unfoldable pub chargesOf : (Key → ℕ) → Key → List Rec → (ℕ → Price) → Charges
+chargesOf at k rs price = chargesAt at (price (k .hour)) (byName k rs)

@@ -1,0 +1,111 @@
+-- What is charged from the places is what 01's formulas give for the standing failures.
+use Prim.Native.Nat.{ℕ, zero, suc, _<_}
+use mathlib.Core.Path.{_≡_, refl, sym, ap, ap₂, _∙_}
+use mathlib.Core.List.{List, [], _∷_, map}
+use mathlib.Core.Bool.{true, false}
+use native.Mathlib.Omega.{arith}
+use native.Mathlib.Nat.{not-suc-le-zero, le-of-suc-le-suc}
+use lib.ListN.{length, drop, getD}
+use Rattle.money.specs.Refusals.{noSuchKey, priceMissing}
+use Rattle.book.specs.Layer.{Key, View, Rec, Change, Mark, Pr, HourPrices, PricesFit, Ticks, isFailure, hour-parts, pricesIn, chargeIn, chargeTicks, ticksOf, charge-written}
+use Rattle.book.specs.Register.{standing, startIn, refused, charge}
+use Rattle.book.specs.Amounts.{Pick, Price, priced, unpriced, hourKey, priceFrom, priceOf, chargeAt, chargeOf, charged, no, chargeLine, chargesAt, chargesOf}
+use Rattle.book.specs.ByName.{byName}
+use Rattle.book.specs.Tables.{survey}
+use Rattle.book.specs.Places.{spotOf}
+use Rattle.book.specs.Worked.{Opened, chargesIn, namedOf}
+use Rattle.book.specs.StandLaws.{All, also, At, found-at, none-at}
+use Rattle.book.specs.WorkedLaws.{Here, here}
+use Rattle.book.specs.DayLaws.{price-found}
+
+-- an element is the same by any default
+pub getD-same : {A : Type 0} (l : List A) (i : ℕ) (d e : A) → i < length l → getD l i d ≡ getD l i e
+getD-same [] i d e h = absurd (not-suc-le-zero h)
+getD-same (x ∷ xs) zero d e h = refl
+getD-same (x ∷ xs) (suc i) d e h = getD-same xs i d e (le-of-suc-le-suc h)
+
+abbrev pub ticksAt : HourPrices → Rec → Ticks
+ticksAt p r = record { 0 = chargeTicks r p }
+
+-- the charge of a failure that is written at a place
+charge-at : {s : List ℕ} (p : HourPrices) → PricesFit p → (m : Mark) → isFailure m ≡ true → (x : ℕ) (r : Rec) → At s x r → m ≡ r .key .mark → ticksOf (chargeIn m (drop x s) p) ≡ ticksAt p r
+charge-at p f m b x r w e =
+    ap₂ (λ (a : Mark) (u : List ℕ). ticksOf (chargeIn a u p)) e (w .bytes) ∙ ap ticksOf (charge-written r p (w .rest) (w .good) (sym (ap isFailure e) ∙ b) f)
+
+-- ---- a list of failures: no price is needed for none
+
+at-none : (at : Key → ℕ) (q : Price) (fs : List Rec) → length fs ≡ 0 → charged [] ≡ chargesAt at q fs
+at-none at q [] e = refl
+at-none at q (f ∷ fs) e = absurd (omega arith)
+
+at-unpriced : (at : Key → ℕ) (fs : List Rec) → (length fs ≡ 0 → ⊥) → no priceMissing ≡ chargesAt at unpriced fs
+at-unpriced at [] h = absurd (h refl)
+at-unpriced at (f ∷ fs) h = refl
+
+at-priced : (at : Key → ℕ) (p : HourPrices) (fs : List Rec) → (length fs ≡ 0 → ⊥) → charged (map (chargeLine at p) fs) ≡ chargesAt at (priced p) fs
+at-priced at p [] h = absurd (h refl)
+at-priced at p (f ∷ fs) h = refl
+
+module _ {s : List ℕ} {views : List View} {n : ℕ} {l : List Change} (o : Opened s views n l) where
+  unpriced-at : (h : ℕ) → survey (hourKey Pr h) l .found ≡ false → priceOf (standing l) h ≡ unpriced
+  unfolding priceOf
+  unpriced-at h e = ap priceFrom (none-at o (hourKey Pr h) e)
+
+  -- ---- of a key
+
+  module _ (k : Key) where
+    pub charge-absent : survey k l .found ≡ false → refused noSuchKey ≡ chargeOf k (standing l) (priceOf (standing l))
+    unfolding chargeOf
+    charge-absent e = sym (ap (λ (x : Pick). chargeAt x (priceOf (standing l) (k .hour))) (none-at o k e))
+
+    pub charge-unpriced : survey k l .found ≡ true → survey (hourKey Pr (k .hour)) l .found ≡ false → refused priceMissing ≡ chargeOf k (standing l) (priceOf (standing l))
+    unfolding chargeOf
+    charge-unpriced e f = sym (ap₂ chargeAt (found-at o k e .picked) (unpriced-at (k .hour) f))
+
+    pub charge-found : isFailure (k .mark) ≡ true → survey k l .found ≡ true → survey (hourKey Pr (k .hour)) l .found ≡ true
+        → charge (ticksOf (chargeIn (k .mark) (drop (survey k l .start) s) (pricesIn (drop (survey (hourKey Pr (k .hour)) l .start) s))) .0) ≡ chargeOf k (standing l) (priceOf (standing l))
+    unfolding chargeOf
+    charge-found b e f =
+        let w = found-at o k e in
+        let c = price-found o (k .hour) (found-at o (hourKey Pr (k .hour)) f) in
+        ap (λ (t : Ticks). charge (t .0)) (charge-at (pricesIn (drop (survey (hourKey Pr (k .hour)) l .start) s)) (c .fits) (k .mark) b (survey k l .start) (w .what) (w .at) (ap (λ (x : Key). x .mark) (w .key)))
+        ∙ sym (ap₂ chargeAt (w .picked) (c .is-priced))
+
+  -- ---- of a mark and hour
+
+  charges-are : (p : HourPrices) → PricesFit p → (k : Key) → isFailure (k .mark) ≡ true → (rs : List Rec) → All (Here o k) rs → chargesIn s (k .mark) p (map (spotOf l) rs) ≡ map (ticksAt p) rs
+  unfolding chargesIn
+  charges-are p f k b [] a = refl
+  charges-are p f k b (r ∷ rs) (also c a) =
+      ap₂ _∷_ (charge-at p f (k .mark) b (survey (r .key) l .start) r (c .0 .at) (hour-parts k (r .key) (c .1) .0)) (charges-are p f k b rs a)
+
+  named-are : (p : HourPrices) (k : Key) (rs : List Rec) → All (Here o k) rs → namedOf (map (spotOf l) rs) (map (ticksAt p) rs) ≡ map (chargeLine (startIn l) p) rs
+  unfolding namedOf
+  named-are p k [] a = refl
+  named-are p k (r ∷ rs) (also c a) =
+      ap₂ _∷_ (ap (λ (x : ℕ). record { name = r .key .name; start = x; ticks = ticksAt p r }) (sym (c .0 .start))) (named-are p k rs a)
+
+  module _ (m : Mark) (h : ℕ) where
+    pub charges-absent : length (byName (hourKey m h) (standing l)) ≡ 0 → charged [] ≡ chargesOf (startIn l) (hourKey m h) (standing l) (priceOf (standing l))
+    unfolding chargesOf
+    charges-absent e = at-none (startIn l) (priceOf (standing l) h) (byName (hourKey m h) (standing l)) e
+
+    pub charges-unpriced : (length (byName (hourKey m h) (standing l)) ≡ 0 → ⊥) → survey (hourKey Pr h) l .found ≡ false
+        → no priceMissing ≡ chargesOf (startIn l) (hourKey m h) (standing l) (priceOf (standing l))
+    unfolding chargesOf
+    charges-unpriced z e =
+        at-unpriced (startIn l) (byName (hourKey m h) (standing l)) z
+        ∙ sym (ap (λ (q : Price). chargesAt (startIn l) q (byName (hourKey m h) (standing l))) (unpriced-at h e))
+
+    pub charges-found : isFailure m ≡ true → (length (byName (hourKey m h) (standing l)) ≡ 0 → ⊥) → survey (hourKey Pr h) l .found ≡ true
+        → let xs = map (spotOf l) (byName (hourKey m h) (standing l)) in
+        charged (namedOf xs (chargesIn s m (pricesIn (drop (survey (hourKey Pr h) l .start) s)) xs)) ≡ chargesOf (startIn l) (hourKey m h) (standing l) (priceOf (standing l))
+    unfolding chargesOf
+    charges-found b z e =
+        let k = hourKey m h in
+        let rs = byName k (standing l) in
+        let p = pricesIn (drop (survey (hourKey Pr h) l .start) s) in
+        let c = price-found o h (found-at o (hourKey Pr h) e) in
+        ap charged (ap (namedOf (map (spotOf l) rs)) (charges-are p (c .fits) k b rs (here o k)) ∙ named-are p k rs (here o k))
+        ∙ at-priced (startIn l) p rs z
+        ∙ sym (ap (λ (q : Price). chargesAt (startIn l) q rs) (c .is-priced))

@@ -1,0 +1,105 @@
+-- What the code works amounts from: places in the lent bytes where standing records are written.
+use Prim.Native.Nat.{ℕ, _≤_, _<_}
+use mathlib.Core.Path.{_≡_}
+use mathlib.Core.List.{List, [], _∷_, map}
+use mathlib.Core.Bool.{cond}
+use lib.ListN.{length, take, drop, getD, replicate}
+use lib.IntN.{pos}
+use lib.Dec.{eqb}
+use Rattle.book.specs.Layer.{View, Change, Mark, UnitPart, CentsPerStart, unitPartIn, HourPrices, Quantity, Ticks, Import, Answer, Amount, DayAnswer, Day, Refused, noQuantity, offsetEntryIn, exportIn, pricesIn, chargeIn, ticksOf, totalsWith, offset, offsetAnswer, noTicks, noStart}
+use Rattle.book.specs.declared.answers.NamedAmount.{NamedAmount}
+use Rattle.book.specs.declared.hours.Day as day
+use Rattle.book.specs.declared.places.Spot.{Spot}
+use Rattle.book.specs.declared.places.Places.{Places}
+use Rattle.book.specs.Register.{writeAll, Reply, refused, guarantees, unitDay}
+use Rattle.book.specs.Amounts.{Charges, charged, no}
+use Rattle.book.specs.Meaning.{Valid}
+use Rattle.book.specs.Tables.{Kept}
+use Rattle.book.specs.Places.{spots}
+
+-- ---- lent bytes whose changes are kept in a table
+
+pub record Opened (s : List ℕ) (views : List View) (n : ℕ) (l : List Change) : Type 0 where
+  pub valid : Valid l
+  pub kept : Kept views l
+  pub count : length l ≡ n
+  pub within : length (writeAll l) ≤ length s
+  pub bytes : take (length (writeAll l)) s ≡ writeAll l
+
+pub record Open (s : List ℕ) (views : List View) (n : ℕ) : Type 0 where
+  pub list : List Change
+  pub opened : Opened s views n list
+
+-- ---- an hour's records at their places
+
+-- what stands past the end of a list: never met
+abbrev pub noSpot : Spot
+noSpot = record { name = record { len = 0; bytes = [] }; start = 0 }
+
+pub record Inside (s : List ℕ) (p : Places) : Type 0 where
+  pub few : p .n ≤ 16
+  pub each : (i : ℕ) → i < p .n → getD (p .at) i noSpot .start ≤ length s
+
+abbrev pub entryAt : List ℕ → HourPrices → Spot → Import
+entryAt s p x = offsetEntryIn (drop (x .start) s) p
+
+unfoldable pub entriesIn : List ℕ → HourPrices → List Spot → List Import
+entriesIn s p xs = map (entryAt s p) xs
+
+abbrev pub entryCredit : Import → Ticks
+entryCredit e = e .credit
+
+-- the quantities of each export added, from the first on
+unfoldable pub totalsFrom : List Quantity → List ℕ → List Spot → List Quantity
+totalsFrom sums s [] = sums
+totalsFrom sums s (x ∷ xs) = totalsFrom (totalsWith sums (exportIn (drop (x .start) s) .mqsw)) s xs
+
+abbrev pub totalsIn : List ℕ → List Spot → List Quantity
+totalsIn s xs = totalsFrom (replicate 12 noQuantity) s xs
+
+unfoldable pub namedOf : List Spot → List Ticks → List NamedAmount
+namedOf [] ts = []
+namedOf (x ∷ xs) [] = []
+namedOf (x ∷ xs) (t ∷ ts) = record { name = x .name; start = x .start; ticks = t } ∷ namedOf xs ts
+
+abbrev pub workedIn : List ℕ → HourPrices → List Spot → List Spot → Reply
+workedIn s p xs ys = guarantees (namedOf xs (map entryCredit (entriesIn s p xs))) (offset (length xs) (entriesIn s p xs) (p .emp) (totalsIn s ys))
+
+-- the offset of these entries is not refused
+pub record Workable (s : List ℕ) (is es : Places) (p : HourPrices) : Type 0 where
+  pub imports : Inside s is
+  pub exports : Inside s es
+  pub sound : offsetAnswer (length (spots is)) (entriesIn s p (spots is)) (p .emp) (totalsIn s (spots es))
+      ≡ Amount (record { 0 = offset (length (spots is)) (entriesIn s p (spots is)) (p .emp) (totalsIn s (spots es)) })
+
+-- no credits and offset 0, or a number
+abbrev pub noGuarantees : ℕ → Reply
+noGuarantees n = cond (eqb n 0) (guarantees [] (pos 0)) (refused n)
+
+abbrev pub noCharges : ℕ → Charges
+noCharges n = cond (eqb n 0) (charged []) (no n)
+
+abbrev pub chargeAtSpot : List ℕ → Mark → HourPrices → Spot → Ticks
+chargeAtSpot s m p x = ticksOf (chargeIn m (drop (x .start) s) p)
+
+unfoldable pub chargesIn : List ℕ → Mark → HourPrices → List Spot → List Ticks
+chargesIn s m p xs = map (chargeAtSpot s m p) xs
+
+-- ---- a day's records at their places
+
+abbrev pub InDay : List ℕ → day.Day → Type 0
+InDay s d = (j : ℕ) → j < 24 → getD (d .start) j 0 ≤ length s
+
+abbrev pub noPart : UnitPart
+noPart = record { ticks = noTicks; start = noStart }
+
+unfoldable pub partAt : List ℕ → day.Day → day.Day → ℕ → UnitPart
+partAt s u p j = cond (eqb (getD (u .len) j 0) 0) noPart (unitPartIn (drop (getD (u .start) j 0) s) (pricesIn (drop (getD (p .start) j 0) s)))
+
+pub record Parts (s : List ℕ) (u p : day.Day) (ts : List Ticks) (ss : List CentsPerStart) (n : ℕ) : Type 0 where
+  pub ticks : (j : ℕ) → j < n → getD ts j noTicks ≡ partAt s u p j .ticks
+  pub starts : (j : ℕ) → j < n → getD ss j noStart ≡ partAt s u p j .start
+
+abbrev pub dayReply : DayAnswer → Reply
+dayReply (Day total reversal) = unitDay (total .0) (reversal .0)
+dayReply (Refused n) = refused n
