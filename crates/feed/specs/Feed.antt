@@ -1,0 +1,63 @@
+-- 01, "The statement and its examples": how `settle` reads. Assumes nothing.
+use mathlib.Core.List.{List, [], _∷_}
+use Prim.Native.Nat.{ℕ, zero, suc, _+_, _-_}
+use lib.ListN.{length, take, drop}
+use Rattle.records.specs.Reading.{Res, bad, got}
+use Rattle.records.specs.Changes.{Entry, entry}
+use Rattle.book.specs.Register.{Reg, fresh, change, Step, answered, becomes, called}
+use Rattle.book.specs.Tables.{replied}
+
+-- ---- "records back to back"
+
+-- the bytes of the first record; where none can be read all of them, and the register then says why
+abbrev pub front : List ℕ → Res Entry → List ℕ
+front s (bad k) = s
+front s (got x t) = take (length s - length t) s
+
+unfoldable pub piece : List ℕ → List ℕ
+piece s = front s (entry s)
+
+-- the register after some records, how many of them it accepted and how many bytes these took, and the number of the refusal at which
+-- reading stopped, 0 for none
+pub record Fed : Type 0 where
+  pub reg : Reg
+  pub count : ℕ
+  pub taken : ℕ
+  pub number : ℕ
+
+abbrev pub stopped : Reg → ℕ → Fed
+stopped g n = record { reg = g; count = 0; taken = 0; number = n }
+
+-- with n records of k bytes before
+abbrev pub later : ℕ → ℕ → Fed → Fed
+later n k f = record { reg = f .reg; count = n + f .count; taken = k + f .taken; number = f .number }
+
+-- after the record p at the front of s: "At the first refusal" nothing more is read
+abbrev pub onward : Reg → List ℕ → List ℕ → (Reg → List ℕ → Fed) → Step → Fed
+onward g p s f (answered r) = stopped g (replied r)
+onward g p s f (becomes h) = later 1 (length p) (f h (drop (length p) s))
+
+-- at most n records, each of them one call of the register over a lent length
+unfoldable pub fed : ℕ → ℕ → Reg → List ℕ → Fed
+fed zero lent g s = stopped g 0
+fed (suc n) lent g [] = stopped g 0
+fed (suc n) lent g (b ∷ s) = onward g (piece (b ∷ s)) (b ∷ s) (fed n lent) (called (change (piece (b ∷ s))) lent g)
+
+-- all of them: no record is without a byte
+abbrev pub feeding : ℕ → Reg → List ℕ → Fed
+feeding lent g s = fed (length s) lent g s
+
+-- ---- the program
+
+-- the register that the statement is of, or "`REF n r` (record ordinal from 1, number)"
+pub data Settled : Type 0 where
+  statement : Reg → Settled
+  ref : ℕ → ℕ → Settled
+
+abbrev pub verdict : Reg → ℕ → ℕ → Settled
+verdict g n zero = statement g
+verdict g n (suc k) = ref (n + 1) (suc k)
+
+-- "reads records back to back from standard input into a book over 65,535 bytes"
+unfoldable pub settled : List ℕ → Settled
+settled s = verdict (feeding 65535 fresh s .reg) (feeding 65535 fresh s .count) (feeding 65535 fresh s .number)

@@ -1,0 +1,35 @@
+-- What the code owes: its answer is the definition's. Assumes nothing.
+use mathlib.Core.Path.{_≡_}
+use mathlib.Core.List.{List}
+use mathlib.Core.Bool.{cond}
+use Prim.Native.Nat.{ℕ}
+use lib.Dec.{eqb}
+use lib.ListN.{length, take}
+use Rattle.money.specs.Refusals.{notTogether}
+use Rattle.records.specs.Changes.{Change}
+use Rattle.book.specs.declared.journal.Book.{Book}
+use Rattle.book.specs.Register.{writeAll}
+use Rattle.book.specs.Meaning.{belongs, astray, load, bookOf}
+use Rattle.feed.specs.Feed.{Fed, feeding}
+use Rattle.feed.specs.declared.Fed.{Fed as Result}
+
+-- a reading that the code made over the lent bytes s, which are now s′
+pub record Ends (f : Fed) (s : List ℕ) (r : Result) (s′ : List ℕ) : Type 0 where
+  pub count : r .count ≡ f .count
+  pub taken : r .taken ≡ f .taken
+  pub number : r .number ≡ f .number
+  pub book : r .book ≡ bookOf (f .reg)
+  pub size : length s′ ≡ length s
+  pub bytes : take (length (writeAll (f .reg .list))) s′ ≡ writeAll (f .reg .list)
+
+-- "book and bytes remain"; 16 is the first record's, where there is one
+pub record Remains (b : Book) (s input : List ℕ) (r : Result) (s′ : List ℕ) : Type 0 where
+  pub count : r .count ≡ 0
+  pub taken : r .taken ≡ 0
+  pub number : r .number ≡ cond (eqb (length input) 0) 0 notTogether
+  pub book : r .book ≡ b
+  pub bytes : s′ ≡ s
+
+pub record Feeds (b : Book) (s input : List ℕ) (r : Result) (s′ : List ℕ) : Type 0 where
+  pub together : (l : List Change) → load b s ≡ belongs l → Ends (feeding (length s) (record { list = l; closed = b .closed }) input) s r s′
+  pub apart : load b s ≡ astray → Remains b s input r s′
