@@ -21,6 +21,7 @@ use Rattle.book.specs.Hours.{DayIs}
 use Rattle.book.specs.Worked.{Open, Opened, InDay, noPart, partAt, Parts, dayReply}
 use Rattle.book.specs.DayLaws.{slots-in, payable-is, day-is}
 use Rattle.book.proofs.Surveying.{to-end}
+use Rattle.book.proofs.ChargeAnswering.{opened-by}
 use Rattle.book.proofs.Answering.{Loaded, is-tabled, step-is, leaves-answered}
 
 -- ---- an hour
@@ -87,16 +88,6 @@ module _ {s : List ℕ} {u p : Day} {ts : List Ticks} {ss : List CentsPerStart} 
 
 pub open-stored : (s : List ℕ) (views : List View) (n : ℕ) → Open s views n → Stored views n
 open-stored s views n o = record { list = o .list; valid = o .opened .valid; kept = o .opened .kept; count = o .opened .count }
-
-pub opened-by : (b : Book) (s : List ℕ) (t : Table) → Tabled (load b s) t → (x : Loaded b s) → Opened s (t .views) (b .changes) (x .list)
-opened-by b s t e x =
-    record {
-      valid = x .valid;
-      kept = e .kept (x .list) (x .is);
-      count = x .count-is;
-      within = omega (arith, x .size, x .within);
-      bytes = ap (λ (m : ℕ). take m s) (x .size) ∙ sym (x .bytes);
-    }
 
 pub tabled-open : (b : Book) (s : List ℕ) (t : Table) → Tabled (load b s) t → t .ok ≡ true → Open s (t .views) (b .changes)
 tabled-open b s t e h = let x = is-tabled b s t e h in record { list = x .list; opened = opened-by b s t e x }

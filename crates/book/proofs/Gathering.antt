@@ -11,12 +11,11 @@ use Rattle.book.specs.Layer.{Key, View, KeyAnswer, Rec, Change, kindOf, 
 use Rattle.book.specs.declared.survey.Survey.{Survey}
 use Rattle.book.specs.declared.places.Spot.{Spot}
 use Rattle.book.specs.declared.places.Places.{Places}
-use Rattle.book.specs.declared.places.Hour.{Hour}
 use Rattle.book.specs.Register.{writeAll, standing, count}
 use Rattle.book.specs.ByName.{byName}
 use Rattle.book.specs.Meaning.{Load, belongs, astray, Valid}
 use Rattle.book.specs.Tables.{Kept, Stored, survey, viewed}
-use Rattle.book.specs.Places.{offset, liveAt, spotOf, putSpot, spots, these, no, hourPlaces, listingOf}
+use Rattle.book.specs.Places.{offset, liveAt, spotOf, putSpot, spots}
 use Rattle.book.specs.RegisterLaws.{hour-few}
 use Rattle.book.specs.GatherLaws.{Pass, gather, collect, gather-standing, hourPass, hour-standing}
 use Rattle.book.proofs.Surveying.{kept-at, Bounded, bounded}
@@ -196,26 +195,3 @@ module _ {k : Key} {views : List View} {n i q : ℕ} {p : Places} (f : Filled k 
     pub filled-next : (p′ : Places) → length (p′ .at) ≡ 16
         → (p′ .n ≤ 16) × (spots p′ ≡ cond b (putSpot (record { name = getD views i d .key .name; start = x }) (spots p)) (spots p)) → Filled k views n (i + 1) (q + getD views i d .len) p′
     filled-next p′ size w = record { size = size; few = w .0; held = held-next (f .held) lt d eb ex (w .1) }
-
--- ---- the answer
-pub places-no : (a : Asked) (d : Load) (h : Hour) (n : ℕ) → h .number ≡ n → hourPlaces a d ≡ no n → (n ≡ 0 → ⊥) → listingOf h ≡ hourPlaces a d
-places-no a d h n en e z =
-    ap (λ (b : Bool). cond b (these (spots (h .places))) (no (h .number))) (ne-eqb (h .number) 0 (λ y. z (sym en ∙ y))) ∙ ap no en ∙ sym e
-
-pub places-astray : (a : Asked) (d : Load) (h : Hour) → h .number ≡ 16 → d ≡ astray → listingOf h ≡ hourPlaces a d
-places-astray a d h en e = places-no a d h 16 en (ap (hourPlaces a) e) (λ z. omega arith)
-
-module _ (mark : List ℕ) (hour : ℕ) (l : List Change) (d : Load) (e : d ≡ belongs l) (r : KeyAnswer) (er : r ≡ keyAnswer (askHour mark hour)) where
-  pub places-wrong : (r .number ≡ 0 → ⊥) → hourPlaces (askHour mark hour) d ≡ no (r .number)
-  places-wrong z = ap (hourPlaces (askHour mark hour)) e ∙ go (askHour mark hour) er
-    where
-      go : (a : Asked) → r ≡ keyAnswer a → hourPlaces a (belongs l) ≡ no (r .number)
-      go (got k t) p = absurd (z (ap (λ (y : KeyAnswer). y .number) p))
-      go (bad n) p = ap no (sym (ap (λ (y : KeyAnswer). y .number) p))
-
-  pub places-at : r .number ≡ 0 → (p : Places) → spots p ≡ map (spotOf l) (byName (r .key) (standing l)) → these (spots p) ≡ hourPlaces (askHour mark hour) d
-  places-at z p ep = sym (ap (hourPlaces (askHour mark hour)) e ∙ go (askHour mark hour) refl er)
-    where
-      go : (a : Asked) → askHour mark hour ≡ a → r ≡ keyAnswer a → hourPlaces a (belongs l) ≡ these (spots p)
-      go (got k t) q w = ap these (ap (λ (y : Key). map (spotOf l) (byName y (standing l))) (sym (ap (λ (y : KeyAnswer). y .key) w)) ∙ sym ep)
-      go (bad n) q w = absurd (omega (arith, askHour-fault mark hour n q, sym (ap (λ (y : KeyAnswer). y .number) w) ∙ z))

@@ -10,11 +10,10 @@ use lib.Dec.{eqb}
 use borrow.Author.Tests.{eq-eqb, ne-eqb, eqb-true, eqb-false}
 use Rattle.book.specs.Layer.{Key, View, KeyAnswer, Change, filed, corrected, withdrawn, keyOf, write, sameName, atHour, good-hour, same-at, write-pos, write-co, Asked, got, bad, keyAsked, keyAnswer, ask-fault}
 use Rattle.book.specs.declared.hours.Day.{Day}
-use Rattle.book.specs.declared.hours.Hourly.{Hourly}
 use Rattle.book.specs.Register.{writeAll, Reply, refused, place, written, placeOf}
 use Rattle.book.specs.Meaning.{Load, belongs, astray, Valid}
 use Rattle.book.specs.Tables.{Kept, Stored, viewed}
-use Rattle.book.specs.Hours.{upward, each, no, nameHours, slot, slots, hourlyOf, startOf, lenOf, dayNoted, DayIs}
+use Rattle.book.specs.Hours.{slot, startOf, lenOf, dayNoted, DayIs}
 use Rattle.book.specs.RegisterLaws.{by-test}
 use Rattle.book.proofs.Surveying.{kept-at, Bounded, bounded, valid-drop}
 
@@ -197,42 +196,3 @@ module _ (k : Key) (views : List View) (n i q : ℕ) (d : Day) (h : Dayed k view
 
   pub dayed-end : n ≤ i → (l : List Change) → Kept views l → length l ≡ n → DayIs k l d
   dayed-end le l kept e = let w : n - i ≡ 0 = omega arith in subst (λ (m : ℕ). DayIs k (drop m l) d) w (h .is l kept e)
-
--- ---- the answer
-slots-upward : (xs ys : List ℕ) (n h : ℕ) (f : ℕ → Reply) → length xs ≡ n → length ys ≡ n → ((j : ℕ) → j < n → slot (getD xs j 0) (getD ys j 0) ≡ f (h + j)) → slots xs ys ≡ upward h n f
-unfolding slots upward
-slots-upward [] ys zero h f ex ey e = refl
-slots-upward [] ys (suc n) h f ex ey e = absurd (omega arith)
-slots-upward (x ∷ xs) [] zero h f ex ey e = absurd (omega arith)
-slots-upward (x ∷ xs) [] (suc n) h f ex ey e = absurd (omega arith)
-slots-upward (x ∷ xs) (y ∷ ys) zero h f ex ey e = absurd (omega arith)
-slots-upward (x ∷ xs) (y ∷ ys) (suc n) h f ex ey e =
-    let z : h + 0 ≡ h = omega arith in
-    ap₂ _∷_ (e 0 (omega arith) ∙ ap f z)
-    (slots-upward xs ys n (h + 1) f (omega arith) (omega arith)
-    (λ j lt. let w : h + suc j ≡ h + 1 + j = omega arith in e (suc j) (omega arith) ∙ ap f w))
-
-pub day-replies : (k : Key) (l : List Change) (d : Day) → DayIs k l d → slots (d .start) (d .len) ≡ upward 1 24 (λ h. placeOf (atHour k h) l)
-day-replies k l d h = slots-upward (d .start) (d .len) 24 1 (λ m. placeOf (atHour k m) l) (h .starts) (h .lens) (h .is)
-
-pub hours-no : (a : Asked) (d : Load) (r : Hourly) (n : ℕ) → r .number ≡ n → nameHours a d ≡ no n → (n ≡ 0 → ⊥) → hourlyOf r ≡ nameHours a d
-hours-no a d r n en e z =
-    ap (λ (b : Bool). cond b (each (slots (r .day .start) (r .day .len))) (no (r .number))) (ne-eqb (r .number) 0 (λ y. z (sym en ∙ y))) ∙ ap no en ∙ sym e
-
-pub hours-astray : (a : Asked) (d : Load) (r : Hourly) → r .number ≡ 16 → d ≡ astray → hourlyOf r ≡ nameHours a d
-hours-astray a d r en e = hours-no a d r 16 en (ap (nameHours a) e) (λ z. omega arith)
-
-module _ (mark name : List ℕ) (l : List Change) (d : Load) (e : d ≡ belongs l) (r : KeyAnswer) (er : r ≡ keyAnswer (keyAsked mark 1 name)) where
-  pub hours-wrong : (r .number ≡ 0 → ⊥) → nameHours (keyAsked mark 1 name) d ≡ no (r .number)
-  hours-wrong z = ap (nameHours (keyAsked mark 1 name)) e ∙ go (keyAsked mark 1 name) er
-    where
-      go : (a : Asked) → r ≡ keyAnswer a → nameHours a (belongs l) ≡ no (r .number)
-      go (got k t) p = absurd (z (ap (λ (y : KeyAnswer). y .number) p))
-      go (bad n) p = ap no (sym (ap (λ (y : KeyAnswer). y .number) p))
-
-  pub hours-at : r .number ≡ 0 → (x : Day) → DayIs (r .key) l x → each (slots (x .start) (x .len)) ≡ nameHours (keyAsked mark 1 name) d
-  hours-at z x ex = sym (ap (nameHours (keyAsked mark 1 name)) e ∙ go (keyAsked mark 1 name) refl er)
-    where
-      go : (a : Asked) → keyAsked mark 1 name ≡ a → r ≡ keyAnswer a → nameHours a (belongs l) ≡ each (slots (x .start) (x .len))
-      go (got k t) q w = ap each (ap (λ (y : Key). upward 1 24 (λ h. placeOf (atHour y h) l)) (sym (ap (λ (y : KeyAnswer). y .key) w)) ∙ sym (day-replies (r .key) l x ex))
-      go (bad n) q w = absurd (omega (arith, ask-fault mark 1 name n q, sym (ap (λ (y : KeyAnswer). y .number) w) ∙ z))

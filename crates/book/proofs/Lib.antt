@@ -8,6 +8,6 @@ pub mod Naming
 pub mod Hourly
 pub mod Totalling
 pub mod Pairing
-pub mod DayAnswering
 pub mod ChargeAnswering
+pub mod DayAnswering
 pub mod Guaranteeing

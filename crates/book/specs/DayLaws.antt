@@ -70,10 +70,7 @@ module _ {s : List ℕ} {views : List View} {n : ℕ} {l : List Change} (o : Ope
     price-slot : (j : ℕ) → j < 24 → Slot (hourKey Pr (1 + j)) (getD (p .start) j 0) (getD (p .len) j 0)
     price-slot j lt = subst (λ (x : Key). Slot x (getD (p .start) j 0) (getD (p .len) j 0)) (at-hour (hourKey Pr 1) (1 + j)) (slots-in (hourKey Pr 1) p dp j lt)
 
-    -- ---- 11 and 15
-
-    pub nowhere-is : every 24 (λ (j : ℕ). eqb (getD (u .len) j 0) 0) ≡ every 24 (λ (j : ℕ). absent (unitAt k (standing l) j))
-    nowhere-is = every-ext 24 (λ (j : ℕ). eqb (getD (u .len) j 0) 0) (λ (j : ℕ). absent (unitAt k (standing l) j)) (λ j lt. slots-in k u du j lt .none)
+    -- ---- 15
 
     abbrev price : ℕ → Price
     price = priceOf (standing l)

@@ -8,38 +8,13 @@ use lib.Dec.{eqb}
 use Rattle.money.specs.Refusals.{noSuchKey, notTogether}
 use Rattle.book.specs.Layer.{Key, View, Change, sameName, atHour, Asked, got, bad}
 use Rattle.book.specs.declared.hours.Day.{Day}
-use Rattle.book.specs.declared.hours.Hourly.{Hourly}
 use Rattle.book.specs.Register.{writeAll, Reply, refused, place, placeOf}
 use Rattle.book.specs.Meaning.{Load, belongs, astray}
-
--- n values, from that of h on
-unfoldable pub upward : ℕ → ℕ → (ℕ → Reply) → List Reply
-upward h zero f = []
-upward h (suc n) f = f h ∷ upward (h + 1) n f
-
--- the answers of the key question in the 24 hours, or a number
-pub data Replies : Type 0 where
-  each : List Reply → Replies
-  no : ℕ → Replies
-
--- 16, then 2, 4
-abbrev pub nameHours : Asked → Load → Replies
-nameHours a astray = no notTogether
-nameHours (bad n) (belongs l) = no n
-nameHours (got k t) (belongs l) = each (upward 1 24 (λ h. placeOf (atHour k h) l))
 
 -- ---- what the code answers
 
 abbrev pub slot : ℕ → ℕ → Reply
 slot start len = cond (eqb len 0) (refused noSuchKey) (place start len)
-
-unfoldable pub slots : List ℕ → List ℕ → List Reply
-slots [] ys = []
-slots (x ∷ xs) [] = []
-slots (x ∷ xs) (y ∷ ys) = slot x y ∷ slots xs ys
-
-abbrev pub hourlyOf : Hourly → Replies
-hourlyOf r = cond (eqb (r .number) 0) (each (slots (r .day .start) (r .day .len))) (no (r .number))
 
 -- where a change at q leaves the record of its key
 abbrev pub startOf : ℕ → View → ℕ

@@ -9,7 +9,6 @@ use Rattle.book.specs.Layer.{View, Rec, Change, nameOf, nameBefore, Aske
 use Rattle.book.specs.declared.survey.Survey.{Survey}
 use Rattle.book.specs.declared.places.Spot.{Spot}
 use Rattle.book.specs.declared.places.Places.{Places}
-use Rattle.book.specs.declared.places.Hour.{Hour}
 use Rattle.book.specs.Register.{standing}
 use Rattle.book.specs.ByName.{byName}
 use Rattle.book.specs.Meaning.{Load, belongs, astray}
@@ -34,17 +33,3 @@ putSpot s (x ∷ xs) = cond (nameBefore (nameOf (s .name)) (nameOf (x .name))) (
 
 abbrev pub spots : Places → List Spot
 spots p = take (p .n) (p .at)
-
--- the answer: places, or a number
-pub data Listing : Type 0 where
-  these : List Spot → Listing
-  no : ℕ → Listing
-
--- 16, then 2, 3; then where the standing records of the mark and hour are written, by name
-abbrev pub hourPlaces : Asked → Load → Listing
-hourPlaces a astray = no notTogether
-hourPlaces (bad n) (belongs l) = no n
-hourPlaces (got k t) (belongs l) = these (map (spotOf l) (byName k (standing l)))
-
-abbrev pub listingOf : Hour → Listing
-listingOf h = cond (eqb (h .number) 0) (these (spots (h .places))) (no (h .number))

@@ -64,7 +64,7 @@ pub record Restored (ts : List Turn) (rs : List Reply) (n : ℕ) (us : List Turn
 
 pub record Holds {ts : List Turn} {rs : List Reply} {b : Book} {held : List ℕ} (σ : Session ts rs b held) : Type 0 where
   pub agrees : Agrees ts rs b held
-  -- "If the book is open: for every N up to the number of changes"
+  -- an open book, and every n up to its number of changes
   pub back : b .closed ≡ false → {n : ℕ} {us : List Turn} {qs : List Reply} {d : Book} {kept : List ℕ} → n ≤ b .changes → Undo σ n us qs d kept → Restored ts rs n us qs d kept
 
 -- it holds after each call of the list

@@ -1,29 +1,19 @@
 // Where the records of a mark and name are written, in each hour of the day.
-use crate::journal::Book;
-use money::refusals::NOT_TOGETHER;
 use records::hours::same_name;
 use records::keys::Key;
-use records::keys::ask_key;
 use records::scan::View;
 ghost use mathlib.Core.Path.{_≡_};
 ghost use mathlib.Core.List.{List};
 ghost use lib.ListN.{length};
 ghost use Prim.Native.Nat.{_<_, _≤_};
-ghost use Rattle.book.specs.Layer.{Change, keyAsked};
-ghost use Rattle.book.specs.Meaning.{load};
+ghost use Rattle.book.specs.Layer.{Change};
 ghost use Rattle.book.specs.Tables.{Kept, Stored};
-ghost use Rattle.book.specs.Hours.{startOf, lenOf, dayNoted, DayIs, hourlyOf, nameHours};
+ghost use Rattle.book.specs.Hours.{startOf, lenOf, dayNoted, DayIs};
 
 // Start and length of the record of each hour, the first at 0; length 0 where none stands.
 pub struct Day {
     pub start: [usize; 24],
     pub len: [usize; 24],
-}
-
-// A day, or the number of a refusal.
-pub struct Hourly {
-    pub number: u8,
-    pub day: Day,
 }
 
 fn start_of(v: View, q: usize) -> usize
@@ -88,35 +78,4 @@ pub(crate) fn day_in(views: [View; 512], n: usize, key: Key) -> Day
         i = i + 1;
     }
     d
-}
-
-fn no_day(number: u8) -> Hourly
-    ensures { λ r. ⌜ r .number ≡ number ⌝ }
-{
-    Hourly {
-        number,
-        day: Day {
-            start: [0usize; 24],
-            len: [0usize; 24],
-        },
-    }
-}
-
-impl Book {
-    // The answer of the key question in each hour of the day, for a mark and a spelled name.
-    pub fn hours_of(self, log: &[u8], mark: &[u8], name: &[u8]) -> Hourly
-        ensures { λ r. ⌜ hourlyOf r ≡ nameHours (keyAsked (now (mark .entry)) 1 (now (name .entry))) (load self (now (log .entry))) ⌝ }
-    {
-        let k = self.check_table(log);
-        if k.ok {
-            let q = ask_key(mark, 1, name);
-            if q.number != 0 {
-                return no_day(q.number);
-            }
-            let views = k.views;
-            let day = day_in(views, self.changes as usize, q.key);
-            return Hourly { number: 0, day };
-        }
-        no_day(NOT_TOGETHER)
-    }
 }

@@ -1,10 +1,7 @@
 // Where the standing records of a mark and hour are written, by decoded name.
-use crate::journal::Book;
 use crate::survey;
 use money::names::Name;
-use money::refusals::NOT_TOGETHER;
 use records::keys::Key;
-use records::keys::ask_hour;
 use records::keys::same_hour;
 use records::names::comes_before;
 use records::scan::View;
@@ -13,12 +10,11 @@ ghost use mathlib.Core.Bool.{cond, true, _&&_};
 ghost use mathlib.Core.List.{List, _∷_, _++_, map};
 ghost use lib.ListN.{length, take, drop};
 ghost use Prim.Native.Nat.{_<_, _≤_, _+_};
-ghost use Rattle.book.specs.Layer.{Change, sameHour, askHour};
+ghost use Rattle.book.specs.Layer.{Change, sameHour};
 ghost use Rattle.book.specs.Register.{standing};
 ghost use Rattle.book.specs.ByName.{byName};
-ghost use Rattle.book.specs.Meaning.{load};
 ghost use Rattle.book.specs.Tables.{Kept, Stored, survey};
-ghost use Rattle.book.specs.Places.{offset, liveAt, spotOf, putSpot, spots, hourPlaces, listingOf};
+ghost use Rattle.book.specs.Places.{offset, liveAt, spotOf, putSpot, spots};
 
 // A standing record's decoded name, and where it is written.
 pub struct Spot {
@@ -30,12 +26,6 @@ pub struct Spot {
 pub struct Places {
     pub n: usize,
     pub at: [Spot; 16],
-}
-
-// Places, or the number of a refusal.
-pub struct Hour {
-    pub number: u8,
-    pub places: Places,
 }
 
 // Where a change at q has its record.
@@ -156,30 +146,4 @@ pub(crate) fn gather_in(views: [View; 512], n: usize, key: Key) -> Places
         i = i + 1;
     }
     p
-}
-
-fn no_places(number: u8) -> Hour
-    ensures { λ r. ⌜ (r .number ≡ number) × (r .places .n ≤ 16) ⌝ }
-{
-    let places = no_spots();
-    Hour { number, places }
-}
-
-impl Book {
-    // The standing records of a mark and hour, by decoded name, and where each is written.
-    pub fn places_of(self, log: &[u8], mark: &[u8], hour: u8) -> Hour
-        ensures { λ r. ⌜ (listingOf r ≡ hourPlaces (askHour (now (mark .entry)) hour) (load self (now (log .entry)))) × (r .places .n ≤ 16) ⌝ }
-    {
-        let k = self.check_table(log);
-        if k.ok {
-            let q = ask_hour(mark, hour);
-            if q.number != 0 {
-                return no_places(q.number);
-            }
-            let views = k.views;
-            let places = gather_in(views, self.changes as usize, q.key);
-            return Hour { number: 0, places };
-        }
-        no_places(NOT_TOGETHER)
-    }
 }

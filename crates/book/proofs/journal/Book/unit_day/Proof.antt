@@ -1,5 +1,6 @@
 use Rattle.book.proofs.Answering.{is-tabled, not-tabled, leaves-16}
-use Rattle.book.proofs.DayAnswering.{opened-by, tabled-open, unit-wrong, unit-right}
+use Rattle.book.proofs.DayAnswering.{tabled-open, unit-wrong, unit-right}
+use Rattle.book.proofs.ChargeAnswering.{opened-by}
 use borrow.Author.Needs.{needs}
 use Rattle.book.proofs.journal.Book.unit_day.Statement.{statement}
 use Rattle.book.proofs.journal.Book.unit_day.Tie as tie
