@@ -54,6 +54,7 @@ bench:
 	$(RT) staticlib bridge
 	$(CARGO) run --offline --release --manifest-path bench/Cargo.toml --bin bench
 	$(CARGO) run --offline --release --manifest-path bench/Cargo.toml --bin speed
+	bench/settle $(SETTLE) peer/target/release/peer-settle samples/empty.rec samples/ordinary.rec samples/busy.rec
 
 # Builds nothing, so that it can run with other rights than the build.
 install:
