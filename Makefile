@@ -50,7 +50,7 @@ sample: settle
 test:
 	./test
 
-bench:
+bench: settle peer
 	$(RT) staticlib bridge
 	$(CARGO) run --offline --release --manifest-path bench/Cargo.toml --bin bench
 	$(CARGO) run --offline --release --manifest-path bench/Cargo.toml --bin speed

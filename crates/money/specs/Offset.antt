@@ -74,7 +74,7 @@ listFault n ps es = firstOf n (faultAt ps es)
 abbrev pub totalOk : Quantity → Bool
 totalOk t = leb (t .0) 1600000
 
--- "sum of all MQSW", for twelve intervals: totals with one row of quantities more, none above 1,600,001, which the offset refuses
+-- totals with one row of quantities more, as they are added up; what would be above 1,600,000 is 1,600,001, which the offset refuses
 unfoldable pub totalsWith : List Quantity → List Quantity → List Quantity
 totalsWith ts ms = rowOf 0 12 (λ (k : ℕ). min (quantityAt ts k + quantityAt ms k) 1600001)
 

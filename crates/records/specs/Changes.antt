@@ -95,7 +95,7 @@ pub record Head : Type 0 where
 abbrev pub inside : ℕ → Kind → Reader Head
 inside want k s = check (allowed want k) unknownMark (mark s >>= λ m t. got (record { kind = k; mark = m }) t)
 
--- "`CO`: one of the six above. `WD`: mark of one of the six"
+-- "`CO`: one of the six above (their order is the listing's). `WD`: mark of one of the six"
 unfoldable pub head : ℕ → Reader Head
 head want [] = bad endsEarly
 head want (a ∷ []) = bad endsEarly
