@@ -12,3 +12,4 @@ pub mod Leading
 pub mod Entries
 pub mod Viewing
 pub mod Spelling
+pub mod HourReading

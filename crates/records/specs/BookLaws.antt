@@ -14,6 +14,8 @@ pub use Rattle.records.specs.ChangeLaws.{bare-exact}
 pub use Rattle.records.specs.EntryLaws.{Ahead, entry-got, entry-fault, any-fault, any-good, alone, asEntry, any-back, any-close, any-change}
 -- the first of several changes, with more bytes behind and by itself; a fault in any mark
 pub use Rattle.records.specs.FirmLaws.{entry-more, entry-alone, entry-firm, Unread, entry-bad}
+-- the records of one hour
+pub use Rattle.records.specs.HourRecordLaws.{OfHour, hour-record-got, hour-record-fault}
 -- keys, and the key of a question
 pub use Rattle.records.specs.KeyLaws.{same-true, same-refl, sameHour-same, hour-parts, askBytes, asked, ask-fault, askFailure-fault, askHour-fault, name-fault}
 -- the key of a mark and hour, and of a unit: no fault is 0

@@ -253,7 +253,7 @@ parse-fine want s c = go (change want s) refl
 
 -- ---- no fault is 0
 
-counted-hour : Counted hour
+pub counted-hour : Counted hour
 unfolding hour
 counted-hour = counted-bind byte _ (lawful-byte .counted) (λ h. counted-check (between 1 24 h) 3 (λ t. got h t) (omega arith) (counted-got h))
 
@@ -275,7 +275,7 @@ counted-mark = record { above = go }
 counted-inside : (want : ℕ) (k : Kind) → Counted (inside want k)
 counted-inside want k = counted-check (allowed want k) 2 _ (omega arith) (counted-bind mark _ counted-mark (λ m. counted-got _))
 
-counted-head : (want : ℕ) → Counted (head want)
+pub counted-head : (want : ℕ) → Counted (head want)
 unfolding head
 counted-head want = record { above = go }
   where
@@ -350,11 +350,15 @@ counted-body File m = counted-taken (layout m) (lawful-layout m .counted)
 counted-body Correct m = counted-taken (layout m) (lawful-layout m .counted)
 counted-body Withdraw m = counted-got []
 
+pub counted-rest : (h : Head) → Counted (rest h)
+unfolding rest
+counted-rest h =
+    counted-bind hour _ counted-hour (λ o. counted-bind (nameFor (h .kind) (h .mark)) _ (counted-name (h .kind) (h .mark)) (λ n.
+    counted-bind (bodyFor (h .kind) (h .mark)) _ (counted-body (h .kind) (h .mark)) (λ b. counted-got _)))
+
 pub counted-change : (want : ℕ) → Counted (change want)
-unfolding change rest
-counted-change want =
-    counted-bind (head want) _ (counted-head want) (λ h. counted-bind hour _ counted-hour (λ o. counted-bind (nameFor (h .kind) (h .mark)) _ (counted-name (h .kind) (h .mark)) (λ n.
-    counted-bind (bodyFor (h .kind) (h .mark)) _ (counted-body (h .kind) (h .mark)) (λ b. counted-got _))))
+unfolding change
+counted-change want = counted-bind (head want) _ (counted-head want) (λ h. counted-rest h)
 
 pub parse-fault : (want : ℕ) (s : List ℕ) (n : ℕ) → parse want s ≡ fault n → n ≡ 0 → ⊥
 unfolding parse

@@ -116,7 +116,8 @@ head-two want (a ∷ b ∷ s) h t e = go (is (leadBytes Correct) a b) (is (leadB
     go false true f = omega (arith, inside-two want Withdraw s h t f)
     go false false f = inside-two want File (a ∷ b ∷ s) h t f
 
-change-two : (want : ℕ) (s : List ℕ) (c : Change) (t : List ℕ) → change want s ≡ got c t → 2 + length t ≤ length s
+-- a change takes at least its mark
+pub change-two : (want : ℕ) (s : List ℕ) (c : Change) (t : List ℕ) → change want s ≡ got c t → 2 + length t ≤ length s
 unfolding change
 change-two want s c t e =
     let x = bind-got (head want s) (λ h u. rest h u) c t e in

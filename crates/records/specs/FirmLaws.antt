@@ -297,6 +297,10 @@ firm-rest h =
     firm-bind hour _ firm-hour (λ o. firm-bind (nameFor (h .kind) (h .mark)) _ (firm-name (h .kind) (h .mark)) (λ n.
     firm-bind (bodyFor (h .kind) (h .mark)) _ (firm-body (h .kind) (h .mark)) (λ b. firm-got _)))
 
+firm-change : (want : ℕ) → Firm (change want)
+unfolding change head
+firm-change want = firm-bind (head want) _ (firm-two (head want) refl (λ a. refl) (head-behind want)) (λ h. firm-rest h)
+
 firm-entry : Firm entry
 unfolding entry change
 firm-entry =
@@ -319,6 +323,22 @@ entry-alone s x t e =
     let n : length s - length t ≡ length (p .part) = omega (arith, ap length (p .whole), length-append (p .part) t) in
     ap (λ (k : ℕ). parseAny (take k s)) n ∙ ap (λ (l : List ℕ). parseAny (take (length (p .part)) l)) (p .whole)
     ∙ ap parseAny (take-append-seam (p .part) t ∙ sym (append-nil (p .part))) ∙ ap whole (p .again [])
+
+-- the same of a change of one kind
+pub change-alone : (want : ℕ) (s : List ℕ) (c : Change) (t : List ℕ) → change want s ≡ got c t → parse want (take (length s - length t) s) ≡ fine c
+unfolding parse
+change-alone want s c t e =
+    let p = firm-change want .lawful .local .reads s c t e in
+    let n : length s - length t ≡ length (p .part) = omega (arith, ap length (p .whole), length-append (p .part) t) in
+    ap (λ (k : ℕ). parse want (take k s)) n ∙ ap (λ (l : List ℕ). parse want (take (length (p .part)) l)) (p .whole)
+    ∙ ap (parse want) (take-append-seam (p .part) t ∙ sym (append-nil (p .part))) ∙ ap whole (p .again [])
+
+-- what follows a change is what the bytes end with
+pub change-end : (want : ℕ) (s : List ℕ) (c : Change) (t : List ℕ) → change want s ≡ got c t → drop (length s - length t) s ≡ t
+change-end want s c t e =
+    let p = firm-change want .lawful .local .reads s c t e in
+    let n : length s - length t ≡ length (p .part) = omega (arith, ap length (p .whole), length-append (p .part) t) in
+    ap (λ (k : ℕ). drop k s) n ∙ ap (drop (length (p .part))) (p .whole) ∙ drop-at (p .part) t (length (p .part)) refl
 
 -- a fault other than 1 stays whatever bytes follow
 pub entry-firm : (s u : List ℕ) (j : ℕ) → entry s ≡ bad j → (j ≡ 1 → ⊥) → entry (s ++ u) ≡ bad j

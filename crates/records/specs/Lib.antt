@@ -6,6 +6,7 @@ pub mod Layouts
 pub mod Changes
 pub mod Keys
 pub mod Hours
+pub mod HourRecord
 pub mod Views
 pub mod Amounts
 pub mod Inner
@@ -17,6 +18,7 @@ pub mod HourLaws
 pub mod ViewLaws
 pub mod EntryLaws
 pub mod FirmLaws
+pub mod HourRecordLaws
 pub mod PutLaws
 pub mod StoreLaws
 pub mod FitLaws

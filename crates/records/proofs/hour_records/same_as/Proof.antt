@@ -1,0 +1,16 @@
+use Rattle.records.proofs.HourReading.{any-hour, one-hour}
+use borrow.Author.Needs.{needs}
+use native.Mathlib.Omega.{arith}
+use Rattle.records.proofs.hour_records.same_as.Statement.{statement}
+use Rattle.records.proofs.hour_records.same_as.Tie as tie
+use Rattle.records.proofs.hour_records.same_as.Reads as reads
+use Rattle.records.proofs.hour_records.same_as.Lts as lts
+
+returns : tie.Need-returns
+returns c = any-hour _ _ ((c .if1) .taken)
+
+returns-2 : tie.Need-returns-2
+returns-2 c = one-hour _ _ ((c .if1) .left)
+
+pub same-as-spec : {M : Type 1} → statement M
+same-as-spec = tie.close (tie.spec returns returns-2)
