@@ -1,0 +1,3 @@
+pub mod HourOffset
+pub mod HourOffsetLaws
+pub mod BytesLaws
