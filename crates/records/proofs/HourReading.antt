@@ -1,13 +1,13 @@
 -- A record of one hour, by the tests that the code makes.
-use mathlib.Core.Path.{_≡_, refl, sym, ap, ap₂, _∙_, subst}
+use mathlib.Core.Path.{_≡_, refl, sym, ap, _∙_}
 use mathlib.Core.List.{List}
 use mathlib.Core.Bool.{Bool, true, false}
-use Prim.Native.Nat.{ℕ, _-_, _≤_}
+use Prim.Native.Nat.{ℕ, _-_}
 use native.Mathlib.Omega.{arith}
 use lib.Dec.{eqb}
 use lib.ListN.{length}
 use borrow.Author.Tests.{eq-eqb, ne-eqb}
-use Rattle.records.specs.Reading.{Res, bad, got, Reader, _>>=_, check, from}
+use Rattle.records.specs.Reading.{Res, bad, Reader, _>>=_, check, from}
 use Rattle.records.specs.Numbers.{hour}
 use Rattle.records.specs.Changes.{Change, Head, made, keyOf, head, rest, change}
 use Rattle.records.specs.HourRecord.{ofHour, sameAs, hourRecord, hourFrontOf}
@@ -21,9 +21,9 @@ use Rattle.records.specs.declared.marks.Kind.the-variants.{File, Correct
 use Rattle.records.specs.declared.keys.Key.{Key}
 use Rattle.records.specs.declared.changes.Read.{Read}
 use Rattle.records.specs.declared.hour_records.HourFront.{HourFront}
-use Rattle.records.proofs.Step.{first, next, test, last}
+use Rattle.records.proofs.Step.{first, test}
 use Rattle.records.proofs.Body.{length-from}
-use Rattle.records.proofs.Out.{Full, full, read-bad}
+use Rattle.records.proofs.Out.{full, read-bad}
 
 pub any-hour : (o p : ℕ) → o ≡ 0 → true ≡ sameAs o p
 any-hour o p h = simp (eq-eqb o 0 h)

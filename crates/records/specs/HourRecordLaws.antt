@@ -1,11 +1,10 @@
 -- The records of one hour: what is read of one is what filing reads.
-use mathlib.Core.Path.{_≡_, refl, sym, ap, _∙_}
+use mathlib.Core.Path.{_≡_, ap, _∙_}
 use mathlib.Core.List.{List}
-use mathlib.Core.Bool.{Bool, true, false}
 use Prim.Native.Nat.{ℕ, _+_, _-_, _≤_, _<_}
 use native.Mathlib.Omega.{arith}
 use lib.ListN.{length, take, drop}
-use Rattle.records.specs.Reading.{Res, bad, got, Reader, _>>=_, check}
+use Rattle.records.specs.Reading.{Res, bad, got, _>>=_, check}
 use Rattle.records.specs.Numbers.{hour}
 use Rattle.records.specs.Changes.{Change, Head, keyOf, head, rest, change, fine, parse}
 use Rattle.records.specs.HourRecord.{ofHour, sameAs, hourRecord}

@@ -4,7 +4,6 @@ use Rattle.records.specs.Inner.{guarded, then}
 use Rattle.records.specs.Changes.{change}
 use Rattle.records.specs.declared.fields.End.{End}
 use Rattle.records.proofs.HourReading.{start-is}
-use native.Mathlib.Omega.{arith}
 use borrow.Author.Needs.{needs}
 use Rattle.records.proofs.hour_records.start_of.Statement.{statement}
 use Rattle.records.proofs.hour_records.start_of.Tie as tie
