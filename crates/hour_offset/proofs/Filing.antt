@@ -1,10 +1,10 @@
 -- What the loop over an hour's records rests on.
-use mathlib.Core.Path.{_≡_, refl, sym, ap, _∙_, subst, subst⁻¹}
-use mathlib.Core.List.{List, []}
+use mathlib.Core.Path.{_≡_, refl, sym, ap, _∙_, subst}
+use mathlib.Core.List.{List}
 use mathlib.Core.Bool.{Bool, true, false, cond}
 use Prim.Native.Nat.{ℕ, _+_, _-_, _≤_, _<_}
 use native.Mathlib.Omega.{arith}
-use lib.Dec.{eqb, ltb}
+use lib.Dec.{eqb}
 use lib.IntN.{pos}
 use lib.ListN.{length, take, drop, length-take, length-drop}
 use lib.Seq.{take-all, drop-drop, drop-length}
@@ -14,7 +14,7 @@ use Rattle.money.specs.declared.units.Answer.the-variants.{Amount, Refused}
 use Rattle.records.specs.Reading.{Res, bad, got}
 use Rattle.records.specs.Changes.{Change, keyOf}
 use Rattle.records.specs.HourRecord.{hourRecord, hourFrontOf}
-use Rattle.records.specs.BookLaws.{OfHour, hour-record-got, hour-record-fault}
+use Rattle.records.specs.BookLaws.{hour-record-got, hour-record-fault}
 use Rattle.records.specs.declared.hour_records.HourFront.{HourFront}
 use Rattle.book.specs.declared.journal.Book.{Book}
 use Rattle.book.specs.declared.answers.Guarantees.{Guarantees}
@@ -22,7 +22,7 @@ use Rattle.book.specs.Register.{Reg, fresh, Call, file, ask, hourGuarantees, an
 use Rattle.book.specs.Meaning.{Valid, After, bookOf, settled, outcome, Meets, guaranteesReply}
 use Rattle.book.specs.Tables.{replied}
 use Rattle.book.specs.ReplayLaws.{called-valid, outcome-is}
-use Rattle.hour_offset.specs.HourOffset.{Result, ticks, no, offsetIn, atEnd, onward, recorded, offsetFrom, offsetAfter, hourOffset, answerOf}
+use Rattle.hour_offset.specs.HourOffset.{ticks, offsetIn, onward, recorded, offsetAfter, hourOffset, answerOf}
 use Rattle.hour_offset.specs.HourOffsetLaws.{at-none, first-then, Decided, decided}
 
 -- ---- the first record

@@ -1,17 +1,24 @@
 -- The records of an hour one after the other: more fuel than bytes changes nothing, and no refusal is numbered 0.
-use mathlib.Core.Path.{_≡_, refl, sym, ap, _∙_, subst}
+use mathlib.Core.Path.{_≡_, refl, sym, subst}
 use mathlib.Core.List.{List, [], _∷_}
 use mathlib.Core.Bool.{Bool, true, false, cond}
 use Prim.Native.Nat.{ℕ, zero, suc, _+_, _-_, _≤_, _<_}
 use native.Mathlib.Omega.{arith}
 use lib.ListN.{length, take}
-use lib.Dec.{ltb}
+use lib.Dec.{ltb, eqb}
+use lib.IntN.{ℤ, pos}
 use Rattle.records.specs.Reading.{Res, bad, got}
-use Rattle.records.specs.Changes.{Change, keyOf, Input, fine, fault, parse}
+use Rattle.records.specs.Changes.{Rec, Change, keyOf, Input, fine, fault, parse}
 use Rattle.records.specs.HourRecord.{hourRecord}
-use Rattle.records.specs.BookLaws.{parse-fault, OfHour, hour-record-got, hour-record-fault}
-use Rattle.book.specs.Register.{Reg, file, Reply, refused, Step, answered, becomes, stepOf, called, listed, judged, refusal, writeAll}
-use Rattle.hour_offset.specs.HourOffset.{Result, ticks, no, atEnd, onward, recorded, offsetFrom, offsetAfter}
+use Rattle.records.specs.Keys.{askHourOf}
+use Rattle.records.specs.declared.keys.Key.{Key}
+use Rattle.records.specs.declared.marks.Mark.the-variants.{Im, Ex}
+use Rattle.records.specs.BookLaws.{parse-fault, askHourOf-fault, hour-record-got, hour-record-fault}
+use Rattle.book.specs.Register.{Reg, fresh, standing, startIn, keyed, hourGuarantees, answer, file, Reply, refused, Step, answered, becomes, stepOf, called, listed, judged, refusal, writeAll}
+use Rattle.book.specs.ByName.{byName}
+use Rattle.book.specs.Amounts.{Price, unpriced, priced, hourKey, priceOf, guaranteesAt, guaranteesOf}
+use Rattle.book.specs.Tables.{replied}
+use Rattle.hour_offset.specs.HourOffset.{Result, ticks, no, offsetIn, atEnd, onward, recorded, offsetFrom, offsetAfter, hourOffset, eight, numberIn, bytesIn, callNumber, callBytes}
 
 pub at-none : (n o : ℕ) (g : Reg) → offsetFrom n o g [] ≡ atEnd o g
 unfolding offsetFrom
@@ -88,3 +95,63 @@ decided s lent g = go (ltb lent (length (writeAll (g .list))))
     go : (x : Bool) → Decided (cond x (answered (refused 16)) (stepOf (file s) lent g))
     go true = by 16 (omega arith)
     go false = filing (parse 1 s) refl
+
+-- ---- no refusal is numbered 0
+
+abbrev pub Above : Result → Type 0
+Above (ticks z) = Unit {0}
+Above (no n) = 0 < n
+
+asked-above : (o : ℕ) (g : Reg) → Above (offsetIn (answer (hourGuarantees o) 65535 g))
+unfolding guaranteesOf
+asked-above o g = go (askHourOf Im o) refl
+  where
+    worked : (at : Key → ℕ) (p : Price) (is es : List Rec) → Above (offsetIn (guaranteesAt at p is es))
+    worked at p [] es = tt
+    worked at unpriced (i ∷ is) es = omega arith
+    worked at (priced p) (i ∷ is) es = tt
+
+    go : (x : Res Key) → askHourOf Im o ≡ x → Above (offsetIn (keyed x (λ (k : Key). guaranteesOf (startIn (g .list)) (standing (g .list)) (priceOf (standing (g .list))) (k .hour))))
+    go (bad n) e = askHourOf-fault Im o n e
+    go (got k t) e =
+        worked (startIn (g .list)) (priceOf (standing (g .list)) (k .hour)) (byName (hourKey Im (k .hour)) (standing (g .list))) (byName (hourKey Ex (k .hour)) (standing (g .list)))
+
+end-above : (o : ℕ) (g : Reg) → Above (atEnd o g)
+end-above o g = go (eqb o 0)
+  where
+    go : (b : Bool) → Above (cond b (ticks (pos 0)) (offsetIn (answer (hourGuarantees o) 65535 g)))
+    go true = tt
+    go false = asked-above o g
+
+pub all-above : (n o : ℕ) (g : Reg) (s : List ℕ) → Above (offsetFrom n o g s)
+unfolding offsetFrom
+all-above zero o g s = end-above o g
+all-above (suc n) o g [] = end-above o g
+all-above (suc n) o g (b ∷ s) = go (λ p x t. all-above n p x t) (hourRecord o (b ∷ s)) refl
+  where
+    Later : Type 0
+    Later = (p : ℕ) (x : Reg) (t : List ℕ) → Above (offsetFrom n p x t)
+
+    then : Later → (p : ℕ) (t : List ℕ) (st : Step) → Decided st → Above (onward p t (offsetFrom n) st)
+    then ih p t (answered r) d = subst (λ (y : Reply). 0 < replied y) (sym (d .is)) (d .above)
+    then ih p t (becomes x) d = ih p x t
+
+    go : Later → (r : Res Change) → hourRecord o (b ∷ s) ≡ r → Above (recorded g (b ∷ s) (offsetFrom n) r)
+    go ih (bad j) e = hour-record-fault o (b ∷ s) j e
+    go ih (got c t) e =
+        let p : List ℕ = take (length (b ∷ s) - length t) (b ∷ s) in
+        then ih (keyOf c .hour) t (called (file p) 65535 g) (decided p 65535 g)
+
+-- "It returns 0 and puts the offset into eight lent bytes, or returns a number and leaves them."
+pub record Settled (before : List ℕ) (number : ℕ) (after : List ℕ) (x : Result) : Type 0 where
+  pub puts : number ≡ 0 → (z : ℤ) × (x ≡ ticks z) × (after ≡ eight z)
+  pub leaves : (number ≡ 0 → ⊥) → after ≡ before
+
+pub one-or-other : (result s : List ℕ) → Settled result (callNumber result s) (callBytes result s) (hourOffset s)
+unfolding callNumber callBytes hourOffset
+one-or-other result s = go (eqb (length result) 8) (offsetAfter 0 fresh s) (all-above (length s) 0 fresh s)
+  where
+    go : (b : Bool) (x : Result) → Above x → Settled result (cond b (numberIn x) 5) (cond b (bytesIn x result) result) x
+    go true (ticks z) a = record { puts = λ e. (z, refl, refl); leaves = λ h. absurd (h refl) }
+    go true (no n) a = record { puts = λ e. absurd (omega arith); leaves = λ h. refl }
+    go false x a = record { puts = λ e. absurd (omega arith); leaves = λ h. refl }

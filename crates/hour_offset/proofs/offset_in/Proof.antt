@@ -1,7 +1,6 @@
 use Rattle.book.specs.Register.{ask, hourGuarantees, stepOf}
 use Rattle.book.specs.Meaning.{outcome}
 use Rattle.hour_offset.proofs.Filing.{ended-none, ended-no, ended-with}
-use native.Mathlib.Omega.{arith}
 use borrow.Author.Needs.{needs}
 use Rattle.hour_offset.proofs.offset_in.Statement.{statement}
 use Rattle.hour_offset.proofs.offset_in.Tie as tie

@@ -1,8 +1,8 @@
-use mathlib.Core.Path.{_≡_, refl, sym, ap, _∙_}
+use mathlib.Core.Path.{refl, sym, ap, _∙_}
 use native.Mathlib.Omega.{arith}
 use Prim.Native.Nat.{_-_}
 use lib.ListN.{length}
-use Rattle.hour_offset.specs.HourOffset.{Result, answerOf}
+use Rattle.hour_offset.specs.HourOffset.{answerOf}
 use Rattle.hour_offset.proofs.Filing.{Going, started, finished, faulty, end-within, end-after, stops, continues}
 use borrow.Author.Needs.{needs}
 use Rattle.hour_offset.proofs.offset_over.Statement.{statement}
