@@ -15,7 +15,7 @@ use Rattle.records.specs.Views.{pricesIn}
 use Rattle.records.specs.Amounts.{creditIn, unitAmountIn, chargeIn}
 use Rattle.records.specs.Changes.{begins, parsedOf, parse, parseAny, entryOf, putNumber, bare, takeBackBytes, closeBytes}
 use Rattle.book.specs.declared.journal.Book.{Book}
-use Rattle.book.specs.Register.{Call, file, correct, withdraw, takeBack, close, change, ask, Question, Reply, refused, accepted, place, number, amounts, stepOf}
+use Rattle.book.specs.Register.{Call, file, correct, withdraw, takeBack, close, change, ask, Question, Reply, refused, accepted, place, number, guarantees, unitDay, charge, stepOf}
 use Rattle.book.specs.Meaning.{outcome}
 
 -- ---- records
@@ -55,7 +55,9 @@ replyNumber (refused n) = n
 replyNumber accepted = 0
 replyNumber (place s l) = 0
 replyNumber (number n) = 0
-replyNumber (amounts l) = 0
+replyNumber (guarantees credits offset) = 0
+replyNumber (unitDay total reversal) = 0
+replyNumber (charge t) = 0
 
 -- a question on the book that three numbers carry, over lent bytes
 unfoldable pub askedNumber : Question → List ℕ → List ℕ → ℕ

@@ -1,13 +1,17 @@
 // The proved crates over numbers and slices, for a program in another language that holds them against its own. A slice is a
 // pointer and a count. Each function answers 0 or the number of the refusal, and leaves what it answers into alone at a refusal.
+use book::answers::Amounts;
 use book::answers::Answer as Said;
 use book::answers::Done;
+use book::answers::Guarantees;
+use book::answers::NamedAmount;
 use book::journal::Book;
 use money::names::name_before;
 use money::names::same_name;
 use money::refusals::ENDS_EARLY;
 use money::refusals::UNKNOWN_MARK;
 use money::units::Answer;
+use money::units::Ticks;
 use records::amounts::failure_charge;
 use records::amounts::import_credit;
 use records::amounts::unit_amount;
@@ -19,13 +23,14 @@ use records::parse::parse_any;
 use records::parse::parse_change;
 use records::parse::parse_close;
 use records::parse::parse_take_back;
+use records::scan::peek;
 use records::views::prices_of;
 use records::writing::put;
 ghost use mathlib.Core.Path.{_≡_};
 ghost use Prim.Native.Nat.{_≤_};
 ghost use lib.ListN.{length};
-ghost use Rattle.book.specs.Register.{recordOf, countOf, freeBytes, stepOf};
-ghost use Rattle.book.specs.Meaning.{replyOf, outcome};
+ghost use Rattle.book.specs.Register.{recordOf, countOf, freeBytes, hourGuarantees, dayOf, failureCharge, stepOf};
+ghost use Rattle.book.specs.Meaning.{replyOf, guaranteesReply, outcome};
 ghost use Rattle.bridge.specs.Bridge.{compareNumber, anyNumber, writeNumber, bookFrom, bookIn, hourIn, replyNumber, askedNumber, callOf, changeNumber, filingNumber, hasAmount, amountIn, answerNumber, amountNumber};
 ghost use Rattle.records.specs.Changes.{parse, putNumber, putBytes, entry, frontOf};
 
@@ -36,18 +41,25 @@ pub extern "C" fn pewatuno_interface() -> u32
     1
 }
 
-// Bit 0: records; bit 1: amounts of single records; bit 2: the book.
+// Bit 0: records; bit 1: amounts of single records; bit 2: the book; bit 3: its questions for amounts.
 #[no_mangle]
 pub extern "C" fn pewatuno_layers() -> u32
-    ensures { λ r. ⌜ r ≡ 7 ⌝ }
+    ensures { λ r. ⌜ r ≡ 15 ⌝ }
 {
-    7
+    15
 }
 
 // Sets a number that is lent for an answer.
 fn set(numbers: &mut [u64], i: usize, n: u64) {
     if i < numbers.len() {
         numbers[i] = n;
+    }
+}
+
+fn set_amount(amounts: &mut [i64], i: usize, t: Ticks) {
+    if i < amounts.len() {
+        let ticks = t.0;
+        amounts[i] = ticks;
     }
 }
 
@@ -210,10 +222,7 @@ fn tell_amount(amounts: &mut [i64], a: Answer) -> u32
     match a {
         Answer::Refused(n) => n as u32,
         Answer::Amount(t) => {
-            if 0 < amounts.len() {
-                let ticks = t.0;
-                amounts[0] = ticks;
-            }
+            set_amount(amounts, 0, t);
             0
         }
     }
@@ -283,6 +292,8 @@ fn number_of(a: Said) -> u32
         Said::Accepted => 0,
         Said::Place(_start, _len) => 0,
         Said::Number(_n) => 0,
+        Said::Day(_total, _reversal) => 0,
+        Said::Charge(_t) => 0,
     }
 }
 
@@ -349,6 +360,8 @@ fn tell_said(sizes: &mut [u64], a: Said) -> u32
             set(sizes, 0, n as u64);
             0
         }
+        Said::Day(_total, _reversal) => 0,
+        Said::Charge(_t) => 0,
     }
 }
 
@@ -390,48 +403,121 @@ pub extern "C" fn pewatuno_free(state: &[u64], lent: &[u8], sizes: &mut [u64]) -
     tell_said(sizes, b.free_bytes(lent))
 }
 
-// ---- layers that are not there yet
+// ---- the book's questions for amounts
 
-const NOT_THERE: u32 = 0xffff_ffff;
+// The length of the change that is written from start on.
+fn written_len(lent: &[u8], start: usize) -> usize {
+    if lent.len() < start {
+        return 0;
+    }
+    peek(&lent[start..]).len
+}
 
+// The place of an hour's import i, counted from 0, and its credit.
+fn tell_credit(lent: &[u8], i: usize, c: NamedAmount, sizes: &mut [u64], amounts: &mut [i64])
+    requires { ⌜ i ≤ 16 ⌝ }
+{
+    let start = c.start;
+    let len = written_len(lent, start);
+    set(sizes, 2 * i + 1, start as u64);
+    set(sizes, 2 * i + 2, len as u64);
+    set_amount(amounts, i + 1, c.ticks);
+}
+
+fn tell_credits(lent: &[u8], a: Amounts, sizes: &mut [u64], amounts: &mut [i64])
+    requires { ⌜ a .n ≤ 16 ⌝ }
+{
+    let n = a.n;
+    set(sizes, 0, n as u64);
+    let mut i: usize = 0;
+    while i < n {
+        let c = a.list[i];
+        tell_credit(lent, i, c, sizes, amounts);
+        i += 1;
+    }
+}
+
+fn tell_guarantees(lent: &[u8], g: Guarantees, sizes: &mut [u64], amounts: &mut [i64]) -> u32
+    requires { ⌜ g .credits .n ≤ 16 ⌝ }
+    ensures { λ r. ⌜ r ≡ replyNumber (guaranteesReply g) ⌝ }
+{
+    let n = g.number;
+    if n != 0 {
+        return n as u32;
+    }
+    set_amount(amounts, 0, g.offset);
+    tell_credits(lent, g.credits, sizes, amounts);
+    0
+}
+
+// An hour's guarantees: the number of imports, then start and length of each; the offset, then each credit.
 #[no_mangle]
 pub extern "C" fn pewatuno_guarantees(
-    _state: &[u64],
-    _lent: &[u8],
-    _hour: u32,
-    _sizes: &mut [u64],
-    _amounts: &mut [i64],
+    state: &[u64],
+    lent: &[u8],
+    hour: u32,
+    sizes: &mut [u64],
+    amounts: &mut [i64],
 ) -> u32
-    ensures { λ r. ⌜ r ≡ 4294967295 ⌝ }
+    ensures { λ r. ⌜ r ≡ askedNumber (hourGuarantees (hourIn hour)) (now (state .entry)) (now (lent .entry)) ⌝ }
 {
-    NOT_THERE
+    let b = book_in(state);
+    tell_guarantees(lent, b.guarantees(lent, hour_of(hour)), sizes, amounts)
 }
 
+fn tell_amounts(amounts: &mut [i64], a: Said) -> u32
+    ensures { λ r. ⌜ r ≡ replyNumber (replyOf a) ⌝ }
+{
+    match a {
+        Said::Refused(n) => n as u32,
+        Said::Accepted => 0,
+        Said::Place(_start, _len) => 0,
+        Said::Number(_n) => 0,
+        Said::Day(total, reversal) => {
+            set_amount(amounts, 0, total);
+            set_amount(amounts, 1, reversal);
+            0
+        }
+        Said::Charge(t) => {
+            set_amount(amounts, 0, t);
+            0
+        }
+    }
+}
+
+// A unit's day: its total, and the reversal.
 #[no_mangle]
 pub extern "C" fn pewatuno_unit_day(
-    _state: &[u64],
-    _lent: &[u8],
-    _name: &[u8],
-    _amounts: &mut [i64],
+    state: &[u64],
+    lent: &[u8],
+    name: &[u8],
+    amounts: &mut [i64],
 ) -> u32
-    ensures { λ r. ⌜ r ≡ 4294967295 ⌝ }
+    ensures { λ r. ⌜ r ≡ askedNumber (dayOf (now (name .entry))) (now (state .entry)) (now (lent .entry)) ⌝ }
 {
-    NOT_THERE
+    let b = book_in(state);
+    tell_amounts(amounts, b.unit_day(lent, name))
 }
 
+// The charge of a failure that stands.
 #[no_mangle]
 pub extern "C" fn pewatuno_failure_charge(
-    _state: &[u64],
-    _lent: &[u8],
-    _mark: &[u8],
-    _hour: u32,
-    _name: &[u8],
-    _amounts: &mut [i64],
+    state: &[u64],
+    lent: &[u8],
+    mark: &[u8],
+    hour: u32,
+    name: &[u8],
+    amounts: &mut [i64],
 ) -> u32
-    ensures { λ r. ⌜ r ≡ 4294967295 ⌝ }
+    ensures { λ r. ⌜ r ≡ askedNumber (failureCharge (now (mark .entry)) (hourIn hour) (now (name .entry))) (now (state .entry)) (now (lent .entry)) ⌝ }
 {
-    NOT_THERE
+    let b = book_in(state);
+    tell_amounts(amounts, b.failure_charge(lent, mark, hour_of(hour), name))
 }
+
+// ---- a layer that is not there yet
+
+const NOT_THERE: u32 = 0xffff_ffff;
 
 #[no_mangle]
 pub extern "C" fn pewatuno_hour_offset(_result: &mut [u8], _records: &[u8]) -> u32
