@@ -14,6 +14,8 @@ use std::hint::black_box;
 const LENT: usize = 65_535;
 /// Sizes of the books that are timed.
 pub const BOOKS: [usize; 4] = [64, 128, 256, 512];
+/// Filings of a whole day.
+const DAY: usize = 600;
 
 /// One line of the table.
 pub struct Row {
@@ -146,14 +148,61 @@ impl Bench {
         )
     }
 
-    /// A day's filings, an hour's offset, guarantees and a unit's day.
+    /// One hour with 16 imports and 16 exports in books of each size.
+    pub fn guarantees(self) -> Vec<Row> {
+        BOOKS.map(|size| self.full_hour(size)).into()
+    }
+
+    fn full_hour(self, size: usize) -> Row {
+        let kept = Kept::filled(&full_hour(), size);
+        let book = kept.book();
+        let mut sizes = [0; GUARANTEE_SIZES];
+        let mut amounts = [0; GUARANTEE_AMOUNTS];
+        self.row(
+            format!("an hour of 16 IM, 16 EX, {size} changes"),
+            Layer::AmountQuestions,
+            || bridge::guarantees(kept.state, &kept.bytes, 5, &mut sizes, &mut amounts),
+            || book.guarantees(&kept.bytes, 5).is_ok(),
+        )
+    }
+
+    /// A unit's day of 24 hours in books of each size.
+    pub fn unit_days(self) -> Vec<Row> {
+        BOOKS.map(|size| self.unit_day(size)).into()
+    }
+
+    fn unit_day(self, size: usize) -> Row {
+        let kept = Kept::filled(&unit_hours(), size);
+        let book = kept.book();
+        let mut amounts = [0; 2];
+        self.row(
+            format!("a unit's day of 24 hours, {size} changes"),
+            Layer::AmountQuestions,
+            || bridge::unit_day(kept.state, &kept.bytes, b"G", &mut amounts),
+            || book.unit_day(&kept.bytes, b"G").is_ok(),
+        )
+    }
+
+    /// A failure charge in books of each size.
+    pub fn charges(self) -> Vec<Row> {
+        BOOKS.map(|size| self.charge(size)).into()
+    }
+
+    fn charge(self, size: usize) -> Row {
+        let kept = Kept::of(&filings(size));
+        let book = kept.book();
+        let mut amounts = [0];
+        self.row(
+            format!("a failure charge, {size} changes"),
+            Layer::AmountQuestions,
+            || bridge::failure_charge(kept.state, &kept.bytes, b"FI", 1, b"A/1", &mut amounts),
+            || book.failure_charge(&kept.bytes, b"FI", 1, b"A/1").is_ok(),
+        )
+    }
+
+    /// A day's filings and an hour's offset.
     pub fn days(self) -> Vec<Row> {
-        vec![
-            self.full_day(),
-            self.hour_offset(),
-            self.guarantees(),
-            self.unit_day(),
-        ]
+        vec![self.full_day(), self.hour_offset()]
     }
 
     fn full_day(self) -> Row {
@@ -185,31 +234,6 @@ impl Bench {
             || hour_offset_call(&mut peer_result, black_box(&records)) == 0,
         )
     }
-
-    fn guarantees(self) -> Row {
-        let kept = Kept::of(&full_hour());
-        let book = kept.book();
-        let mut sizes = [0; GUARANTEE_SIZES];
-        let mut amounts = [0; GUARANTEE_AMOUNTS];
-        self.row(
-            "guarantees of a full hour",
-            Layer::AmountQuestions,
-            || bridge::guarantees(kept.state, &kept.bytes, 5, &mut sizes, &mut amounts),
-            || book.guarantees(&kept.bytes, 5).is_ok(),
-        )
-    }
-
-    fn unit_day(self) -> Row {
-        let kept = Kept::of(&unit_hours());
-        let book = kept.book();
-        let mut amounts = [0; 2];
-        self.row(
-            "a unit's day of 24 hours",
-            Layer::AmountQuestions,
-            || bridge::unit_day(kept.state, &kept.bytes, b"G", &mut amounts),
-            || book.unit_day(&kept.bytes, b"G").is_ok(),
-        )
-    }
 }
 
 /// A book and its bytes.
@@ -229,6 +253,19 @@ impl Kept {
         for record in filings {
             assert!(kept.peer_change(record), "a filing is refused");
         }
+        kept
+    }
+
+    /// The book of these filings and, up to the size, of a day's that it still
+    /// takes.
+    fn filled(records: &[Vec<u8>], size: usize) -> Kept {
+        let mut kept = Kept::of(records);
+        for record in filings(DAY) {
+            if usize::from(kept.state.changes) < size {
+                kept.peer_change(&record);
+            }
+        }
+        assert_eq!(usize::from(kept.state.changes), size, "a book is filled");
         kept
     }
 
@@ -366,5 +403,12 @@ mod tests {
         }
         assert_eq!(Kept::of(&full_hour()).state.changes, 33);
         assert_eq!(Kept::of(&unit_hours()).state.changes, 48);
+        for size in BOOKS {
+            let hour = Kept::filled(&full_hour(), size);
+            let guarantees = hour.book().guarantees(&hour.bytes, 5);
+            assert_eq!(guarantees.map(|all| all.credits.len()), Ok(16));
+            let day = Kept::filled(&unit_hours(), size);
+            assert!(day.book().unit_day(&day.bytes, b"G").is_ok());
+        }
     }
 }

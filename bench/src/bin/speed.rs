@@ -38,9 +38,20 @@ fn print_all(bench: Bench) {
     print_rows(&changes);
     let questions = bench.questions();
     print_rows(&questions);
+    let amounts = [
+        ("an hour of 16 IM, 16 EX", bench.guarantees()),
+        ("a unit's day of 24 hours", bench.unit_days()),
+        ("a failure charge", bench.charges()),
+    ];
+    for (_, rows) in &amounts {
+        print_rows(rows);
+    }
     print_rows(&bench.days());
     print_growth("file and take back", &changes);
     print_growth("record of a key", &questions);
+    for (label, rows) in &amounts {
+        print_growth(label, rows);
+    }
 }
 
 fn print_head(pace: Pace) {
