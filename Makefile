@@ -52,6 +52,7 @@ test:
 
 bench: settle peer
 	$(RT) staticlib bridge
+	$(RT) staticlib hour_offset
 	$(CARGO) run --offline --release --manifest-path bench/Cargo.toml --bin bench
 	$(CARGO) run --offline --release --manifest-path bench/Cargo.toml --bin speed
 	bench/settle $(SETTLE) peer/target/release/peer-settle samples/empty.rec samples/ordinary.rec samples/busy.rec

@@ -1,10 +1,11 @@
-//! Finds the static library of the proved side and links it.
+//! Finds the static libraries of the proved side and links them.
 
 use std::env;
 use std::path::PathBuf;
 use std::process;
 
-const LIBRARY: &str = "libbridge.a";
+/// The bridge, and the customers' own archive.
+const LIBRARIES: [&str; 2] = ["bridge", "hour_offset"];
 
 fn main() {
     println!("cargo:rerun-if-env-changed=PEWATUNO_LIB");
@@ -12,17 +13,19 @@ fn main() {
         return;
     }
     let folder = library_folder();
-    let library = folder.join(LIBRARY);
-    println!("cargo:rerun-if-changed={}", library.display());
-    if !library.is_file() {
-        eprintln!("{LIBRARY} is not in {}.", folder.display());
-        eprintln!("Make it with `rt staticlib bridge` at the root of the repository,");
-        eprintln!("or name its folder in the environment variable PEWATUNO_LIB.");
-        eprintln!("The bench tests itself without it: `cargo test --features mock`.");
-        process::exit(1);
-    }
     println!("cargo:rustc-link-search=native={}", folder.display());
-    println!("cargo:rustc-link-lib=static=bridge");
+    for name in LIBRARIES {
+        let library = folder.join(format!("lib{name}.a"));
+        println!("cargo:rerun-if-changed={}", library.display());
+        if !library.is_file() {
+            eprintln!("{} is not there.", library.display());
+            eprintln!("Make it with `rt staticlib {name}` at the root of the repository,");
+            eprintln!("or name its folder in the environment variable PEWATUNO_LIB.");
+            eprintln!("The bench tests itself without it: `cargo test --features mock`.");
+            process::exit(1);
+        }
+        println!("cargo:rustc-link-lib=static={name}");
+    }
 }
 
 /// The folder named by PEWATUNO_LIB (relative ones start at this package),

@@ -41,12 +41,13 @@ pub extern "C" fn pewatuno_interface() -> u32
     1
 }
 
-// Bit 0: records; bit 1: amounts of single records; bit 2: the book; bit 3: its questions for amounts.
+// Bit 0: records; bit 1: amounts of single records; bit 2: the book; bit 3: its questions for amounts; bit 4: the offset of an hour,
+// which stands in an archive of its own.
 #[no_mangle]
 pub extern "C" fn pewatuno_layers() -> u32
-    ensures { λ r. ⌜ r ≡ 15 ⌝ }
+    ensures { λ r. ⌜ r ≡ 31 ⌝ }
 {
-    15
+    31
 }
 
 // Sets a number that is lent for an answer.
@@ -513,15 +514,4 @@ pub extern "C" fn pewatuno_failure_charge(
 {
     let b = book_in(state);
     tell_amounts(amounts, b.failure_charge(lent, mark, hour_of(hour), name))
-}
-
-// ---- a layer that is not there yet
-
-const NOT_THERE: u32 = 0xffff_ffff;
-
-#[no_mangle]
-pub extern "C" fn pewatuno_hour_offset(_result: &mut [u8], _records: &[u8]) -> u32
-    ensures { λ r. ⌜ r ≡ 4294967295 ⌝ }
-{
-    NOT_THERE
 }
