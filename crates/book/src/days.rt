@@ -101,14 +101,14 @@ fn parts_of(log: &[u8], units: Day, prices: Day) -> DayParts
         ticks: [Ticks(0); 24],
         starts: [CentsPerStart(0); 24],
     };
-    let mut j: usize = 0;
-    while j < 24 {
-        let p = part_at(log, units, prices, j);
+    let mut h: usize = 0;
+    while h < 24 {
+        let p = part_at(log, units, prices, h);
         let t = p.ticks;
         let s = p.start;
-        d.ticks[j] = t;
-        d.starts[j] = s;
-        j = j + 1;
+        d.ticks[h] = t;
+        d.starts[h] = s;
+        h = h + 1;
     }
     d
 }

@@ -28,8 +28,8 @@ mul-s c = search needs
 element-set-from-s : tie.Need-element-set-from-s Inv-loop μ-loop
 element-set-from-s c = search needs
 
-add-j : tie.Need-add-j Inv-loop μ-loop
-add-j c = search needs
+add-h : tie.Need-add-h Inv-loop μ-loop
+add-h c = search needs
 
 loop-less : tie.Need-loop-less Inv-loop μ-loop
 loop-less c = search needs
@@ -52,7 +52,7 @@ parts-of-spec =
     element-set-from-t
     mul-s
     element-set-from-s
-    add-j
+    add-h
     loop-less
     loop-again
     returns)
