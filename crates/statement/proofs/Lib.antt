@@ -1,2 +1,5 @@
 pub mod Adding
+pub mod Growing
+pub mod Stating
+pub mod Walking
 pub mod Writing

@@ -4,5 +4,7 @@ pub mod Lines
 pub mod LineLaws
 pub mod PutLaws
 pub mod Sheets
+pub mod Statement
 pub mod Inner
+pub mod StatementLaws
 pub mod Examples

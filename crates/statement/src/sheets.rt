@@ -6,12 +6,13 @@ use crate::texts::Text;
 use money::names::Name;
 use money::units::Cents;
 ghost use mathlib.Core.Path.{_≡_};
-ghost use mathlib.Core.List.{[], _∷_, _++_};
+ghost use mathlib.Core.List.{[], _∷_};
 ghost use Prim.Native.Nat.{_+_, _≤_, _<_};
 ghost use lib.ListN.{length, take};
 ghost use Rattle.records.specs.Changes.{put};
 ghost use Rattle.statement.specs.Lines.{textOf};
 ghost use Rattle.statement.specs.Sheets.{linesOf};
+ghost use Rattle.statement.specs.Inner.{Grown};
 
 // An hour has at most 16 `IOG`, an `OFF`, 16 `IFC` and 16 `EFC`.
 pub const SHEET_MAX: usize = 49;
@@ -42,7 +43,7 @@ pub(crate) fn blank() -> Sheet
 
 pub(crate) fn with_line(s: Sheet, l: Line) -> Sheet
     requires { ⌜ s .n < 49 ⌝ }
-    ensures { λ r. ⌜ (linesOf r ≡ linesOf s ++ (l ∷ [])) × (r .n ≡ s .n + 1) ⌝ }
+    ensures { λ r. ⌜ Grown s r (l ∷ []) ⌝ }
 {
     let mut next = s;
     let k = s.n;

@@ -1,9 +1,9 @@
-use mathlib.Core.Path.{refl}
-use native.Mathlib.Numerals.{add-one}
+use mir.Syntax.{w64}
+use mir.Val.{SFits}
 use Prim.Native.Nat.{_<_}
 use lib.ListN.{length}
-use lib.Seq.{take-suc-set}
-use Rattle.money.specs.UnitLaws.{unmapped}
+use Rattle.money.specs.UnitLaws.{unmapped, abs-most}
+use Rattle.statement.proofs.Growing.{grown-one}
 use borrow.Author.Needs.{needs}
 use Rattle.statement.proofs.sheets.with_line.Statement.{statement}
 use Rattle.statement.proofs.sheets.with_line.Tie as tie
@@ -18,7 +18,10 @@ add-next : tie.Need-add-next
 add-next c = search needs
 
 returns : tie.Need-returns
-returns c = let h : (c .args) .s .n < length ((c .args) .s .lines) = search (needs, unmapped) in (rw add-one (take-suc-set _ _ _ h), refl)
+returns c =
+    let f : SFits w64 ((c .args) .l .cents .0) = search needs in
+    let h : (c .args) .s .n < length ((c .args) .s .lines) = search (needs, unmapped) in
+    grown-one ((c .args) .s) ((c .args) .l) h (abs-most _ f)
 
 pub with-line-spec : {M : Type 1} → statement M
 with-line-spec = tie.close (tie.spec mul-l element-set-from-l add-next returns)

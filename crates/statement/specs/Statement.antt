@@ -1,0 +1,135 @@
+-- 01, "The statement and its examples": the lines of the statement, over the two things that book's amounts are over (the standing records
+-- and the price of an hour), and what a call for its text answers. Assumes nothing.
+use mathlib.Core.Path.{_≡_}
+use mathlib.Core.Bool.{cond}
+use mathlib.Core.List.{List, [], _∷_, _++_, map}
+use Prim.Native.Nat.{ℕ, zero, suc, _≤_}
+use lib.Dec.{eqb, leb}
+use lib.IntN.{ℤ, pos}
+use lib.ListN.{length}
+use Rattle.money.specs.Units.{centsOf}
+use Rattle.money.specs.Refusals.{noSpace, priceMissing, notTogether}
+use Rattle.records.specs.Changes.{put}
+use Rattle.book.specs.Layer.{Key, Name, Rec, Change, Gh, Fi, Fe, noOne}
+use Rattle.book.specs.declared.answers.NamedAmount.{NamedAmount}
+use Rattle.book.specs.Replies.{Reply, refused, accepted, place, number, guarantees, unitDay, charge}
+use Rattle.book.specs.Amounts.{Price, Charges, charged, no, hourKey, priceOf, guaranteesOf, chargesOf, unitDayOf}
+use Rattle.book.specs.ByName.{namesOf}
+use Rattle.book.specs.Units.{ghKey}
+use Rattle.book.specs.Register.{standing, startIn}
+use Rattle.book.specs.Meaning.{Load, belongs, astray}
+use Rattle.statement.specs.Lines.{textOf}
+use Rattle.statement.specs.declared.lines.Kind.{Kind}
+use Rattle.statement.specs.declared.lines.Kind.the-variants.{Iog, Off, Ifc, Efc, Pcg, Rev, Err}
+use Rattle.statement.specs.declared.lines.Line.{Line}
+use Rattle.statement.specs.declared.day.Written.{Written}
+
+-- ---- lines
+
+-- "Fields: hour or `DD`, kind, written name or `-`, dollars with two decimals, rounded half away from zero": of ticks
+abbrev pub amountLine : ℕ → Kind → Name → ℤ → Line
+amountLine h k n t = record { hour = h; kind = k; name = n; cents = record { 0 = centsOf t } }
+
+abbrev pub lineOf : ℕ → Kind → NamedAmount → Line
+lineOf h k a = amountLine h k (a .name) (a .ticks .0)
+
+-- "Where a price lacks: `05 ERR - 15` .., `DD ERR name 15`"
+abbrev pub errorLine : ℕ → Name → Line
+errorLine h n = record { hour = h; kind = Err; name = n; cents = record { 0 = pos priceMissing } }
+
+-- ---- an hour
+
+-- "`OFF` where imports stand", by how many there are
+abbrev pub offsetLines : ℕ → ℕ → ℤ → List Line
+offsetLines h n o = cond (eqb n 0) [] (amountLine h Off noOne o ∷ [])
+
+-- "`05 ERR - 15` as the hour's only line"
+abbrev pub hourError : ℕ → List Line
+hourError h = errorLine h noOne ∷ []
+
+-- "`IOG` per import by name, `OFF` where imports stand, `IFC`, `EFC` by name"
+abbrev pub chargedLines : ℕ → List NamedAmount → ℤ → Charges → Charges → List Line
+chargedLines h cs o (charged fs) (charged es) = map (lineOf h Iog) cs ++ offsetLines h (length cs) o ++ map (lineOf h Ifc) fs ++ map (lineOf h Efc) es
+chargedLines h cs o (charged fs) (no n) = hourError h
+chargedLines h cs o (no n) es = hourError h
+
+-- from the hour's guarantees, its charges of failed imports and those of failed exports
+abbrev pub hourLines : ℕ → Reply → Charges → Charges → List Line
+hourLines h (refused n) fs es = hourError h
+hourLines h accepted fs es = hourError h
+hourLines h (place start len) fs es = hourError h
+hourLines h (number n) fs es = hourError h
+hourLines h (guarantees cs o) fs es = chargedLines h cs o fs es
+hourLines h (unitDay t v) fs es = hourError h
+hourLines h (charge t) fs es = hourError h
+
+unfoldable pub hourOf : (Key → ℕ) → List Rec → (ℕ → Price) → ℕ → List Line
+hourOf at rs price h = hourLines h (guaranteesOf at rs price h) (chargesOf at (hourKey Fi h) rs price) (chargesOf at (hourKey Fe h) rs price)
+
+-- ---- a unit
+
+-- "`DD ERR name 15` as the unit's"
+abbrev pub unitError : Name → List Line
+unitError n = errorLine 0 n ∷ []
+
+-- "`PCG` (day total) and `REV`"
+abbrev pub unitLines : Name → Reply → List Line
+unitLines n (refused k) = unitError n
+unitLines n accepted = unitError n
+unitLines n (place start len) = unitError n
+unitLines n (number k) = unitError n
+unitLines n (guarantees cs o) = unitError n
+unitLines n (unitDay t v) = amountLine 0 Pcg n t ∷ amountLine 0 Rev n v ∷ []
+unitLines n (charge t) = unitError n
+
+-- the key of a unit's day: its hour is not used
+abbrev pub unitKey : Name → Key
+unitKey n = record { mark = Gh; hour = 1; name = n }
+
+unfoldable pub unitOf : List Rec → (ℕ → Price) → Name → List Line
+unitOf rs price n = unitLines n (unitDayOf (unitKey n) rs price)
+
+-- ---- the day
+
+-- "by hour": hours 1 to n in turn
+unfoldable pub hoursTo : ℕ → (ℕ → List Line) → List Line
+hoursTo zero f = []
+hoursTo (suc n) f = hoursTo n f ++ f (suc n)
+
+-- "then for each unit"
+unfoldable pub eachUnit : (Name → List Line) → List Name → List Line
+eachUnit f [] = []
+eachUnit f (n ∷ ns) = f n ++ eachUnit f ns
+
+-- "by hour: ..; then for each unit by name"
+unfoldable pub statementLines : (Key → ℕ) → List Rec → (ℕ → Price) → List Line
+statementLines at rs price = hoursTo 24 (hourOf at rs price) ++ eachUnit (unitOf rs price) (namesOf ghKey rs)
+
+-- of a list of changes
+unfoldable pub statementOf : List Change → List ℕ
+statementOf l = textOf (statementLines (startIn l) (standing l) (priceOf (standing l)))
+
+-- ---- a call for the statement
+
+-- a number, how many bytes were written, and the lent bytes as they are left
+pub record Outcome : Type 0 where
+  pub number : ℕ
+  pub len : ℕ
+  pub bytes : List ℕ
+
+-- 13 where the text is longer than what is lent, and nothing is written
+abbrev pub fitted : List ℕ → List ℕ → Outcome
+fitted t out = cond (leb (length t) (length out)) (record { number = 0; len = length t; bytes = put out 0 t }) (record { number = noSpace; len = 0; bytes = out })
+
+-- "16 comes before all others, for questions too"
+abbrev pub outcomeOf : Load → List ℕ → Outcome
+outcomeOf astray out = record { number = notTogether; len = 0; bytes = out }
+outcomeOf (belongs l) out = fitted (statementOf l) out
+
+-- what the call promises, from the bytes lent to the bytes left
+pub record Answers (x : Load) (lent left : List ℕ) (w : Written) : Type 0 where
+  pub number : w .number ≡ outcomeOf x lent .number
+  pub len : w .len ≡ outcomeOf x lent .len
+  pub bytes : left ≡ outcomeOf x lent .bytes
+  -- 24 hours of at most 49 lines and 512 units of 2, each of at most 66 bytes: no statement is longer than `STATEMENT_MAX`
+  pub most : (l : List Change) → x ≡ belongs l → length (statementOf l) ≤ 145200
