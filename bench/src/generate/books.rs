@@ -5,7 +5,7 @@ use crate::call::{Ask, Call, Kind, Lent, List, Start, Way};
 use crate::draw::Draw;
 use crate::generate::changes::{self, KeyBytes};
 use crate::generate::forms::{self, MarkBytes};
-use crate::generate::names;
+use crate::generate::{days, names};
 use crate::peer_side::read;
 use peer::questions::Standing;
 use peer::records::{Change, Key};
@@ -31,12 +31,14 @@ pub struct Style {
 }
 
 const SMALL: [MarkBytes; 2] = [*b"FI", *b"FE"];
-const TRADE: [MarkBytes; 4] = [*b"IM", *b"IM", *b"EX", *b"PR"];
-const UNITS: [MarkBytes; 4] = [*b"GH", *b"GH", *b"GH", *b"PR"];
+/// What an hour trades.
+pub const TRADE: [MarkBytes; 4] = [*b"IM", *b"IM", *b"EX", *b"PR"];
+/// What a unit's day needs.
+pub const UNITS: [MarkBytes; 4] = [*b"GH", *b"GH", *b"GH", *b"PR"];
 const CHARGED: [MarkBytes; 3] = [*b"FI", *b"FE", *b"PR"];
 
 /// Every hour of the day.
-const DAY: [u8; 24] = [
+pub static DAY: [u8; 24] = [
     1, 2, 3, 4, 5, 6, 7, 8, 9, 10, 11, 12, 13, 14, 15, 16, 17, 18, 19, 20, 21, 22, 23, 24,
 ];
 
@@ -85,6 +87,8 @@ pub fn list(draw: &mut Draw) -> List {
         0 => from_fresh(draw, LONG),
         1..=16 => from_full(draw),
         17..=100 => from_crowded(draw),
+        101..=125 => days::traded_hour(draw),
+        126..=150 => days::unit_day(draw),
         _ => {
             let style = style(draw);
             from_fresh(draw, style)
@@ -94,7 +98,7 @@ pub fn list(draw: &mut Draw) -> List {
 
 fn from_fresh(draw: &mut Draw, style: Style) -> List {
     let start = Start::Fresh(style.room);
-    let calls = Story::new(draw, style, Register::new()).calls();
+    let calls = story(draw, style, Register::new());
     List { start, calls }
 }
 
@@ -132,8 +136,13 @@ fn from_crowded(draw: &mut Draw) -> List {
 
 fn from_register(draw: &mut Draw, style: Style, register: Register) -> List {
     let start = given(&register, style.room);
-    let calls = Story::new(draw, style, register).calls();
+    let calls = story(draw, style, register);
     List { start, calls }
+}
+
+/// Calls on the book of a register.
+pub fn story(draw: &mut Draw, style: Style, register: Register) -> Vec<Call> {
+    Story::new(draw, style, register).calls()
 }
 
 /// The book and bytes of a register.

@@ -6,6 +6,7 @@
 
 pub mod books;
 pub mod changes;
+pub mod days;
 pub mod forms;
 pub mod money;
 pub mod names;

@@ -47,9 +47,20 @@ fn amount(draw: &mut Draw) -> Alone {
     }
 }
 
-/// Prices near those that a record offers.
+/// Prices of any hour, near those that a record offers.
 fn prices_for(draw: &mut Draw, form: &Form) -> Vec<u8> {
-    let (energy, pre_dispatch) = match &form.body {
+    let (energy, pre_dispatch) = near(draw, form);
+    raw::price(draw.between(1, 24) as u8, energy, pre_dispatch)
+}
+
+/// Prices of an hour, near those that a record offers.
+pub fn prices_at(draw: &mut Draw, hour: u8, form: &Form) -> Vec<u8> {
+    let (energy, pre_dispatch) = near(draw, form);
+    raw::price(hour, energy, pre_dispatch)
+}
+
+fn near(draw: &mut Draw, form: &Form) -> ([i32; 12], i32) {
+    match &form.body {
         Body::Import(_, list) => (numbers::energy(draw, list), numbers::price(draw)),
         Body::Unit(unit) => {
             let which = draw.below(2);
@@ -66,8 +77,7 @@ fn prices_for(draw: &mut Draw, form: &Form) -> Vec<u8> {
             ([0; 12], draw.pick(&[near, far, same]))
         }
         _ => ([0; 12], 0),
-    };
-    raw::price(draw.between(1, 24) as u8, energy, pre_dispatch)
+    }
 }
 
 /// A record of a mark that filing refuses with one of 1 to 8.
@@ -162,6 +172,12 @@ fn how_many(draw: &mut Draw) -> usize {
         3 => draw.below(17),
         _ => 2 + draw.below(4),
     }
+}
+
+/// An hour and its records: prices, imports, exports.
+pub fn traded_hour(draw: &mut Draw) -> (u8, Vec<Vec<u8>>) {
+    let hour = drawn_hour(draw);
+    (hour.hour, hour.records())
 }
 
 fn drawn_hour(draw: &mut Draw) -> Hour {
