@@ -1,23 +1,22 @@
 -- What a call for the statement rests on.
 use mathlib.Core.Path.{_≡_, refl, sym, ap, _∙_, subst}
-use mathlib.Core.Logic.{_⊎_, inl, inr}
+use mathlib.Core.Logic.{inl, inr}
 use mathlib.Core.Bool.{Bool, cond}
 use mathlib.Core.List.{List, _++_}
 use Prim.Native.Nat.{ℕ, _+_, _≤_, _<_}
 use native.Mathlib.Omega.{arith}
-use lib.Dec.{eqb, leb}
-use lib.ListN.{length, take, length-append}
+use lib.Dec.{leb}
+use lib.ListN.{length, length-append}
 use borrow.Author.Tests.{eq-eqb, ne-eqb, le-leb, lt-leb}
 use Rattle.book.specs.Layer.{Change, Name}
 use Rattle.book.specs.declared.journal.Book.{Book}
 use Rattle.book.specs.declared.units.UnitList.{UnitList}
 use Rattle.book.specs.ByName.{namesOf}
-use Rattle.book.specs.Units.{ghKey, NameList, named, no, namesIn, unitNames, unitListOf}
+use Rattle.book.specs.Units.{ghKey, named, no, namesIn, unitNames, unitListOf}
 use Rattle.book.specs.Register.{standing}
 use Rattle.book.specs.Meaning.{Load, belongs, astray, load}
-use Rattle.statement.specs.declared.day.Written.{Written}
 use Rattle.statement.specs.PutLaws.{put, put-more, put-length}
-use Rattle.statement.specs.Statement.{statementOf, Outcome, fitted, outcomeOf, Answers}
+use Rattle.statement.specs.Statement.{statementOf, Answers}
 use Rattle.statement.specs.Inner.{listOf, listIn, Loaded, Listed, Room, hoursText, unitsText}
 use Rattle.statement.specs.StatementLaws.{statement-text}
 

@@ -1,15 +1,14 @@
 -- Loops over the hours and over the units. A text t grows by a sheet's at each turn.
 use mathlib.Core.Path.{_≡_, refl, sym, ap, _∙_}
-use mathlib.Core.Logic.{_⊎_, inl, inr}
-use mathlib.Core.List.{List, [], _∷_, _++_}
-use Prim.Native.Nat.{ℕ, suc, _+_, _*_, _≤_, _<_}
+use mathlib.Core.Logic.{inl, inr}
+use mathlib.Core.List.{List, [], _++_}
+use Prim.Native.Nat.{ℕ, _+_, _*_, _≤_, _<_}
 use native.Mathlib.Omega.{arith}
 use native.Mathlib.Nat.{mul-suc}
 use native.Mathlib.Numerals.{add-one}
 use lib.ListN.{length, take, getD, length-append}
 use Rattle.money.specs.declared.names.Name.{Name}
 use Rattle.book.specs.Layer.{Change, noOne}
-use Rattle.book.specs.Register.{standing}
 use Rattle.statement.specs.declared.lines.Line.{Line}
 use Rattle.statement.specs.declared.sheets.Sheet.{Sheet}
 use Rattle.statement.specs.Lines.{textOf}

@@ -11,8 +11,12 @@ use lib.ListN.{length}
 use Rattle.money.specs.Units.{centsOf}
 use Rattle.records.specs.Names.{nameOf, spell, spellByte, unreserved, digit}
 use Rattle.records.specs.Keys.{eqList}
+use Rattle.book.specs.declared.answers.NamedAmount.{NamedAmount}
+use Rattle.book.specs.Replies.{Reply, refused, guarantees, unitDay}
+use Rattle.book.specs.Amounts.{Charges, charged, no}
 use Rattle.statement.specs.Decimal.{twoDigits, digits, decimal}
 use Rattle.statement.specs.Lines.{whenBytes, kindBytes, nameBytes, sign, dollars, number, figure, lineBytes, textOf}
+use Rattle.statement.specs.Statement.{hourLines, unitLines}
 use Rattle.statement.specs.declared.lines.Kind.{Kind}
 use Rattle.statement.specs.declared.lines.Kind.the-variants.{Iog, Off, Ifc, Efc, Pcg, Rev, Err}
 use Rattle.statement.specs.declared.lines.Line.{Line}
@@ -30,16 +34,25 @@ line h k n z = record { hour = h; kind = k; name = nameOf (bytes n); cents = rec
 abbrev amount : ℕ → Kind → String → ℤ → Line
 amount h k n t = line h k n (centsOf t)
 
+abbrev named : String → ℤ → NamedAmount
+named n t = record { name = nameOf (bytes n); start = 0; ticks = record { 0 = t } }
+
 -- ---- cases
 pub data Case : Type 0 where
   -- the lines, and all of their text
   shows : List Line → String → Case
   -- a line, and the length of its text
   takes : Line → ℕ → Case
+  -- an hour's guarantees, its charges of failed imports and of failed exports, and all of its text
+  hour : ℕ → Reply → Charges → Charges → String → Case
+  -- a unit's name, the answer for its day, and all of its text
+  unit : String → Reply → String → Case
 
 abbrev pub holds : Case → Bool
 holds (shows ls s) = eqList (textOf ls) (bytes s)
 holds (takes l n) = eqb (length (lineBytes l)) n
+holds (hour h g fs es s) = eqList (textOf (hourLines h g fs es)) (bytes s)
+holds (unit n r s) = eqList (textOf (unitLines (nameOf (bytes n)) r)) (bytes s)
 
 abbrev pub all : List Case → Bool
 all [] = true
@@ -64,6 +77,20 @@ cases =
     ∷ shows (line 24 Iog "ABCDEFGHIJKL" (pos 105) ∷ line 24 Iog "ABCDEFGHIJKLM" (pos 105) ∷ []) "24 IOG ABCDEFGHIJKL 1.05\n24 IOG - 1.05\n"
     -- the longest line
     ∷ takes (line 24 Pcg "////////////" (negsuc 9223372036854775807)) 66
+    -- (P) hour 5 from the book's answers
+    ∷ hour 5 (guarantees (named "A/B" (pos 1200000) ∷ named "C" (pos 480000) ∷ []) (pos 1080000)) (charged []) (charged []) "05 IOG A%2FB 100.00\n05 IOG C 40.00\n05 OFF - 90.00\n"
+    -- an offset of 0 is printed where imports stand, and nowhere else; `IFC` before `EFC`, whatever the names
+    ∷ hour 1 (guarantees (named "A" (pos 0) ∷ []) (pos 0)) (charged []) (charged []) "01 IOG A 0.00\n01 OFF - 0.00\n"
+    ∷ hour 2 (guarantees [] (pos 0)) (charged (named "Z" (pos 120) ∷ [])) (charged (named "A" (pos 0) ∷ [])) "02 IFC Z 0.01\n02 EFC A 0.00\n"
+    ∷ hour 3 (guarantees [] (pos 0)) (charged []) (charged []) ""
+    -- "`05 ERR - 15` as the hour's only line"
+    ∷ hour 5 (refused 15) (charged []) (charged []) "05 ERR - 15\n"
+    ∷ hour 5 (guarantees [] (pos 0)) (no 15) (charged []) "05 ERR - 15\n"
+    ∷ hour 5 (guarantees [] (pos 0)) (charged []) (no 15) "05 ERR - 15\n"
+    -- a reversal of 0 is printed; "`DD ERR name 15` as the unit's"
+    ∷ unit "U1" (unitDay (pos 12000) (pos 0)) "DD PCG U1 1.00\nDD REV U1 0.00\n"
+    ∷ unit "U1" (unitDay (negsuc 11999) (pos 12000)) "DD PCG U1 -1.00\nDD REV U1 1.00\n"
+    ∷ unit "U1" (refused 15) "DD ERR U1 15\n"
     ∷ []
 
 pub examples : all cases ≡ true

@@ -7,12 +7,12 @@ use native.Mathlib.Omega.{arith}
 use native.Mathlib.Nat.{not-suc-le-zero, le-of-suc-le-suc}
 use native.Mathlib.Numerals.{add-one}
 use lib.Dec.{leb}
-use lib.ListN.{length, take, getD, length-append}
+use lib.ListN.{length, take, getD}
 use lib.Seq.{take-suc, getD-take, length-take-le}
 use borrow.Author.Tests.{le-leb, leb-true, leb-false}
 use Rattle.money.specs.declared.names.Name.{Name}
 use Rattle.records.specs.Names.{decodeName, nameOf, spell, bytesOf}
-use Rattle.records.specs.Marks.{hasName, order}
+use Rattle.records.specs.Marks.{hasName}
 use Rattle.records.specs.Keys.{askHourOf}
 use Rattle.records.specs.ReaderLaws.{bind-got}
 use Rattle.records.specs.KeyLaws.{own-name}
@@ -22,15 +22,15 @@ use Rattle.book.specs.Layer as layer
 use Rattle.book.specs.declared.journal.Book.{Book}
 use Rattle.book.specs.Amounts.{Charges, hourKey, guaranteesOf, chargesOf, unitDayOf, priceOf}
 use Rattle.book.specs.ByName.{addName, namesOf, sameMark}
-use Rattle.book.specs.Units.{ghKey, unitNames, NameList, named, no}
+use Rattle.book.specs.Units.{ghKey}
 use Rattle.book.specs.Register.{Question, Reply, hourGuarantees, dayOf, ask, asking, answer, keyed, standing, startIn}
-use Rattle.book.specs.Meaning.{Load, belongs, astray, load, replay, Valid, settled, stepped, outcome, Meets, chargesKeyed, hourCharges}
+use Rattle.book.specs.Meaning.{Load, belongs, astray, load, replay, Valid, settled, stepped, outcome, Meets, hourCharges}
 use Rattle.book.specs.ReplayLaws.{replay-sound}
 use Rattle.book.specs.RegisterLaws.{true≠false}
 use Rattle.book.specs.StandLaws.{All, done, also, standing-good}
 use Rattle.statement.specs.Lines.{textOf}
 use Rattle.statement.specs.LineLaws.{text-none, text-append}
-use Rattle.statement.specs.Statement.{hourLines, hourOf, unitLines, unitOf, unitKey, hoursTo, eachUnit, statementLines, statementOf}
+use Rattle.statement.specs.Statement.{hourLines, hourOf, unitLines, unitOf, hoursTo, eachUnit, statementLines, statementOf}
 use Rattle.statement.specs.Inner.{listIn, Loaded, hourIn, unitIn, hoursText, unitsText, Listed, Askable}
 use Rattle.statement.specs.declared.lines.Line.{Line}
 

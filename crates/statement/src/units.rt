@@ -10,7 +10,6 @@ use book::journal::Book;
 use money::names::Name;
 use money::units::Ticks;
 use records::names::spell_name;
-ghost use mathlib.Core.Path.{_≡_};
 ghost use mathlib.Core.List.{[], _∷_};
 ghost use Prim.Native.Nat.{_≤_};
 ghost use Rattle.book.specs.Meaning.{replyOf};

@@ -3,7 +3,6 @@ use mathlib.Core.Bool.{Bool}
 use lib.ListN.{length}
 use Rattle.statement.specs.Inner.{Roomy, listIn}
 use Rattle.statement.proofs.Stating.{is-loaded, is-listed, is-astray, room-hours, room-units, answers-astray, answers-refused, answers-written}
-use native.Mathlib.Omega.{arith}
 use borrow.Author.Needs.{needs}
 use Rattle.statement.proofs.day.statement.Statement.{statement}
 use Rattle.statement.proofs.day.statement.Tie as tie

@@ -1,7 +1,5 @@
 use mathlib.Core.Path.{ap}
 use lib.IntN.{ℤ}
-use Rattle.statement.specs.declared.lines.Line.{Line}
-use native.Mathlib.Omega.{arith}
 use borrow.Author.Needs.{needs}
 use Rattle.statement.proofs.hours.amount_line.Statement.{statement}
 use Rattle.statement.proofs.hours.amount_line.Tie as tie

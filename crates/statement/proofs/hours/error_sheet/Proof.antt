@@ -1,5 +1,4 @@
 use Rattle.statement.proofs.Growing.{holds-all}
-use native.Mathlib.Omega.{arith}
 use borrow.Author.Needs.{needs}
 use Rattle.statement.proofs.hours.error_sheet.Statement.{statement}
 use Rattle.statement.proofs.hours.error_sheet.Tie as tie

@@ -1,5 +1,3 @@
-use Rattle.statement.specs.Inner.{Holds}
-use native.Mathlib.Omega.{arith}
 use borrow.Author.Needs.{needs}
 use Rattle.statement.proofs.hours.hour_error.Statement.{statement}
 use Rattle.statement.proofs.hours.hour_error.Tie as tie

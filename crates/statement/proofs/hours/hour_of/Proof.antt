@@ -40,10 +40,10 @@ with-offset-requires : tie.Need-with-offset-requires
 with-offset-requires c κs = omega (arith, (c .before .before .before .before .before .before .before .before .before .before .before .before .pre), (c .before .blank) .ensures .1, (c .with-amounts) .ensures .1)
 
 with-amounts-requires-2 : tie.Need-with-amounts-requires-2
-with-amounts-requires-2 c κs = ((c .before .before .before .before .before .before .before .before .before .before .before .before .before .pre) .1, omega (arith, (c .before .before .before .before .before .before .before .before .before .before .before .before .before .pre), (c .before .before .blank) .ensures .1, (c .before .with-amounts) .ensures .1, (c .with-offset) .ensures .1))
+with-amounts-requires-2 c κs = (omega (arith, (c .before .before .before .before .before .before .before .before .before .before .before .before .before .pre)), omega (arith, (c .before .before .before .before .before .before .before .before .before .before .before .before .before .pre), (c .before .before .blank) .ensures .1, (c .before .with-amounts) .ensures .1, (c .with-offset) .ensures .1))
 
 with-amounts-requires-3 : tie.Need-with-amounts-requires-3
-with-amounts-requires-3 c κs = ((c .before .before .before .before .before .before .before .before .before .before .before .before .before .before .pre) .2, omega (arith, (c .before .before .before .before .before .before .before .before .before .before .before .before .before .before .pre), (c .before .before .before .blank) .ensures .1, (c .before .before .with-amounts) .ensures .1, (c .before .with-offset) .ensures .1, (c .with-amounts2) .ensures .1))
+with-amounts-requires-3 c κs = (omega (arith, (c .before .before .before .before .before .before .before .before .before .before .before .before .before .before .pre)), omega (arith, (c .before .before .before .before .before .before .before .before .before .before .before .before .before .before .pre), (c .before .before .before .blank) .ensures .1, (c .before .before .with-amounts) .ensures .1, (c .before .with-offset) .ensures .1, (c .with-amounts2) .ensures .1))
 
 returns-4 : tie.Need-returns-4
 returns-4 c = (rw ((c .before .before .before .before .before .before .before .before .before .before .before .before .before .if1) .left, (c .before .before .before .before .before .before .before .before .before .before .before .if2) .left, (c .before .before .before .before .before .before .before .before .before .if3) .left) (hour-holds ((c .before .before .before .before .before .before .before .before .before .before .before .before .before .before .before .args) .hour) ((c .before .before .before .before .before .before .before .before .before .before .before .before .before .before .before .args) .g .credits .n) (take ((c .before .before .before .before .before .before .before .before .before .before .before .before .before .before .before .args) .g .credits .n) ((c .before .before .before .before .before .before .before .before .before .before .before .before .before .before .before .args) .g .credits .list)) (take ((c .before .before .before .before .before .before .before .before .before .before .before .before .before .before .before .args) .f .charges .n) ((c .before .before .before .before .before .before .before .before .before .before .before .before .before .before .before .args) .f .charges .list)) (take ((c .before .before .before .before .before .before .before .before .before .before .before .before .before .before .before .args) .e .charges .n) ((c .before .before .before .before .before .before .before .before .before .before .before .before .before .before .before .args) .e .charges .list)) ((c .before .before .before .before .before .before .before .before .before .before .before .before .before .before .before .args) .g .offset .0) ((c .before .before .before .before .blank) .ensures .0) ((c .before .before .before .before .blank) .ensures .1) ((c .before .before .before .with-amounts) .ensures .1) ((c .before .before .before .with-amounts) .ensures .0) ((c .before .before .with-offset) .ensures .0) ((c .before .with-amounts2) .ensures .0) ((c .with-amounts3) .ensures .0)), omega (arith, (c .before .before .before .before .before .before .before .before .before .before .before .before .before .before .before .pre), (c .before .before .before .before .blank) .ensures .1, (c .before .before .before .with-amounts) .ensures .1, (c .before .before .with-offset) .ensures .1, (c .before .with-amounts2) .ensures .1, (c .with-amounts3) .ensures .1))

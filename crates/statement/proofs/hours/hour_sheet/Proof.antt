@@ -3,7 +3,6 @@ use mathlib.Core.List.{List}
 use Rattle.statement.specs.Inner.{Holds}
 use Rattle.statement.specs.StatementLaws.{hour-answers}
 use Rattle.statement.specs.declared.lines.Line.{Line}
-use native.Mathlib.Omega.{arith}
 use borrow.Author.Needs.{needs}
 use Rattle.statement.proofs.hours.hour_sheet.Statement.{statement}
 use Rattle.statement.proofs.hours.hour_sheet.Tie as tie

@@ -1,7 +1,5 @@
 use native.Mathlib.Omega.{arith}
-use mathlib.Core.List.{[], _∷_}
-use borrow.Author.Tests.{eq-eqb, ne-eqb}
-use Rattle.statement.specs.Inner.{Grown}
+use borrow.Author.Tests.{ne-eqb}
 use Rattle.statement.proofs.Growing.{grown-none}
 use borrow.Author.Needs.{needs}
 use Rattle.statement.proofs.hours.with_offset.Statement.{statement}

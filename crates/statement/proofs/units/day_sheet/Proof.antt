@@ -1,8 +1,4 @@
-use mathlib.Core.Path.{subst}
-use mathlib.Core.List.{[], _∷_}
-use Rattle.statement.specs.Inner.{Holds}
 use Rattle.statement.proofs.Growing.{holds-all, grown-then}
-use native.Mathlib.Omega.{arith}
 use borrow.Author.Needs.{needs}
 use Rattle.statement.proofs.units.day_sheet.Statement.{statement}
 use Rattle.statement.proofs.units.day_sheet.Tie as tie

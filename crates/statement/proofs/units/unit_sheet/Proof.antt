@@ -7,7 +7,6 @@ use Rattle.statement.specs.Inner.{Holds}
 use Rattle.statement.specs.LineLaws.{spells, name-some}
 use Rattle.statement.specs.StatementLaws.{unit-answer}
 use Rattle.statement.specs.declared.lines.Line.{Line}
-use native.Mathlib.Omega.{arith}
 use borrow.Author.Needs.{needs}
 use Rattle.statement.proofs.units.unit_sheet.Statement.{statement}
 use Rattle.statement.proofs.units.unit_sheet.Tie as tie
