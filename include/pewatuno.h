@@ -70,7 +70,8 @@ extern "C" {
  *
  * Neither pointer may be null, not even for length 0, and the two ranges must
  * not overlap. Any alignment will do. The records are only read, and nothing is
- * kept from one call to the next.
+ * kept from one call to the next. The call works on its stack, and needs some
+ * 128 KiB of it: a thread that calls must have been given as much.
  */
 uint32_t pewatuno_hour_offset(uint8_t *result, size_t result_len,
                               const uint8_t *records, size_t records_len);

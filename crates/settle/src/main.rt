@@ -40,12 +40,14 @@ fn print_refusal(ordinal: u64, number: u8) {
     io::write_all(1, b"\n");
 }
 
-// The book so far, the records that it took, and the bytes of the next record that are held.
+// The book so far, the records that it took, and the bytes of the next record that are held. At the end the number of a refusal, 0 for
+// none, or that the input could not be read.
 struct Reading {
     book: Book,
     count: u64,
     held: usize,
     over: bool,
+    failed: bool,
     number: u8,
 }
 
@@ -57,43 +59,50 @@ fn feed_front(book: Book, log: &mut [u8], input: &[u8], end: usize) -> Fed {
     feed(book, log, input)
 }
 
-// Reads more of the input, and feeds the records that are whole.
+// A reading that ends here.
+fn ended(book: Book, count: u64, failed: bool, number: u8) -> Reading {
+    Reading {
+        book,
+        count,
+        held: 0,
+        over: true,
+        failed,
+        number,
+    }
+}
+
+// Reads more of the input, and feeds the records that are whole. A read of nothing is the input's end.
 fn read_on(log: &mut [u8], input: &mut [u8], r: Reading) -> Reading {
     let book = r.book;
     let held = r.held;
     if input.len() <= held {
-        return Reading {
-            book,
-            count: r.count,
-            held,
-            over: true,
-            number: ENDS_EARLY,
-        };
+        return ended(book, r.count, false, ENDS_EARLY);
     }
-    let got = io::read_full(0, &mut input[held..]);
-    let end = held + got;
-    let last = end < input.len();
+    let got = libc::read(0, &mut input[held..]);
+    if got < 0 {
+        return ended(book, r.count, true, 0);
+    }
+    let n = io::count(got, &input[held..]);
+    let end = held + n;
     let f = feed_front(book, log, &input[..], end);
     let next = f.book;
     let count = plus(r.count, f.count);
     let number = f.number;
-    if number == ENDS_EARLY && !last {
+    if n == 0 {
+        return ended(next, count, false, number);
+    }
+    if number == ENDS_EARLY || number == 0 {
         let kept = to_front(input, f.taken, end);
         return Reading {
             book: next,
             count,
             held: kept,
             over: false,
+            failed: false,
             number: 0,
         };
     }
-    Reading {
-        book: next,
-        count,
-        held: 0,
-        over: last || number != 0,
-        number,
-    }
+    ended(next, count, false, number)
 }
 
 fn print_front(out: &[u8], len: usize) {
@@ -116,6 +125,7 @@ fn main() {
         count: 0,
         held: 0,
         over: false,
+        failed: false,
         number: 0,
     };
     // So many rounds that no input is too long.
@@ -123,6 +133,10 @@ fn main() {
     while 0 < left && !r.over {
         r = read_on(&mut log, &mut input, r);
         left = left - 1;
+    }
+    if r.failed {
+        io::write_all(2, b"settle: the input can't be read\n");
+        return;
     }
     if r.number != 0 {
         print_refusal(plus(r.count, 1), r.number);
