@@ -142,7 +142,7 @@ all-above (suc n) o g (b ∷ s) = go (λ p x t. all-above n p x t) (hourRecord o
         let p : List ℕ = take (length (b ∷ s) - length t) (b ∷ s) in
         then ih (keyOf c .hour) t (called (file p) 65535 g) (decided p 65535 g)
 
--- "It returns 0 and puts the offset into eight lent bytes, or returns a number and leaves them."
+-- "It returns 0 and puts the offset into eight lent bytes (i64 ticks, little-endian), or returns a number and leaves them."
 pub record Settled (before : List ℕ) (number : ℕ) (after : List ℕ) (x : Result) : Type 0 where
   pub puts : number ≡ 0 → (z : ℤ) × (x ≡ ticks z) × (after ≡ eight z)
   pub leaves : (number ≡ 0 → ⊥) → after ≡ before
