@@ -1,62 +1,24 @@
 -- What each answer of the book's methods rests on.
 use Prim.Native.Nat.{ℕ, zero, suc, _+_, _-_, _≤_, _<_}
-use mathlib.Core.Path.{_≡_, refl, sym, ap, ap₂, _∙_, subst, subst⁻¹}
+use mathlib.Core.Path.{_≡_, refl, sym, ap, ap₂, _∙_, subst⁻¹}
 use mathlib.Core.List.{List, [], _∷_, _++_, tail}
 use mathlib.Core.Bool.{Bool, true, false, cond}
 use native.Mathlib.Omega.{arith}
 use lib.ListN.{length, take, length-append, length-take}
 use lib.Seq.{take-length, take-append-seam, take-take}
-use lib.Dec.{eqb, leb, ltb}
-use borrow.Author.Tests.{le-leb, lt-leb, leb-true, leb-false}
+use lib.Dec.{eqb, ltb}
 use Rattle.book.specs.Layer.{Key, View, Parsed, KeyAnswer, Change, kindOf, keyOf, write, Input, fine, fault, parse, parsedOf, parse-fault, putBytes, store-front, store-length, begins, takeBackBytes, closeBytes, limitOf, Asked, got, bad, keyAsked, askHour, keyAnswer, ask-fault, askHour-fault}
 use Rattle.book.specs.declared.journal.Book.{Book}
 use Rattle.book.specs.declared.survey.Survey.{Survey}
 use Rattle.book.specs.declared.replay.Checked.{Checked}
 use Rattle.book.specs.declared.replay.Table.{Table}
-use Rattle.book.specs.Register.{Reg, change, ask, recordOf, countOf, freeBytes, Reply, refused, accepted, place, number, guarantees, unitDay, charge, Step, answered, becomes, stepOf, listed, judged, takenBack, closing, general, shorter, unless-closed, bareTakeBack, bareClose, keyed, answer, placeOf, writeAll, refusal, room, capped, stands, count, standing}
-use Rattle.book.specs.Meaning.{Load, belongs, astray, replay, load, Valid, After, bookOf, settled, stepped, outcome, Leaves, Meets}
+use Rattle.book.specs.Register.{Reg, change, ask, recordOf, countOf, freeBytes, Reply, refused, accepted, place, number, guarantees, unitDay, charge, Step, answered, becomes, stepOf, listed, judged, takenBack, closing, shorter, unless-closed, bareTakeBack, bareClose, keyed, answer, placeOf, writeAll, refusal, room, capped, stands, count, standing}
+use Rattle.book.specs.Meaning.{Load, belongs, astray, load, After, bookOf, settled, stepped, outcome, Leaves, Meets}
 use Rattle.book.specs.Tables.{Tabled, Stored, checkedOf, survey, numberOf, replied, judge}
-use Rattle.book.specs.ReplayLaws.{replay-sound}
+use Rattle.book.specs.LoadLaws.{Loaded, loaded-from}
 use Rattle.book.specs.RegisterLaws.{survey-found, survey-count, refusal-judge}
 use Rattle.book.specs.PlaceLaws.{survey-place}
 use Rattle.book.proofs.Surveying.{judge-room, room-facts}
-
-pub load-short : (b : Book) (s : List ℕ) → length s < b .used → load b s ≡ astray
-unfolding load
-load-short b s h = simp (lt-leb (b .used) (length s) h)
-
-pub load-long : (b : Book) (s : List ℕ) → b .used ≤ length s → load b s ≡ replay (b .changes) [] (take (b .used) s)
-unfolding load
-load-long b s h = ap (λ (t : Bool). cond t (replay (b .changes) [] (take (b .used) s)) astray) (le-leb (b .used) (length s) h)
-
--- a book and bytes that belong together
-pub record Loaded (b : Book) (s : List ℕ) : Type 0 where
-  pub list : List Change
-  pub is : load b s ≡ belongs list
-  pub valid : Valid list
-  pub within : b .used ≤ length s
-  pub bytes : writeAll list ≡ take (b .used) s
-  pub size : length (writeAll list) ≡ b .used
-  pub count-is : length list ≡ b .changes
-
-pub loaded-from : (b : Book) (s : List ℕ) (l : List Change) → load b s ≡ belongs l → Loaded b s
-unfolding Valid writeAll
-loaded-from b s l e = go (leb (b .used) (length s)) refl
-  where
-    go : (t : Bool) → leb (b .used) (length s) ≡ t → Loaded b s
-    go true t =
-        let le = leb-true (b .used) (length s) t in
-        let p = replay-sound (b .changes) [] (take (b .used) s) l tt (sym (load-long b s le) ∙ e) in
-        record {
-          list = l;
-          is = e;
-          valid = p .valid;
-          within = le;
-          bytes = p .bytes;
-          size = omega (arith, ap length (p .bytes), length-take (b .used) s);
-          count-is = omega (arith, p .count);
-        }
-    go false t = let z : _≡_ {A = ℕ} 0 1 = cc (load-short b s (leb-false (b .used) (length s) t)) in absurd (omega arith)
 
 module _ (b : Book) (s : List ℕ) (k : Checked) (e : k ≡ checkedOf (load b s)) where
   pub is-loaded : k .ok ≡ true → Loaded b s

@@ -24,7 +24,8 @@ use Rattle.book.specs.Worked.{Opened, Open, noSpot, Inside, chargeAtSpot
 use Rattle.book.specs.StandLaws.{found-at}
 use Rattle.book.specs.WorkedLaws.{inside}
 use Rattle.book.specs.ChargeLaws.{getD-same, charge-absent, charge-unpriced, charge-found, charges-absent, charges-unpriced, charges-found}
-use Rattle.book.proofs.Answering.{Loaded, step-is, leaves-answered, keyed-wrong, keyed-right}
+use Rattle.book.specs.LoadLaws.{Loaded}
+use Rattle.book.proofs.Answering.{step-is, leaves-answered, keyed-wrong, keyed-right}
 
 -- ---- the loop over the places
 

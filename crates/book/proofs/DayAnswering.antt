@@ -22,7 +22,8 @@ use Rattle.book.specs.Worked.{Open, Opened, InDay, noPart, partAt, Parts
 use Rattle.book.specs.DayLaws.{slots-in, payable-is, day-is}
 use Rattle.book.proofs.Surveying.{to-end}
 use Rattle.book.proofs.ChargeAnswering.{opened-by}
-use Rattle.book.proofs.Answering.{Loaded, is-tabled, step-is, leaves-answered}
+use Rattle.book.specs.LoadLaws.{Loaded}
+use Rattle.book.proofs.Answering.{is-tabled, step-is, leaves-answered}
 
 -- ---- an hour
 

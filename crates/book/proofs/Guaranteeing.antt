@@ -27,7 +27,8 @@ use Rattle.book.specs.Meaning.{Meets}
 use Rattle.book.specs.StandLaws.{found-at, none-at}
 use Rattle.book.specs.DayLaws.{PriceAt, price-found}
 use Rattle.book.specs.WorkedLaws.{here, inside, entries-are, totals-are, named-are, offset-given, priced-some}
-use Rattle.book.proofs.Answering.{Loaded, step-is, leaves-answered, keyed-wrong}
+use Rattle.book.specs.LoadLaws.{Loaded}
+use Rattle.book.proofs.Answering.{step-is, leaves-answered, keyed-wrong}
 use Rattle.book.proofs.ChargeAnswering.{Seen}
 use borrow.Author.Tests.{ne-eqb}
 

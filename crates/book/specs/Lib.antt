@@ -8,6 +8,8 @@ pub mod Session
 pub mod Tables
 pub mod RegisterLaws
 pub mod ReplayLaws
+pub mod LoadLaws
+pub mod CallLaws
 pub mod SessionLaws
 pub mod PlaceLaws
 pub mod Places

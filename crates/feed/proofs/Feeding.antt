@@ -12,13 +12,13 @@ use Rattle.records.specs.Changes.{Change, Entry, entry, frontOf}
 use Rattle.records.specs.BookLaws.{entry-fault}
 use Rattle.records.specs.declared.parse.Front.{Front}
 use Rattle.book.specs.declared.journal.Book.{Book}
-use Rattle.book.specs.Register.{Reg, change, Reply, refused, Step, answered, becomes, stepOf, called, after, writeAll}
-use Rattle.book.specs.Meaning.{belongs, astray, load, Valid, After, bookOf, settled, outcome, Meets}
+use Rattle.book.specs.Register.{Reg, change, Reply, Step, answered, becomes, called, after, writeAll}
+use Rattle.book.specs.Meaning.{belongs, astray, load, Valid, bookOf, Meets}
 use Rattle.book.specs.Tables.{replied}
-use Rattle.book.specs.ReplayLaws.{called-valid, outcome-is}
-use Rattle.book.proofs.Answering.{Loaded, loaded-from}
+use Rattle.book.specs.ReplayLaws.{called-valid}
+use Rattle.book.specs.LoadLaws.{Loaded, loaded-from}
+use Rattle.book.specs.CallLaws.{Decided, decided-change, turn-book, turn-reply, turn-bytes, unmoved, astray-book, astray-reply, astray-bytes}
 use Rattle.feed.specs.Feed.{front, piece, Fed, stopped, later, onward, fed, feeding}
-use Rattle.feed.specs.CallLaws.{Decided, decided, outcome-astray}
 use Rattle.feed.specs.FeedLaws.{piece-front, piece-within, piece-some, first-then, none-before, both-before}
 use Rattle.feed.specs.Promise.{Ends, Remains, Feeds}
 
@@ -86,30 +86,6 @@ started b s input = record {
           so-far = none-before (feeding (length s) (record { list = x .list; closed = b .closed }) input);
         })
 
--- bytes of which all are settled
-unmoved : (s s′ : List ℕ) → length s′ ≡ length s → take (length s) s′ ≡ s → s′ ≡ s
-unmoved s s′ n e = sym (take-all (length s) s′ (omega arith)) ∙ e
-
--- one call on a book that is the register's
-module _ (g : Reg) (s : List ℕ) (v : Valid (g .list)) (h : take (length (writeAll (g .list))) s ≡ writeAll (g .list)) where
-  outcome-called : (p : List ℕ) → outcome (stepOf (change p)) (bookOf g) s ≡ settled (bookOf g) s (called (change p) (length s) g)
-  outcome-called p =
-      let w = writeAll (g .list) in
-      outcome-is (change p) g s v (h ∙ sym (take-all (length s) w (omega (arith, simp length-take at (ap length h)))))
-
-  module _ (p : List ℕ) (b′ : Book) (r : Reply) (s′ : List ℕ) (m : Meets (change p) (bookOf g) s b′ r s′) (st : Step) (e : called (change p) (length s) g ≡ st) where
-    o : outcome (stepOf (change p)) (bookOf g) s ≡ settled (bookOf g) s st
-    o = outcome-called p ∙ ap (settled (bookOf g) s) e
-
-    turn-book : b′ ≡ settled (bookOf g) s st .book
-    turn-book = m .book ∙ ap (λ (x : After). x .book) o
-
-    turn-reply : r ≡ settled (bookOf g) s st .answer
-    turn-reply = m .answer ∙ ap (λ (x : After). x .answer) o
-
-    turn-bytes : take (length (settled (bookOf g) s st .kept)) s′ ≡ settled (bookOf g) s st .kept
-    turn-bytes = subst (λ (x : After). take (length (x .kept)) s′ ≡ x .kept) o (m .bytes)
-
 -- one record more
 module _ (f : Fed) (s₀ input : List ℕ) (b : Book) (s : List ℕ) (n at : ℕ) (x : On f (length s₀) input b s n at) (size : length s ≡ length s₀) (some : at < length input) where
   abbrev p : List ℕ
@@ -131,48 +107,34 @@ module _ (f : Fed) (s₀ input : List ℕ) (b : Book) (s : List ℕ) (n at : ℕ
         go : (st : Step) → called (change p) (length s) (x .reg) ≡ st → Ends f s₀ (record { book = b′; count = n; taken = at; number = k }) s′
         go (answered y) e =
             let w = rest-is (answered y) e in
-            let u : s′ ≡ s = unmoved s s′ (m .size) (turn-bytes (x .reg) s (x .valid) (x .bytes) p b′ r s′ m (answered y) e) in
+            let u : s′ ≡ s = unmoved s s′ (m .size) (turn-bytes (x .reg) s (x .valid) (x .bytes) (change p) b′ r s′ m (answered y) e) in
             subst⁻¹ (λ (f : Fed). Ends f s₀ (record { book = b′; count = n; taken = at; number = k }) s′) w (record {
               count = omega arith;
               taken = omega arith;
-              number = q ∙ ap replied (turn-reply (x .reg) s (x .valid) (x .bytes) p b′ r s′ m (answered y) e);
-              book = turn-book (x .reg) s (x .valid) (x .bytes) p b′ r s′ m (answered y) e;
+              number = q ∙ ap replied (turn-reply (x .reg) s (x .valid) (x .bytes) (change p) b′ r s′ m (answered y) e);
+              book = turn-book (x .reg) s (x .valid) (x .bytes) (change p) b′ r s′ m (answered y) e;
               size = m .size ∙ size;
               bytes = ap (take (length (writeAll (x .reg .list)))) u ∙ x .bytes;
             })
-        go (becomes y) e = absurd (z (q ∙ ap replied (turn-reply (x .reg) s (x .valid) (x .bytes) p b′ r s′ m (becomes y) e)))
+        go (becomes y) e = absurd (z (q ∙ ap replied (turn-reply (x .reg) s (x .valid) (x .bytes) (change p) b′ r s′ m (becomes y) e)))
 
     on-with : replied r ≡ 0 → On f (length s₀) input b′ s′ (n + 1) (at + length p)
     on-with z = go (called (change p) (length s) (x .reg)) refl
       where
         go : (st : Step) → called (change p) (length s) (x .reg) ≡ st → On f (length s₀) input b′ s′ (n + 1) (at + length p)
         go (answered y) e =
-            let d : Decided (answered y) = subst Decided e (decided p (length s) (x .reg)) in
-            let w = turn-reply (x .reg) s (x .valid) (x .bytes) p b′ r s′ m (answered y) e in
+            let d : Decided (answered y) = subst Decided e (decided-change p (length s) (x .reg)) in
+            let w = turn-reply (x .reg) s (x .valid) (x .bytes) (change p) b′ r s′ m (answered y) e in
             absurd (omega (arith, sym (ap replied (w ∙ d .is)) ∙ z, d .above))
         go (becomes y) e = record {
           reg = y;
           valid = subst (λ (st : Step). Valid (after st (x .reg) .list)) e (called-valid (change p) (length s) (x .reg) (x .valid));
-          book = turn-book (x .reg) s (x .valid) (x .bytes) p b′ r s′ m (becomes y) e;
-          bytes = turn-bytes (x .reg) s (x .valid) (x .bytes) p b′ r s′ m (becomes y) e;
+          book = turn-book (x .reg) s (x .valid) (x .bytes) (change p) b′ r s′ m (becomes y) e;
+          bytes = turn-bytes (x .reg) s (x .valid) (x .bytes) (change p) b′ r s′ m (becomes y) e;
           so-far =
               rest-is (becomes y) e ∙ both-before n at 1 (length p) (feeding (length s₀) y (drop (length p) (drop at input)))
               ∙ ap (λ (l : List ℕ). later (n + 1) (at + length p) (feeding (length s₀) y l)) (drop-drop (length p) at input);
         }
-
--- the same where book and bytes do not belong together
-module _ (b : Book) (s : List ℕ) (e : load b s ≡ astray) (p : List ℕ) (b′ : Book) (r : Reply) (s′ : List ℕ) (m : Meets (change p) b s b′ r s′) where
-  o-astray : outcome (stepOf (change p)) b s ≡ settled b s (answered (refused 16))
-  o-astray = outcome-astray (change p) b s e
-
-  astray-book : b′ ≡ b
-  astray-book = m .book ∙ ap (λ (x : After). x .book) o-astray
-
-  astray-reply : r ≡ refused 16
-  astray-reply = m .answer ∙ ap (λ (x : After). x .answer) o-astray
-
-  astray-bytes : s′ ≡ s
-  astray-bytes = unmoved s s′ (m .size) (subst (λ (x : After). take (length (x .kept)) s′ ≡ x .kept) o-astray (m .bytes))
 
 module _ (b₀ : Book) (s₀ input : List ℕ) (b : Book) (s : List ℕ) (n at : ℕ) (g : Going b₀ s₀ input b s n at) where
   -- nothing is left
@@ -233,9 +195,9 @@ module _ (b₀ : Book) (s₀ input : List ℕ) (b : Book) (s : List ℕ) (n at :
             record {
               count = u .count;
               taken = u .taken;
-              number = q ∙ ap replied (astray-reply b s a (piece (drop at input)) b′ r s′ m₁) ∙ ap (λ (t : Bool). cond t 0 16) (sym (ne-eqb (length input) 0 (λ h. omega arith)));
-              book = astray-book b s a (piece (drop at input)) b′ r s′ m₁ ∙ u .book;
-              bytes = astray-bytes b s a (piece (drop at input)) b′ r s′ m₁ ∙ u .bytes;
+              number = q ∙ ap replied (astray-reply (change (piece (drop at input))) b s a b′ r s′ m₁) ∙ ap (λ (t : Bool). cond t 0 16) (sym (ne-eqb (length input) 0 (λ h. omega arith)));
+              book = astray-book (change (piece (drop at input))) b s a b′ r s′ m₁ ∙ u .book;
+              bytes = astray-bytes (change (piece (drop at input))) b s a b′ r s′ m₁ ∙ u .bytes;
             };
       }
 
@@ -245,7 +207,7 @@ module _ (b₀ : Book) (s₀ input : List ℕ) (b : Book) (s : List ℕ) (n at :
         within = omega (arith, end-within);
         few = omega (arith, g .few, end-after);
         together = λ l e. on-with (feeding (length s₀) (record { list = l; closed = b₀ .closed }) input) s₀ input b s n at (g .together l e) (g .size) some b′ r s′ m₁ z;
-        apart = λ e. absurd (omega (arith, sym (ap replied (astray-reply b s (stray-load e) (piece (drop at input)) b′ r s′ m₁)) ∙ z));
+        apart = λ e. absurd (omega (arith, sym (ap replied (astray-reply (change (piece (drop at input))) b s (stray-load e) b′ r s′ m₁)) ∙ z));
       })
 
 -- where the record ends of which the code found the length

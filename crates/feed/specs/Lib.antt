@@ -1,6 +1,5 @@
 pub mod Feed
 pub mod Promise
-pub mod CallLaws
 pub mod FeedLaws
 pub mod PieceLaws
 pub mod SettleLaws

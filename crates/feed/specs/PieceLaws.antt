@@ -9,11 +9,11 @@ use lib.Seq.{drop-append-le, drop-drop, drop-length}
 use lib.Dec.{ltb}
 use Rattle.records.specs.Reading.{Res, bad, got}
 use Rattle.records.specs.Changes.{Entry, entry}
-use Rattle.records.specs.BookLaws.{entry-firm}
+use Rattle.records.specs.BookLaws.{entry-bad, entry-firm}
 use Rattle.book.specs.Register.{Reg, change, Reply, Step, answered, becomes, refused, called, writeAll}
 use Rattle.book.specs.Tables.{replied}
+use Rattle.book.specs.CallLaws.{Decided, decided-change, called-unread, called-short}
 use Rattle.feed.specs.Feed.{front, piece, Fed, later, onward, fed, feeding}
-use Rattle.feed.specs.CallLaws.{Decided, decided, called-bad, called-short}
 use Rattle.feed.specs.FeedLaws.{piece-within, piece-some, piece-more, first-then, none-before, both-before}
 
 -- a reading that goes on from where another one stopped
@@ -38,7 +38,7 @@ module _ (lent : ℕ) where
       go : (r : Res Entry) → entry xs ≡ r → piece (xs ++ ys) ≡ piece xs
       go (got x t) q = piece-more xs ys x t q
       go (bad j) q =
-          let w = called-bad xs lent g j q in
+          let w = called-unread xs lent g j (entry-bad xs j q) in
           let v : called (change xs) lent g ≡ becomes h = ap (λ (r : Res Entry). called (change (front xs r)) lent g) (sym q) ∙ e in
           let z : _≡_ {A = ℕ} 0 1 = cc in
           absurd (omega arith)
@@ -105,7 +105,7 @@ module _ (lent : ℕ) where
       go : ((x : Reg) → feeding lent x (drop k s) .number ≡ 0 → feeding lent x (drop k s) .taken ≡ length (drop k s))
           → (st : Step) → called (change (piece s)) lent g ≡ st → feeding lent g s .taken ≡ length s
       go ih (answered r) e =
-          let d : Decided (answered r) = subst Decided e (decided (piece s) lent g) in
+          let d : Decided (answered r) = subst Decided e (decided-change (piece s) lent g) in
           let y : replied r ≡ 0 = sym (ap (λ (f : Fed). f .number) (at-first g s (omega arith) (answered r) e)) ∙ z in
           absurd (omega (arith, sym (ap replied (d .is)) ∙ y, d .above))
       go ih (becomes x) e =
@@ -124,11 +124,11 @@ module _ (lent : ℕ) where
       go (bad j) q true w = called-short (change (piece (xs ++ ys))) lent g w ∙ sym (called-short (change (piece xs)) lent g w) ∙ e
       go (bad j) q false w =
           let a : called (change xs) lent g ≡ answered r = ap (λ (i : Res Entry). called (change (front xs i)) lent g) (sym q) ∙ e in
-          let c : called (change xs) lent g ≡ answered (refused j) = called-bad xs lent g j q ∙ ap (λ (b : Bool). answered (refused (cond b 16 j))) w in
+          let c : called (change xs) lent g ≡ answered (refused j) = called-unread xs lent g j (entry-bad xs j q) ∙ ap (λ (b : Bool). answered (refused (cond b 16 j))) w in
           let y : r ≡ refused j = cc in
           let f = entry-firm xs ys j q (λ h. z (ap replied y ∙ h)) in
           ap (λ (i : Res Entry). called (change (front (xs ++ ys) i)) lent g) f
-          ∙ called-bad (xs ++ ys) lent g j f ∙ ap (λ (b : Bool). answered (refused (cond b 16 j))) w ∙ ap answered (sym y)
+          ∙ called-unread (xs ++ ys) lent g j (entry-bad (xs ++ ys) j f) ∙ ap (λ (b : Bool). answered (refused (cond b 16 j))) w ∙ ap answered (sym y)
 
   remains : (ys : List ℕ) (n : ℕ) (g : Reg) (xs : List ℕ) → length xs ≤ n → (feeding lent g xs .number ≡ 0 → ⊥) → (feeding lent g xs .number ≡ 1 → ⊥) → feeding lent g (xs ++ ys) ≡ feeding lent g xs
   unfolding fed

@@ -10,9 +10,8 @@ use Rattle.book.specs.declared.journal.Book.{Book}
 use Rattle.book.specs.Register.{Reg, fresh, change, Step, answered, becomes, called, after, writeAll}
 use Rattle.book.specs.Meaning.{belongs, load, Valid, bookOf}
 use Rattle.book.specs.ReplayLaws.{called-valid}
-use Rattle.book.proofs.Answering.{loaded-from}
+use Rattle.book.specs.LoadLaws.{loaded-from, load-whole, load-fresh}
 use Rattle.feed.specs.Feed.{piece, Fed, onward, fed, feeding, Settled, statement, ref, verdict, settled}
-use Rattle.feed.specs.CallLaws.{load-whole, load-fresh}
 use Rattle.feed.specs.FeedLaws.{piece-some, first-then}
 use Rattle.feed.specs.Promise.{Ends, Feeds}
 use Rattle.feed.specs.declared.Fed.{Fed as Result}

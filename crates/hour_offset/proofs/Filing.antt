@@ -6,9 +6,9 @@ use Prim.Native.Nat.{ℕ, _+_, _-_, _≤_, _<_}
 use native.Mathlib.Omega.{arith}
 use lib.Dec.{eqb}
 use lib.IntN.{pos}
-use lib.ListN.{length, take, drop, length-take, length-drop}
+use lib.ListN.{length, take, drop, length-drop}
 use lib.Seq.{take-all, drop-drop, drop-length}
-use borrow.Author.Tests.{ne-eqb, eq-eqb, le-ltb}
+use borrow.Author.Tests.{ne-eqb, eq-eqb}
 use Rattle.money.specs.declared.units.Answer.{Answer}
 use Rattle.money.specs.declared.units.Answer.the-variants.{Amount, Refused}
 use Rattle.records.specs.Reading.{Res, bad, got}
@@ -18,12 +18,14 @@ use Rattle.records.specs.BookLaws.{hour-record-got, hour-record-fault}
 use Rattle.records.specs.declared.hour_records.HourFront.{HourFront}
 use Rattle.book.specs.declared.journal.Book.{Book}
 use Rattle.book.specs.declared.answers.Guarantees.{Guarantees}
-use Rattle.book.specs.Register.{Reg, fresh, Call, file, ask, hourGuarantees, answer, Reply, refused, guarantees, Step, answered, becomes, stepOf, called, after, writeAll}
-use Rattle.book.specs.Meaning.{Valid, After, bookOf, settled, outcome, Meets, guaranteesReply}
+use Rattle.book.specs.Register.{Reg, fresh, file, ask, hourGuarantees, answer, Reply, refused, guarantees, Step, answered, becomes, stepOf, called, after, writeAll}
+use Rattle.book.specs.Meaning.{Valid, bookOf, outcome, Meets, guaranteesReply}
 use Rattle.book.specs.Tables.{replied}
-use Rattle.book.specs.ReplayLaws.{called-valid, outcome-is}
+use Rattle.book.specs.ReplayLaws.{called-valid}
+use Rattle.book.specs.LoadLaws.{fresh-valid, fresh-bytes, fresh-book}
+use Rattle.book.specs.CallLaws.{Decided, decided-file, asked, turn-book, turn-reply, turn-bytes}
 use Rattle.hour_offset.specs.HourOffset.{ticks, offsetIn, onward, recorded, offsetAfter, hourOffset, answerOf}
-use Rattle.hour_offset.specs.HourOffsetLaws.{at-none, first-then, Decided, decided}
+use Rattle.hour_offset.specs.HourOffsetLaws.{at-none, first-then}
 
 -- ---- the first record
 
@@ -49,35 +51,6 @@ module _ (s : List ℕ) (o : ℕ) (f : HourFront) (e : f ≡ hourFrontOf s (hour
       go (bad k) p q = absurd (omega (arith, hour-record-fault o s k p, sym (ap (λ (x : HourFront). x .number) q) ∙ z))
       go (got c t) p q = record { what = c; left = t; is = p; hour = ap (λ (x : HourFront). x .hour) q; end = ap (λ (x : HourFront). x .end) q }
 
--- ---- one call on a book that is the register's
-
-module _ (g : Reg) (s : List ℕ) (v : Valid (g .list)) (h : take (length (writeAll (g .list))) s ≡ writeAll (g .list)) where
-  held : length (writeAll (g .list)) ≤ length s
-  held = omega (arith, simp length-take at (ap length h))
-
-  outcome-called : (call : Call) → outcome (stepOf call) (bookOf g) s ≡ settled (bookOf g) s (called call (length s) g)
-  outcome-called call = outcome-is call g s v (h ∙ sym (take-all (length s) (writeAll (g .list)) held))
-
-  -- a question
-  asked : (o : ℕ) → outcome (stepOf (ask (hourGuarantees o))) (bookOf g) s .answer ≡ answer (hourGuarantees o) (length s) g
-  unfolding called
-  asked o =
-      ap (λ (x : After). x .answer) (outcome-called (ask (hourGuarantees o)))
-      ∙ ap (λ (t : Bool). settled (bookOf g) s (cond t (answered (refused 16)) (stepOf (ask (hourGuarantees o)) (length s) g)) .answer) (le-ltb (length s) (length (writeAll (g .list))) held)
-
-  module _ (call : Call) (b′ : Book) (r : Reply) (s′ : List ℕ) (m : Meets call (bookOf g) s b′ r s′) (st : Step) (e : called call (length s) g ≡ st) where
-    turn : outcome (stepOf call) (bookOf g) s ≡ settled (bookOf g) s st
-    turn = outcome-called call ∙ ap (settled (bookOf g) s) e
-
-    turn-book : b′ ≡ settled (bookOf g) s st .book
-    turn-book = m .book ∙ ap (λ (x : After). x .book) turn
-
-    turn-reply : r ≡ settled (bookOf g) s st .answer
-    turn-reply = m .answer ∙ ap (λ (x : After). x .answer) turn
-
-    turn-bytes : take (length (settled (bookOf g) s st .kept)) s′ ≡ settled (bookOf g) s st .kept
-    turn-bytes = subst (λ (x : After). take (length (x .kept)) s′ ≡ x .kept) turn (m .bytes)
-
 -- ---- the loop
 
 -- the register that the book is now, and what is still to be read
@@ -91,8 +64,8 @@ pub record Going (records : List ℕ) (b : Book) (log : List ℕ) (o at : ℕ) :
   pub so-far : hourOffset records ≡ offsetAfter o reg (drop at records)
 
 pub started : (records log : List ℕ) (b : Book) → length log ≡ 65535 → b ≡ record { changes = 0; used = 0; closed = false } → Going records b log 0 0
-unfolding hourOffset writeAll Valid
-started records log b n e = record { size = n; within = omega arith; reg = fresh; valid = tt; book = e; bytes = refl; so-far = refl }
+unfolding hourOffset
+started records log b n e = record { size = n; within = omega arith; reg = fresh; valid = fresh-valid; book = e ∙ fresh-book; bytes = fresh-bytes log; so-far = refl }
 
 module _ (records : List ℕ) (b : Book) (log : List ℕ) (o at : ℕ) (g : Going records b log o at) where
   -- nothing is left
@@ -101,7 +74,7 @@ module _ (records : List ℕ) (b : Book) (log : List ℕ) (o at : ℕ) (g : Goin
   finished h log₁ e =
       let all : at ≡ length records = omega (arith, g .within) in
       let a : outcome (stepOf (ask (hourGuarantees o))) b log₁ .answer ≡ answer (hourGuarantees o) 65535 (g .reg) =
-      (λ i. outcome (stepOf (ask (hourGuarantees o))) (g .book i) (e i) .answer) ∙ asked (g .reg) log (g .valid) (g .bytes) o ∙ ap (λ (n : ℕ). answer (hourGuarantees o) n (g .reg)) (g .size) in
+      (λ i. outcome (stepOf (ask (hourGuarantees o))) (g .book i) (e i) .answer) ∙ asked (g .reg) log (g .valid) (g .bytes) (hourGuarantees o) ∙ ap (λ (n : ℕ). answer (hourGuarantees o) n (g .reg)) (g .size) in
       ap (λ (r : Reply). cond (eqb o 0) (ticks (pos 0)) (offsetIn r)) a
       ∙ sym (g .so-far ∙ ap (offsetAfter o (g .reg)) (ap (λ (k : ℕ). drop k records) all ∙ drop-length records) ∙ at-none 0 o (g .reg))
 
@@ -167,7 +140,7 @@ module _ (records : List ℕ) (b : Book) (log : List ℕ) (o at : ℕ) (g : Goin
             where
               go : (st : Step) → called (file p) 65535 (g .reg) ≡ st → Going records b′ log′ (f .hour) (at + f .end)
               go (answered y) e =
-                  let d : Decided (answered y) = subst Decided e (decided p 65535 (g .reg)) in
+                  let d : Decided (answered y) = subst Decided e (decided-file p 65535 (g .reg)) in
                   let w = turn-reply (g .reg) log (g .valid) (g .bytes) (file p) b′ r log′ m (answered y) (lent (answered y) e) in
                   absurd (omega (arith, sym (ap replied (w ∙ d .is)) ∙ z, d .above))
               go (becomes y) e = record {

@@ -5,19 +5,20 @@ use mathlib.Core.Bool.{Bool, true, false, cond}
 use Prim.Native.Nat.{ℕ, zero, suc, _+_, _-_, _≤_, _<_}
 use native.Mathlib.Omega.{arith}
 use lib.ListN.{length, take}
-use lib.Dec.{ltb, eqb}
+use lib.Dec.{eqb}
 use lib.IntN.{ℤ, pos}
 use Rattle.records.specs.Reading.{Res, bad, got}
-use Rattle.records.specs.Changes.{Rec, Change, keyOf, Input, fine, fault, parse}
+use Rattle.records.specs.Changes.{Rec, Change, keyOf}
 use Rattle.records.specs.HourRecord.{hourRecord}
 use Rattle.records.specs.Keys.{askHourOf}
 use Rattle.records.specs.declared.keys.Key.{Key}
 use Rattle.records.specs.declared.marks.Mark.the-variants.{Im, Ex}
-use Rattle.records.specs.BookLaws.{parse-fault, askHourOf-fault, hour-record-got, hour-record-fault}
-use Rattle.book.specs.Register.{Reg, fresh, standing, startIn, keyed, hourGuarantees, answer, file, Reply, refused, Step, answered, becomes, stepOf, called, listed, judged, refusal, writeAll}
+use Rattle.records.specs.BookLaws.{askHourOf-fault, hour-record-got, hour-record-fault}
+use Rattle.book.specs.Register.{Reg, fresh, standing, startIn, keyed, hourGuarantees, answer, file, Reply, Step, answered, becomes, called}
 use Rattle.book.specs.ByName.{byName}
 use Rattle.book.specs.Amounts.{Price, unpriced, priced, hourKey, priceOf, guaranteesAt, guaranteesOf}
 use Rattle.book.specs.Tables.{replied}
+use Rattle.book.specs.CallLaws.{Decided, decided-file}
 use Rattle.hour_offset.specs.HourOffset.{Result, ticks, no, offsetIn, atEnd, onward, recorded, offsetFrom, offsetAfter, hourOffset, eight, numberIn, bytesIn, callNumber, callBytes}
 
 pub at-none : (n o : ℕ) (g : Reg) → offsetFrom n o g [] ≡ atEnd o g
@@ -57,44 +58,6 @@ first-then o g (b ∷ s) h = go (hourRecord o (b ∷ s)) refl
     go : (r : Res Change) → hourRecord o (b ∷ s) ≡ r → recorded g (b ∷ s) (offsetFrom (length s)) r ≡ recorded g (b ∷ s) offsetAfter r
     go (bad j) e = refl
     go (got c t) e = then (keyOf c .hour) t (hour-record-got o (b ∷ s) c t e .takes) (called (file (take (length (b ∷ s) - length t) (b ∷ s))) 65535 g)
-
--- ---- a filing is accepted, or refused with a number above 0
-
-pub record Refusal (r : Reply) : Type 0 where
-  pub number : ℕ
-  pub is : r ≡ refused number
-  pub above : 0 < number
-
-abbrev pub Decided : Step → Type 0
-Decided (answered r) = Refusal r
-Decided (becomes g) = Unit {0}
-
-by : (n : ℕ) → 0 < n → Decided (answered (refused n))
-by n h = record { number = n; is = refl; above = h }
-
-pub decided : (s : List ℕ) (lent : ℕ) (g : Reg) → Decided (called (file s) lent g)
-unfolding called
-decided s lent g = go (ltb lent (length (writeAll (g .list))))
-  where
-    above : (n : ℕ) → (n ≡ 0 → ⊥) → 0 < n
-    above zero z = absurd (z refl)
-    above (suc n) z = omega arith
-
-    played : (c : Change) (n : ℕ) → Decided (judged c g n)
-    played c zero = tt
-    played c (suc n) = by (suc n) (omega arith)
-
-    open-or : (c : Change) (b : Bool) → Decided (cond b (answered (refused 9)) (judged c g (refusal (g .list) lent c)))
-    open-or c true = by 9 (omega arith)
-    open-or c false = played c (refusal (g .list) lent c)
-
-    filing : (i : Input Change) → parse 1 s ≡ i → Decided (listed i lent g)
-    filing (fault n) e = by n (above n (parse-fault 1 s n e))
-    filing (fine c) e = open-or c (g .closed)
-
-    go : (x : Bool) → Decided (cond x (answered (refused 16)) (stepOf (file s) lent g))
-    go true = by 16 (omega arith)
-    go false = filing (parse 1 s) refl
 
 -- ---- no refusal is numbered 0
 
@@ -140,7 +103,7 @@ all-above (suc n) o g (b ∷ s) = go (λ p x t. all-above n p x t) (hourRecord o
     go ih (bad j) e = hour-record-fault o (b ∷ s) j e
     go ih (got c t) e =
         let p : List ℕ = take (length (b ∷ s) - length t) (b ∷ s) in
-        then ih (keyOf c .hour) t (called (file p) 65535 g) (decided p 65535 g)
+        then ih (keyOf c .hour) t (called (file p) 65535 g) (decided-file p 65535 g)
 
 -- "It returns 0 and puts the offset into eight lent bytes (i64 ticks, little-endian), or returns a number and leaves them."
 pub record Settled (before : List ℕ) (number : ℕ) (after : List ℕ) (x : Result) : Type 0 where

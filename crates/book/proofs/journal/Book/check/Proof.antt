@@ -1,7 +1,7 @@
 use mathlib.Core.Path.{sym, ap, _∙_}
 use lib.Seq.{length-take-le}
 use Rattle.book.specs.Tables.{checkedOf}
-use Rattle.book.proofs.Answering.{load-short, load-long}
+use Rattle.book.specs.LoadLaws.{load-short, load-long}
 use borrow.Author.Needs.{needs}
 use Rattle.book.proofs.journal.Book.check.Statement.{statement}
 use Rattle.book.proofs.journal.Book.check.Tie as tie

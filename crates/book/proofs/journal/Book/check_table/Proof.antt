@@ -1,7 +1,8 @@
 use mathlib.Core.Path.{sym, subst⁻¹}
 use lib.Seq.{length-take-le}
 use Rattle.book.specs.Tables.{Tabled}
-use Rattle.book.proofs.Answering.{load-short, load-long, tabled-astray}
+use Rattle.book.specs.LoadLaws.{load-short, load-long}
+use Rattle.book.proofs.Answering.{tabled-astray}
 use borrow.Author.Needs.{needs}
 use Rattle.book.proofs.journal.Book.check_table.Statement.{statement}
 use Rattle.book.proofs.journal.Book.check_table.Tie as tie
