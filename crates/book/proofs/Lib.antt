@@ -2,6 +2,7 @@ pub mod Weighing
 pub mod Surveying
 pub mod Replaying
 pub mod Answering
+pub mod Holding
 pub mod Inserting
 pub mod Gathering
 pub mod Naming

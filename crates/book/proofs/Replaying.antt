@@ -1,20 +1,20 @@
 -- The loop that replays the log: what it keeps, and what each way out of it shows.
 use Prim.Native.Nat.{ℕ, suc, _+_, _-_, _≤_, _<_}
 use mathlib.Core.Path.{_≡_, refl, sym, ap, ap₂, _∙_, subst}
-use mathlib.Core.List.{List, [], _∷_, _++_, append-assoc, tail}
+use mathlib.Core.List.{List, [], _∷_, _++_, append-assoc}
 use mathlib.Core.Bool.{Bool, true, cond}
 use native.Mathlib.Omega.{arith}
-use lib.ListN.{length, drop, getD, set, length-append, length-drop, length-set, drop-of-length-le}
-use lib.Seq.{drop-drop, getD-set-same}
+use lib.ListN.{length, drop, set, length-append, length-drop, length-set, drop-of-length-le}
+use lib.Seq.{drop-drop}
 use lib.Dec.{eqb, ltb}
 use borrow.Author.Tests.{eq-eqb, ne-eqb}
 use Rattle.book.specs.Layer.{View, Change, keyOf, write, blind, scan, limitOf, Found, scan-got, Read}
 use Rattle.book.specs.declared.survey.Survey.{Survey}
 use Rattle.book.specs.Register.{writeAll, refusal, room, stands, count, standing}
 use Rattle.book.specs.Meaning.{belongs, astray, onward, ended, replay, Valid}
-use Rattle.book.specs.Tables.{Kept, Tabled, Stored, checkedOf, survey, judge}
+use Rattle.book.specs.Tables.{Kept, Tabled, Stored, together, survey, judge}
 use Rattle.book.specs.RegisterLaws.{survey-found, survey-count, refusal-judge}
-use Rattle.book.proofs.Surveying.{kept-set, judge-room, room-facts}
+use Rattle.book.proofs.Surveying.{kept-more, judge-room, room-facts}
 
 judge-few : (kind : ℕ) (f : Bool) (n most changes used len : ℕ) → judge kind f n most changes used len 65535 ≡ 0 → changes < 512
 unfolding judge
@@ -25,7 +25,7 @@ judge-few kind f n most changes used len e = room-facts changes used len 65535 (
 belongs-one : (a b : List Change) → belongs a ≡ belongs b → a ≡ b
 belongs-one a b e = cc
 
-pub record Head (part : List ℕ) (n : ℕ) (views : List View) (last q i : ℕ) : Type 0 where
+pub record Head (part : List ℕ) (n : ℕ) (views : List View) (q i : ℕ) : Type 0 where
   pub acc : List Change
   pub valid : Valid acc
   pub inside : i ≤ n
@@ -34,11 +34,10 @@ pub record Head (part : List ℕ) (n : ℕ) (views : List View) (last q i : ℕ)
   pub kept : Kept views acc
   pub count : length acc ≡ i
   pub at : length (writeAll acc) ≡ q
-  pub last-is : last ≡ length (writeAll (tail acc))
   pub split : part ≡ writeAll acc ++ drop q part
   pub goes : replay n [] part ≡ replay (n - i) acc (drop q part)
 
-pub head-start : (part : List ℕ) (n : ℕ) (views : List View) → length views ≡ 512 → Head part n views 0 0 0
+pub head-start : (part : List ℕ) (n : ℕ) (views : List View) → length views ≡ 512 → Head part n views 0 0
 unfolding Valid writeAll Kept survey
 head-start part n views e =
     let p : n ≡ n - 0 = omega arith in
@@ -51,12 +50,11 @@ head-start part n views e =
       kept = tt;
       count = refl;
       at = refl;
-      last-is = refl;
       split = refl;
       goes = ap (λ (m : ℕ). replay m [] part) p;
     }
 
-module _ (part : List ℕ) (n : ℕ) (views : List View) (last q i : ℕ) (h : Head part n views last q i) where
+module _ (part : List ℕ) (n : ℕ) (views : List View) (q i : ℕ) (h : Head part n views q i) where
   pub head-within : q ≤ length part
   head-within = omega (arith, ap length (h .split), length-append (writeAll (h .acc)) (drop q part), h .at)
 
@@ -81,12 +79,12 @@ module _ (part : List ℕ) (n : ℕ) (views : List View) (last q i : ℕ) (h : H
       go [] e = absurd (z (omega (arith, head-within)))
       go (b ∷ rest) e = refl
 
-  pub head-end : n ≤ i → q ≡ length part → Tabled (replay n [] part) (record { ok = true; last = last; views = views })
+  pub head-end : n ≤ i → q ≡ length part → Tabled (replay n [] part) (record { ok = true; views = views })
   head-end le e =
       let p : drop q part ≡ [] = drop-of-length-le part {i = q} (omega arith) in
       let d = at-end le ∙ ap (ended (h .acc)) p in
       record {
-        checked = (λ i. record { ok = true; last = h .last-is i }) ∙ sym (ap checkedOf d);
+        checked = sym (ap together d);
         kept = λ l e. let same-list : h .acc ≡ l = belongs-one (h .acc) l (sym d ∙ e) in subst (Kept views) same-list (h .kept);
       }
 
@@ -112,7 +110,7 @@ module _ (part : List ℕ) (n : ℕ) (views : List View) (last q i : ℕ) (h : H
     pub head-few : w ≡ 0 → i < 512
     head-few z = judge-few (v .kind) (t .found) (t .count) most i q (v .len) (sym e ∙ z)
 
-    pub head-next : w ≡ 0 → Head part n (set views i v) q (q + v .len) (i + 1)
+    pub head-next : w ≡ 0 → Head part n (set views i v) (q + v .len) (i + 1)
     unfolding Valid writeAll Kept survey
     head-next z =
         let c = r .what in
@@ -125,13 +123,9 @@ module _ (part : List ℕ) (n : ℕ) (views : List View) (last q i : ℕ) (h : H
           inside = omega arith;
           few = omega arith;
           size = length-set views i v ∙ h .size;
-          kept = (
-            (λ d. ap (λ (m : ℕ). getD (set views i v) m d) (h .count) ∙ getD-set-same views i v d (omega (arith, h .size)) ∙ r .view-is),
-            kept-set views i v (h .acc) (omega (arith, h .count)) (h .kept),
-          );
+          kept = kept-more views i v c (h .acc) (h .count) (omega (arith, h .size)) (r .view-is) (h .kept);
           count = omega (arith, h .count);
           at = length-append (writeAll (h .acc)) (write c) ∙ ap₂ _+_ (h .at) (sym (f .len));
-          last-is = sym (h .at);
           split = h .split ∙ ap (λ (x : List ℕ). writeAll (h .acc) ++ x) (f .bytes ∙ ap (λ (x : List ℕ). write c ++ x) (drop-drop (v .len) q part))
               ∙ sym (append-assoc (writeAll (h .acc)) (write c) (drop (q + v .len) part));
           goes = one-turn lt ∙ ap (onward (h .acc) (drop q part) (replay (n - (i + 1)))) (r .scanned)

@@ -5,7 +5,7 @@ use mathlib.Core.List.{List, [], _∷_}
 use mathlib.Core.Bool.{Bool, true, false, cond}
 use native.Mathlib.Omega.{arith}
 use lib.ListN.{length, take, drop, getD, set, length-append, length-drop, drop-of-length-le}
-use lib.Seq.{take-all, getD-set-other}
+use lib.Seq.{take-all, getD-set-same, getD-set-other}
 use mir.Syntax.{w64}
 use mir.Val.{Fits}
 use lib.Dec.{eqb, leb, ltb}
@@ -45,6 +45,12 @@ pub kept-set : (views : List View) (p : ℕ) (x : View) (l : List Change) → le
 unfolding Kept
 kept-set views p x [] h k = tt
 kept-set views p x (c ∷ l) h k = ((λ d. getD-set-other views p (length l) x d (λ e. omega arith) ∙ k .0 d), kept-set views p x l (omega arith) (k .1))
+
+-- one change more, with its view at its place
+pub kept-more : (views : List View) (n : ℕ) (v : View) (c : Change) (l : List Change) → length l ≡ n → n < length views → v ≡ viewed c → Kept views l → Kept (set views n v) (c ∷ l)
+unfolding Kept
+kept-more views n v c l e h is k =
+    ((λ d. ap (λ (m : ℕ). getD (set views n v) m d) e ∙ getD-set-same views n v d h ∙ is), kept-set views n v l (omega arith) k)
 
 -- the change at a place, and those before it
 pub record Placed (views : List View) (n : ℕ) (l : List Change) (j : ℕ) : Type 0 where

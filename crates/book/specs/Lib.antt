@@ -10,6 +10,7 @@ pub mod RegisterLaws
 pub mod ReplayLaws
 pub mod LoadLaws
 pub mod CallLaws
+pub mod Held
 pub mod SessionLaws
 pub mod PlaceLaws
 pub mod Places

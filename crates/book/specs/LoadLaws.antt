@@ -55,6 +55,17 @@ pub load-whole : (g : Reg) (s : List ℕ) → Valid (g .list) → take (length (
 load-whole g s v h =
     load-long (bookOf g) s (omega (arith, simp length-take at (ap length h))) ∙ ap (replay (length (g .list)) []) h ∙ replay-whole (g .list) v
 
+abbrev pub loaded-whole : (g : Reg) (s : List ℕ) → Valid (g .list) → take (length (writeAll (g .list))) s ≡ writeAll (g .list) → Loaded (bookOf g) s
+loaded-whole g s v h = record {
+  list = g .list;
+  is = load-whole g s v h;
+  valid = v;
+  within = omega (arith, simp length-take at (ap length h));
+  bytes = sym h;
+  size = refl;
+  count-is = refl;
+}
+
 -- ---- a fresh book, over any bytes
 
 pub fresh-valid : Valid (fresh .list)

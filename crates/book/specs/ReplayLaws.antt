@@ -95,7 +95,7 @@ refusal-capped l lent c h =
     (room-capped (length l) (length (writeAll l)) (length (write c)) lent) (sym (refusal-judge l lent c) ∙ h)
 
 -- no call leaves a list that cannot be played
-listed-valid : (i : Input Change) (lent : ℕ) (g : Reg) → ((c : Change) → i ≡ fine c → Good c) → Valid (g .list) → Valid (after (listed i lent g) g .list)
+pub listed-valid : (i : Input Change) (lent : ℕ) (g : Reg) → ((c : Change) → i ≡ fine c → Good c) → Valid (g .list) → Valid (after (listed i lent g) g .list)
 unfolding Valid
 listed-valid (fault n) lent g ok v = v
 listed-valid (fine c) lent g ok v = open-or (g .closed)

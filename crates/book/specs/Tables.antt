@@ -1,14 +1,13 @@
 -- What the code's tables and surveys say.
 use Prim.Native.Nat.{ℕ, _+_, _-_}
 use mathlib.Core.Path.{_≡_}
-use mathlib.Core.List.{List, [], _∷_, tail}
+use mathlib.Core.List.{List, [], _∷_}
 use mathlib.Core.Bool.{Bool, true, false, cond, not}
 use lib.ListN.{length, getD}
 use lib.Dec.{eqb, ltb}
 use Rattle.money.specs.Refusals.{keyStands, noSuchKey, hourFull}
 use Rattle.book.specs.Layer.{Key, View, Change, keyOf, kindOf, write, same, sameHour}
 use Rattle.book.specs.declared.survey.Survey.{Survey}
-use Rattle.book.specs.declared.replay.Checked.{Checked}
 use Rattle.book.specs.declared.replay.Table.{Table}
 use Rattle.book.specs.Register.{writeAll, room, Reply, refused, accepted, place, number, guarantees, unitDay, charge, Step, answered, becomes}
 use Rattle.book.specs.Meaning.{Load, belongs, astray, Valid}
@@ -42,13 +41,13 @@ unfoldable pub Kept : List View → List Change → Type 0
 Kept views [] = Unit {0}
 Kept views (c ∷ l) = ((d : View) → getD views (length l) d ≡ viewed c) × Kept views l
 
--- whether book and bytes belong together, and where the last change begins
-abbrev pub checkedOf : Load → Checked
-checkedOf (belongs l) = record { ok = true; last = length (writeAll (tail l)) }
-checkedOf astray = record { ok = false; last = 0 }
+-- whether book and bytes belong together
+abbrev pub together : Load → Bool
+together (belongs l) = true
+together astray = false
 
 pub record Tabled (d : Load) (t : Table) : Type 0 where
-  pub checked : record { ok = t .ok; last = t .last } ≡ checkedOf d
+  pub checked : t .ok ≡ together d
   pub kept : (l : List Change) → d ≡ belongs l → Kept (t .views) l
 
 -- the views are those of n changes that can be played

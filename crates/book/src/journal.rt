@@ -1,12 +1,11 @@
 // The book, and whether it belongs to the bytes that are lent.
 use crate::replay;
-use crate::replay::Checked;
 use crate::replay::Table;
 use records::scan::nothing;
 ghost use mathlib.Core.Path.{_≡_};
 ghost use mathlib.Core.Bool.{false};
 ghost use Rattle.book.specs.Meaning.{load};
-ghost use Rattle.book.specs.Tables.{checkedOf, Tabled};
+ghost use Rattle.book.specs.Tables.{Tabled};
 
 // What the book carries: its number of changes, its used bytes, and whether it is closed.
 pub struct Book {
@@ -26,18 +25,7 @@ impl Book {
         }
     }
 
-    // Whether the book and the bytes belong together, and where the last change begins.
-    pub(crate) fn check(self, log: &[u8]) -> Checked
-        ensures { λ r. ⌜ r ≡ checkedOf (load self (now (log .entry))) ⌝ }
-    {
-        let used = self.used as usize;
-        if log.len() < used {
-            return replay::astray();
-        }
-        replay::replayed(&log[..used], self.changes)
-    }
-
-    // The same, with the views of the changes.
+    // Whether the book and the bytes belong together, with the views of the changes.
     pub(crate) fn check_table(self, log: &[u8]) -> Table
         ensures { λ r. ⌜ Tabled (load self (now (log .entry))) r ⌝ }
     {
@@ -46,7 +34,6 @@ impl Book {
             let blank = nothing();
             return Table {
                 ok: false,
-                last: 0,
                 views: [blank; 512],
             };
         }

@@ -4,6 +4,7 @@ pub mod changes;
 pub mod days;
 pub mod failures;
 pub mod guarantees;
+mod held;
 pub mod hours;
 pub mod journal;
 pub mod places;

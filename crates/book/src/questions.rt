@@ -53,7 +53,7 @@ impl Book {
     pub fn free_bytes(self, log: &[u8]) -> Answer
         ensures { λ r. ⌜ Meets (ask freeBytes) self (now (log .entry)) self (replyOf r) (now (log .entry)) ⌝ }
     {
-        let k = self.check(log);
+        let k = self.check_table(log);
         if k.ok {
             let used = self.used as usize;
             let most = refusal::cap(log.len());

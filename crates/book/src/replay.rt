@@ -5,29 +5,14 @@ use records::hours::limit_of;
 use records::scan::View;
 use records::scan::nothing;
 use records::scan::peek;
-ghost use mathlib.Core.Path.{_≡_};
-ghost use mathlib.Core.Bool.{true, false};
 ghost use mathlib.Core.List.{[]};
 ghost use Rattle.book.specs.Meaning.{replay};
-ghost use Rattle.book.specs.Tables.{checkedOf, Tabled};
+ghost use Rattle.book.specs.Tables.{Tabled};
 
-// Whether the bytes are written changes that can be played, and where the last one begins.
-pub(crate) struct Checked {
-    pub(crate) ok: bool,
-    pub(crate) last: usize,
-}
-
-// The same, with the view of each change at its place.
+// Whether the bytes are written changes that can be played, with the view of each change at its place.
 pub(crate) struct Table {
     pub(crate) ok: bool,
-    pub(crate) last: usize,
     pub(crate) views: [View; 512],
-}
-
-pub(crate) fn astray() -> Checked
-    ensures { λ r. ⌜ r ≡ record { ok = false; last = 0 } ⌝ }
-{
-    Checked { ok: false, last: 0 }
 }
 
 // Each change is read once and its view kept, so that what stands under a later change's key is found among the views.
@@ -36,53 +21,25 @@ pub(crate) fn replayed_table(part: &[u8], n: u16) -> Table
 {
     let blank = nothing();
     let mut views = [blank; 512];
-    let mut last: usize = 0;
     let mut q: usize = 0;
     let mut i: usize = 0;
     let end = n as usize;
     while i < end {
         let v = peek(&part[q..]);
         if v.kind == 0 {
-            return Table {
-                ok: false,
-                last: 0,
-                views,
-            };
+            return Table { ok: false, views };
         }
         let s = survey::look_in(views, i, v.key);
         let most = limit_of(v.key);
         if refusal::weigh(v.kind, s.found, s.count, most, i, q, v.len, 65535) != 0 {
-            return Table {
-                ok: false,
-                last: 0,
-                views,
-            };
+            return Table { ok: false, views };
         }
         views[i] = v;
-        last = q;
         q = q + v.len;
         i = i + 1;
     }
     if q != part.len() {
-        return Table {
-            ok: false,
-            last: 0,
-            views,
-        };
+        return Table { ok: false, views };
     }
-    Table {
-        ok: true,
-        last,
-        views,
-    }
-}
-
-pub(crate) fn replayed(part: &[u8], n: u16) -> Checked
-    ensures { λ r. ⌜ r ≡ checkedOf (replay n [] (now (part .entry))) ⌝ }
-{
-    let t = replayed_table(part, n);
-    Checked {
-        ok: t.ok,
-        last: t.last,
-    }
+    Table { ok: true, views }
 }

@@ -1,55 +1,38 @@
-use mathlib.Core.Path.{sym, _∙_}
-use Rattle.book.proofs.Answering.{leaves-answered, refused-by, ready, ready-len, leaves-changed}
-use native.Mathlib.Omega.{arith}
+use Rattle.book.proofs.Answering.{not-tabled, leaves-16}
+use Rattle.book.proofs.Holding.{held-from, done-leaves}
 use borrow.Author.Needs.{needs}
 use Rattle.book.proofs.journal.Book.enter.Statement.{statement}
 use Rattle.book.proofs.journal.Book.enter.Tie as tie
 
-verdict-requires : tie.Need-verdict-requires
-verdict-requires c κs = search needs
+check-table-requires : tie.Need-check-table-requires
+check-table-requires c κs = search needs
+
+held-enter-requires : tie.Need-held-enter-requires
+held-enter-requires c κs = held-from ((c .before .before .before .before .before .before .before .args) .self) ((c .before .before .before .before .before .before .before .args) .log .now) ((c .before .before .before .check-table) .result) ((c .before .before .before .check-table) .ensures) ((c .before .before .if1) .taken)
+
+done-requires : tie.Need-done-requires
+done-requires c κs = search needs
 
 same-length : tie.Need-same-length
 same-length c = search needs
 
 returns : tie.Need-returns
-returns c = leaves-answered _ ((c .before .before .before .before .before .args) .self) ((c .before .before .before .before .before .args) .log .now) _ (refused-by _ ((c .before .verdict) .result) ((c .before .verdict) .ensures) ((c .if1) .taken))
-
-parse-change-requires : tie.Need-parse-change-requires
-parse-change-requires c κs = search needs
-
-cast-at : tie.Need-cast-at
-cast-at c = search needs
-
-put-requires : tie.Need-put-requires
-put-requires c κs = search needs
-
-add-self : tie.Need-add-self
-add-self c = omega (arith, (ready ((c .before .before .before .before .before .before .before .before .before .before .before .before .before .args) .self) ((c .before .before .before .before .before .before .before .before .before .before .before .before .before .args) .log .now) ((c .before .before .before .before .before .before .before .before .before .before .before .before .before .args) .rec .now) ((c .before .before .before .before .before .before .before .before .before .before .before .before .before .args) .want) (sym ((c .before .before .before .before .before .before .before .before .if1) .left) ∙ (c .before .before .before .before .before .before .before .before .before .verdict) .ensures)) .small, (ready-len ((c .before .before .before .before .before .before .before .before .before .before .before .before .before .args) .self) ((c .before .before .before .before .before .before .before .before .before .before .before .before .before .args) .log .now) ((c .before .before .before .before .before .before .before .before .before .before .before .before .before .args) .rec .now) ((c .before .before .before .before .before .before .before .before .before .before .before .before .before .args) .want) (ready ((c .before .before .before .before .before .before .before .before .before .before .before .before .before .args) .self) ((c .before .before .before .before .before .before .before .before .before .before .before .before .before .args) .log .now) ((c .before .before .before .before .before .before .before .before .before .before .before .before .before .args) .rec .now) ((c .before .before .before .before .before .before .before .before .before .before .before .before .before .args) .want) (sym ((c .before .before .before .before .before .before .before .before .if1) .left) ∙ (c .before .before .before .before .before .before .before .before .before .verdict) .ensures)) ((c .before .before .before .before .before .before .before .parse-change) .result) ((c .before .before .before .before .before .before .before .parse-change) .ensures)))
-
-cast-self : tie.Need-cast-self
-cast-self c = omega (arith, (ready ((c .before .before .before .before .before .before .before .before .before .before .before .before .before .args) .self) ((c .before .before .before .before .before .before .before .before .before .before .before .before .before .args) .log .now) ((c .before .before .before .before .before .before .before .before .before .before .before .before .before .args) .rec .now) ((c .before .before .before .before .before .before .before .before .before .before .before .before .before .args) .want) (sym ((c .before .before .before .before .before .before .before .before .if1) .left) ∙ (c .before .before .before .before .before .before .before .before .before .verdict) .ensures)) .small, (ready-len ((c .before .before .before .before .before .before .before .before .before .before .before .before .before .args) .self) ((c .before .before .before .before .before .before .before .before .before .before .before .before .before .args) .log .now) ((c .before .before .before .before .before .before .before .before .before .before .before .before .before .args) .rec .now) ((c .before .before .before .before .before .before .before .before .before .before .before .before .before .args) .want) (ready ((c .before .before .before .before .before .before .before .before .before .before .before .before .before .args) .self) ((c .before .before .before .before .before .before .before .before .before .before .before .before .before .args) .log .now) ((c .before .before .before .before .before .before .before .before .before .before .before .before .before .args) .rec .now) ((c .before .before .before .before .before .before .before .before .before .before .before .before .before .args) .want) (sym ((c .before .before .before .before .before .before .before .before .if1) .left) ∙ (c .before .before .before .before .before .before .before .before .before .verdict) .ensures)) ((c .before .before .before .before .before .before .before .parse-change) .result) ((c .before .before .before .before .before .before .before .parse-change) .ensures)))
-
-add-self-2 : tie.Need-add-self-2
-add-self-2 c = omega (arith, (ready ((c .before .before .before .before .before .before .before .before .before .before .before .before .before .before .args) .self) ((c .before .before .before .before .before .before .before .before .before .before .before .before .before .before .args) .log .now) ((c .before .before .before .before .before .before .before .before .before .before .before .before .before .before .args) .rec .now) ((c .before .before .before .before .before .before .before .before .before .before .before .before .before .before .args) .want) (sym ((c .before .before .before .before .before .before .before .before .before .if1) .left) ∙ (c .before .before .before .before .before .before .before .before .before .before .verdict) .ensures)) .few)
+returns c = done-leaves _ ((c .before .before .before .before .before .before .before .before .before .before .before .args) .self) ((c .before .before .before .before .before .before .before .before .before .before .before .args) .log .now) _ ((c .before .before .before .held-enter) .result) _ ((c .before .before .before .held-enter) .ensures) ((c .done) .result) ((c .done) .ensures)
 
 same-length-2 : tie.Need-same-length-2
 same-length-2 c = search needs
 
 returns-2 : tie.Need-returns-2
-returns-2 c = leaves-changed ((c .before .before .before .before .before .before .before .before .before .before .before .before .before .before .args) .self) ((c .before .before .before .before .before .before .before .before .before .before .before .before .before .before .args) .log .now) ((c .before .before .before .before .before .before .before .before .before .before .before .before .before .before .args) .rec .now) ((c .before .before .before .before .before .put) .last .0) ((c .before .before .before .before .before .before .before .before .before .before .before .before .before .before .args) .want) ((c .before .before .before .before .before .before .before .before .parse-change) .result .view .len) (ready ((c .before .before .before .before .before .before .before .before .before .before .before .before .before .before .args) .self) ((c .before .before .before .before .before .before .before .before .before .before .before .before .before .before .args) .log .now) ((c .before .before .before .before .before .before .before .before .before .before .before .before .before .before .args) .rec .now) ((c .before .before .before .before .before .before .before .before .before .before .before .before .before .before .args) .want) (sym ((c .before .before .before .before .before .before .before .before .before .if1) .left) ∙ (c .before .before .before .before .before .before .before .before .before .before .verdict) .ensures)) (ready-len ((c .before .before .before .before .before .before .before .before .before .before .before .before .before .before .args) .self) ((c .before .before .before .before .before .before .before .before .before .before .before .before .before .before .args) .log .now) ((c .before .before .before .before .before .before .before .before .before .before .before .before .before .before .args) .rec .now) ((c .before .before .before .before .before .before .before .before .before .before .before .before .before .before .args) .want) (ready ((c .before .before .before .before .before .before .before .before .before .before .before .before .before .before .args) .self) ((c .before .before .before .before .before .before .before .before .before .before .before .before .before .before .args) .log .now) ((c .before .before .before .before .before .before .before .before .before .before .before .before .before .before .args) .rec .now) ((c .before .before .before .before .before .before .before .before .before .before .before .before .before .before .args) .want) (sym ((c .before .before .before .before .before .before .before .before .before .if1) .left) ∙ (c .before .before .before .before .before .before .before .before .before .before .verdict) .ensures)) ((c .before .before .before .before .before .before .before .before .parse-change) .result) ((c .before .before .before .before .before .before .before .before .parse-change) .ensures)) ((c .before .before .before .before .before .put) .ensures .1)
+returns-2 c = leaves-16 _ ((c .before .before .before .before .before .args) .self) ((c .before .before .before .before .before .args) .log .now) (not-tabled ((c .before .before .before .before .before .args) .self) ((c .before .before .before .before .before .args) .log .now) ((c .before .check-table) .result) ((c .before .check-table) .ensures) ((c .if1) .left))
 
 pub enter-spec : {M : Type 1} → statement M
 enter-spec =
     tie.close
     (tie.spec
-    verdict-requires
+    check-table-requires
+    held-enter-requires
+    done-requires
     same-length
     returns
-    parse-change-requires
-    cast-at
-    put-requires
-    add-self
-    cast-self
-    add-self-2
     same-length-2
     returns-2)
