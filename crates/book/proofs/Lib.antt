@@ -3,6 +3,7 @@ pub mod Surveying
 pub mod Replaying
 pub mod Answering
 pub mod Holding
+pub mod Feeding
 pub mod Inserting
 pub mod Gathering
 pub mod Naming

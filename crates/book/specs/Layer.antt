@@ -1,7 +1,6 @@
 -- What the book knows of the record layer: all names that it cites of it, and none of them opened.
 use Prim.Native.Nat.{ℕ}
 use mathlib.Core.List.{List}
-use Rattle.records.specs.Reading.{Res}
 use Rattle.records.specs.Keys.{ask}
 pub use Rattle.records.specs.declared.keys.Key.{Key}
 pub use Rattle.records.specs.declared.scan.View.{View}
@@ -9,8 +8,12 @@ pub use Rattle.records.specs.declared.parse.Parsed.{Parsed}
 pub use Rattle.records.specs.declared.keys.KeyAnswer.{KeyAnswer}
 -- changes, their written form, and reading it
 pub use Rattle.records.specs.Changes.{Rec, Change, filed, corrected, withdrawn, keyOf, kindOf, write, Good, Input, fine, fault, parse, Scan, seen, blind, scan, bare, begins, takeBackBytes, closeBytes, viewOf, parsedOf, putBytes}
+-- the first of several changes, of any mark
+pub use Rattle.records.specs.Changes.{Entry, entry as readEntry, parseAny, frontOf}
+pub use Rattle.records.specs.declared.parse.Front.{Front}
+pub use Rattle.records.specs.BookLaws.{entry-got, entry-fault, entry-more, entry-alone, entry-firm, entry-bad}
 -- keys, the keys of questions, limits, marks
-pub use Rattle.records.specs.Reading.{bad, got}
+pub use Rattle.records.specs.Reading.{Res, bad, got}
 pub use Rattle.records.specs.declared.marks.Mark.{Mark}
 pub use Rattle.records.specs.declared.marks.Mark.the-variants.{Pr, Im, Ex, Gh, Fi, Fe}
 pub use Rattle.records.specs.Marks.{markBytes, order, isFailure}

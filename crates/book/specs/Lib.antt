@@ -11,6 +11,11 @@ pub mod ReplayLaws
 pub mod LoadLaws
 pub mod CallLaws
 pub mod Held
+pub mod Feed
+pub mod FeedLaws
+pub mod PieceLaws
+pub mod FeedPromise
+pub mod SettleLaws
 pub mod SessionLaws
 pub mod PlaceLaws
 pub mod Places

@@ -3,6 +3,7 @@ pub mod answers;
 pub mod changes;
 pub mod days;
 pub mod failures;
+pub mod feed;
 pub mod guarantees;
 mod held;
 pub mod hours;

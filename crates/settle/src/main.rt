@@ -1,8 +1,8 @@
 // Settles a day: reads records back to back from standard input into a book over 65,535 bytes, and prints the statement, or
 // `REF n r` where record n (from 1) is refused with number r. What is read and printed is the library's; here it is moved.
+use book::feed::Fed;
+use book::feed::feed;
 use book::journal::Book;
-use feed::Fed;
-use feed::feed;
 use money::refusals::ENDS_EARLY;
 use statement::day::STATEMENT_MAX;
 use statement::day::statement;

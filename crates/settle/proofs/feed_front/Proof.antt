@@ -7,7 +7,7 @@ use Rattle.settle.proofs.feed_front.Statement.{statement}
 use Rattle.settle.proofs.feed_front.Tie as tie
 use Rattle.settle.proofs.feed_front.Reads as reads
 use Rattle.settle.proofs.feed_front.Lts as lts
-use Rattle.feed.proofs.feed.Reads as feed-reads
+use Rattle.book.proofs.feed.feed.Reads as feed-reads
 
 slice-aggregate-feed : tie.Need-slice-aggregate-feed
 slice-aggregate-feed c = sym (length-take-le {A = ℕ} ((c .before .before .before .before .before .args) .end) ((c .before .before .before .before .before .args) .input .now) ((c .before .before .if1) .taken))

@@ -2,10 +2,9 @@
 use mathlib.Core.List.{List, [], _∷_}
 use Prim.Native.Nat.{ℕ, zero, suc, _+_, _-_}
 use lib.ListN.{length, take, drop}
-use Rattle.records.specs.Reading.{Res, bad, got}
-use Rattle.records.specs.Changes.{Entry, entry}
+use Rattle.book.specs.Layer.{Res, bad, got, Entry, readEntry}
 use Rattle.book.specs.Register.{Reg, fresh, change, Step, answered, becomes, called}
 use Rattle.book.specs.Tables.{replied}
 
 -- ---- "records back to back"
 
@@ -15,7 +14,7 @@ front s (bad k) = s
 front s (got x t) = take (length s - length t) s
 
 unfoldable pub piece : List ℕ → List ℕ
-piece s = front s (entry s)
+piece s = front s (readEntry s)
 
 -- the register after some records, how many of them it accepted and how many bytes these took, and the number of the refusal at which
 -- reading stopped, 0 for none

@@ -5,16 +5,16 @@ use mathlib.Core.Bool.{false}
 use Prim.Native.Nat.{ℕ, zero, suc, _+_, _≤_}
 use native.Mathlib.Omega.{arith}
 use lib.ListN.{length, take, drop, length-drop}
-use Rattle.records.specs.Changes.{Change}
+use Rattle.book.specs.Layer.{Change}
 use Rattle.book.specs.declared.journal.Book.{Book}
 use Rattle.book.specs.Register.{Reg, fresh, change, Step, answered, becomes, called, after, writeAll}
 use Rattle.book.specs.Meaning.{belongs, load, Valid, bookOf}
 use Rattle.book.specs.ReplayLaws.{called-valid}
 use Rattle.book.specs.LoadLaws.{loaded-from, load-whole, load-fresh}
-use Rattle.feed.specs.Feed.{piece, Fed, onward, fed, feeding, Settled, statement, ref, verdict, settled}
-use Rattle.feed.specs.FeedLaws.{piece-some, first-then}
-use Rattle.feed.specs.Promise.{Ends, Feeds}
-use Rattle.feed.specs.declared.Fed.{Fed as Result}
+use Rattle.book.specs.Feed.{piece, Fed, onward, fed, feeding, Settled, statement, ref, verdict, settled}
+use Rattle.book.specs.FeedLaws.{piece-some, first-then}
+use Rattle.book.specs.FeedPromise.{Ends, Feeds}
+use Rattle.book.specs.declared.feed.Fed.{Fed as Result}
 
 -- no reading leaves a list that cannot be played
 still-valid : (n lent : ℕ) (g : Reg) (s : List ℕ) → length s ≤ n → Valid (g .list) → Valid (feeding lent g s .reg .list)

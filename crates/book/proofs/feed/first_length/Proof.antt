@@ -1,10 +1,7 @@
-use Rattle.feed.proofs.Feeding.{all-unread, front-end}
+use Rattle.book.proofs.Feeding.{all-unread, front-end}
 use borrow.Author.Needs.{needs}
-use Rattle.feed.proofs.first_length.Statement.{statement}
-use Rattle.feed.proofs.first_length.Tie as tie
-use Rattle.feed.proofs.first_length.Reads as reads
-use Rattle.feed.proofs.first_length.Lts as lts
-use Rattle.records.proofs.parse.first_change.Reads as first-change-reads
+use Rattle.book.proofs.feed.first_length.Statement.{statement}
+use Rattle.book.proofs.feed.first_length.Tie as tie
 
 first-change-requires : tie.Need-first-change-requires
 first-change-requires c κs = search needs

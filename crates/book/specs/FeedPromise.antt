@@ -6,12 +6,12 @@ use Prim.Native.Nat.{ℕ}
 use lib.Dec.{eqb}
 use lib.ListN.{length, take}
 use Rattle.money.specs.Refusals.{notTogether}
-use Rattle.records.specs.Changes.{Change}
+use Rattle.book.specs.Layer.{Change}
 use Rattle.book.specs.declared.journal.Book.{Book}
 use Rattle.book.specs.Register.{writeAll}
 use Rattle.book.specs.Meaning.{belongs, astray, load, bookOf}
-use Rattle.feed.specs.Feed.{Fed, feeding}
-use Rattle.feed.specs.declared.Fed.{Fed as Result}
+use Rattle.book.specs.Feed.{Fed, feeding}
+use Rattle.book.specs.declared.feed.Fed.{Fed as Result}
 
 -- a reading that the code made over the lent bytes s, which are now s′
 pub record Ends (f : Fed) (s : List ℕ) (r : Result) (s′ : List ℕ) : Type 0 where

@@ -5,17 +5,15 @@ use Prim.Native.Nat.{ℕ, zero, suc, _+_, _-_, _≤_, _<_}
 use native.Mathlib.Omega.{arith}
 use lib.ListN.{length, take, drop, length-append, length-take, length-drop}
 use lib.Seq.{take-length, take-append-le, length-take-le}
-use Rattle.records.specs.Reading.{Res, bad, got}
-use Rattle.records.specs.Changes.{Entry, entry, fine, parseAny}
-use Rattle.records.specs.BookLaws.{entry-got, entry-more, entry-alone}
+use Rattle.book.specs.Layer.{Res, bad, got, fine, Entry, readEntry, parseAny, entry-got, entry-more, entry-alone}
 use Rattle.book.specs.Register.{Reg, change, Step, answered, becomes, called}
-use Rattle.feed.specs.Feed.{front, piece, Fed, stopped, later, onward, fed, feeding}
+use Rattle.book.specs.Feed.{front, piece, Fed, stopped, later, onward, fed, feeding}
 
 -- ---- the first record
 
 pub piece-front : (s : List ℕ) → take (length (piece s)) s ≡ piece s
 unfolding piece
-piece-front s = go (entry s)
+piece-front s = go (readEntry s)
   where
     go : (r : Res Entry) → take (length (front s r)) s ≡ front s r
     go (bad k) = take-length s
@@ -27,19 +25,19 @@ piece-within s = omega (arith, simp length-take at (ap length (piece-front s)))
 -- no record is without a byte
 pub piece-some : (s : List ℕ) → 0 < length s → 0 < length (piece s)
 unfolding piece
-piece-some s h = go (entry s) refl
+piece-some s h = go (readEntry s) refl
   where
-    go : (r : Res Entry) → entry s ≡ r → 0 < length (front s r)
+    go : (r : Res Entry) → readEntry s ≡ r → 0 < length (front s r)
     go (bad k) e = h
     go (got x t) e = rw (length-take-le (length s - length t) s (omega arith)) (omega (arith, entry-got s x t e .takes))
 
 -- what is lent of a record that can be read is that record: no byte is left over
-pub piece-whole : (s : List ℕ) (x : Entry) (t : List ℕ) → entry s ≡ got x t → parseAny (piece s) ≡ fine x
+pub piece-whole : (s : List ℕ) (x : Entry) (t : List ℕ) → readEntry s ≡ got x t → parseAny (piece s) ≡ fine x
 unfolding piece
 piece-whole s x t e = ap (λ (r : Res Entry). parseAny (front s r)) e ∙ entry-alone s x t e
 
 -- what follows a record is no part of it
-pub piece-more : (s u : List ℕ) (x : Entry) (t : List ℕ) → entry s ≡ got x t → piece (s ++ u) ≡ piece s
+pub piece-more : (s u : List ℕ) (x : Entry) (t : List ℕ) → readEntry s ≡ got x t → piece (s ++ u) ≡ piece s
 unfolding piece
 piece-more s u x t e =
     let n : length (s ++ u) - length (t ++ u) ≡ length s - length t = omega (arith, length-append s u, length-append t u) in

@@ -7,14 +7,12 @@ use native.Mathlib.Omega.{arith}
 use lib.ListN.{length, drop, length-append, length-drop}
 use lib.Seq.{drop-append-le, drop-drop, drop-length}
 use lib.Dec.{ltb}
-use Rattle.records.specs.Reading.{Res, bad, got}
-use Rattle.records.specs.Changes.{Entry, entry}
-use Rattle.records.specs.BookLaws.{entry-bad, entry-firm}
+use Rattle.book.specs.Layer.{Res, bad, got, Entry, readEntry, entry-bad, entry-firm}
 use Rattle.book.specs.Register.{Reg, change, Reply, Step, answered, becomes, refused, called, writeAll}
 use Rattle.book.specs.Tables.{replied}
 use Rattle.book.specs.CallLaws.{Decided, decided-change, called-unread, called-short}
-use Rattle.feed.specs.Feed.{front, piece, Fed, later, onward, fed, feeding}
-use Rattle.feed.specs.FeedLaws.{piece-within, piece-some, piece-more, first-then, none-before, both-before}
+use Rattle.book.specs.Feed.{front, piece, Fed, later, onward, fed, feeding}
+use Rattle.book.specs.FeedLaws.{piece-within, piece-some, piece-more, first-then, none-before, both-before}
 
 -- a reading that goes on from where another one stopped
 abbrev pub resumed : ℕ → Fed → List ℕ → Fed
@@ -33,9 +31,9 @@ module _ (lent : ℕ) where
   -- an accepted record is accepted in front of more bytes too
   same-piece : (g h : Reg) (xs ys : List ℕ) → called (change (piece xs)) lent g ≡ becomes h → piece (xs ++ ys) ≡ piece xs
   unfolding piece
-  same-piece g h xs ys e = go (entry xs) refl
+  same-piece g h xs ys e = go (readEntry xs) refl
     where
-      go : (r : Res Entry) → entry xs ≡ r → piece (xs ++ ys) ≡ piece xs
+      go : (r : Res Entry) → readEntry xs ≡ r → piece (xs ++ ys) ≡ piece xs
       go (got x t) q = piece-more xs ys x t q
       go (bad j) q =
           let w = called-unread xs lent g j (entry-bad xs j q) in
@@ -117,9 +115,9 @@ module _ (lent : ℕ) where
   stays : (ys : List ℕ) (g : Reg) (xs : List ℕ) → 0 < length xs → (r : Reply) → called (change (piece xs)) lent g ≡ answered r → (replied r ≡ 1 → ⊥)
       → called (change (piece (xs ++ ys))) lent g ≡ answered r
   unfolding piece
-  stays ys g xs some r e z = go (entry xs) refl (ltb lent (length (writeAll (g .list)))) refl
+  stays ys g xs some r e z = go (readEntry xs) refl (ltb lent (length (writeAll (g .list)))) refl
     where
-      go : (i : Res Entry) → entry xs ≡ i → (b : Bool) → ltb lent (length (writeAll (g .list))) ≡ b → called (change (piece (xs ++ ys))) lent g ≡ answered r
+      go : (i : Res Entry) → readEntry xs ≡ i → (b : Bool) → ltb lent (length (writeAll (g .list))) ≡ b → called (change (piece (xs ++ ys))) lent g ≡ answered r
       go (got x t) q b w = ap (λ (l : List ℕ). called (change l) lent g) (piece-more xs ys x t q) ∙ e
       go (bad j) q true w = called-short (change (piece (xs ++ ys))) lent g w ∙ sym (called-short (change (piece xs)) lent g w) ∙ e
       go (bad j) q false w =
