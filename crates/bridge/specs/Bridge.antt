@@ -7,7 +7,7 @@ use lib.ListN.{length, getD}
 use Rattle.laws.specs.Sums.{orElse}
 use Rattle.records.specs.Names.{decodeName, held}
 use Rattle.records.specs.Keys.{nameAnswer}
-use Rattle.money.specs.Refusals.{endsEarly, unknownMark}
+use Rattle.money.specs.Refusals.{endsEarly, unknownMark, notTogether}
 use Rattle.money.specs.declared.units.Answer.{Answer}
 use Rattle.money.specs.declared.units.Answer.the-variants.{Amount, Refused}
 use Rattle.records.specs.declared.marks.Mark.the-variants.{Fi, Fe}
@@ -16,7 +16,9 @@ use Rattle.records.specs.Amounts.{creditIn, unitAmountIn, chargeIn}
 use Rattle.records.specs.Changes.{begins, parsedOf, parse, parseAny, entryOf, putNumber, bare, takeBackBytes, closeBytes}
 use Rattle.book.specs.declared.journal.Book.{Book}
 use Rattle.book.specs.Register.{Call, file, correct, withdraw, takeBack, close, change, ask, Question, Reply, refused, accepted, place, number, guarantees, unitDay, charge, stepOf}
-use Rattle.book.specs.Meaning.{outcome}
+use Rattle.book.specs.Meaning.{outcome, Load, belongs, astray, load}
+use Rattle.book.specs.Feed.{feeding}
+use Rattle.statement.specs.Statement.{outcomeOf}
 
 -- ---- records
 
@@ -89,3 +91,17 @@ answerNumber (Refused n) = n
 
 unfoldable pub amountNumber : List ℕ → List ℕ → ℕ
 amountNumber p s = orElse (filingNumber p (begins (80 ∷ 82 ∷ []) p)) (orElse (filingNumber s (hasAmount s)) (answerNumber (amountIn p s)))
+
+-- ---- records back to back, and the statement
+
+-- an input for a book over n lent bytes; 16 is its first record's, where there is one
+abbrev pub readNumber : Load → Bool → ℕ → List ℕ → ℕ
+readNumber astray closed n input = cond (eqb (length input) 0) 0 notTogether
+readNumber (belongs l) closed n input = feeding n (record { list = l; closed = closed }) input .number
+
+unfoldable pub fedNumber : List ℕ → List ℕ → List ℕ → ℕ
+fedNumber state lent input = readNumber (load (bookIn state) lent) (bookIn state .closed) (length lent) input
+
+-- the statement, written into lent bytes
+unfoldable pub statementNumber : List ℕ → List ℕ → List ℕ → ℕ
+statementNumber state lent out = outcomeOf (load (bookIn state) lent) out .number

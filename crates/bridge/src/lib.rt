@@ -5,6 +5,7 @@ use book::answers::Answer as Said;
 use book::answers::Done;
 use book::answers::Guarantees;
 use book::answers::NamedAmount;
+use book::feed::feed;
 use book::journal::Book;
 use money::names::name_before;
 use money::names::same_name;
@@ -26,28 +27,29 @@ use records::parse::parse_take_back;
 use records::scan::peek;
 use records::views::prices_of;
 use records::writing::put;
+use statement::day::statement;
 ghost use mathlib.Core.Path.{_≡_};
 ghost use Prim.Native.Nat.{_≤_};
 ghost use lib.ListN.{length};
 ghost use Rattle.book.specs.Register.{recordOf, countOf, freeBytes, hourGuarantees, dayOf, failureCharge, stepOf};
 ghost use Rattle.book.specs.Meaning.{replyOf, guaranteesReply, outcome};
-ghost use Rattle.bridge.specs.Bridge.{compareNumber, anyNumber, writeNumber, bookFrom, bookIn, hourIn, replyNumber, askedNumber, callOf, changeNumber, filingNumber, hasAmount, amountIn, answerNumber, amountNumber};
+ghost use Rattle.bridge.specs.Bridge.{compareNumber, anyNumber, writeNumber, bookFrom, bookIn, hourIn, replyNumber, askedNumber, callOf, changeNumber, filingNumber, hasAmount, amountIn, answerNumber, amountNumber, fedNumber, statementNumber};
 ghost use Rattle.records.specs.Changes.{parse, putNumber, putBytes, entry, frontOf};
 
 #[no_mangle]
 pub extern "C" fn pewatuno_interface() -> u32
-    ensures { λ r. ⌜ r ≡ 1 ⌝ }
+    ensures { λ r. ⌜ r ≡ 2 ⌝ }
 {
-    1
+    2
 }
 
 // Bit 0: records; bit 1: amounts of single records; bit 2: the book; bit 3: its questions for amounts; bit 4: the offset of an hour,
-// which stands in an archive of its own.
+// which stands in an archive of its own; bit 5: records back to back, and the statement.
 #[no_mangle]
 pub extern "C" fn pewatuno_layers() -> u32
-    ensures { λ r. ⌜ r ≡ 31 ⌝ }
+    ensures { λ r. ⌜ r ≡ 63 ⌝ }
 {
-    31
+    63
 }
 
 // Sets a number that is lent for an answer.
@@ -514,4 +516,48 @@ pub extern "C" fn pewatuno_failure_charge(
 {
     let b = book_in(state);
     tell_amounts(amounts, b.failure_charge(lent, mark, hour_of(hour), name))
+}
+
+// ---- records back to back, and the statement
+
+// Takes records back to back, up to the first that is refused. How many were taken, and how many bytes, are told at a refusal too, and
+// the book is handed back with them.
+#[no_mangle]
+pub extern "C" fn pewatuno_feed(
+    state: &mut [u64],
+    lent: &mut [u8],
+    input: &[u8],
+    sizes: &mut [u64],
+) -> u32
+    ensures { λ r. ⌜ r ≡ fedNumber (now (state .entry)) (now (lent .entry)) (now (input .entry)) ⌝ }
+{
+    let b = book_in(&state[..]);
+    let f = feed(b, lent, input);
+    let next = f.book;
+    let taken = f.taken;
+    hand_back(state, next);
+    set(sizes, 0, f.count);
+    set(sizes, 1, taken as u64);
+    f.number as u32
+}
+
+// The text of the statement, and its length.
+#[no_mangle]
+pub extern "C" fn pewatuno_statement(
+    state: &[u64],
+    lent: &[u8],
+    out: &mut [u8],
+    sizes: &mut [u64],
+) -> u32
+    ensures { λ r. ⌜ r ≡ statementNumber (now (state .entry)) (now (lent .entry)) (now (out .entry)) ⌝ }
+{
+    let b = book_in(state);
+    let w = statement(b, lent, out);
+    let n = w.number;
+    if n != 0 {
+        return n as u32;
+    }
+    let len = w.len;
+    set(sizes, 0, len as u64);
+    0
 }
