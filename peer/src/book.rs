@@ -41,7 +41,7 @@ impl Book {
 
     /// Any of the five changes, by its mark.
     pub fn change(self, lent: &mut [u8], bytes: &[u8]) -> Handed {
-        self.hand_back(self.decide(lent, || parse_change(bytes)), lent)
+        self.take(lent, parse_change(bytes))
     }
 
     /// Files a record.
@@ -71,7 +71,12 @@ impl Book {
 
     /// A call of one of the five methods.
     pub fn call(self, method: Method, lent: &mut [u8], bytes: &[u8]) -> Handed {
-        self.hand_back(self.decide(lent, || parse_for(method, bytes)), lent)
+        self.take(lent, parse_for(method, bytes))
+    }
+
+    /// A change as it was read, or why it couldn't be.
+    pub fn take(self, lent: &mut [u8], read: Result<Change, Refusal>) -> Handed {
+        self.hand_back(self.decide(lent, read), lent)
     }
 
     /// The question for the record of a key.
@@ -134,13 +139,9 @@ impl Book {
 
     /// What an accepted call does, or the first refusal in the order of the
     /// numbers: 16, those of reading, 9, "then 10 or 11, 12, 13, 14".
-    fn decide(
-        self,
-        lent: &[u8],
-        parse: impl FnOnce() -> Result<Change, Refusal>,
-    ) -> Result<Step, Refusal> {
+    fn decide(self, lent: &[u8], read: Result<Change, Refusal>) -> Result<Step, Refusal> {
         let standing = self.read(lent)?;
-        let change = parse()?;
+        let change = read?;
         if self.closed {
             return Err(Refusal::Closed);
         }

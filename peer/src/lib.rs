@@ -12,6 +12,7 @@
 //! - [`questions`]: amounts worked from standing records.
 //! - [`register`]: the plain register, a list of accepted changes.
 //! - [`book`]: the book over lent bytes.
+//! - [`feed`]: records back to back.
 //! - [`hour_offset_call`]: one hour's offset over numbers and bytes.
 //! - [`statement`]: the text of the day's statement.
 //! - [`text`]: records as lines of text, for people.
@@ -20,6 +21,7 @@
 #![warn(missing_docs)]
 
 pub mod book;
+pub mod feed;
 pub mod hour_offset_call;
 pub mod money;
 pub mod names;

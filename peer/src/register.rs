@@ -72,8 +72,7 @@ impl Register {
 
     /// Any of the five changes, by its mark.
     pub fn change(&mut self, lent: usize, bytes: &[u8]) -> Result<(), Refusal> {
-        self.check_lent(lent)?;
-        self.accept(lent, parse_change(bytes)?)
+        self.take(lent, parse_change(bytes))
     }
 
     /// Files a record.
@@ -103,8 +102,13 @@ impl Register {
 
     /// A call of one of the five methods.
     pub fn call(&mut self, method: Method, lent: usize, bytes: &[u8]) -> Result<(), Refusal> {
+        self.take(lent, parse_for(method, bytes))
+    }
+
+    /// A change as it was read, or why it couldn't be: 16 comes before that.
+    pub fn take(&mut self, lent: usize, read: Result<Change, Refusal>) -> Result<(), Refusal> {
         self.check_lent(lent)?;
-        self.accept(lent, parse_for(method, bytes)?)
+        self.accept(lent, read?)
     }
 
     /// A change already read: 9, "then 10 or 11, 12, 13, 14"; else it is

@@ -1,8 +1,9 @@
 //! The statement: one line for each amount of the day.
 
+use crate::feed::feed;
 use crate::names::Name;
 use crate::questions::{failure_charge_of, guarantees_of, unit_day_of, Standing};
-use crate::records::{parse_change_prefix, Key, Mark};
+use crate::records::{Key, Mark};
 use crate::refusal::Refusal;
 use crate::register::{Register, LENT_MOST};
 use crate::units::{Hour, Ticks};
@@ -23,16 +24,11 @@ pub fn settle(input: &[u8]) -> Vec<u8> {
 /// The register after all changes, or which one was refused and why.
 fn read_all(input: &[u8]) -> Result<Register, (u64, Refusal)> {
     let mut register = Register::new();
-    let mut rest = input;
-    let mut ordinal = 0;
-    while !rest.is_empty() {
-        ordinal += 1;
-        let refused = |refusal| (ordinal, refusal);
-        let (change, length) = parse_change_prefix(rest).map_err(refused)?;
-        register.accept(LENT_MOST, change).map_err(refused)?;
-        rest = &rest[length..];
+    let fed = feed(input, |change| register.take(LENT_MOST, change));
+    match fed.refusal {
+        Some(refusal) => Err((fed.count + 1, refusal)),
+        None => Ok(register),
     }
-    Ok(register)
 }
 
 /// The statement of standing records: "by hour: `IOG` per import by name,
