@@ -1,4 +1,4 @@
-//! The C interface of the proved side, version 1.
+//! The C interface of the proved side, version 2.
 //!
 //! Every function returns 0 or the number of a refusal; a missing layer's
 //! functions return [`MISSING`]. A slice is two arguments, pointer and count
@@ -10,7 +10,7 @@
 use std::fmt;
 
 /// The version of the interface that these wrappers speak.
-pub const VERSION: u32 = 1;
+pub const VERSION: u32 = 2;
 /// What a function of a missing layer returns.
 pub const MISSING: u32 = 0xFFFF_FFFF;
 /// Most imports of an hour.
@@ -20,6 +20,8 @@ pub const IMPORTS_MOST: usize = 16;
 pub const GUARANTEE_SIZES: usize = 1 + 2 * IMPORTS_MOST;
 /// Amounts of an hour's guarantees: the offset, then each credit.
 pub const GUARANTEE_AMOUNTS: usize = 1 + IMPORTS_MOST;
+/// Bytes that every statement has room in.
+pub const STATEMENT_MOST: usize = 145_200;
 
 /// The symbols of the static library.
 mod symbols {
@@ -132,6 +134,26 @@ mod symbols {
             amounts: *mut i64,
             amounts_count: usize,
         ) -> u32;
+        pub fn pewatuno_feed(
+            state: *mut u64,
+            state_count: usize,
+            lent: *mut u8,
+            lent_count: usize,
+            input: *const u8,
+            input_count: usize,
+            sizes: *mut u64,
+            sizes_count: usize,
+        ) -> u32;
+        pub fn pewatuno_statement(
+            state: *const u64,
+            state_count: usize,
+            lent: *const u8,
+            lent_count: usize,
+            out: *mut u8,
+            out_count: usize,
+            sizes: *mut u64,
+            sizes_count: usize,
+        ) -> u32;
         pub fn pewatuno_hour_offset(
             result: *mut u8,
             result_count: usize,
@@ -154,7 +176,7 @@ pub enum Layer {
     AmountQuestions = 3,
     /// The C call for one hour's offset.
     HourOffset = 4,
-    /// The statement; nothing of it is called here.
+    /// Records back to back, and the statement.
     Statement = 5,
 }
 
@@ -177,7 +199,7 @@ impl Layer {
             Layer::Book => "changes and key questions",
             Layer::AmountQuestions => "amount questions",
             Layer::HourOffset => "the hour's offset call",
-            Layer::Statement => "statement",
+            Layer::Statement => "records back to back and the statement",
         }
     }
 }
@@ -475,6 +497,49 @@ pub fn failure_charge(
             name.len(),
             amounts.as_mut_ptr(),
             amounts.len(),
+        )
+    }
+}
+
+/// Takes records back to back: how many, and how many bytes. The book's numbers
+/// are handed back in `numbers`, whatever they are.
+pub fn feed(
+    state: State,
+    numbers: &mut [u64; 3],
+    lent: &mut [u8],
+    input: &[u8],
+    sizes: &mut [u64; 2],
+) -> u32 {
+    *numbers = state.numbers();
+    // SAFETY: each pointer comes with the count of its own slice.
+    unsafe {
+        symbols::pewatuno_feed(
+            numbers.as_mut_ptr(),
+            numbers.len(),
+            lent.as_mut_ptr(),
+            lent.len(),
+            input.as_ptr(),
+            input.len(),
+            sizes.as_mut_ptr(),
+            sizes.len(),
+        )
+    }
+}
+
+/// The text of the statement, and its length.
+pub fn statement(state: State, lent: &[u8], out: &mut [u8], sizes: &mut [u64; 1]) -> u32 {
+    let numbers = state.numbers();
+    // SAFETY: each pointer comes with the count of its own slice.
+    unsafe {
+        symbols::pewatuno_statement(
+            numbers.as_ptr(),
+            numbers.len(),
+            lent.as_ptr(),
+            lent.len(),
+            out.as_mut_ptr(),
+            out.len(),
+            sizes.as_mut_ptr(),
+            sizes.len(),
         )
     }
 }

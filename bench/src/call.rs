@@ -148,6 +148,16 @@ pub enum Ask {
         /// The spelled name.
         name: Vec<u8>,
     },
+    /// Records back to back.
+    Feed {
+        /// The records.
+        input: Vec<u8>,
+    },
+    /// The statement, written into `room` bytes.
+    Statement {
+        /// Bytes to write into.
+        room: usize,
+    },
 }
 
 /// How many bytes a call is lent.
@@ -244,11 +254,13 @@ pub enum Part {
     Records,
     /// Books and their questions.
     Books,
+    /// Whole days: records back to back, and statements.
+    Days,
 }
 
 impl Part {
     /// All parts, in the order they run.
-    pub const ALL: [Part; 3] = [Part::Money, Part::Records, Part::Books];
+    pub const ALL: [Part; 4] = [Part::Money, Part::Records, Part::Books, Part::Days];
 
     /// The part's word on the command line.
     pub const fn word(self) -> &'static str {
@@ -256,6 +268,7 @@ impl Part {
             Part::Money => "money",
             Part::Records => "records",
             Part::Books => "books",
+            Part::Days => "days",
         }
     }
 }
@@ -287,11 +300,15 @@ pub enum Kind {
     UnitDay,
     /// A failure charge.
     FailureCharge,
+    /// Records back to back.
+    Feed,
+    /// The statement.
+    Statement,
 }
 
 impl Kind {
     /// How many kinds there are.
-    pub const COUNT: usize = 22;
+    pub const COUNT: usize = 24;
 
     /// All kinds, each at its place.
     pub fn all() -> [Kind; Kind::COUNT] {
@@ -307,6 +324,8 @@ impl Kind {
             Kind::Guarantees,
             Kind::UnitDay,
             Kind::FailureCharge,
+            Kind::Feed,
+            Kind::Statement,
         ];
         for kind in ways
             .flat_map(|way| [Kind::Write(way), Kind::Change(way)])
@@ -332,6 +351,8 @@ impl Kind {
             Kind::Guarantees => 19,
             Kind::UnitDay => 20,
             Kind::FailureCharge => 21,
+            Kind::Feed => 22,
+            Kind::Statement => 23,
         }
     }
 
@@ -340,6 +361,7 @@ impl Kind {
         match self {
             Kind::Write(_) | Kind::Next | Kind::Compare => Part::Records,
             Kind::Amount | Kind::HourOffset => Part::Money,
+            Kind::Feed | Kind::Statement => Part::Days,
             _ => Part::Books,
         }
     }
@@ -352,6 +374,7 @@ impl Kind {
             Kind::HourOffset => Layer::HourOffset,
             Kind::Change(_) | Kind::Record | Kind::Count | Kind::Free => Layer::Book,
             Kind::Guarantees | Kind::UnitDay | Kind::FailureCharge => Layer::AmountQuestions,
+            Kind::Feed | Kind::Statement => Layer::Statement,
         }
     }
 
@@ -378,6 +401,8 @@ impl Kind {
             Kind::Guarantees => &[0, 3, 15, 16],
             Kind::UnitDay => &[0, 4, 11, 15, 16],
             Kind::FailureCharge => &[0, 2, 3, 4, 11, 15, 16],
+            Kind::Feed => &[0, 1, 2, 3, 4, 5, 6, 7, 9, 10, 11, 12, 13, 14, 16],
+            Kind::Statement => &[0, 13, 16],
         }
     }
 
@@ -397,6 +422,8 @@ impl Kind {
             Kind::Guarantees => "guarantees".to_string(),
             Kind::UnitDay => "unit's day".to_string(),
             Kind::FailureCharge => "failure charge".to_string(),
+            Kind::Feed => "back to back".to_string(),
+            Kind::Statement => "statement".to_string(),
         }
     }
 }
@@ -425,6 +452,8 @@ impl Ask {
             Ask::Guarantees { .. } => Kind::Guarantees,
             Ask::UnitDay { .. } => Kind::UnitDay,
             Ask::FailureCharge { .. } => Kind::FailureCharge,
+            Ask::Feed { .. } => Kind::Feed,
+            Ask::Statement { .. } => Kind::Statement,
         }
     }
 }
@@ -451,7 +480,8 @@ impl Call {
             | Call::Book(_, Ask::FailureCharge { mark, name, .. }) => vec![mark, name],
             Call::Book(_, Ask::Count { mark, .. }) => vec![mark],
             Call::Book(_, Ask::UnitDay { name }) => vec![name],
-            Call::Book(_, Ask::Free | Ask::Guarantees { .. }) => vec![],
+            Call::Book(_, Ask::Feed { input }) => vec![input],
+            Call::Book(_, Ask::Free | Ask::Guarantees { .. } | Ask::Statement { .. }) => vec![],
         }
     }
 }

@@ -110,6 +110,7 @@ impl Sides {
         match call {
             Call::Alone(alone) => (peer_side::alone(alone), proved_side::alone(alone)),
             Call::Book(_, Ask::Change { way, record }) => self.change(*way, lent, record),
+            Call::Book(_, Ask::Feed { input }) => self.feed(lent, input),
             Call::Book(_, ask) => {
                 let peer = self.peer.question(lent, ask);
                 let proved = proved_side::question(self.state, &self.bytes[..lent], ask);
@@ -128,7 +129,30 @@ impl Sides {
         if peer != proved {
             return (peer, proved);
         }
-        let checked = if peer.number == 0 {
+        self.checked(peer.number == 0, lent, peer, proved)
+    }
+
+    /// Records back to back; with one that was taken the book has changed,
+    /// whatever the number is.
+    fn feed(&mut self, lent: usize, input: &[u8]) -> (Answer, Answer) {
+        let peer = self.peer.feed(lent, input);
+        let room = &mut self.bytes[..lent];
+        let proved = proved_side::feed(self.state, room, input);
+        if peer != proved {
+            return (peer, proved);
+        }
+        self.checked(peer.sizes[0] > 0, lent, peer, proved)
+    }
+
+    /// Agreed answers, with a fault where the bytes are not as they must be.
+    fn checked(
+        &mut self,
+        changed: bool,
+        lent: usize,
+        peer: Answer,
+        proved: Answer,
+    ) -> (Answer, Answer) {
+        let checked = if changed {
             self.check_accepted(lent)
         } else {
             self.check_refused()
@@ -165,11 +189,12 @@ impl Sides {
 
     /// Goes on as if the proved side had done what the peer does.
     fn skip(&mut self, call: &Call) {
-        let Call::Book(lent, Ask::Change { way, record }) = call else {
-            return;
+        let lent = self.lent(call).map_or(0, |(length, _)| length);
+        match call {
+            Call::Book(_, Ask::Change { way, record }) => self.peer.change(*way, lent, record),
+            Call::Book(_, Ask::Feed { input }) => self.peer.feed(lent, input),
+            _ => return,
         };
-        let lent = lent.length(self.state.used as usize, self.bytes.len());
-        self.peer.change(*way, lent, record);
         self.state = self.peer.state();
         self.bytes.copy_from_slice(&self.peer.bytes);
     }

@@ -38,11 +38,15 @@ pub enum Bug {
     ShortTakeBack,
     /// 13 from 100 listed changes on.
     FullAt100,
+    /// Reading back to back counts the record that is refused.
+    CountRefused,
+    /// The statement prints a price that lacks as an amount of 0.
+    ZeroForError,
 }
 
 impl Bug {
     /// All bugs and their names in the environment variable.
-    pub const ALL: [(Bug, &'static str); 8] = [
+    pub const ALL: [(Bug, &'static str); 10] = [
         (Bug::WrongVersion, "wrong-version"),
         (Bug::ClampOffset, "clamp-offset"),
         (Bug::NoLoadAtZero, "no-load-at-zero"),
@@ -51,6 +55,8 @@ impl Bug {
         (Bug::TouchAtRefusal, "touch-at-refusal"),
         (Bug::ShortTakeBack, "short-take-back"),
         (Bug::FullAt100, "full-at-100"),
+        (Bug::CountRefused, "count-refused"),
+        (Bug::ZeroForError, "zero-for-error"),
     ];
 
     fn from_environment() -> Option<Bug> {
@@ -530,6 +536,80 @@ pub unsafe extern "C" fn pewatuno_failure_charge(
             lent_out(amounts, amounts_count),
         )
     }
+}
+
+/// Records back to back.
+///
+/// # Safety
+/// Each pointer comes with the count of its slice.
+#[no_mangle]
+pub unsafe extern "C" fn pewatuno_feed(
+    state: *mut u64,
+    state_count: usize,
+    lent: *mut u8,
+    lent_count: usize,
+    input: *const u8,
+    input_count: usize,
+    sizes: *mut u64,
+    sizes_count: usize,
+) -> u32 {
+    if lacks(Layer::Statement) {
+        return MISSING;
+    }
+    let (state, lent, input, sizes) = unsafe {
+        (
+            lent_out(state, state_count),
+            lent_out(lent, lent_count),
+            taken(input, input_count),
+            lent_out(sizes, sizes_count),
+        )
+    };
+    let mut book = book(state, lent);
+    let answer = book.feed(lent.len(), input);
+    let (taken, numbers) = answer.sizes.split_at(2);
+    sizes.copy_from_slice(taken);
+    state.copy_from_slice(numbers);
+    lent.copy_from_slice(&book.bytes);
+    if has(Bug::CountRefused) && answer.number != 0 {
+        sizes[0] += 1;
+    }
+    answer.number
+}
+
+/// The statement.
+///
+/// # Safety
+/// Each pointer comes with the count of its slice.
+#[no_mangle]
+pub unsafe extern "C" fn pewatuno_statement(
+    state: *const u64,
+    state_count: usize,
+    lent: *const u8,
+    lent_count: usize,
+    out: *mut u8,
+    out_count: usize,
+    sizes: *mut u64,
+    sizes_count: usize,
+) -> u32 {
+    if lacks(Layer::Statement) {
+        return MISSING;
+    }
+    let (state, lent, out, sizes) = unsafe {
+        (
+            taken(state, state_count),
+            taken(lent, lent_count),
+            lent_out(out, out_count),
+            lent_out(sizes, sizes_count),
+        )
+    };
+    let room = out.len();
+    let mut answer = book(state, lent).question(lent.len(), &Ask::Statement { room });
+    if has(Bug::ZeroForError) {
+        let text = String::from_utf8_lossy(&answer.bytes);
+        answer.bytes = text.replace(" ERR - 15", " OFF - 0.").into_bytes();
+    }
+    out[..answer.bytes.len()].copy_from_slice(&answer.bytes);
+    put_out(&answer, sizes, &mut [])
 }
 
 /// The C call for one hour's offset.

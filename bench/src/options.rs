@@ -9,13 +9,14 @@ pub const fn gate_calls(part: Part) -> u64 {
         Part::Money => 500_000,
         Part::Records => 2_000_000,
         Part::Books => 800_000,
+        Part::Days => 60_000,
     }
 }
 
 /// How to use the program.
 pub const USAGE: &str = "\
-usage: bench [--seed N] [--calls N] [--seconds N] [--only money|records|books]
-             [--list N] [--trace]
+usage: bench [--seed N] [--calls N] [--seconds N] [--list N] [--trace]
+             [--only money|records|books|days]
 
   --seed N     another seed than 1
   --calls N    about so many calls instead of the gate's fixed number
@@ -112,7 +113,7 @@ fn number(option: &str, value: &str) -> Result<u64, String> {
 
 fn part(word: &str) -> Result<Part, String> {
     let found = Part::ALL.into_iter().find(|part| part.word() == word);
-    found.ok_or_else(|| format!("--only needs money, records or books, not {word}"))
+    found.ok_or_else(|| format!("--only needs money, records, books or days, not {word}"))
 }
 
 #[cfg(test)]
@@ -138,7 +139,7 @@ mod tests {
             .into_iter()
             .map(|part| options.calls_of(part))
             .sum();
-        assert!((9_999_997..=10_000_000).contains(&sum));
+        assert!((9_999_996..=10_000_000).contains(&sum));
         assert_eq!(options.seed, 7);
         assert!(options.is_gate_or_longer());
         let one = read("--calls 500 --only money").unwrap();

@@ -4,12 +4,14 @@ use crate::answer::Answer;
 use crate::bridge::State;
 use crate::call::{Alone, Ask, Start, Way};
 use peer::book::Book;
+use peer::feed::{feed, Fed};
 use peer::hour_offset_call::hour_offset_call;
 use peer::names;
 use peer::questions::{Guarantees, Place};
 use peer::records::{parse_change, parse_change_prefix, parse_for, Change, Mark, Method, Record};
 use peer::refusal::Refusal;
 use peer::register::Register;
+use peer::statement::statement;
 use peer::units::{Price, INTERVALS};
 use std::cmp::Ordering;
 
@@ -55,6 +57,11 @@ fn written(way: Way, record: &[u8], room: usize) -> Result<Answer, Refusal> {
         Change::TakeBack | Change::Close => Vec::new(),
         change => change.written(),
     };
+    spelled(bytes, room)
+}
+
+/// Bytes and their count, 13 without room for them.
+fn spelled(bytes: Vec<u8>, room: usize) -> Result<Answer, Refusal> {
     if bytes.len() > room {
         return Err(Refusal::NoSpace);
     }
@@ -185,6 +192,24 @@ impl PeerBook {
         answered(result.map(|()| Answer::sizes(&self.state().numbers())))
     }
 
+    /// Records back to back; those that were taken stand in the bytes.
+    pub fn feed(&mut self, lent: usize, input: &[u8]) -> Answer {
+        let fed = match &mut self.keeper {
+            Keeper::Register(register) => {
+                let fed = feed(input, |change| register.take(lent, change));
+                let written = register.written();
+                self.bytes[..written.len()].copy_from_slice(&written);
+                fed
+            }
+            Keeper::Book(book) => feed_book(book, &mut self.bytes[..lent], input),
+        };
+        let taken = [fed.count, fed.taken as u64];
+        Answer {
+            number: fed.refusal.map_or(0, Refusal::number),
+            ..Answer::sizes(&[&taken[..], &self.state().numbers()].concat())
+        }
+    }
+
     /// Puts the register's last entry where it must stand.
     fn write_last(&mut self) {
         let Keeper::Register(register) = &self.keeper else {
@@ -199,12 +224,32 @@ impl PeerBook {
 
     /// A question.
     pub fn question(&self, lent: usize, ask: &Ask) -> Answer {
-        let result = match &self.keeper {
-            Keeper::Register(register) => ask_register(register, lent, ask),
-            Keeper::Book(book) => ask_book(*book, &self.bytes[..lent], ask),
+        let result = match (&self.keeper, ask) {
+            (_, Ask::Statement { room }) => self
+                .statement(lent)
+                .and_then(|text| spelled(text.into_bytes(), *room)),
+            (Keeper::Register(register), ask) => ask_register(register, lent, ask),
+            (Keeper::Book(book), ask) => ask_book(*book, &self.bytes[..lent], ask),
         };
         answered(result)
     }
+
+    /// The text of the statement.
+    fn statement(&self, lent: usize) -> Result<String, Refusal> {
+        match &self.keeper {
+            Keeper::Register(register) => register.free(lent).map(|_| statement(&**register)),
+            Keeper::Book(book) => book.read(&self.bytes[..lent]).map(|all| statement(&all)),
+        }
+    }
+}
+
+/// Records back to back, on a book over lent bytes.
+pub fn feed_book(book: &mut Book, lent: &mut [u8], input: &[u8]) -> Fed {
+    feed(input, |change| {
+        let (handed, answer) = book.take(lent, change);
+        *book = handed;
+        answer
+    })
 }
 
 fn register_change(
@@ -224,7 +269,7 @@ fn register_change(
 macro_rules! asked {
     ($keeper:expr, $lent:expr, $ask:expr) => {
         match $ask {
-            Ask::Change { .. } => Ok(Answer::default()),
+            Ask::Change { .. } | Ask::Feed { .. } | Ask::Statement { .. } => Ok(Answer::default()),
             Ask::Record { mark, hour, name } => {
                 $keeper.record($lent, mark, *hour, name).map(place_answer)
             }

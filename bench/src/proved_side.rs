@@ -36,7 +36,12 @@ fn write(method: u32, record: &[u8], room: usize) -> Answer {
     let mut out = vec![BYTE; room];
     let mut sizes = [SIZE];
     let number = bridge::write(method, record, &mut out, &mut sizes);
-    let mut answer = sized(number, &sizes);
+    spelled(number, &sizes, out)
+}
+
+/// The answer of a call that writes bytes and tells how many.
+fn spelled(number: u32, sizes: &[u64; 1], mut out: Vec<u8>) -> Answer {
+    let mut answer = sized(number, sizes);
     if number != 0 {
         if out.iter().any(|&byte| byte != BYTE) {
             return answer.with_fault(TOUCHED);
@@ -44,7 +49,10 @@ fn write(method: u32, record: &[u8], room: usize) -> Answer {
         return answer;
     }
     match usize::try_from(sizes[0]) {
-        Ok(length) if length <= room => {
+        Ok(length) if length <= out.len() => {
+            if out[length..].iter().any(|&byte| byte != BYTE) {
+                return answer.with_fault("more written than was told");
+            }
             out.truncate(length);
             answer.bytes = out;
             answer
@@ -80,10 +88,21 @@ pub fn change(method: u32, state: State, lent: &mut [u8], record: &[u8]) -> Answ
     answer
 }
 
+/// Records back to back; the answer's sizes are the records and bytes taken and
+/// the three numbers handed back, at a refusal too.
+pub fn feed(state: State, lent: &mut [u8], input: &[u8]) -> Answer {
+    let (mut numbers, mut sizes) = ([SIZE; 3], [SIZE; 2]);
+    let number = bridge::feed(state, &mut numbers, lent, input, &mut sizes);
+    Answer {
+        number,
+        ..Answer::sizes(&[&sizes[..], &numbers].concat())
+    }
+}
+
 /// A question to a book.
 pub fn question(state: State, lent: &[u8], ask: &Ask) -> Answer {
     match ask {
-        Ask::Change { .. } => Answer::default().with_fault("not a question"),
+        Ask::Change { .. } | Ask::Feed { .. } => Answer::default().with_fault("not a question"),
         Ask::Record { mark, hour, name } => {
             let mut sizes = [SIZE; 2];
             let number = bridge::record(state, lent, mark, *hour, name, &mut sizes);
@@ -106,6 +125,11 @@ pub fn question(state: State, lent: &[u8], ask: &Ask) -> Answer {
             let mut amounts = [AMOUNT];
             let number = bridge::failure_charge(state, lent, mark, *hour, name, &mut amounts);
             priced(number, &amounts)
+        }
+        Ask::Statement { room } => {
+            let (mut out, mut sizes) = (vec![BYTE; *room], [SIZE]);
+            let number = bridge::statement(state, lent, &mut out, &mut sizes);
+            spelled(number, &sizes, out)
         }
     }
 }

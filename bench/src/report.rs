@@ -70,6 +70,8 @@ fn arguments(ask: &Ask) -> String {
         Ask::Free => "-".to_string(),
         Ask::Guarantees { hour } => format!("hour {hour}"),
         Ask::UnitDay { name } => format!("name {}", text(name)),
+        Ask::Feed { input } => hex(input),
+        Ask::Statement { room } => format!("room {room}"),
     }
 }
 
@@ -84,12 +86,20 @@ pub fn answer(kind: Kind, answer: &Answer) -> String {
         (Kind::Change(_), &[changes, used, closed]) => {
             words += &format!(", book: changes {changes}, used {used}, closed {closed}");
         }
+        (Kind::Feed, &[count, taken, changes, used, closed]) => {
+            words += &format!(
+                ", {count} records of {taken} bytes taken, \
+                 book: changes {changes}, used {used}, closed {closed}"
+            );
+        }
         (_, sizes) => words += &format!(", sizes {sizes:?}"),
     }
     if !answer.amounts.is_empty() {
         words += &format!(", amounts {:?} ticks", answer.amounts);
     }
-    if !answer.bytes.is_empty() {
+    if kind == Kind::Statement {
+        words += &format!(", text {:?}", String::from_utf8_lossy(&answer.bytes));
+    } else if !answer.bytes.is_empty() {
         words += &format!(", bytes {}", hex(&answer.bytes));
     }
     if let Some(fault) = answer.fault {

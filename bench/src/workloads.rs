@@ -1,13 +1,16 @@
 //! The work that is timed, the same on both sides.
 
-use crate::bridge::{self, Layer, Layers, State, GUARANTEE_AMOUNTS, GUARANTEE_SIZES};
+use crate::bridge::{
+    self, Layer, Layers, State, GUARANTEE_AMOUNTS, GUARANTEE_SIZES, STATEMENT_MOST,
+};
 use crate::generate::sweeps_records::full_unit;
-use crate::peer_side;
+use crate::peer_side::{self, feed_book};
 use crate::timing::{timed, Pace, Times};
 use peer::book::Book;
 use peer::hour_offset_call::hour_offset_call;
 use peer::records::parse_change;
 use peer::records::raw::{self, RawName, RawUnit};
+use peer::statement::statement;
 use std::hint::black_box;
 
 /// Bytes of every lent buffer.
@@ -200,9 +203,16 @@ impl Bench {
         )
     }
 
-    /// A day's filings and an hour's offset.
+    /// A day's filings, one by one and back to back, its statement, and an
+    /// hour's offset.
     pub fn days(self) -> Vec<Row> {
-        vec![self.full_day(), self.hour_offset()]
+        vec![
+            self.full_day(),
+            self.fed_day(),
+            self.statement("512 changes", &Kept::of(&filings(512))),
+            self.statement("512 changes, a unit", &Kept::filled(&unit_hours(), 512)),
+            self.hour_offset(),
+        ]
     }
 
     fn full_day(self) -> Row {
@@ -220,6 +230,39 @@ impl Bench {
             || {
                 peer.state = State::default();
                 filings.iter().all(|record| peer.peer_change(record))
+            },
+        )
+    }
+
+    fn fed_day(self) -> Row {
+        let input = filings(512).concat();
+        let mut proved = Kept::of(&[]);
+        let mut peer = Kept::of(&[]);
+        let (mut numbers, mut sizes) = ([0; 3], [0; 2]);
+        self.row(
+            "512 filings back to back, from fresh",
+            Layer::Statement,
+            || {
+                let (state, lent) = (State::default(), &mut proved.bytes);
+                bridge::feed(state, &mut numbers, lent, black_box(&input), &mut sizes)
+            },
+            || {
+                let fed = feed_book(&mut Book::new(), &mut peer.bytes, black_box(&input));
+                fed.refusal.is_none()
+            },
+        )
+    }
+
+    fn statement(self, label: &str, kept: &Kept) -> Row {
+        let book = kept.book();
+        let (mut out, mut sizes) = (vec![0xA5; STATEMENT_MOST], [0]);
+        self.row(
+            format!("statement of {label}"),
+            Layer::Statement,
+            || bridge::statement(kept.state, &kept.bytes, &mut out, &mut sizes),
+            || {
+                let standing = book.read(black_box(&kept.bytes));
+                standing.is_ok_and(|standing| !statement(&standing).is_empty())
             },
         )
     }

@@ -40,6 +40,7 @@ fn nothing_differs_and_every_number_occurs() {
             Part::Money => 20_000,
             Part::Records => 60_000,
             Part::Books => 40_000,
+            Part::Days => 8_000,
         };
         let options = options(&[part], calls);
         let outcome = run(&options, ALL, |_| {});
@@ -65,7 +66,7 @@ fn missing_layers_are_skipped_and_counted() {
 fn the_version_is_looked_at() {
     assert_eq!(bridge::open(), Ok(ALL));
     let wrong = with_bug(Bug::WrongVersion, bridge::open);
-    assert_eq!(wrong, Err(WrongVersion { found: 2 }));
+    assert_eq!(wrong, Err(WrongVersion { found: 3 }));
     assert!(WrongVersion { found: 2 }.to_string().contains("version 2"));
 }
 
@@ -112,6 +113,18 @@ fn a_refusal_that_writes_is_found() {
         report.contains("a refused change altered bytes"),
         "{report}"
     );
+}
+
+#[test]
+fn a_refused_record_that_is_counted_is_found() {
+    let report = found(Bug::CountRefused, Part::Days, 2_000);
+    assert!(report.contains("shortest  1 of"), "{report}");
+}
+
+#[test]
+fn another_line_of_the_statement_is_found() {
+    let report = found(Bug::ZeroForError, Part::Days, 4_000);
+    assert!(report.contains(" ERR - 15"), "{report}");
 }
 
 #[test]

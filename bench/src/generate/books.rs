@@ -43,7 +43,7 @@ pub static DAY: [u8; 24] = [
 ];
 
 /// Comes now and then: 512 listed from fresh.
-const LONG: Style = Style {
+pub const LONG: Style = Style {
     room: LENT_MOST,
     names: 12,
     marks: &SMALL,
@@ -116,7 +116,14 @@ fn from_full(draw: &mut Draw) -> List {
 
 /// From a book whose one hour holds as many of a mark as it may.
 fn from_crowded(draw: &mut Draw) -> List {
-    let style = Style {
+    let style = crowded(draw);
+    let register = filled(draw, style, 26);
+    from_register(draw, style, register)
+}
+
+/// One hour and one mark.
+pub fn crowded(draw: &mut Draw) -> Style {
+    Style {
         room: draw.pick(&[20_000, LENT_MOST]),
         names: 24,
         hours: &[7],
@@ -129,9 +136,7 @@ fn from_crowded(draw: &mut Draw) -> List {
         },
         priced: false,
         steady: false,
-    };
-    let register = filled(draw, style, 26);
-    from_register(draw, style, register)
+    }
 }
 
 fn from_register(draw: &mut Draw, style: Style, register: Register) -> List {
@@ -178,14 +183,17 @@ pub fn filled(draw: &mut Draw, style: Style, listed: usize) -> Register {
 }
 
 /// A list of calls in the making, with the register that it leads to.
-struct Story<'a> {
-    draw: &'a mut Draw,
+pub struct Story<'a> {
+    /// The generator.
+    pub draw: &'a mut Draw,
     style: Style,
-    register: Register,
+    /// What the calls so far lead to.
+    pub register: Register,
 }
 
 impl Story<'_> {
-    fn new(draw: &mut Draw, style: Style, register: Register) -> Story<'_> {
+    /// A story from a register on.
+    pub fn new(draw: &mut Draw, style: Style, register: Register) -> Story<'_> {
         Story {
             draw,
             style,
@@ -196,7 +204,9 @@ impl Story<'_> {
     fn calls(mut self) -> Vec<Call> {
         let mut calls = Vec::with_capacity(self.style.calls);
         if self.style.priced {
-            calls.extend(self.prices());
+            for record in self.prices() {
+                calls.push(self.filing(record));
+            }
         }
         let mut after_closing = 0;
         while calls.len() < self.style.calls && after_closing < 14 {
@@ -211,27 +221,39 @@ impl Story<'_> {
         calls
     }
 
-    /// Files the prices of each hour.
-    fn prices(&mut self) -> Vec<Call> {
-        let filings = self.style.hours.iter().map(|&hour| {
+    /// The prices of each hour.
+    pub fn prices(&mut self) -> Vec<Vec<u8>> {
+        let records = self.style.hours.iter().map(|&hour| {
             let key = KeyBytes {
                 mark: *b"PR",
                 hour,
                 name: Vec::new(),
             };
-            let ask = Ask::Change {
-                way: Way::File,
-                record: changes::record(self.draw, &key),
-            };
-            Call::Book(Lent::Whole, ask)
+            changes::record(self.draw, &key)
         });
-        let filings: Vec<Call> = filings.collect();
-        for filing in &filings {
-            if let Call::Book(lent, ask) = filing {
-                self.follow(*lent, ask);
-            }
-        }
-        filings
+        records.collect()
+    }
+
+    /// Files a record.
+    fn filing(&mut self, record: Vec<u8>) -> Call {
+        let way = Way::File;
+        let ask = Ask::Change { way, record };
+        self.follow(Lent::Whole, &ask);
+        Call::Book(Lent::Whole, ask)
+    }
+
+    /// A change of any mark that is accepted where nothing but its own key
+    /// matters.
+    pub fn any_good(&mut self) -> Vec<u8> {
+        let method = self.method_for_any();
+        self.good(method)
+    }
+
+    /// A change of any mark that aims at each number alike.
+    pub fn any_aimed(&mut self) -> (Lent, Vec<u8>) {
+        let method = self.method_for_any();
+        let number = self.draw.pick(Kind::Change(method).numbers());
+        self.made(Way::Any, method, number)
     }
 
     /// Lets the register take a change.

@@ -7,6 +7,7 @@
 pub mod books;
 pub mod changes;
 pub mod days;
+pub mod feeds;
 pub mod forms;
 pub mod money;
 pub mod names;
@@ -14,6 +15,7 @@ pub mod numbers;
 pub mod pairs;
 pub mod records;
 pub mod sweeps_books;
+pub mod sweeps_days;
 pub mod sweeps_money;
 pub mod sweeps_records;
 
@@ -77,6 +79,7 @@ fn sweeps(part: Part) -> Box<dyn Iterator<Item = List>> {
         Part::Money => sweeps_money::all(),
         Part::Records => sweeps_records::all(),
         Part::Books => sweeps_books::all(),
+        Part::Days => sweeps_days::all(),
     }
 }
 
@@ -88,5 +91,6 @@ fn drawn(part: Part, seed: u64, ordinal: u64) -> List {
         Part::Records => records::list(&mut draw),
         Part::Books if ordinal % 4 == 3 => pairs::list(&mut draw),
         Part::Books => books::list(&mut draw),
+        Part::Days => feeds::list(&mut draw),
     }
 }

@@ -13,6 +13,13 @@ use peer::register::{Register, LENT_MOST};
 
 /// A random list from a damaged book.
 pub fn list(draw: &mut Draw) -> List {
+    let start = start(draw);
+    let calls = (0..1 + draw.below(6)).map(|_| call(draw)).collect();
+    List { start, calls }
+}
+
+/// A book and bytes that need not belong together.
+pub fn start(draw: &mut Draw) -> Start {
     let style = Style {
         room: LENT_MOST,
         names: 20,
@@ -25,9 +32,7 @@ pub fn list(draw: &mut Draw) -> List {
     let listed = draw.pick(&[0, 1, 2, 3, 5, 10, 20, 40]);
     let register = books::filled(draw, style, listed);
     let (state, used) = damaged(draw, &register);
-    let start = Start::Given(state, with_room(draw, used));
-    let calls = (0..1 + draw.below(6)).map(|_| call(draw)).collect();
-    List { start, calls }
+    Start::Given(state, with_room(draw, used))
 }
 
 /// The used part with some bytes behind it, or with some missing.

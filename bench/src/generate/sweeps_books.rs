@@ -15,7 +15,7 @@ pub fn all() -> Box<dyn Iterator<Item = List>> {
 }
 
 /// A small book: a price, two imports, a correction and a withdrawal.
-fn small_book() -> Vec<Vec<u8>> {
+pub fn small_book() -> Vec<Vec<u8>> {
     let name = RawName::of(b"A%2FB");
     let import = |quantity| raw::import(5, &name, [quantity; 12], &[(4000, 100)]);
     vec![
@@ -28,7 +28,8 @@ fn small_book() -> Vec<Vec<u8>> {
     ]
 }
 
-fn state(changes: &[Vec<u8>]) -> State {
+/// What the book of these changes carries.
+pub fn state(changes: &[Vec<u8>]) -> State {
     State {
         changes: changes.len() as u16,
         used: changes.concat().len() as u32,
