@@ -8,6 +8,7 @@ use money::imports::Import;
 use money::names::Name;
 use money::offers::Offer;
 use money::offers::cost_at;
+use money::offset::offset;
 use money::offset::offset_core;
 use money::production::Reserve;
 use money::production::UnitHour;
@@ -22,6 +23,10 @@ use money::units::CentsPerStart;
 use money::units::Price;
 use money::units::Quantity;
 use money::units::Ticks;
+ghost use mathlib.Core.Path.{_≡_};
+ghost use Prim.Native.Nat.{_≤_};
+ghost use lib.ListN.{take};
+ghost use Rattle.money.specs.Offset.{offsetAnswer};
 
 // ---- printing
 
@@ -200,6 +205,50 @@ fn hour_5() {
     );
 }
 
+// The first n entries as one lent list.
+fn offset_of_first(
+    n: usize,
+    list: [Import; 17],
+    prices: [Price; 12],
+    totals: [Quantity; 12],
+) -> Answer
+    requires { ⌜ n ≤ 17 ⌝ }
+    ensures { λ r. ⌜ r ≡ offsetAnswer n (take n list) prices totals ⌝ }
+{
+    offset(&list[..n], prices, totals)
+}
+
+// Hour 5 again, as a lent list.
+fn hour_5_lent() {
+    let prices = [Price(3000); 12];
+    let totals = [Quantity(250); 12];
+    let a = slash();
+    let c = import(letter(b'C'), 480000, 200, one(3200, 200));
+    let mut list = [c; 17];
+    list[0] = a;
+    show(b"lent, no import", offset_of_first(0, list, prices, totals));
+    show(b"lent, offset", offset_of_first(2, list, prices, totals));
+    show(
+        b"lent, a name twice",
+        offset_of_first(3, list, prices, totals),
+    );
+    show(
+        b"lent, a 17th import",
+        offset_of_first(17, list, prices, totals),
+    );
+    list[0] = c;
+    list[1] = a;
+    show(
+        b"lent, offset, listed the other way",
+        offset_of_first(2, list, prices, totals),
+    );
+    list[1] = import(letter(b'A'), 480001, 200, one(3200, 200));
+    show(
+        b"lent, a wrong credit",
+        offset_of_first(2, list, prices, totals),
+    );
+}
+
 fn negative() {
     let mut prices = [Price(3900); 12];
     prices[0] = Price(5100);
@@ -214,6 +263,8 @@ fn negative() {
         b"5100 once, offset",
         offset_core(1, entries, prices, totals),
     );
+    let list = [entries[0]; 17];
+    show(b"5100 once, lent", offset_of_first(1, list, prices, totals));
 }
 
 fn unit_of_001() {
@@ -284,6 +335,7 @@ fn rounding() {
 fn main() {
     costs();
     hour_5();
+    hour_5_lent();
     negative();
     unit_of_001();
     scenarios_of_001();
