@@ -68,10 +68,14 @@ extern "C" {
  *
  * No records, or exports alone, have offset 0.
  *
- * Neither pointer may be null, not even for length 0, and the two ranges must
- * not overlap. Any alignment will do. The records are only read, and nothing is
- * kept from one call to the next. The call works on its stack, and needs some
- * 128 KiB of it: a thread that calls must have been given as much.
+ * Lengths are in bytes. Neither pointer may be null, not even for length 0, and
+ * the two ranges must not overlap. Any alignment will do. The records are only
+ * read, and nothing is kept from one call to the next.
+ *
+ * Threads may call at the same time, each with a result of its own; they may
+ * read the same records. The library has no data that can be written and
+ * allocates nothing: the call works on its stack, and needs some 128 KiB of it,
+ * which a thread that calls must have been given.
  */
 uint32_t pewatuno_hour_offset(uint8_t *result, size_t result_len,
                               const uint8_t *records, size_t records_len);
