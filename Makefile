@@ -19,7 +19,7 @@ lib = $(DESTDIR)$(PREFIX)/lib
 man = $(DESTDIR)$(PREFIX)/share/man
 
 installed = $(bin)/settle $(bin)/recordtext $(include)/pewatuno.h $(lib)/libpewatuno.a $(lib)/pkgconfig/pewatuno.pc \
-	$(man)/man1/settle.1 $(man)/man1/recordtext.1 $(man)/man3/pewatuno_hour_offset.3
+	$(man)/man1/settle.1 $(man)/man1/recordtext.1 $(man)/man3/pewatuno_hour_offset.3 $(man)/man5/pewatuno-records.5
 
 .PHONY: help build settle archive peer sample test bench install uninstall clean
 
@@ -62,7 +62,7 @@ install:
 	@for file in $(SETTLE) $(RECORDTEXT) $(ARCHIVE); do \
 		[ -f $$file ] || { echo "$$file is not there: run 'make build' first" >&2; exit 1; }; \
 	done
-	$(INSTALL) -d $(bin) $(include) $(lib)/pkgconfig $(man)/man1 $(man)/man3
+	$(INSTALL) -d $(bin) $(include) $(lib)/pkgconfig $(man)/man1 $(man)/man3 $(man)/man5
 	$(INSTALL) -m 755 $(SETTLE) $(bin)/settle
 	$(INSTALL) -m 755 $(RECORDTEXT) $(bin)/recordtext
 	$(INSTALL) -m 644 include/pewatuno.h $(include)/pewatuno.h
@@ -71,6 +71,7 @@ install:
 	chmod 644 $(lib)/pkgconfig/pewatuno.pc
 	$(INSTALL) -m 644 man/settle.1 man/recordtext.1 $(man)/man1
 	$(INSTALL) -m 644 man/pewatuno_hour_offset.3 $(man)/man3
+	$(INSTALL) -m 644 man/pewatuno-records.5 $(man)/man5
 
 uninstall:
 	rm -f $(installed)

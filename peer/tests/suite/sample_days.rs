@@ -64,9 +64,10 @@ fn records_can_be_shown_and_made_again() {
 }
 
 #[test]
-fn header_and_manual_have_the_words_of_the_one_table() {
+fn header_and_manuals_have_the_words_of_the_one_table() {
     let header = text_of(&repository("include/pewatuno.h"));
     let manual = text_of(&repository("man/settle.1"));
+    let records = text_of(&repository("man/pewatuno-records.5"));
     for refusal in Refusal::ALL {
         let (number, words) = (refusal.number(), refusal.words());
         let comment = format!(" /* {words} */");
@@ -83,6 +84,10 @@ fn header_and_manual_have_the_words_of_the_one_table() {
         assert!(
             manual.contains(&format!("\n{number}\n{words}\n")),
             "{number} in the manual"
+        );
+        assert!(
+            records.contains(&format!("\n.B {number}\n{words}.\n")),
+            "{number} in the page on records"
         );
     }
 }
