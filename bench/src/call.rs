@@ -209,14 +209,6 @@ impl Start {
         }
     }
 
-    /// What the book carries.
-    pub fn state(&self) -> State {
-        match self {
-            Start::Fresh(_) => State::default(),
-            Start::Given(state, _) => *state,
-        }
-    }
-
     /// The bytes; a fresh book's hold a pattern.
     pub fn bytes(&self) -> Vec<u8> {
         match self {

@@ -256,6 +256,13 @@ mod tests {
         assert_eq!(bytes, [0, 200]);
     }
 
+    fn given(list: &List) -> (State, &[u8]) {
+        match &list.start {
+            Start::Given(state, bytes) => (*state, bytes),
+            Start::Fresh(_) => panic!("a given book"),
+        }
+    }
+
     #[test]
     fn a_given_book_loses_changes_and_room() {
         let changes: Vec<Vec<u8>> = (1..=9).map(|hour| raw::price(hour, [0; 12], 0)).collect();
@@ -271,11 +278,11 @@ mod tests {
             calls: vec![Call::Book(Lent::Used(-1), Ask::Free); 4],
         };
         let shortest = shrink(list, TIME, |list| {
-            let bytes = list.start.bytes();
-            let is_whole = bytes.len() >= list.start.state().used as usize;
+            let (state, bytes) = given(list);
+            let is_whole = bytes.len() >= state.used as usize;
             !list.calls.is_empty() && is_whole && bytes.windows(3).any(|three| three == b"PR\x04")
         });
-        assert_eq!(shortest.start.state().changes, 1);
+        assert_eq!(given(&shortest).0.changes, 1);
         assert_eq!(shortest.start.room(), 55);
         assert_eq!(shortest.calls, [Call::Book(Lent::Whole, Ask::Free)]);
     }

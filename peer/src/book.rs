@@ -44,31 +44,6 @@ impl Book {
         self.take(lent, parse_change(bytes))
     }
 
-    /// Files a record.
-    pub fn file(self, lent: &mut [u8], bytes: &[u8]) -> Handed {
-        self.call(Method::File, lent, bytes)
-    }
-
-    /// Corrects a record.
-    pub fn correct(self, lent: &mut [u8], bytes: &[u8]) -> Handed {
-        self.call(Method::Correct, lent, bytes)
-    }
-
-    /// Withdraws a record.
-    pub fn withdraw(self, lent: &mut [u8], bytes: &[u8]) -> Handed {
-        self.call(Method::Withdraw, lent, bytes)
-    }
-
-    /// Takes the last change back.
-    pub fn take_back(self, lent: &mut [u8], bytes: &[u8]) -> Handed {
-        self.call(Method::TakeBack, lent, bytes)
-    }
-
-    /// Closes the book.
-    pub fn close(self, lent: &mut [u8], bytes: &[u8]) -> Handed {
-        self.call(Method::Close, lent, bytes)
-    }
-
     /// A call of one of the five methods.
     pub fn call(self, method: Method, lent: &mut [u8], bytes: &[u8]) -> Handed {
         self.take(lent, parse_for(method, bytes))

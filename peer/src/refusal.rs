@@ -94,12 +94,6 @@ impl Refusal {
     pub fn told(self) -> String {
         format!("{}: {}", self.number(), self.words())
     }
-
-    /// The refusal of a number, none outside 1 to 16.
-    pub fn from_number(number: u32) -> Option<Refusal> {
-        let place = usize::try_from(number.checked_sub(1)?).ok()?;
-        Self::ALL.get(place).copied()
-    }
 }
 
 impl fmt::Display for Refusal {
@@ -113,12 +107,9 @@ mod tests {
     use super::*;
 
     #[test]
-    fn numbers_run_from_1_to_16_and_back() {
+    fn numbers_run_from_1_to_16() {
         for (place, refusal) in Refusal::ALL.into_iter().enumerate() {
             assert_eq!(refusal.number() as usize, place + 1);
-            assert_eq!(Refusal::from_number(refusal.number()), Some(refusal));
         }
-        assert_eq!(Refusal::from_number(0), None);
-        assert_eq!(Refusal::from_number(17), None);
     }
 }

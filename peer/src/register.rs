@@ -75,31 +75,6 @@ impl Register {
         self.take(lent, parse_change(bytes))
     }
 
-    /// Files a record.
-    pub fn file(&mut self, lent: usize, bytes: &[u8]) -> Result<(), Refusal> {
-        self.call(Method::File, lent, bytes)
-    }
-
-    /// Corrects a record.
-    pub fn correct(&mut self, lent: usize, bytes: &[u8]) -> Result<(), Refusal> {
-        self.call(Method::Correct, lent, bytes)
-    }
-
-    /// Withdraws a record.
-    pub fn withdraw(&mut self, lent: usize, bytes: &[u8]) -> Result<(), Refusal> {
-        self.call(Method::Withdraw, lent, bytes)
-    }
-
-    /// Takes the last change back.
-    pub fn take_back(&mut self, lent: usize, bytes: &[u8]) -> Result<(), Refusal> {
-        self.call(Method::TakeBack, lent, bytes)
-    }
-
-    /// Closes.
-    pub fn close(&mut self, lent: usize, bytes: &[u8]) -> Result<(), Refusal> {
-        self.call(Method::Close, lent, bytes)
-    }
-
     /// A call of one of the five methods.
     pub fn call(&mut self, method: Method, lent: usize, bytes: &[u8]) -> Result<(), Refusal> {
         self.take(lent, parse_for(method, bytes))

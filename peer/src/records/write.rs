@@ -46,13 +46,6 @@ impl Change {
 }
 
 impl Record {
-    /// The written bytes, "no `CO` mark".
-    pub fn written(&self) -> Vec<u8> {
-        let mut out = Vec::with_capacity(self.written_len());
-        self.write_to(&mut out);
-        out
-    }
-
     /// How many bytes writing gives.
     pub fn written_len(&self) -> usize {
         match self {

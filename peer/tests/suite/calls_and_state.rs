@@ -3,6 +3,7 @@
 
 use crate::support::*;
 use peer::records::raw::RawUnit;
+use peer::records::Method;
 use peer::refusal::Refusal;
 use peer::register::Register;
 
@@ -222,22 +223,22 @@ fn methods_of_the_book_take_their_own_marks() {
     let record = price(1, 1, 1);
     let mut bytes = vec![0; FULL];
     let fresh = peer::book::Book::new();
-    let (book, answer) = fresh.file(&mut bytes, &record);
+    let (book, answer) = fresh.call(Method::File, &mut bytes, &record);
     assert_eq!((book.changes, book.used, answer), (1, 55, Ok(())));
-    let (book, answer) = book.correct(&mut bytes, &correct(&record));
+    let (book, answer) = book.call(Method::Correct, &mut bytes, &correct(&record));
     assert_eq!((book.changes, book.used, answer), (2, 112, Ok(())));
-    let (book, answer) = book.withdraw(&mut bytes, &withdraw(b"PR", 1, b""));
+    let (book, answer) = book.call(Method::Withdraw, &mut bytes, &withdraw(b"PR", 1, b""));
     assert_eq!((book.changes, book.used, answer), (3, 118, Ok(())));
-    let (book, answer) = book.take_back(&mut bytes, b"TB");
+    let (book, answer) = book.call(Method::TakeBack, &mut bytes, b"TB");
     assert_eq!((book.changes, book.used, answer), (2, 112, Ok(())));
-    assert_eq!(number(book.file(&mut bytes, b"CO").1), 2);
-    assert_eq!(number(book.correct(&mut bytes, &record).1), 2);
-    assert_eq!(number(book.withdraw(&mut bytes, b"TB").1), 2);
-    assert_eq!(number(book.take_back(&mut bytes, b"CL").1), 2);
-    assert_eq!(number(book.close(&mut bytes, b"TB").1), 2);
-    assert_eq!(number(book.close(&mut bytes, b"CL\0").1), 8);
-    assert_eq!(number(book.close(&mut bytes, b"").1), 1);
-    let (book, answer) = book.close(&mut bytes, b"CL");
+    assert_eq!(number(book.call(Method::File, &mut bytes, b"CO").1), 2);
+    assert_eq!(number(book.call(Method::Correct, &mut bytes, &record).1), 2);
+    assert_eq!(number(book.call(Method::Withdraw, &mut bytes, b"TB").1), 2);
+    assert_eq!(number(book.call(Method::TakeBack, &mut bytes, b"CL").1), 2);
+    assert_eq!(number(book.call(Method::Close, &mut bytes, b"TB").1), 2);
+    assert_eq!(number(book.call(Method::Close, &mut bytes, b"CL\0").1), 8);
+    assert_eq!(number(book.call(Method::Close, &mut bytes, b"").1), 1);
+    let (book, answer) = book.call(Method::Close, &mut bytes, b"CL");
     assert_eq!(
         (book.closed, book.changes, book.used, answer),
         (true, 2, 112, Ok(()))
