@@ -1,16 +1,16 @@
 -- The comparison of two names, as a loop over their bytes makes it, and their order. Assumes nothing.
 use mathlib.Core.Path.{_≡_, refl, sym, ap, _∙_, subst}
 use mathlib.Core.Logic.{_⊎_, inl, inr, ⊎-elim}
-use mathlib.Core.Bool.{Bool, true, false, cond, _&&_}
+use mathlib.Core.Bool.{Bool, true, false, cond}
 use mathlib.Core.List.{List, [], _∷_}
-use Prim.Native.Nat.{ℕ, zero, suc, _+_, _≤_, _<_, min}
+use Prim.Native.Nat.{ℕ, suc, _+_, _≤_, _<_, min}
 use native.Mathlib.Numerals.{add-one}
 use native.Mathlib.Omega.{arith}
-use borrow.Author.Tests.{lt-ltb, le-ltb, ltb-true, ltb-false, eq-eqb, ne-eqb, eqb-true, leb-true, le-leb}
-use lib.Dec.{ltb, leb, eqb}
+use borrow.Author.Tests.{lt-ltb, le-ltb, ltb-true, ltb-false, eq-eqb, ne-eqb, eqb-true, le-leb}
+use lib.Dec.{ltb, eqb}
 use lib.ListN.{getD, take, drop, length, length-take, drop-of-length-le}
 use lib.Seq.{drop-cons, getD-take, take-all}
-use Rattle.laws.specs.Sums.{never, on, below-or, and-true, every, every-yes}
+use Rattle.laws.specs.Sums.{never, on, below-or, and-true, every-yes}
 use Rattle.money.specs.declared.names.Name.{Name}
 use Rattle.money.specs.Names.{nameOf, nameBefore, sameBytes, sameName, nameByteOk, nameOk}
 
@@ -111,12 +111,6 @@ same-of a b e = subst (λ (xs : List ℕ). sameBytes (nameOf a) xs ≡ true) e (
 pub same-names : (a b : Name) → sameName a b ≡ true → nameOf a ≡ nameOf b
 unfolding sameName
 same-names a b e = bytes-is (nameOf a) (nameOf b) e
-
-pub named-of : (a : Name) → nameOk a ≡ true → a .len ≤ 12
-unfolding nameOk
-named-of a h =
-    let x = and-true (leb 1 (a .len) && leb (a .len) 12) (every (a .len) (λ i. nameByteOk (getD (a .bytes) i 0))) h in
-    leb-true _ _ (and-true (leb 1 (a .len)) (leb (a .len) 12) (x .0) .1)
 
 pub name-fine : (a : Name) → 1 ≤ a .len → a .len ≤ 12 → ((i : ℕ) → i < a .len → nameByteOk (getD (a .bytes) i 0) ≡ true) → nameOk a ≡ true
 unfolding nameOk

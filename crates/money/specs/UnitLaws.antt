@@ -1,6 +1,6 @@
 -- Laws of units, of tests and refusals, and of rows of twelve quantities. Assumes nothing.
 use mathlib.Core.Path.{_≡_, refl, sym, ap, _∙_, subst}
-use mathlib.Core.Bool.{Bool, true, false, cond, _&&_}
+use mathlib.Core.Bool.{Bool, true, false, _&&_}
 use mathlib.Core.List.{List, [], _∷_, map}
 use Prim.Native.Nat.{ℕ, zero, suc, _+_, _-_, _*_, _/_, _≤_, _<_, zero-le}
 use native.Mathlib.Omega.{arith}
@@ -15,10 +15,9 @@ use mir.Val.{SFits, toZ, ofZ}
 use mir.Facts.{toZ-ofZ}
 use Rattle.laws.specs.Held.{Held}
 use Rattle.laws.specs.Ints.{ints, by₁, by₂, dif, dif-abs, pos-dif, neg-*, minℤ, le-true, ≤ℤ-antisym}
-use Rattle.laws.specs.Sums.{every, every-at, and-true, orElse, last-or}
+use Rattle.laws.specs.Sums.{every, every-yes, every-at, and-true, orElse, last-or}
 use Rattle.money.specs.declared.units.Price.{Price}
 use Rattle.money.specs.declared.units.Quantity.{Quantity}
-use Rattle.money.specs.declared.units.Answer.{Answer}
 use Rattle.money.specs.declared.units.Answer.the-variants.{Amount, Refused}
 use Rattle.money.specs.Units.{minPrice, maxPrice, noPrice, noQuantity, priceOk, quantityOk, priceAt, quantityAt, rowOf, pricesOk, quantitiesOk, withinOk, sameℤ, unless, answer, centsOf}
 
@@ -46,6 +45,18 @@ price-in p e =
 pub prices-of : (ps : List Price) → pricesOk ps ≡ true → Rates ps
 unfolding pricesOk
 prices-of ps h = λ k l. price-in (getD ps k noPrice) (every-at 12 (λ k. priceOk (getD ps k noPrice)) h k l)
+
+pub prices-all : (ps : List Price) → ((k : ℕ) → k < 12 → priceOk (getD ps k noPrice) ≡ true) → pricesOk ps ≡ true
+unfolding pricesOk
+prices-all ps h = every-yes 12 (λ k. priceOk (getD ps k noPrice)) h
+
+pub quantities-all : (qs : List Quantity) → ((k : ℕ) → k < 12 → quantityOk (getD qs k noQuantity) ≡ true) → quantitiesOk qs ≡ true
+unfolding quantitiesOk
+quantities-all qs h = every-yes 12 (λ k. quantityOk (getD qs k noQuantity)) h
+
+pub within-every : (qs : List Quantity) (last : ℕ) → withinOk qs last ≡ every 12 (λ k. leb (quantityAt qs k) last)
+unfolding withinOk
+within-every qs last = refl
 
 pub within-at : (qs : List Quantity) (last : ℕ) → withinOk qs last ≡ true → (k : ℕ) → k < 12 → quantityAt qs k ≤ last
 unfolding withinOk

@@ -1,11 +1,11 @@
 -- Laws of writing.
-use mathlib.Core.Path.{_≡_, refl, sym, ap, _∙_}
+use mathlib.Core.Path.{_≡_, refl, ap, _∙_}
 use mathlib.Core.List.{List, [], _∷_, _++_}
-use Prim.Native.Nat.{ℕ, zero, suc, _+_, _≤_, _<_}
+use Prim.Native.Nat.{ℕ, suc, _+_}
 use native.Mathlib.Omega.{arith}
 use native.Mathlib.Nat.{add-suc, suc-add, add-zero}
 use native.Mathlib.Numerals.{towards-suc}
-use lib.ListN.{length, take, drop, set, length-append, length-set}
+use lib.ListN.{length, set, length-append}
 use lib.Seq.{sets}
 use Rattle.records.specs.PutLaws.{put-length}
 use Rattle.records.specs.Changes.{put}
@@ -40,7 +40,3 @@ wrote-two d at x y = record { bytes = simp towards-suc; after = refl }
 pub wrote-three : (d : List ℕ) (at x y z : ℕ) → Wrote d (set (set (set d at x) (at + 1) y) (at + 2) z) at (at + 3) (x ∷ y ∷ z ∷ [])
 unfolding put
 wrote-three d at x y z = record { bytes = simp towards-suc; after = refl }
-
-pub wrote-four : (d : List ℕ) (at x y z w : ℕ) → Wrote d (set (set (set (set d at x) (at + 1) y) (at + 2) z) (at + 3) w) at (at + 4) (x ∷ y ∷ z ∷ w ∷ [])
-unfolding put
-wrote-four d at x y z w = record { bytes = simp towards-suc; after = refl }

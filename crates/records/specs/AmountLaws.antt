@@ -17,19 +17,17 @@ use Rattle.money.specs.declared.units.Answer.the-variants.{Amount}
 use Rattle.money.specs.declared.production.Reserve.{Reserve}
 use Rattle.money.specs.declared.production.UnitHour.{UnitHour}
 use Rattle.money.specs.declared.names.Name.{Name}
-use Rattle.records.specs.Reading.{got}
 use Rattle.records.specs.Numbers.{pad}
-use Rattle.records.specs.Names.{visible, decodeName, spell, nameOf, bytesOf}
+use Rattle.records.specs.Names.{visible, nameOf}
 use Rattle.records.specs.Marks.{hasName, isFailure}
 use Rattle.records.specs.Changes.{Rec, filed, write, viewOf, Good}
 use Rattle.records.specs.Views.{importOf, unitHourOf, failureOf}
 use Rattle.records.specs.Amounts.{creditOf, unitAmountOf, chargeFor, chargeOf, creditTicks, unitTicks, chargeTicksFor, chargeTicks, ticksOf, offsetEntry, offsetEntryIn, unitPartIn, chargeIn}
-use Rattle.records.specs.ReaderLaws.{bind-got}
-use Rattle.records.specs.NameLaws.{Visible, Valid, decoded-valid}
+use Rattle.records.specs.NameLaws.{Visible}
 use Rattle.records.specs.ChangeLaws.{scan-write}
-use Rattle.records.specs.KeyLaws.{own-name}
+use Rattle.records.specs.KeyLaws.{name-decoded}
 use Rattle.records.specs.ViewLaws.{import-view, credit-view, failed-import-charge, failed-export-charge, unit-amount-view, unit-view}
-use Rattle.records.specs.FitLaws.{PricesFit, ImportFits, FailureFits, Listed, full, empty, ReserveFits, UnitFits, standing-import, standing-unit, standing-failed-import, standing-failed-export}
+use Rattle.records.specs.FitLaws.{PricesFit, Listed, full, empty, ReserveFits, UnitFits, standing-import, standing-unit, standing-failed-import, standing-failed-export}
 use Rattle.records.specs.declared.marks.Mark.{Mark}
 use Rattle.records.specs.declared.marks.Mark.the-variants.{Pr, Im, Ex, Gh, Fi, Fe}
 use Rattle.records.specs.declared.layouts.HourPrices.{HourPrices}
@@ -46,10 +44,9 @@ bytes-fine (suc k) (x ∷ v) h s (suc i) l = bytes-fine k v (le-of-suc-le-suc h)
 -- a name that stands keeps the money rules' rule
 name-sound : (r : Rec) → Good (filed r) → hasName (r .key .mark) ≡ true → nameOk (r .key .name) ≡ true
 name-sound r g h =
-    let x = bind-got (decodeName (spell (bytesOf (r .key .name)))) (λ n t. got (nameOf n) t) (r .key .name) [] (own-name r g h) in
-    let p : nameOf (x .0) ≡ r .key .name = cc (x .3) in
-    let v = decoded-valid (spell (bytesOf (r .key .name))) (x .0) (x .1) (x .2) in
-    subst (λ (n : Name). nameOk n ≡ true) p (name-fine (nameOf (x .0)) (v .some) (v .few) (bytes-fine 12 (x .0) (v .few) (v .seen)))
+    let d = name-decoded r g h in
+    let v = d .valid in
+    subst (λ (n : Name). nameOk n ≡ true) (d .is) (name-fine (nameOf (d .bytes)) (v .some) (v .few) (bytes-fine 12 (d .bytes) (v .few) (v .seen)))
 
 -- ---- an import
 

@@ -21,7 +21,9 @@ pub use Rattle.records.specs.KeyLaws.{same-true, same-refl, sameHour-sam
 -- the key of a mark and hour, and of a unit: no fault is 0
 pub use Rattle.records.specs.KeyLaws.{askHourOf-fault, askUnit-fault}
 -- what such a key is; a failure's key has a failure's mark
-pub use Rattle.records.specs.KeyLaws.{hour-asked, unit-marked, failure-marked}
+pub use Rattle.records.specs.KeyLaws.{hour-key, hour-asked, unit-marked, failure-marked}
+-- the name of a record that stands was decoded from its written spelling
+pub use Rattle.records.specs.KeyLaws.{Decoded, name-decoded}
 -- two keys of one mark and hour have names of other bytes, unless they are the same
 pub use Rattle.records.specs.KeyLaws.{names-apart}
 -- bytes written at a place
@@ -43,7 +45,7 @@ pub use Rattle.records.specs.AmountLaws.{entry-view, entry-sound}
 -- a unit's hour as its day takes it
 pub use Rattle.records.specs.AmountLaws.{unit-ready}
 -- names
-pub use Rattle.records.specs.NameLaws.{Visible, Valid, decoded-valid, spelled-back, spelled-short, one-name, spelling-full}
+pub use Rattle.records.specs.NameLaws.{Visible, Valid, decoded-valid, spelled-back, spelled-short, one-name, spelling-full, take-pad}
 -- of the money rules: rows of totals, the offset and a day that are not refused, names
 pub use Rattle.money.specs.UnitLaws.{row-at, row-same, row-none, quantity-most}
 pub use Rattle.money.specs.OffsetLaws.{totals-more, rates-ok, offset-amount}

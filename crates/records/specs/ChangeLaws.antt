@@ -1,31 +1,28 @@
 -- What the record layer promises of its definitions.
 -- Assumes nothing.
 use mathlib.Core.Path.{_≡_, refl, sym, ap, ap₂, _∙_, subst}
-use mathlib.Core.List.{List, [], _∷_, _++_, append-assoc, append-nil}
-use mathlib.Core.Bool.{Bool, true, false, cond, _&&_, _||_}
-use Prim.Native.Nat.{ℕ, zero, suc, _+_, _*_, _-_, _≤_, _<_}
+use mathlib.Core.List.{List, [], _∷_, _++_, append-assoc}
+use mathlib.Core.Bool.{Bool, true, false, cond, _&&_}
+use Prim.Native.Nat.{ℕ, zero, suc, _+_, _*_, _<_}
 use native.Mathlib.Omega.{arith}
-use native.Mathlib.Nat.{le-of-suc-le-suc, not-suc-le-zero}
 use lib.Dec.{ltb, leb, eqb}
 use lib.ListN.{length, take, drop, length-append}
-use lib.Seq.{take-append-seam, drop-append-seam}
-use borrow.Author.Tests.{le-leb, lt-leb, ne-eqb, eq-eqb, eqb-true, leb-true}
-use Rattle.records.specs.Reading.{Res, bad, got, Reader, _>>=_, check, byte, some}
-use Rattle.records.specs.Numbers.{between, pad, hour}
+use borrow.Author.Tests.{ne-eqb, eq-eqb, eqb-true}
+use Rattle.records.specs.Reading.{Res, bad, got, _>>=_, check, byte, some}
+use Rattle.records.specs.Numbers.{between, hour}
 use Rattle.records.specs.Names.{decodeName, upTo, one, escaped, hexVal, visible, spell, bytesOf, nameField, nameOf}
-use Rattle.records.specs.Marks.{is, mark, markBytes, hasName, order}
-use Rattle.records.specs.Layouts.{hourPrices, layout, taken, skip, import, export, unit, failure}
-use Rattle.records.specs.Changes.{Rec, Change, filed, corrected, withdrawn, keyOf, kind, number, kindOf, bodyOf, made, Head, allowed, inside, head, nameless, nameFor, bodyFor, rest, change, leadBytes, noName, nameBytes, headBytes, write, Input, fine, fault, whole, parse, Scan, seen, blind, begins, written, scan, Good, bare, viewOf, parsedOf, inputBytes}
-use Rattle.records.specs.Keys.{eqList, sameHour, same}
+use Rattle.records.specs.Marks.{is, mark, markBytes, hasName}
+use Rattle.records.specs.Layouts.{layout}
+use Rattle.records.specs.Changes.{Rec, Change, filed, corrected, withdrawn, keyOf, kind, number, kindOf, bodyOf, made, Head, allowed, inside, head, nameless, nameFor, bodyFor, rest, change, leadBytes, noName, nameBytes, headBytes, write, fine, fault, whole, parse, Scan, seen, blind, begins, written, scan, Good, bare, viewOf}
 use Rattle.money.specs.declared.names.Name.{Name}
-use Rattle.records.specs.NameLaws.{take-pad, field-again, Spelled, field-spelled}
+use Rattle.records.specs.NameLaws.{take-pad, field-again, field-spelled}
 use Rattle.records.specs.declared.marks.Mark.{Mark}
 use Rattle.records.specs.declared.marks.Mark.the-variants.{Pr, Im, Ex, Gh, Fi, Fe}
 use Rattle.records.specs.declared.marks.Kind.{Kind}
 use Rattle.records.specs.declared.marks.Kind.the-variants.{File, Correct, Withdraw}
 use Rattle.records.specs.declared.keys.Key.{Key}
 use Rattle.records.specs.declared.scan.View.{View}
-use Rattle.records.specs.ReaderLaws.{bad-got, check-got, bind-got, Part, Local, Counted, counted-got, counted-bad, counted-bind, counted-check, counted-cond, Lawful, lawful-byte, lawful-layout, lawful-prices, lawful-import, lawful-export, lawful-unit, lawful-failure, Viewed, taken-view, Took, taken-got, counted-taken}
+use Rattle.records.specs.ReaderLaws.{bad-got, check-got, bind-got, Counted, counted-got, counted-bad, counted-bind, counted-check, counted-cond, lawful-byte, lawful-layout, taken-got, counted-taken}
 
 pub and-left : (a b : Bool) → (a && b) ≡ true → a ≡ true
 and-left true b h = refl
@@ -419,14 +416,6 @@ view-got s v e h = go (scan s) refl
           scanned = q ∙ ap (seen c) (sym (ap (λ (x : View). x .len) p));
           view-is = p ∙ ap (λ (m : ℕ). viewOf (seen c m)) (scan-got s c n q .len);
         }
-
--- after the head of the change that some bytes begin with, its body stands, and then what comes after the change
-pub scan-body : (s : List ℕ) (c : Change) (n : ℕ) → scan s ≡ seen c n → drop (length (headBytes (kind c) (keyOf c))) s ≡ bodyOf c ++ drop n s
-unfolding write
-scan-body s c n e =
-    let f = scan-got s c n e in
-    let hd : List ℕ = headBytes (kind c) (keyOf c) in
-    ap (drop (length hd)) (f .bytes ∙ append-assoc hd (bodyOf c) (drop n s)) ∙ drop-append-seam hd (bodyOf c ++ drop n s)
 
 pub good-kept : (c : Change) → Good c → Kept c
 unfolding Good

@@ -10,7 +10,7 @@ use Rattle.money.specs.Refusals.{endsEarly, unknownMark, badName, leftOver, noS
 use Rattle.money.specs.declared.names.Name.{Name}
 use Rattle.records.specs.Reading.{Res, bad, got, Reader, _>>=_, check, byte}
 use Rattle.records.specs.Numbers.{hour}
-use Rattle.records.specs.Names.{spell, nameField, nameOf, noOne, bytesOf, held}
+use Rattle.records.specs.Names.{spell, nameField, noOne, bytesOf, held}
 use Rattle.records.specs.Marks.{is, markBytes, mark, hasName}
 use Rattle.records.specs.Layouts.{layout, taken}
 use Rattle.records.specs.declared.marks.Mark.{Mark}
@@ -256,7 +256,3 @@ entryOf (fault n) = record { number = n; view = viewOf blind }
 abbrev pub frontOf : List ℕ → Res Entry → Front
 frontOf s (bad n) = record { number = n; view = viewOf blind; end = 0 }
 frontOf s (got x t) = record { number = 0; view = entryView x; end = length s - length t }
-
-abbrev pub inputBytes : Input Change → List ℕ
-inputBytes (fine c) = write c
-inputBytes (fault n) = []

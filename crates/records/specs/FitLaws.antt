@@ -1,34 +1,32 @@
 -- What was read keeps the money rules' ranges, so that no amount of a record is refused.
-use mathlib.Core.Path.{_≡_, refl, sym, ap, _∙_, subst}
-use mathlib.Core.List.{List, [], _∷_, _++_}
-use mathlib.Core.Bool.{Bool, true, false, cond, _&&_, _||_}
-use Prim.Native.Nat.{ℕ, zero, suc, _+_, _-_, _≤_, _<_}
+use mathlib.Core.Path.{_≡_, refl, ap, subst}
+use mathlib.Core.List.{List, [], _∷_}
+use mathlib.Core.Bool.{Bool, true, false, _&&_, _||_}
+use Prim.Native.Nat.{ℕ, zero, suc, _≤_, _<_}
 use native.Mathlib.Omega.{arith}
 use native.Mathlib.Nat.{not-suc-le-zero, le-of-suc-le-suc}
 use lib.Dec.{leb, eqb}
 use lib.ListN.{length, getD}
-use borrow.Author.Tests.{eqb-true, ne-eqb, leb-true}
-use Rattle.laws.specs.Sums.{every-yes}
+use borrow.Author.Tests.{eqb-true, leb-true}
 use Rattle.money.specs.Units.{priceOk, quantityOk, pricesOk, quantitiesOk, withinOk, noPrice, noQuantity, maxCents}
 use Rattle.money.specs.Offers.{offerFault, lastQ}
-use Rattle.money.specs.declared.units.Price.{Price}
+use Rattle.money.specs.UnitLaws.{prices-all, quantities-all}
 use Rattle.money.specs.declared.units.Quantity.{Quantity}
 use Rattle.money.specs.declared.offers.Offer.{Offer}
 use Rattle.money.specs.declared.production.Reserve.{Reserve}
 use Rattle.money.specs.declared.production.UnitHour.{UnitHour}
 use Rattle.money.specs.declared.failure.Failure.{Failure}
-use Rattle.records.specs.Reading.{Res, bad, got, Reader, _>>=_, check, byte, many}
+use Rattle.records.specs.Reading.{Res, got, Reader, _>>=_, check, byte, many}
 use Rattle.records.specs.Numbers.{between, word, signed, price, quantity, amount, pair, offerOf, pairs, listOk, listFrom}
 use Rattle.records.specs.Layouts.{within, hourPrices, import, export, schedules, reserveRows, fewest, lists, allWithin, reserveOf, unitOf, unit, failure}
 use Rattle.records.specs.Changes.{Rec, filed, Good}
 use Rattle.records.specs.Views.{pricesOf, importOf, exportOf, unitHourOf, failureOf, noPrices, noImport, noExport, noUnit, noFailure}
-use Rattle.records.specs.ReaderLaws.{bad-got, check-got, bind-got}
+use Rattle.records.specs.ReaderLaws.{bad-got, bind-got}
 use Rattle.records.specs.ViewLaws.{own-fields, view-prices, view-import, view-export, view-unit, view-failed-import, view-failed-export}
 use Rattle.records.specs.declared.marks.Mark.the-variants.{Pr, Im, Ex, Gh, Fi, Fe}
 use Rattle.records.specs.ChangeLaws.{and-left, and-right}
 use Rattle.records.specs.declared.layouts.HourPrices.{HourPrices}
 use Rattle.records.specs.declared.layouts.Import.{Import}
-use Rattle.records.specs.declared.layouts.Export.{Export}
 use Rattle.records.specs.declared.layouts.Schedules.{Schedules}
 use Rattle.records.specs.declared.layouts.ReserveRows.{ReserveRows}
 use Rattle.records.specs.declared.layouts.Lists.{Lists}
@@ -96,15 +94,13 @@ many-sound f P h (suc n) =
     sound-bind f _ P (Each P (suc n)) h (λ v p. sound-bind (many n f) _ (Each P n) (Each P (suc n)) (many-sound f P h n) (λ vs e. sound-got (Each P (suc n)) (v ∷ vs) (each-more P n v vs p e)))
 
 prices-sound : Sound (many 12 price) (λ ps. pricesOk ps ≡ true)
-unfolding pricesOk
 prices-sound = record {
-  holds = λ s ps t e. every-yes 12 (λ k. priceOk (getD ps k noPrice)) (λ j h. many-sound price (λ p. priceOk p ≡ true) price-sound 12 .holds s ps t e .each noPrice j h);
+  holds = λ s ps t e. prices-all ps (λ j h. many-sound price (λ p. priceOk p ≡ true) price-sound 12 .holds s ps t e .each noPrice j h);
 }
 
 row-sound : Sound (many 12 quantity) (λ qs. quantitiesOk qs ≡ true)
-unfolding quantitiesOk
 row-sound = record {
-  holds = λ s qs t e. every-yes 12 (λ k. quantityOk (getD qs k noQuantity)) (λ j h. many-sound quantity (λ q. quantityOk q ≡ true) quantity-sound 12 .holds s qs t e .each noQuantity j h);
+  holds = λ s qs t e. quantities-all qs (λ j h. many-sound quantity (λ q. quantityOk q ≡ true) quantity-sound 12 .holds s qs t e .each noQuantity j h);
 }
 
 -- ---- lists

@@ -2,11 +2,11 @@
 use mathlib.Core.Path.{_≡_, refl, sym, ap, ap₂, _∙_}
 use mathlib.Core.List.{List, [], _∷_, _++_}
 use mathlib.Core.Bool.{Bool, true, false, cond, true≢false, _&&_}
-use Prim.Native.Nat.{ℕ, zero, suc, _≤_, _<_}
+use Prim.Native.Nat.{ℕ, _≤_, _<_}
 use native.Mathlib.Omega.{arith}
 use lib.Dec.{eqb}
 use lib.ListN.{length}
-use borrow.Author.Tests.{eq-eqb, eqb-true}
+use borrow.Author.Tests.{eq-eqb, eqb-true, le-leb}
 use Rattle.money.specs.declared.names.Name.{Name}
 use Rattle.records.specs.Reading.{Res, bad, got, _>>=_, check, byte}
 use Rattle.records.specs.Numbers.{between, hour}
@@ -14,9 +14,9 @@ use Rattle.records.specs.Names.{decodeName, nameField, spell, nameOf, no
 use Rattle.records.specs.Marks.{markBytes, mark, hasName, isFailure, order}
 use Rattle.records.specs.Changes.{Rec, Change, filed, keyOf, kind, Good, nameless, nameFor, noName, nameBytes}
 use Rattle.records.specs.Keys.{eqList, sameHour, same, askMark, askName, askFailureMark, askFrom, ask, askFailure, askHourOf, askHour, askUnit}
-use Rattle.records.specs.ReaderLaws.{bad-got, check-got, bind-got, Counted}
-use Rattle.records.specs.NameLaws.{take-pad, Spelled, field-spelled}
-use Rattle.records.specs.ChangeLaws.{and-left, and-right, Kept, good-kept, hour-range, counted-mark, counted-decode}
+use Rattle.records.specs.ReaderLaws.{bad-got, check-got, bind-got}
+use Rattle.records.specs.NameLaws.{take-pad, field-spelled, Valid, decoded-valid}
+use Rattle.records.specs.ChangeLaws.{and-left, and-right, good-kept, hour-range, counted-mark, counted-decode}
 use Rattle.records.specs.declared.marks.Mark.{Mark}
 use Rattle.records.specs.declared.marks.Mark.the-variants.{Pr, Im, Ex, Gh, Fi, Fe}
 use Rattle.records.specs.declared.marks.Kind.{Kind}
@@ -215,6 +215,18 @@ pub own-name : (r : Rec) → Good (filed r) → hasName (r .key .mark) ≡ true 
 unfolding askName
 own-name r g h = sym (λ i. cond (h i) (held (decodeName (cond (h i) (spell (bytesOf (r .key .name))) []))) (check (eqb (length (cond (h i) (spell (bytesOf (r .key .name))) [])) 0) 4 (got noOne []))) ∙ name-own r g
 
+-- and it may stand
+pub record Decoded (n : Name) : Type 0 where
+  pub bytes : List ℕ
+  pub valid : Valid bytes
+  pub is : nameOf bytes ≡ n
+
+pub name-decoded : (r : Rec) → Good (filed r) → hasName (r .key .mark) ≡ true → Decoded (r .key .name)
+name-decoded r g h =
+    let s = spell (bytesOf (r .key .name)) in
+    let x = bind-got (decodeName s) (λ v t. got (nameOf v) t) (r .key .name) [] (own-name r g h) in
+    record { bytes = x .0; valid = decoded-valid s (x .0) (x .1) (x .2); is = cc (x .3) }
+
 -- two records of one mark and hour have names of other bytes, unless their keys are the same
 pub names-apart : (a b : Rec) → Good (filed a) → Good (filed b) → sameHour (a .key) (b .key) ≡ true → same (a .key) (b .key) ≡ false → bytesOf (a .key .name) ≡ bytesOf (b .key .name) → ⊥
 unfolding sameHour
@@ -230,6 +242,10 @@ names-apart a b g h s d e =
 
 got-value : {A : Type 0} {a b : A} {s t : List ℕ} → _≡_ {A = Res A} (got a s) (got b t) → a ≡ b
 got-value e = cc
+
+pub hour-key : (m : Mark) (h : ℕ) → 1 ≤ h → h ≤ 24 → askHourOf m h ≡ got (record { mark = m; hour = h; name = noOne }) []
+unfolding askHourOf
+hour-key m h a b = rw (le-leb 1 h a, le-leb h 24 b)
 
 pub hour-asked : (m : Mark) (h : ℕ) (k : Key) (t : List ℕ) → askHourOf m h ≡ got k t → k ≡ record { mark = m; hour = h; name = noOne }
 unfolding askHourOf

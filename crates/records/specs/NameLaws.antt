@@ -1,16 +1,17 @@
 -- Names: what the written spelling reads as, and what a name that was read holds.
-use mathlib.Core.Path.{_≡_, refl, sym, ap, _∙_, subst}
+use mathlib.Core.Path.{_≡_, refl, sym, ap, _∙_}
 use mathlib.Core.List.{List, [], _∷_, _++_, append-assoc, append-nil}
-use mathlib.Core.Bool.{Bool, true, false, cond, true≢false, _&&_, and-false}
-use Prim.Native.Nat.{ℕ, zero, suc, _+_, _*_, _-_, _/_, _%_, _≤_, _<_}
+use mathlib.Core.Bool.{Bool, true, false, cond, true≢false, and-false}
+use Prim.Native.Nat.{ℕ, zero, suc, _+_, _*_, _/_, _%_, _≤_, _<_}
 use native.Mathlib.Omega.{arith}
 use native.Mathlib.Nat.{not-suc-le-zero, le-of-suc-le-suc}
 use native.Mathlib.Numerals.{add-one}
 use lib.Dec.{ltb, leb, eqb}
-use lib.ListN.{length, take, drop, getD, length-append}
+use lib.ListN.{length, take, getD, length-append}
 use lib.Seq.{take-suc, take-append-seam, drop-append-seam}
-use borrow.Author.Tests.{lt-ltb, le-ltb, le-leb, lt-leb, ltb-true, ltb-false, ne-eqb, leb-true}
-use Rattle.records.specs.Reading.{Res, bad, got, Reader, _>>=_, check, byte, some}
+use borrow.Author.Tests.{lt-ltb, le-leb, lt-leb, ltb-true, ltb-false, ne-eqb, leb-true}
+use Rattle.money.specs.declared.names.Name.{Name}
+use Rattle.records.specs.Reading.{got, _>>=_, check, byte, some}
 use Rattle.records.specs.Numbers.{between, pad}
 use Rattle.records.specs.Names.{nameField, nameOf, bytesOf, spellingOf, spellingBytes, visible, hexVal, escaped, one, upTo, decodeName, spell, spellByte, unreserved, digit}
 use Rattle.records.specs.ReaderLaws.{check-got, bind-got, bad-got}
@@ -222,8 +223,8 @@ pub spelled-back : (v : List ℕ) → Valid v → decodeName (spell v) ≡ got v
 spelled-back v h = spelled v (h .some) (h .few) (h .seen)
 
 -- the written spelling is at most 36 bytes
-pub spelled-short : (v : List ℕ) → Valid v → length (spell v) ≤ 36
-spelled-short v h = let k = h .few in omega (arith, spell-length v)
+pub spelled-short : (v : List ℕ) → length v ≤ 12 → length (spell v) ≤ 36
+spelled-short v h = omega (arith, spell-length v)
 
 -- two spellings are one name, as a key holds it, exactly when their decoded bytes are the same
 pub one-name : (s a t u b v : List ℕ) → decodeName s ≡ got a t → decodeName u ≡ got b v → (nameOf a ≡ nameOf b → a ≡ b) × (a ≡ b → nameOf a ≡ nameOf b)
@@ -233,6 +234,6 @@ one-name s a t u b v e f =
     (λ h. sym (take-pad 0 12 a (p .few)) ∙ ap bytesOf h ∙ take-pad 0 12 b (q .few), λ h. ap nameOf h)
 
 -- a name that stands is written in full
-pub spelling-full : (v : List ℕ) → Valid v → spellingOf (nameOf v) ≡ spellingBytes (spell v)
+pub spelling-full : (n : Name) → n .len ≤ 12 → spellingOf n ≡ spellingBytes (spell (bytesOf n))
 unfolding spellingOf
-spelling-full v h = rw (le-leb (length v) 12 (h .few), take-pad 0 12 v (h .few))
+spelling-full n h = rw (le-leb (n .len) 12 h)

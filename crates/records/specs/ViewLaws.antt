@@ -1,16 +1,13 @@
 -- Typed views: each is what was read.
 use mathlib.Core.Path.{_≡_, refl, sym, ap, _∙_}
 use mathlib.Core.List.{List, [], _∷_, _++_, append-assoc, append-nil}
-use mathlib.Core.Bool.{Bool, true, false}
 use Prim.Native.Nat.{ℕ}
-use lib.Dec.{eqb}
-use lib.ListN.{length, take, drop}
 use borrow.Author.Tests.{eq-eqb}
-use Rattle.records.specs.Reading.{Res, bad, got, Reader, _>>=_, check}
+use Rattle.records.specs.Reading.{got, Reader}
 use Rattle.records.specs.Numbers.{hour}
 use Rattle.records.specs.Marks.{markBytes, mark, order}
 use Rattle.records.specs.Layouts.{hourPrices, import, export, unit, failure, skip, layout, taken}
-use Rattle.records.specs.Changes.{Rec, Change, filed, corrected, head, nameFor, nameBytes, bodyFor, headBytes, write, Scan, seen, scan, Good}
+use Rattle.records.specs.Changes.{Rec, filed, head, nameBytes, bodyFor, headBytes, write, Good}
 use Rattle.records.specs.Views.{valueOr, pricesOf, importOf, exportOf, unitHourOf, failureOf, noPrices, noImport, noExport, noUnit, noFailure, ahead, viewed, pricesIn, importIn, exportIn, unitIn, failureIn}
 use Rattle.money.specs.Guarantee.{creditAnswer}
 use Rattle.money.specs.Production.{hourAnswer}
@@ -21,7 +18,7 @@ use Rattle.records.specs.Amounts.{creditOf, creditIn, unitAmountOf, unit
 use Rattle.records.specs.declared.layouts.HourPrices.{HourPrices}
 use Rattle.records.specs.declared.layouts.Import.{Import}
 use Rattle.records.specs.ReaderLaws.{Lawful, lawful-prices, lawful-import, lawful-export, lawful-unit, lawful-failure, Viewed, taken-view}
-use Rattle.records.specs.ChangeLaws.{Kept, good-kept, scan-got, scan-body, scan-write, good-co}
+use Rattle.records.specs.ChangeLaws.{Kept, good-kept}
 use Rattle.records.specs.declared.marks.Mark.{Mark}
 use Rattle.records.specs.declared.marks.Mark.the-variants.{Pr, Im, Ex, Gh, Fi, Fe}
 use Rattle.records.specs.declared.marks.Kind.the-variants.{File}
@@ -61,13 +58,6 @@ unfolding bodyFor
 rec-view f m l r e h u =
     taken-view f (l .lawful) (r .body ++ u) (r .body) u
     (sym (l .same (r .body ++ u)) ∙ ap (λ n. taken (layout n) (r .body ++ u)) (sym e) ∙ h .body-back u)
-
--- the fields of a record that stands in a book: what f reads there is what it reads in front of any bytes
-pub scan-view : {A : Type 0} (f : Reader A) (m : Mark) → Layout f m → (s : List ℕ) (r : Rec) (n : ℕ) → r .key .mark ≡ m → scan s ≡ seen (filed r) n
-    → Viewed f (drop (length (headBytes File (r .key))) s) (r .body) (drop n s)
-scan-view f m l s r n e q =
-    let v = rec-view f m l r e (good-kept (filed r) (scan-got s (filed r) n q .good)) (drop n s) in
-    record { what = v .what; read = ap f (scan-body s (filed r) n q) ∙ v .read; back = v .back }
 
 -- ---- the views that the code gives
 

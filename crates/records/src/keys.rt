@@ -9,6 +9,7 @@ use crate::marks::mark_no;
 use crate::marks::order;
 use crate::names::NameRead;
 use crate::names::decode;
+use crate::names::no_name;
 use crate::names::unnamed;
 use money::names::Name;
 use money::refusals::BAD_HOUR;
@@ -114,6 +115,18 @@ fn hour_ok(hour: u8) -> bool
     hour <= 24
 }
 
+// A mark and an hour, as a key without a name.
+pub fn key_of(mark: Mark, hour: u8) -> Key
+    ensures { λ r. ⌜ r ≡ record { mark = mark; hour = hour; name = noOne } ⌝ }
+{
+    let bytes = [0u8; 12];
+    Key {
+        mark,
+        hour,
+        name: Name { len: 0, bytes },
+    }
+}
+
 fn key_no(n: u8) -> KeyAnswer
     ensures { λ r. ⌜ r ≡ record { number = n; key = noKey } ⌝ }
 {
@@ -182,20 +195,13 @@ pub fn ask_failure(mark: &[u8], hour: u8, name: &[u8]) -> KeyAnswer
     key_from(asked_failure_mark(mark), hour, name)
 }
 
-// A mark and an hour, as a key without a name.
+// The same of an hour of the day; any other gives 3.
 pub fn hour_key(mark: Mark, hour: u8) -> KeyAnswer
     ensures { λ r. ⌜ r ≡ keyAnswer (askHourOf mark hour) ⌝ }
 {
     if hour_ok(hour) {
-        let bytes = [0u8; 12];
-        return KeyAnswer {
-            number: 0,
-            key: Key {
-                mark,
-                hour,
-                name: Name { len: 0, bytes },
-            },
-        };
+        let key = key_of(mark, hour);
+        return KeyAnswer { number: 0, key };
     }
     key_no(BAD_HOUR)
 }
@@ -243,10 +249,10 @@ pub fn ask_name(name: &[u8]) -> NameAnswer
     match e {
         End::At(_a) => NameAnswer { number: 0, name: x },
         End::No(j) => {
-            let bytes = [0u8; 12];
+            let none = no_name();
             NameAnswer {
                 number: j,
-                name: Name { len: 0, bytes },
+                name: none,
             }
         }
     }

@@ -104,25 +104,25 @@ fn one_at(s: &[u8], at: usize) -> Chr
     }
 }
 
-fn name_no(k: u8) -> NameRead
-    ensures { λ r. ⌜ (r .end ≡ End.No k) × (r .name .len ≡ 0) ⌝ }
+// The name of a mark that has none.
+pub fn no_name() -> Name
+    ensures { λ r. ⌜ r ≡ noOne ⌝ }
 {
     let bytes = [0u8; 12];
-    NameRead {
-        end: End::No(k),
-        name: Name { len: 0, bytes },
-    }
+    Name { len: 0, bytes }
 }
 
-// The name of a mark that has none.
 pub(crate) fn unnamed(end: End) -> NameRead
     ensures { λ r. ⌜ (r .end ≡ end) × (r .name ≡ noOne) ⌝ }
 {
-    let bytes = [0u8; 12];
-    NameRead {
-        end,
-        name: Name { len: 0, bytes },
-    }
+    let name = no_name();
+    NameRead { end, name }
+}
+
+fn name_no(k: u8) -> NameRead
+    ensures { λ r. ⌜ (r .end ≡ End.No k) × (r .name .len ≡ 0) ⌝ }
+{
+    unnamed(End::No(k))
 }
 
 pub(crate) fn decode(spelled: &[u8]) -> NameRead

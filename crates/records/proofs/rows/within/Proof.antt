@@ -2,10 +2,10 @@ use mathlib.Core.Path.{sym, _∙_}
 use Prim.Native.Nat.{_-_}
 use lib.Dec.{leb}
 use borrow.Author.Tests.{le-leb, lt-leb}
-use Rattle.money.specs.Units.{withinOk, quantityAt}
+use Rattle.money.specs.Units.{quantityAt}
+use Rattle.money.specs.UnitLaws.{within-every}
 use Rattle.laws.specs.Sums.{Passed, passed-none, passed-more, passed-all, every-no}
 use borrow.Author.Needs.{needs}
-use native.Mathlib.Omega.{arith}
 use Rattle.records.proofs.rows.within.Statement.{statement}
 use Rattle.records.proofs.rows.within.Tie as tie
 use Rattle.records.proofs.rows.within.Reads as reads
@@ -27,8 +27,7 @@ array-copy-out-q : tie.Need-array-copy-out-q Inv-loop μ-loop
 array-copy-out-q c = search needs
 
 returns : tie.Need-returns Inv-loop μ-loop
-unfolding withinOk
-returns c = sym (every-no _ _ (λ j. leb (quantityAt ((c .before .before .before .before .before .args) .t1) j) ((c .before .before .before .before .before .args) .last)) ((c .before .before .before .loop-test) .taken) (lt-leb _ _ ((c .if1) .taken)))
+returns c = sym (within-every _ _ ∙ every-no _ _ (λ j. leb (quantityAt ((c .before .before .before .before .before .args) .t1) j) ((c .before .before .before .before .before .args) .last)) ((c .before .before .before .loop-test) .taken) (lt-leb _ _ ((c .if1) .taken)))
 
 add-i : tie.Need-add-i Inv-loop μ-loop
 add-i c = search needs
@@ -40,8 +39,7 @@ loop-again : tie.Need-loop-again Inv-loop μ-loop
 loop-again c = passed-more ((c .before .before .before .before .loop) .inv) ((c .before .before .before .loop-test) .taken) (le-leb _ _ ((c .if1) .left))
 
 returns-2 : tie.Need-returns-2 Inv-loop μ-loop
-unfolding withinOk
-returns-2 c = sym (passed-all ((c .before .loop) .inv) ((c .loop-test) .left))
+returns-2 c = sym (within-every _ _ ∙ passed-all ((c .before .loop) .inv) ((c .loop-test) .left))
 
 pub within-spec : {M : Type 1} → statement M
 within-spec =
