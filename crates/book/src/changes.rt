@@ -3,6 +3,9 @@ use crate::answers::Answer;
 use crate::answers::Done;
 use crate::journal::Book;
 use money::refusals::NOT_TOGETHER;
+use records::marks::CORRECTED;
+use records::marks::FILED;
+use records::marks::WITHDRAWN;
 ghost use Rattle.book.specs.Layer.{parse};
 ghost use Rattle.book.specs.Register.{listed, file, correct, withdraw, takeBack, close, change};
 ghost use Rattle.book.specs.Meaning.{Leaves, Meets, replyOf};
@@ -26,19 +29,19 @@ impl Book {
     pub fn file(mut self, log: &mut [u8], rec: &[u8]) -> Done
         ensures { λ r. ⌜ Meets (file (now (rec .entry))) self (now (log .entry)) (r .book) (replyOf (r .answer)) (now (log .exit)) ⌝ }
     {
-        self.enter(log, rec, 1)
+        self.enter(log, rec, FILED)
     }
 
     pub fn correct(mut self, log: &mut [u8], rec: &[u8]) -> Done
         ensures { λ r. ⌜ Meets (correct (now (rec .entry))) self (now (log .entry)) (r .book) (replyOf (r .answer)) (now (log .exit)) ⌝ }
     {
-        self.enter(log, rec, 2)
+        self.enter(log, rec, CORRECTED)
     }
 
     pub fn withdraw(mut self, log: &mut [u8], rec: &[u8]) -> Done
         ensures { λ r. ⌜ Meets (withdraw (now (rec .entry))) self (now (log .entry)) (r .book) (replyOf (r .answer)) (now (log .exit)) ⌝ }
     {
-        self.enter(log, rec, 3)
+        self.enter(log, rec, WITHDRAWN)
     }
 
     pub fn take_back(mut self, log: &[u8], rec: &[u8]) -> Done

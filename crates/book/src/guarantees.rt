@@ -5,10 +5,8 @@ use crate::answers::NamedAmount;
 use crate::journal::Book;
 use crate::places;
 use crate::places::Places;
-use crate::prices::key_of;
 use crate::survey;
 use money::imports::Import;
-use money::names::Name;
 use money::refusals::NOT_TOGETHER;
 use money::refusals::PRICE_MISSING;
 use money::units::Answer;
@@ -18,13 +16,15 @@ use records::amounts::hour_offset;
 use records::amounts::offset_entry;
 use records::amounts::totals_with_export;
 use records::keys::hour_key;
+use records::keys::key_of;
 use records::layouts::HourPrices;
 use records::marks::Mark;
+use records::names::no_name;
 use records::scan::View;
 use records::views::prices_of;
 ghost use mathlib.Core.Path.{_≡_};
-ghost use mathlib.Core.List.{List, [], map};
-ghost use lib.ListN.{length, take};
+ghost use mathlib.Core.List.{List, map};
+ghost use lib.ListN.{take};
 ghost use Prim.Native.Nat.{_≤_};
 ghost use Rattle.book.specs.Layer.{Change};
 ghost use Rattle.book.specs.Register.{standing, startIn, ask, hourGuarantees};
@@ -85,10 +85,7 @@ fn credits_of(entries: [Import; 16], n: usize) -> [Ticks; 16]
 pub(crate) fn no_amounts() -> Amounts
     ensures { λ r. ⌜ r .n ≡ 0 ⌝ }
 {
-    let name = Name {
-        len: 0,
-        bytes: [0u8; 12],
-    };
+    let name = no_name();
     let none = NamedAmount {
         name,
         start: 0,

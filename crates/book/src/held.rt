@@ -77,7 +77,7 @@ impl Book {
         )
     }
 
-    // A record of any kind (0), or filed, corrected, withdrawn (1, 2, 3).
+    // A record of any kind (0), or of the one wanted.
     pub(crate) fn held_enter(
         mut self,
         views: [View; 512],

@@ -1,6 +1,8 @@
 // Where the records of a mark and name are written, in each hour of the day.
 use records::hours::same_name;
 use records::keys::Key;
+use records::marks::CORRECTED;
+use records::marks::WITHDRAWN;
 use records::scan::View;
 ghost use mathlib.Core.Path.{_≡_};
 ghost use mathlib.Core.List.{List};
@@ -20,10 +22,10 @@ fn start_of(v: View, q: usize) -> usize
     requires { ⌜ q < 9223372036854775808 ⌝ }
     ensures { λ r. ⌜ r ≡ startOf q v ⌝ }
 {
-    if v.kind == 3 {
+    if v.kind == WITHDRAWN {
         return 0;
     }
-    if v.kind == 2 {
+    if v.kind == CORRECTED {
         return q + 2;
     }
     q
@@ -33,10 +35,10 @@ fn len_of(v: View) -> usize
     requires { ⌜ (v .kind ≡ 2 → 2 ≤ v .len) ⌝ }
     ensures { λ r. ⌜ r ≡ lenOf v ⌝ }
 {
-    if v.kind == 3 {
+    if v.kind == WITHDRAWN {
         return 0;
     }
-    if v.kind == 2 {
+    if v.kind == CORRECTED {
         return v.len - 2;
     }
     v.len

@@ -9,7 +9,6 @@ mod held;
 pub mod hours;
 pub mod journal;
 pub mod places;
-mod prices;
 pub mod questions;
 mod refusal;
 mod replay;

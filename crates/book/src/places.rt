@@ -3,7 +3,10 @@ use crate::survey;
 use money::names::Name;
 use records::keys::Key;
 use records::keys::same_hour;
+use records::marks::CORRECTED;
+use records::marks::WITHDRAWN;
 use records::names::comes_before;
+use records::names::no_name;
 use records::scan::View;
 ghost use mathlib.Core.Path.{_≡_};
 ghost use mathlib.Core.Bool.{cond, true, _&&_};
@@ -33,7 +36,7 @@ fn place_of(kind: u8, q: usize) -> usize
     requires { ⌜ q < 9223372036854775808 ⌝ }
     ensures { λ r. ⌜ r ≡ q + offset kind ⌝ }
 {
-    if kind == 2 {
+    if kind == CORRECTED {
         return q + 2;
     }
     q
@@ -45,7 +48,7 @@ pub(crate) fn standing_in(views: [View; 512], n: usize, v: View, q: usize) -> bo
     requires { ⌜ q < 9223372036854775808 ⌝ }
     ensures { λ r. ⌜ ((l : List Change) → Kept views l → length l ≡ n → r ≡ liveAt (survey (v .key) l) v q) ⌝ }
 {
-    if v.kind == 3 {
+    if v.kind == WITHDRAWN {
         return false;
     }
     let s = survey::look_in(views, n, v.key);
@@ -117,11 +120,8 @@ fn with_spot(p: Places, live: bool, s: Spot) -> Places
 fn no_spots() -> Places
     ensures { λ r. ⌜ r .n ≡ 0 ⌝ }
 {
-    let bytes = [0u8; 12];
-    let blank = Spot {
-        name: Name { len: 0, bytes },
-        start: 0,
-    };
+    let name = no_name();
+    let blank = Spot { name, start: 0 };
     Places {
         n: 0,
         at: [blank; 16],

@@ -3,6 +3,7 @@ use money::refusals::HOUR_FULL;
 use money::refusals::KEY_STANDS;
 use money::refusals::NO_SPACE;
 use money::refusals::NO_SUCH_KEY;
+use records::marks::FILED;
 ghost use mathlib.Core.Path.{_≡_};
 ghost use Rattle.book.specs.Register.{capped, room};
 ghost use Rattle.book.specs.Tables.{judge};
@@ -45,7 +46,7 @@ pub(crate) fn weigh(
 ) -> u8
     ensures { λ r. ⌜ r ≡ judge kind found count most changes used len lent ⌝ }
 {
-    if kind == 1 {
+    if kind == FILED {
         if found {
             return KEY_STANDS;
         }

@@ -2,6 +2,9 @@
 use records::keys::Key;
 use records::keys::same_hour;
 use records::keys::same_key;
+use records::marks::CORRECTED;
+use records::marks::FILED;
+use records::marks::WITHDRAWN;
 use records::scan::View;
 ghost use mathlib.Core.Path.{_≡_};
 ghost use mathlib.Core.Bool.{cond};
@@ -24,10 +27,10 @@ fn count_with(kind: u8, count: usize) -> usize
     requires { ⌜ count < 65536 ⌝ }
     ensures { λ r. ⌜ r ≡ cond (eqb kind 1) (count + 1) (cond (eqb kind 3) (count - 1) count) ⌝ }
 {
-    if kind == 1 {
+    if kind == FILED {
         return count + 1;
     }
-    if kind == 3 {
+    if kind == WITHDRAWN {
         if count == 0 {
             return 0;
         }
@@ -53,7 +56,7 @@ fn note(key: Key, q: usize, v: View, s: Survey) -> Survey
 {
     let count = count_after(key, v, s.count);
     if same_key(key, v.key) {
-        if v.kind == 2 {
+        if v.kind == CORRECTED {
             return Survey {
                 found: true,
                 start: q + 2,
@@ -62,7 +65,7 @@ fn note(key: Key, q: usize, v: View, s: Survey) -> Survey
             };
         }
         return Survey {
-            found: v.kind != 3,
+            found: v.kind != WITHDRAWN,
             start: q,
             len: v.len,
             count,

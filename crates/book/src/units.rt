@@ -4,9 +4,11 @@ use crate::places::standing_in;
 use money::names::Name;
 use money::refusals::NOT_TOGETHER;
 use records::keys::Key;
+use records::keys::key_of;
 use records::marks::Mark;
 use records::marks::order;
 use records::names::comes_before;
+use records::names::no_name;
 use records::scan::View;
 ghost use mathlib.Core.Path.{_≡_};
 ghost use mathlib.Core.Bool.{cond, true, _&&_};
@@ -19,7 +21,7 @@ ghost use Rattle.book.specs.ByName.{addName, sameMark, namesOf};
 ghost use Rattle.book.specs.Meaning.{load};
 ghost use Rattle.book.specs.Tables.{Kept, Stored, survey};
 ghost use Rattle.book.specs.Places.{liveAt};
-ghost use Rattle.book.specs.Units.{namesIn, ghKey, unitNames, unitListOf};
+ghost use Rattle.book.specs.Units.{namesIn, unitNames, unitListOf};
 
 // Decoded names in byte order, each once: the first n of `names`.
 pub struct Units {
@@ -114,8 +116,7 @@ fn with_name(u: Units, live: bool, name: Name) -> Units
 fn no_names() -> Units
     ensures { λ r. ⌜ r .n ≡ 0 ⌝ }
 {
-    let bytes = [0u8; 12];
-    let blank = Name { len: 0, bytes };
+    let blank = no_name();
     Units {
         n: 0,
         names: [blank; 512],
@@ -140,17 +141,6 @@ pub(crate) fn names_in(views: [View; 512], n: usize, key: Key) -> Units
     u
 }
 
-fn gh_key() -> Key
-    ensures { λ r. ⌜ r ≡ ghKey ⌝ }
-{
-    let bytes = [0u8; 12];
-    Key {
-        mark: Mark::Gh,
-        hour: 1,
-        name: Name { len: 0, bytes },
-    }
-}
-
 impl Book {
     // The names of the units, by decoded name in byte order.
     pub fn units(self, log: &[u8]) -> UnitList
@@ -159,7 +149,7 @@ impl Book {
         let k = self.check_table(log);
         if k.ok {
             let views = k.views;
-            let units = names_in(views, self.changes as usize, gh_key());
+            let units = names_in(views, self.changes as usize, key_of(Mark::Gh, 1));
             return UnitList { number: 0, units };
         }
         let units = no_names();

@@ -13,6 +13,7 @@ use money::refusals::PRICE_MISSING;
 use money::units::Cents;
 use money::units::Ticks;
 use records::marks::Mark;
+use records::names::no_name;
 ghost use mathlib.Core.Path.{_≡_};
 ghost use mathlib.Core.List.{[], _∷_, map};
 ghost use Prim.Native.Nat.{_+_, _≤_, _<_};
@@ -45,15 +46,6 @@ pub(crate) fn error_sheet(hour: u8, name: Name) -> Sheet
         cents: Cents(PRICE_MISSING as i64),
     };
     with_line(blank(), line)
-}
-
-fn no_name() -> Name
-    ensures { λ r. ⌜ r ≡ noOne ⌝ }
-{
-    Name {
-        len: 0,
-        bytes: [0u8; 12],
-    }
 }
 
 fn hour_error(hour: u8) -> Sheet

@@ -3,8 +3,8 @@ use crate::lines::Kind;
 use crate::lines::Line;
 use crate::lines::line_text;
 use crate::texts::Text;
-use money::names::Name;
 use money::units::Cents;
+use records::names::no_name;
 ghost use mathlib.Core.Path.{_≡_};
 ghost use mathlib.Core.List.{[], _∷_};
 ghost use Prim.Native.Nat.{_+_, _≤_, _<_};
@@ -26,13 +26,11 @@ pub struct Sheet {
 pub(crate) fn blank() -> Sheet
     ensures { λ r. ⌜ (linesOf r ≡ []) × (r .n ≡ 0) ⌝ }
 {
+    let name = no_name();
     let none = Line {
         hour: 0,
         kind: Kind::Err,
-        name: Name {
-            len: 0,
-            bytes: [0u8; 12],
-        },
+        name,
         cents: Cents(0),
     };
     Sheet {

@@ -14,7 +14,7 @@ use Rattle.book.proofs.guarantees.of_hour.Lts as lts
 use Rattle.book.proofs.guarantees.no_guarantees.Reads as no-guarantees-reads
 use Rattle.book.proofs.guarantees.worked.Reads as worked-reads
 use Rattle.book.proofs.places.gather_in.Reads as gather-in-reads
-use Rattle.book.proofs.prices.key_of.Reads as key-of-reads
+use Rattle.records.proofs.keys.key_of.Reads as key-of-reads
 use Rattle.book.proofs.survey.look_in.Reads as look-in-reads
 use Rattle.records.proofs.views.prices_of.Reads as prices-of-reads
 

@@ -4,7 +4,7 @@ use Rattle.statement.proofs.hours.hour_error.Tie as tie
 use Rattle.statement.proofs.hours.hour_error.Reads as reads
 use Rattle.statement.proofs.hours.hour_error.Lts as lts
 use Rattle.statement.proofs.hours.error_sheet.Reads as error-sheet-reads
-use Rattle.statement.proofs.hours.no_name.Reads as no-name-reads
+use Rattle.records.proofs.names.no_name.Reads as no-name-reads
 
 no-name-requires : tie.Need-no-name-requires
 no-name-requires c κs = search needs

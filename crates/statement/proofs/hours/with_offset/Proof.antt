@@ -7,7 +7,7 @@ use Rattle.statement.proofs.hours.with_offset.Tie as tie
 use Rattle.statement.proofs.hours.with_offset.Reads as reads
 use Rattle.statement.proofs.hours.with_offset.Lts as lts
 use Rattle.statement.proofs.hours.amount_line.Reads as amount-line-reads
-use Rattle.statement.proofs.hours.no_name.Reads as no-name-reads
+use Rattle.records.proofs.names.no_name.Reads as no-name-reads
 use Rattle.statement.proofs.sheets.with_line.Reads as with-line-reads
 
 returns : tie.Need-returns

@@ -14,8 +14,8 @@ check-table-requires c κs = search needs
 cast-names-in : tie.Need-cast-names-in
 cast-names-in c = search needs
 
-gh-key-requires : tie.Need-gh-key-requires
-gh-key-requires c κs = search needs
+key-of-requires : tie.Need-key-of-requires
+key-of-requires c κs = search needs
 
 names-in-requires : tie.Need-names-in-requires
 names-in-requires c κs = stored ((c .before .before .before .before .before .before .args) .self) ((c .before .before .before .before .before .before .args) .log .now) ((c .before .before .before .before .check-table) .result) ((c .before .before .before .before .check-table) .ensures) (is-tabled ((c .before .before .before .before .before .before .args) .self) ((c .before .before .before .before .before .before .args) .log .now) ((c .before .before .before .before .check-table) .result) ((c .before .before .before .before .check-table) .ensures) ((c .before .before .before .if1) .taken))
@@ -23,7 +23,7 @@ names-in-requires c κs = stored ((c .before .before .before .before .before .be
 returns : tie.Need-returns
 returns c = (
   let x = is-tabled ((c .before .before .before .before .before .before .before .args) .self) ((c .before .before .before .before .before .before .before .args) .log .now) ((c .before .before .before .before .before .check-table) .result) ((c .before .before .before .before .before .check-table) .ensures) ((c .before .before .before .before .if1) .taken) in
-      units-at (load ((c .before .before .before .before .before .before .before .args) .self) ((c .before .before .before .before .before .before .before .args) .log .now)) (x .list) (x .is) ((c .before .gh-key) .result) ((c .before .gh-key) .ensures) ((c .names-in) .result) ((c .names-in) .ensures .0 (x .list) ((c .before .before .before .before .before .check-table) .ensures .kept (x .list) (x .is)) (x .count-is)),
+      units-at (load ((c .before .before .before .before .before .before .before .args) .self) ((c .before .before .before .before .before .before .before .args) .log .now)) (x .list) (x .is) ((c .before .key-of) .result) ((c .before .key-of) .ensures) ((c .names-in) .result) ((c .names-in) .ensures .0 (x .list) ((c .before .before .before .before .before .check-table) .ensures .kept (x .list) (x .is)) (x .count-is)),
   (c .names-in) .ensures .1,
 )
 
@@ -39,7 +39,7 @@ units-spec =
     (tie.spec
     check-table-requires
     cast-names-in
-    gh-key-requires
+    key-of-requires
     names-in-requires
     returns
     no-names-requires
