@@ -2,6 +2,9 @@
 use crate::journal::Book;
 use money::names::Name;
 use money::units::Ticks;
+ghost use mathlib.Core.Path.{_≡_};
+ghost use Rattle.book.specs.Meaning.{replyOf};
+ghost use Rattle.book.specs.Tables.{replied};
 
 pub enum Answer {
     Accepted,
@@ -11,6 +14,20 @@ pub enum Answer {
     // A unit's day total and its reversal.
     Day(Ticks, Ticks),
     Charge(Ticks),
+}
+
+// The number of a refusal, 0 of any other answer.
+pub fn refusal_in(a: Answer) -> u8
+    ensures { λ r. ⌜ r ≡ replied (replyOf a) ⌝ }
+{
+    match a {
+        Answer::Accepted => 0,
+        Answer::Refused(n) => n,
+        Answer::Place(_start, _len) => 0,
+        Answer::Number(_n) => 0,
+        Answer::Day(_total, _reversal) => 0,
+        Answer::Charge(_ticks) => 0,
+    }
 }
 
 // The book as a change hands it back, and its answer.

@@ -1,5 +1,5 @@
 // The records of an input, taken back to back into a book.
-use crate::answers::Answer;
+use crate::answers::refusal_in;
 use crate::journal::Book;
 use money::refusals::NOT_TOGETHER;
 use records::parse::first_change;
@@ -8,8 +8,7 @@ ghost use mathlib.Core.Path.{_≡_};
 ghost use mathlib.Core.List.{List};
 ghost use lib.ListN.{length};
 ghost use Rattle.book.specs.Layer.{Change};
-ghost use Rattle.book.specs.Meaning.{belongs, load, replyOf};
-ghost use Rattle.book.specs.Tables.{replied};
+ghost use Rattle.book.specs.Meaning.{belongs, load};
 ghost use Rattle.book.specs.Held.{Held};
 ghost use Rattle.book.specs.Feed.{piece, feeding};
 ghost use Rattle.book.specs.FeedPromise.{Ends, Feeds};
@@ -31,20 +30,6 @@ fn first_length(s: &[u8]) -> usize
         return s.len();
     }
     f.end
-}
-
-// The number of a refusal, 0 of any other answer.
-fn refusal_in(a: Answer) -> u8
-    ensures { λ r. ⌜ r ≡ replied (replyOf a) ⌝ }
-{
-    match a {
-        Answer::Accepted => 0,
-        Answer::Refused(n) => n,
-        Answer::Place(_start, _len) => 0,
-        Answer::Number(_n) => 0,
-        Answer::Day(_total, _reversal) => 0,
-        Answer::Charge(_ticks) => 0,
-    }
 }
 
 // Takes the records into a book that was checked, up to the first that is refused.

@@ -1,5 +1,5 @@
 -- What the exported functions answer: 0, or the number of the refusal. Assumes nothing.
-use mathlib.Core.Bool.{Bool, true, false, cond, not, _||_}
+use mathlib.Core.Bool.{Bool, false, cond, not, _||_}
 use mathlib.Core.List.{List, [], _∷_}
 use Prim.Native.Nat.{ℕ, _%_}
 use lib.Dec.{ltb, eqb}
@@ -15,8 +15,9 @@ use Rattle.records.specs.Views.{pricesIn}
 use Rattle.records.specs.Amounts.{creditIn, unitAmountIn, chargeIn}
 use Rattle.records.specs.Changes.{begins, parsedOf, parse, parseAny, entryOf, putNumber, bare, takeBackBytes, closeBytes}
 use Rattle.book.specs.declared.journal.Book.{Book}
-use Rattle.book.specs.Register.{Call, file, correct, withdraw, takeBack, close, change, ask, Question, Reply, refused, accepted, place, number, guarantees, unitDay, charge, stepOf}
+use Rattle.book.specs.Register.{Call, file, correct, withdraw, takeBack, close, change, ask, Question, number, stepOf}
 use Rattle.book.specs.Meaning.{outcome, Load, belongs, astray, load}
+use Rattle.book.specs.Tables.{replied}
 use Rattle.book.specs.Feed.{feeding}
 use Rattle.statement.specs.Statement.{outcomeOf}
 
@@ -52,25 +53,16 @@ bookIn s = cond (ltb (length s) 3) freshBook (bookFrom (getD s 0 0) (getD s 1 0)
 abbrev pub hourIn : ℕ → ℕ
 hourIn h = cond (ltb 255 h) 255 h
 
-abbrev pub replyNumber : Reply → ℕ
-replyNumber (refused n) = n
-replyNumber accepted = 0
-replyNumber (place s l) = 0
-replyNumber (number n) = 0
-replyNumber (guarantees credits offset) = 0
-replyNumber (unitDay total reversal) = 0
-replyNumber (charge t) = 0
-
 -- a question on the book that three numbers carry, over lent bytes
 unfoldable pub askedNumber : Question → List ℕ → List ℕ → ℕ
-askedNumber q state lent = replyNumber (outcome (stepOf (ask q)) (bookIn state) lent .answer)
+askedNumber q state lent = replied (outcome (stepOf (ask q)) (bookIn state) lent .answer)
 
 -- one of the five changes, or any
 abbrev pub callOf : ℕ → List ℕ → Call
 callOf m s = cond (eqb m 1) (file s) (cond (eqb m 2) (correct s) (cond (eqb m 3) (withdraw s) (cond (eqb m 4) (takeBack s) (cond (eqb m 5) (close s) (change s)))))
 
 unfoldable pub changeNumber : ℕ → List ℕ → List ℕ → List ℕ → ℕ
-changeNumber m state lent s = replyNumber (outcome (stepOf (callOf m s)) (bookIn state) lent .answer)
+changeNumber m state lent s = replied (outcome (stepOf (callOf m s)) (bookIn state) lent .answer)
 
 -- ---- amounts of single records
 

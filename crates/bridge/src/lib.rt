@@ -5,6 +5,7 @@ use book::answers::Answer as Said;
 use book::answers::Done;
 use book::answers::Guarantees;
 use book::answers::NamedAmount;
+use book::answers::refusal_in;
 use book::feed::feed;
 use book::journal::Book;
 use money::names::name_before;
@@ -18,7 +19,9 @@ use records::amounts::import_credit;
 use records::amounts::unit_amount;
 use records::keys::ask_name;
 use records::leads::bears;
+use records::marks::FILED;
 use records::marks::Mark;
+use records::marks::WITHDRAWN;
 use records::parse::first_change;
 use records::parse::parse_any;
 use records::parse::parse_change;
@@ -30,10 +33,10 @@ use records::writing::put;
 use statement::day::statement;
 ghost use mathlib.Core.Path.{_≡_};
 ghost use Prim.Native.Nat.{_≤_};
-ghost use lib.ListN.{length};
 ghost use Rattle.book.specs.Register.{recordOf, countOf, freeBytes, hourGuarantees, dayOf, failureCharge, stepOf};
 ghost use Rattle.book.specs.Meaning.{replyOf, guaranteesReply, outcome};
-ghost use Rattle.bridge.specs.Bridge.{compareNumber, anyNumber, writeNumber, bookFrom, bookIn, hourIn, replyNumber, askedNumber, callOf, changeNumber, filingNumber, hasAmount, amountIn, answerNumber, amountNumber, fedNumber, statementNumber};
+ghost use Rattle.book.specs.Tables.{replied};
+ghost use Rattle.bridge.specs.Bridge.{compareNumber, anyNumber, writeNumber, bookFrom, bookIn, hourIn, askedNumber, callOf, changeNumber, filingNumber, hasAmount, amountIn, answerNumber, amountNumber, fedNumber, statementNumber};
 ghost use Rattle.records.specs.Changes.{parse, putNumber, putBytes, entry, frontOf};
 
 #[no_mangle]
@@ -100,7 +103,7 @@ fn write_any(bytes: &[u8], out: &mut [u8], sizes: &mut [u64]) -> u32
         return n as u32;
     }
     let v = p.view;
-    if 3 < v.kind {
+    if WITHDRAWN < v.kind {
         return mark_alone(0, sizes);
     }
     write_change(0, bytes, out, sizes)
@@ -185,7 +188,7 @@ fn filing_fault(bytes: &[u8], marked: bool) -> u32
     if !marked {
         return UNKNOWN_MARK as u32;
     }
-    parse_change(bytes, 1).number as u32
+    parse_change(bytes, FILED).number as u32
 }
 
 fn has_amount(bytes: &[u8]) -> bool
@@ -287,19 +290,6 @@ fn hand_back(state: &mut [u64], b: Book) {
     set(state, 2, flag(closed));
 }
 
-fn number_of(a: Said) -> u32
-    ensures { λ r. ⌜ r ≡ replyNumber (replyOf a) ⌝ }
-{
-    match a {
-        Said::Refused(n) => n as u32,
-        Said::Accepted => 0,
-        Said::Place(_start, _len) => 0,
-        Said::Number(_n) => 0,
-        Said::Day(_total, _reversal) => 0,
-        Said::Charge(_t) => 0,
-    }
-}
-
 fn done(b: Book, method: u32, lent: &mut [u8], bytes: &[u8]) -> Done
     ensures { λ r. ⌜ replyOf (r .answer) ≡ outcome (stepOf (callOf method (now (bytes .entry)))) b (now (lent .entry)) .answer ⌝ }
 {
@@ -336,7 +326,7 @@ pub extern "C" fn pewatuno_change(
     let next = d.book;
     let said = d.answer;
     hand_back(state, next);
-    number_of(said)
+    refusal_in(said) as u32
 }
 
 fn hour_of(hour: u32) -> u8
@@ -349,7 +339,7 @@ fn hour_of(hour: u32) -> u8
 }
 
 fn tell_said(sizes: &mut [u64], a: Said) -> u32
-    ensures { λ r. ⌜ r ≡ replyNumber (replyOf a) ⌝ }
+    ensures { λ r. ⌜ r ≡ replied (replyOf a) ⌝ }
 {
     match a {
         Said::Refused(n) => n as u32,
@@ -442,7 +432,7 @@ fn tell_credits(lent: &[u8], a: Amounts, sizes: &mut [u64], amounts: &mut [i64])
 
 fn tell_guarantees(lent: &[u8], g: Guarantees, sizes: &mut [u64], amounts: &mut [i64]) -> u32
     requires { ⌜ g .credits .n ≤ 16 ⌝ }
-    ensures { λ r. ⌜ r ≡ replyNumber (guaranteesReply g) ⌝ }
+    ensures { λ r. ⌜ r ≡ replied (guaranteesReply g) ⌝ }
 {
     let n = g.number;
     if n != 0 {
@@ -469,7 +459,7 @@ pub extern "C" fn pewatuno_guarantees(
 }
 
 fn tell_amounts(amounts: &mut [i64], a: Said) -> u32
-    ensures { λ r. ⌜ r ≡ replyNumber (replyOf a) ⌝ }
+    ensures { λ r. ⌜ r ≡ replied (replyOf a) ⌝ }
 {
     match a {
         Said::Refused(n) => n as u32,

@@ -1,5 +1,5 @@
 // The wheel offset of one hour, from its records: for Rattle, and for programs in C over numbers and bytes.
-use book::answers::Answer as Said;
+use book::answers::refusal_in;
 use book::journal::Book;
 use money::refusals::OUT_OF_RANGE;
 use money::units::Answer;
@@ -13,23 +13,8 @@ ghost use lib.ListN.{length};
 ghost use mir.Syntax.{w64};
 ghost use mir.Val.{ofZ};
 ghost use Rattle.book.specs.Register.{ask, hourGuarantees, stepOf};
-ghost use Rattle.book.specs.Meaning.{replyOf, outcome};
-ghost use Rattle.book.specs.Tables.{replied};
+ghost use Rattle.book.specs.Meaning.{outcome};
 ghost use Rattle.hour_offset.specs.HourOffset.{ticks, offsetIn, answerOf, hourOffset, eight, callNumber, callBytes};
-
-// The number of a refusal, 0 of any other answer.
-fn refusal_in(a: Said) -> u8
-    ensures { λ r. ⌜ r ≡ replied (replyOf a) ⌝ }
-{
-    match a {
-        Said::Accepted => 0,
-        Said::Refused(n) => n,
-        Said::Place(_start, _len) => 0,
-        Said::Number(_n) => 0,
-        Said::Day(_total, _reversal) => 0,
-        Said::Charge(_t) => 0,
-    }
-}
 
 // The offset among the guarantees of the records' hour; without records the hour is 0.
 fn offset_in(book: Book, log: &[u8], hour: u8) -> Answer

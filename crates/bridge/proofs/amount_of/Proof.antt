@@ -1,8 +1,7 @@
-use mathlib.Core.Path.{_≡_, sym, ap, _∙_}
+use mathlib.Core.Path.{sym, ap, _∙_}
 use Rattle.records.specs.declared.layouts.HourPrices.{HourPrices}
 use Rattle.records.specs.declared.marks.Mark.the-variants.{Fi, Fe}
 use Rattle.records.specs.Amounts.{creditIn, unitAmountIn, chargeIn}
-use native.Mathlib.Omega.{arith}
 use borrow.Author.Needs.{needs}
 use Rattle.bridge.proofs.amount_of.Statement.{statement}
 use Rattle.bridge.proofs.amount_of.Tie as tie

@@ -1,6 +1,4 @@
-use mathlib.Core.Path.{_≡_, sym, ap, _∙_}
 use borrow.Author.Tests.{eq-eqb, ne-eqb}
-use native.Mathlib.Omega.{arith}
 use borrow.Author.Needs.{needs}
 use Rattle.bridge.proofs.done.Statement.{statement}
 use Rattle.bridge.proofs.done.Tie as tie

@@ -1,9 +1,9 @@
-use mathlib.Core.Path.{_≡_, sym, ap, _∙_}
+use mathlib.Core.Path.{ap, _∙_}
 use Rattle.book.specs.declared.journal.Book.{Book}
 use Rattle.book.specs.Register.{Reply, stepOf}
 use Rattle.book.specs.Meaning.{outcome}
-use Rattle.bridge.specs.Bridge.{replyNumber, callOf, changeNumber}
-use native.Mathlib.Omega.{arith}
+use Rattle.book.specs.Tables.{replied}
+use Rattle.bridge.specs.Bridge.{callOf, changeNumber}
 use borrow.Author.Needs.{needs}
 use Rattle.bridge.proofs.pewatuno_change.Statement.{statement}
 use Rattle.bridge.proofs.pewatuno_change.Tie as tie
@@ -12,7 +12,7 @@ use Rattle.bridge.proofs.pewatuno_change.Lts as lts
 use Rattle.bridge.proofs.book_in.Reads as book-in-reads
 use Rattle.bridge.proofs.done.Reads as done-reads
 use Rattle.bridge.proofs.hand_back.Reads as hand-back-reads
-use Rattle.bridge.proofs.number_of.Reads as number-of-reads
+use Rattle.book.proofs.answers.refusal_in.Reads as refusal-in-reads
 
 book-in-requires : tie.Need-book-in-requires
 book-in-requires c κs = search needs
@@ -23,8 +23,11 @@ done-requires c κs = search needs
 hand-back-requires : tie.Need-hand-back-requires
 hand-back-requires c κs = search needs
 
-number-of-requires : tie.Need-number-of-requires
-number-of-requires c κs = search needs
+refusal-in-requires : tie.Need-refusal-in-requires
+refusal-in-requires c κs = search needs
+
+cast-result : tie.Need-cast-result
+cast-result c = search needs
 
 same-length : tie.Need-same-length
 same-length c = search needs
@@ -34,7 +37,7 @@ same-length-2 c = search needs
 
 returns : tie.Need-returns
 unfolding changeNumber
-returns c = (c .number-of) .ensures ∙ ap (λ (r : Reply). replyNumber r) ((c .before .before .before .before .before .before .before .before .done) .ensures) ∙ ap (λ (b : Book). replyNumber (outcome (stepOf (callOf ((c .before .before .before .before .before .before .before .before .before .before .before .before .before .before .before .args) .method) ((c .before .before .before .before .before .before .before .before .before .before .before .before .before .before .before .args) .bytes .now))) b ((c .before .before .before .before .before .before .before .before .before .before .before .before .before .before .before .args) .lent .now) .answer)) ((c .before .before .before .before .before .before .before .before .before .before .book-in) .ensures)
+returns c = (c .refusal-in) .ensures ∙ ap (λ (r : Reply). replied r) ((c .before .before .before .before .before .before .before .before .done) .ensures) ∙ ap (λ (b : Book). replied (outcome (stepOf (callOf ((c .before .before .before .before .before .before .before .before .before .before .before .before .before .before .before .args) .method) ((c .before .before .before .before .before .before .before .before .before .before .before .before .before .before .before .args) .bytes .now))) b ((c .before .before .before .before .before .before .before .before .before .before .before .before .before .before .before .args) .lent .now) .answer)) ((c .before .before .before .before .before .before .before .before .before .before .book-in) .ensures)
 
 pub pewatuno-change-spec : {M : Type 1} → statement M
 pewatuno-change-spec =
@@ -43,7 +46,8 @@ pewatuno-change-spec =
     book-in-requires
     done-requires
     hand-back-requires
-    number-of-requires
+    refusal-in-requires
+    cast-result
     same-length
     same-length-2
     returns)

@@ -1,8 +1,7 @@
-use mathlib.Core.Path.{_≡_, sym, ap, _∙_}
+use mathlib.Core.Path.{sym, ap, _∙_}
 use Rattle.money.specs.UnitLaws.{kept}
 use Rattle.records.specs.declared.keys.NameAnswer.{NameAnswer}
 use Rattle.bridge.specs.Bridge.{nameNumber}
-use native.Mathlib.Omega.{arith}
 use borrow.Author.Needs.{needs}
 use Rattle.bridge.proofs.pewatuno_compare.Statement.{statement}
 use Rattle.bridge.proofs.pewatuno_compare.Tie as tie

@@ -1,10 +1,8 @@
-use mathlib.Core.Path.{_≡_, sym, ap, _∙_}
-use Prim.Native.Nat.{ℕ}
-use Rattle.book.specs.declared.journal.Book.{Book}
+use mathlib.Core.Path.{ap, _∙_}
 use Rattle.book.specs.Register.{Reply, ask, countOf, stepOf}
 use Rattle.book.specs.Meaning.{outcome}
-use Rattle.bridge.specs.Bridge.{replyNumber, askedNumber}
-use native.Mathlib.Omega.{arith}
+use Rattle.book.specs.Tables.{replied}
+use Rattle.bridge.specs.Bridge.{askedNumber}
 use borrow.Author.Needs.{needs}
 use Rattle.bridge.proofs.pewatuno_count.Statement.{statement}
 use Rattle.bridge.proofs.pewatuno_count.Tie as tie
@@ -33,8 +31,8 @@ same-length c = search needs
 returns : tie.Need-returns
 unfolding askedNumber
 returns c =
-    (c .before .before .tell-said) .ensures ∙ ap (λ (r : Reply). replyNumber r) ((c .before .before .before .count-of) .ensures .answer)
-    ∙ (λ i. replyNumber (outcome (stepOf (ask (countOf ((c .before .before .before .before .before .before .before .before .before .before .before .args) .mark .now) ((c .before .before .before .before .hour-of) .ensures i)))) ((c .before .before .before .before .before .before .book-in) .ensures i) ((c .before .before .before .before .before .before .before .before .before .before .before .args) .lent .now) .answer))
+    (c .before .before .tell-said) .ensures ∙ ap (λ (r : Reply). replied r) ((c .before .before .before .count-of) .ensures .answer)
+    ∙ (λ i. replied (outcome (stepOf (ask (countOf ((c .before .before .before .before .before .before .before .before .before .before .before .args) .mark .now) ((c .before .before .before .before .hour-of) .ensures i)))) ((c .before .before .before .before .before .before .book-in) .ensures i) ((c .before .before .before .before .before .before .before .before .before .before .before .args) .lent .now) .answer))
 
 pub pewatuno-count-spec : {M : Type 1} → statement M
 pewatuno-count-spec =

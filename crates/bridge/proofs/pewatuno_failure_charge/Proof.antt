@@ -1,8 +1,8 @@
 use mathlib.Core.Path.{ap, _∙_}
 use Rattle.book.specs.Register.{Reply, ask, failureCharge, stepOf}
 use Rattle.book.specs.Meaning.{outcome}
-use Rattle.bridge.specs.Bridge.{replyNumber, askedNumber}
-use native.Mathlib.Omega.{arith}
+use Rattle.book.specs.Tables.{replied}
+use Rattle.bridge.specs.Bridge.{askedNumber}
 use borrow.Author.Needs.{needs}
 use Rattle.bridge.proofs.pewatuno_failure_charge.Statement.{statement}
 use Rattle.bridge.proofs.pewatuno_failure_charge.Tie as tie
@@ -30,7 +30,7 @@ same-length c = search needs
 
 returns : tie.Need-returns
 unfolding askedNumber
-returns c = (c .before .tell-amounts) .ensures ∙ ap (λ (r : Reply). replyNumber r) ((c .before .before .failure-charge) .ensures .answer) ∙ (λ i. replyNumber (outcome (stepOf (ask (failureCharge ((c .before .before .before .before .before .before .before .before .before .before .args) .mark .now) ((c .before .before .before .hour-of) .ensures i) ((c .before .before .before .before .before .before .before .before .before .before .args) .name .now)))) ((c .before .before .before .before .before .book-in) .ensures i) ((c .before .before .before .before .before .before .before .before .before .before .args) .lent .now) .answer))
+returns c = (c .before .tell-amounts) .ensures ∙ ap (λ (r : Reply). replied r) ((c .before .before .failure-charge) .ensures .answer) ∙ (λ i. replied (outcome (stepOf (ask (failureCharge ((c .before .before .before .before .before .before .before .before .before .before .args) .mark .now) ((c .before .before .before .hour-of) .ensures i) ((c .before .before .before .before .before .before .before .before .before .before .args) .name .now)))) ((c .before .before .before .before .before .book-in) .ensures i) ((c .before .before .before .before .before .before .before .before .before .before .args) .lent .now) .answer))
 
 pub pewatuno-failure-charge-spec : {M : Type 1} → statement M
 pewatuno-failure-charge-spec =

@@ -1,9 +1,9 @@
-use mathlib.Core.Path.{_≡_, sym, ap, _∙_}
+use mathlib.Core.Path.{ap, _∙_}
 use Rattle.book.specs.declared.journal.Book.{Book}
 use Rattle.book.specs.Register.{Reply, ask, freeBytes, stepOf}
 use Rattle.book.specs.Meaning.{outcome}
-use Rattle.bridge.specs.Bridge.{replyNumber, askedNumber}
-use native.Mathlib.Omega.{arith}
+use Rattle.book.specs.Tables.{replied}
+use Rattle.bridge.specs.Bridge.{askedNumber}
 use borrow.Author.Needs.{needs}
 use Rattle.bridge.proofs.pewatuno_free.Statement.{statement}
 use Rattle.bridge.proofs.pewatuno_free.Tie as tie
@@ -27,7 +27,7 @@ same-length c = search needs
 
 returns : tie.Need-returns
 unfolding askedNumber
-returns c = (c .before .before .tell-said) .ensures ∙ ap (λ (r : Reply). replyNumber r) ((c .before .before .before .free-bytes) .ensures .answer) ∙ ap (λ (b : Book). replyNumber (outcome (stepOf (ask freeBytes)) b ((c .before .before .before .before .before .before .before .before .before .args) .lent .now) .answer)) ((c .before .before .before .before .before .book-in) .ensures)
+returns c = (c .before .before .tell-said) .ensures ∙ ap (λ (r : Reply). replied r) ((c .before .before .before .free-bytes) .ensures .answer) ∙ ap (λ (b : Book). replied (outcome (stepOf (ask freeBytes)) b ((c .before .before .before .before .before .before .before .before .before .args) .lent .now) .answer)) ((c .before .before .before .before .before .book-in) .ensures)
 
 pub pewatuno-free-spec : {M : Type 1} → statement M
 pewatuno-free-spec =

@@ -1,8 +1,8 @@
 use mathlib.Core.Path.{ap, _∙_}
 use Rattle.book.specs.Register.{Reply, ask, hourGuarantees, stepOf}
 use Rattle.book.specs.Meaning.{outcome}
-use Rattle.bridge.specs.Bridge.{replyNumber, askedNumber}
-use native.Mathlib.Omega.{arith}
+use Rattle.book.specs.Tables.{replied}
+use Rattle.bridge.specs.Bridge.{askedNumber}
 use borrow.Author.Needs.{needs}
 use Rattle.bridge.proofs.pewatuno_guarantees.Statement.{statement}
 use Rattle.bridge.proofs.pewatuno_guarantees.Tie as tie
@@ -33,7 +33,7 @@ same-length-2 c = search needs
 
 returns : tie.Need-returns
 unfolding askedNumber
-returns c = (c .before .before .before .tell-guarantees) .ensures ∙ ap (λ (r : Reply). replyNumber r) ((c .before .before .before .before .before .before .guarantees) .ensures .0 .answer) ∙ (λ i. replyNumber (outcome (stepOf (ask (hourGuarantees ((c .before .before .before .before .before .before .before .hour-of) .ensures i)))) ((c .before .before .before .before .before .before .before .before .book-in) .ensures i) ((c .before .before .before .before .before .before .before .before .before .before .before .before .args) .lent .now) .answer))
+returns c = (c .before .before .before .tell-guarantees) .ensures ∙ ap (λ (r : Reply). replied r) ((c .before .before .before .before .before .before .guarantees) .ensures .0 .answer) ∙ (λ i. replied (outcome (stepOf (ask (hourGuarantees ((c .before .before .before .before .before .before .before .hour-of) .ensures i)))) ((c .before .before .before .before .before .before .before .before .book-in) .ensures i) ((c .before .before .before .before .before .before .before .before .before .before .before .before .args) .lent .now) .answer))
 
 pub pewatuno-guarantees-spec : {M : Type 1} → statement M
 pewatuno-guarantees-spec =

@@ -1,6 +1,5 @@
-use mathlib.Core.Path.{_≡_, sym, ap, _∙_}
+use mathlib.Core.Path.{sym, ap, _∙_}
 use Rattle.records.specs.declared.parse.Front.{Front}
-use native.Mathlib.Omega.{arith}
 use borrow.Author.Needs.{needs}
 use Rattle.bridge.proofs.pewatuno_next.Statement.{statement}
 use Rattle.bridge.proofs.pewatuno_next.Tie as tie

@@ -2,8 +2,8 @@ use mathlib.Core.Path.{ap, _∙_}
 use Rattle.book.specs.declared.journal.Book.{Book}
 use Rattle.book.specs.Register.{Reply, ask, dayOf, stepOf}
 use Rattle.book.specs.Meaning.{outcome}
-use Rattle.bridge.specs.Bridge.{replyNumber, askedNumber}
-use native.Mathlib.Omega.{arith}
+use Rattle.book.specs.Tables.{replied}
+use Rattle.bridge.specs.Bridge.{askedNumber}
 use borrow.Author.Needs.{needs}
 use Rattle.bridge.proofs.pewatuno_unit_day.Statement.{statement}
 use Rattle.bridge.proofs.pewatuno_unit_day.Tie as tie
@@ -27,7 +27,7 @@ same-length c = search needs
 
 returns : tie.Need-returns
 unfolding askedNumber
-returns c = (c .before .tell-amounts) .ensures ∙ ap (λ (r : Reply). replyNumber r) ((c .before .before .unit-day) .ensures .answer) ∙ ap (λ (b : Book). replyNumber (outcome (stepOf (ask (dayOf ((c .before .before .before .before .before .before .before .before .args) .name .now)))) b ((c .before .before .before .before .before .before .before .before .args) .lent .now) .answer)) ((c .before .before .before .before .book-in) .ensures)
+returns c = (c .before .tell-amounts) .ensures ∙ ap (λ (r : Reply). replied r) ((c .before .before .unit-day) .ensures .answer) ∙ ap (λ (b : Book). replied (outcome (stepOf (ask (dayOf ((c .before .before .before .before .before .before .before .before .args) .name .now)))) b ((c .before .before .before .before .before .before .before .before .args) .lent .now) .answer)) ((c .before .before .before .before .book-in) .ensures)
 
 pub pewatuno-unit-day-spec : {M : Type 1} → statement M
 pewatuno-unit-day-spec =

@@ -1,6 +1,5 @@
-use mathlib.Core.Path.{_≡_, sym, ap, _∙_}
+use mathlib.Core.Path.{_∙_}
 use borrow.Author.Tests.{eq-eqb, ne-eqb}
-use native.Mathlib.Omega.{arith}
 use borrow.Author.Needs.{needs}
 use Rattle.bridge.proofs.pewatuno_write.Statement.{statement}
 use Rattle.bridge.proofs.pewatuno_write.Tie as tie

@@ -1,5 +1,4 @@
 use borrow.Author.Tests.{eq-eqb, ne-eqb}
-use native.Mathlib.Omega.{arith}
 use borrow.Author.Needs.{needs}
 use Rattle.bridge.proofs.tell_guarantees.Statement.{statement}
 use Rattle.bridge.proofs.tell_guarantees.Tie as tie

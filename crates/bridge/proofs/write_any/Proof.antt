@@ -1,11 +1,10 @@
-use mathlib.Core.Path.{_≡_, sym, ap, _∙_}
+use mathlib.Core.Path.{sym, ap, _∙_}
 use borrow.Author.Tests.{lt-ltb, le-ltb}
 use lib.Dec.{ltb}
 use mathlib.Core.Bool.{cond}
 use Rattle.money.specs.UnitLaws.{kept}
 use Rattle.records.specs.Changes.{parse, parseAny, entryOf, putNumber}
 use Rattle.records.specs.declared.parse.Parsed.{Parsed}
-use native.Mathlib.Omega.{arith}
 use borrow.Author.Needs.{needs}
 use Rattle.bridge.proofs.write_any.Statement.{statement}
 use Rattle.bridge.proofs.write_any.Tie as tie

@@ -12,7 +12,7 @@ use Rattle.hour_offset.proofs.offset_over.Lts as lts
 use Rattle.book.proofs.journal.Book.file.Reads as file-reads
 use Rattle.book.proofs.journal.Book.fresh.Reads as fresh-reads
 use Rattle.hour_offset.proofs.offset_in.Reads as offset-in-reads
-use Rattle.hour_offset.proofs.refusal_in.Reads as refusal-in-reads
+use Rattle.book.proofs.answers.refusal_in.Reads as refusal-in-reads
 use Rattle.records.proofs.hour_records.first_of_hour.Reads as first-of-hour-reads
 
 abbrev Inv-loop : tie.InvT-loop
