@@ -8,10 +8,12 @@ use lib.ListN.{length, take, length-take}
 use lib.Seq.{take-all}
 use lib.Dec.{ltb}
 use borrow.Author.Tests.{le-ltb}
-use Rattle.book.specs.Layer.{Change, Input, fine, fault, parse, begins, takeBackBytes, closeBytes, parse-fault, Unread}
+use Rattle.book.specs.Layer.{Key, Rec, Change, Im, Ex, Input, fine, fault, parse, begins, takeBackBytes, closeBytes, Asked, got, bad, askHourOf, askHourOf-fault, parse-fault, Unread}
 use Rattle.book.specs.declared.journal.Book.{Book}
-use Rattle.book.specs.Register.{Reg, Question, Call, file, change, ask, answer, Reply, refused, Step, answered, becomes, stepOf, called, listed, judged, takenBack, closing, shorter, unless-closed, bareTakeBack, bareClose, refusal, writeAll}
-use Rattle.book.specs.Meaning.{Load, astray, load, Valid, After, bookOf, settled, stepped, outcome, Meets}
+use Rattle.book.specs.ByName.{byName}
+use Rattle.book.specs.Amounts.{Price, priced, unpriced, hourKey, priceOf, guaranteesAt, guaranteesOf}
+use Rattle.book.specs.Register.{Reg, standing, startIn, Question, hourGuarantees, keyed, asking, Call, file, change, ask, answer, Reply, refused, Step, answered, becomes, stepOf, called, listed, judged, takenBack, closing, shorter, unless-closed, bareTakeBack, bareClose, refusal, writeAll}
+use Rattle.book.specs.Meaning.{Load, belongs, astray, load, Valid, After, bookOf, settled, stepped, outcome, Meets}
 use Rattle.book.specs.ReplayLaws.{outcome-is}
 
 -- ---- a change is accepted, or refused with a number above 0
@@ -122,6 +124,27 @@ module _ (g : Reg) (s : List ℕ) (v : Valid (g .list)) (h : take (length (write
 
     pub turn-bytes : take (length (settled (bookOf g) s st .kept)) s′ ≡ settled (bookOf g) s st .kept
     turn-bytes = subst (λ (x : After). take (length (x .kept)) s′ ≡ x .kept) turn (m .bytes)
+
+-- ---- a question, of a book and bytes that belong together
+
+pub question-loaded : (q : Question) (b : Book) (s : List ℕ) (l : List Change) (r : Reply) → load b s ≡ belongs l → Meets (ask q) b s b r s → r ≡ answer q (length s) (record { list = l; closed = b .closed })
+unfolding outcome
+question-loaded q b s l r e m = m .answer ∙ ap (λ (x : Load). settled b s (stepped (asking q) b s x) .answer) e
+
+-- no refusal of an hour's guarantees is 0
+pub guarantees-fault : (h lent : ℕ) (g : Reg) (n : ℕ) → answer (hourGuarantees h) lent g ≡ refused n → 0 < n
+unfolding guaranteesOf
+guarantees-fault h lent g n = go (askHourOf Im h) refl
+  where
+    worked : (at : Key → ℕ) (p : Price) (is es : List Rec) → guaranteesAt at p is es ≡ refused n → 0 < n
+    worked at p [] es e = let z : _≡_ {A = ℕ} 0 1 = cc in absurd (omega arith)
+    worked at unpriced (i ∷ is) es e = let q : 15 ≡ n = cc in omega arith
+    worked at (priced p) (i ∷ is) es e = let z : _≡_ {A = ℕ} 0 1 = cc in absurd (omega arith)
+
+    go : (x : Asked) → askHourOf Im h ≡ x → keyed x (λ (k : Key). guaranteesOf (startIn (g .list)) (standing (g .list)) (priceOf (standing (g .list))) (k .hour)) ≡ refused n → 0 < n
+    go (bad m) e q = let z : m ≡ n = cc in omega (arith, askHourOf-fault Im h m e)
+    go (got k t) e q =
+        worked (startIn (g .list)) (priceOf (standing (g .list)) (k .hour)) (byName (hourKey Im (k .hour)) (standing (g .list))) (byName (hourKey Ex (k .hour)) (standing (g .list))) q
 
 -- ---- "book and lent bytes don't belong together": 16 to any call, which changes nothing
 

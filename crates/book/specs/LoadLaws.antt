@@ -1,6 +1,6 @@
 -- Which bytes are a book's.
 use Prim.Native.Nat.{ℕ, _≤_, _<_}
-use mathlib.Core.Path.{_≡_, refl, sym, ap, _∙_}
+use mathlib.Core.Path.{_≡_, refl, sym, ap, _∙_, subst}
 use mathlib.Core.List.{List, []}
 use mathlib.Core.Bool.{Bool, true, false, cond}
 use native.Mathlib.Omega.{arith}
@@ -49,6 +49,9 @@ loaded-from b s l e = go (leb (b .used) (length s)) refl
           count-is = omega (arith, p .count);
         }
     go false t = let z : _≡_ {A = ℕ} 0 1 = cc (load-short b s (leb-false (b .used) (length s) t)) in absurd (omega arith)
+
+pub loaded-valid : (b : Book) (s : List ℕ) (l : List Change) → load b s ≡ belongs l → Valid l
+loaded-valid b s l e = let x = loaded-from b s l e in let p : x .list ≡ l = cc (x .is) in subst Valid p (x .valid)
 
 -- a list that can be played, with its written form in front of the bytes, is read back
 pub load-whole : (g : Reg) (s : List ℕ) → Valid (g .list) → take (length (writeAll (g .list))) s ≡ writeAll (g .list) → load (bookOf g) s ≡ belongs (g .list)

@@ -1,5 +1,5 @@
 -- Every list of calls from a fresh book: what the book answers, carries and keeps is the register's.
-use Prim.Native.Nat.{ℕ, zero, suc, _+_, _-_, _≤_, _<_}
+use Prim.Native.Nat.{ℕ, zero, suc, _≤_, _<_}
 use mathlib.Core.Path.{_≡_, refl, sym, ap, ap₂, _∙_, subst, subst⁻¹}
 use mathlib.Core.List.{List, [], _∷_, _++_}
 use mathlib.Core.Bool.{Bool, true, false, cond}
@@ -10,11 +10,12 @@ use lib.Dec.{ltb}
 use borrow.Author.Tests.{le-ltb, ltb-true, ltb-false}
 use Rattle.book.specs.Layer.{Change, bare-exact, takeBackBytes}
 use Rattle.book.specs.declared.journal.Book.{Book}
-use Rattle.book.specs.Register.{Reg, Call, takeBack, ask, Question, answer, placeOf, standing, Step, answered, becomes, refused, accepted, stepOf, called, shorter, unless-closed, after, writeAll, Reply, reply, Turn, run, told}
+use Rattle.book.specs.Register.{Reg, Call, takeBack, ask, answer, placeOf, standing, Step, answered, becomes, refused, accepted, stepOf, called, shorter, unless-closed, after, writeAll, Reply, reply, Turn, run, told}
 use Rattle.book.specs.Meaning.{After, bookOf, settled, Meets, Valid}
 use Rattle.book.specs.Amounts.{pick}
 use Rattle.book.specs.Session.{Session, start, next, Undo, undone, undo, Shows, Agrees, Restored, Holds, Throughout}
 use Rattle.book.specs.ReplayLaws.{called-valid, outcome-is}
+use Rattle.book.specs.CallLaws.{asked}
 use Rattle.book.specs.PlaceLaws.{place-shows, standing-asked}
 
 -- the lent bytes and what was not lent make up what was left
@@ -135,17 +136,6 @@ undo-is before (undo u s h lent d′ r s′ m) =
     let a = follows (w .0) in
     (next (w .0) (takeBack takeBackBytes) s h d′ r s′ m, back (w .1) (length s) (omega (arith, ap (λ (x : Book). x .used) (a .book))))
 
--- a question with all used bytes lent
-question-is : (q : Question) (g : Reg) (s : List ℕ) → Valid (g .list) → take (length (writeAll (g .list))) s ≡ writeAll (g .list)
-    → (b′ : Book) (r : Reply) (s′ : List ℕ) → Meets (ask q) (bookOf g) s b′ r s′ → r ≡ answer q (length s) g
-unfolding called
-question-is q g s v h b′ r s′ m =
-    let w = writeAll (g .list) in
-    let le = within w s h in
-    let o = outcome-is (ask q) g s v (h ∙ sym (take-all (length s) w le)) in
-    m .answer ∙ ap (λ (x : After). x .answer) o
-    ∙ ap (λ (t : Bool). settled (bookOf g) s (cond t (answered (refused 16)) (stepOf (ask q) (length s) g)) .answer) (le-ltb (length s) (length w) le)
-
 agrees : {ts : List Turn} {rs : List Reply} {b : Book} {held : List ℕ} → Session ts rs b held → Agrees ts rs b held
 agrees {ts} {rs} {b} {held} σ =
     let f = follows σ in
@@ -157,7 +147,7 @@ agrees {ts} {rs} {b} {held} σ =
       finds = λ k. subst⁻¹ (λ (x : List ℕ). Shows (pick k (standing (run ts .list))) x (placeOf k (run ts .list))) (f .used) (place-shows k (run ts .list));
       reached = λ k h. standing-asked k (run ts .list) (f .valid) h;
       questions = λ q s h b′ r s′ m.
-          question-is q (run ts) s (f .valid) (subst (λ (x : List ℕ). take (length x) s ≡ x) (f .used) h) b′ r s′ (subst (λ (x : Book). Meets (ask q) x s b′ r s′) (f .book) m);
+          subst (λ (x : Book). Meets (ask q) x s b′ r s′) (f .book) m .answer ∙ asked (run ts) s (f .valid) (subst (λ (x : List ℕ). take (length x) s ≡ x) (f .used) h) q;
     }
 
 taken-back : {ts : List Turn} {rs : List Reply} {b : Book} {held : List ℕ} (before : Session ts rs b held) {n : ℕ} {us : List Turn} {qs : List Reply} {d : Book} {kept : List ℕ}

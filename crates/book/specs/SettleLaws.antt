@@ -10,7 +10,7 @@ use Rattle.book.specs.declared.journal.Book.{Book}
 use Rattle.book.specs.Register.{Reg, fresh, change, Step, answered, becomes, called, after, writeAll}
 use Rattle.book.specs.Meaning.{belongs, load, Valid, bookOf}
 use Rattle.book.specs.ReplayLaws.{called-valid}
-use Rattle.book.specs.LoadLaws.{loaded-from, load-whole, load-fresh}
+use Rattle.book.specs.LoadLaws.{loaded-valid, load-whole, load-fresh}
 use Rattle.book.specs.Feed.{piece, Fed, onward, fed, feeding, Settled, statement, ref, verdict, settled}
 use Rattle.book.specs.FeedLaws.{piece-some, first-then}
 use Rattle.book.specs.FeedPromise.{Ends, Feeds}
@@ -38,10 +38,8 @@ still-valid (suc n) lent g (b ∷ s) h v =
 pub feeds-again : (b : Book) (s input : List ℕ) (r : Result) (s′ : List ℕ) (l : List Change) → load b s ≡ belongs l → Feeds b s input r s′
     → load (r .book) s′ ≡ belongs (feeding (length s) (record { list = l; closed = b .closed }) input .reg .list)
 feeds-again b s input r s′ l e m =
-    let x = loaded-from b s l e in
-    let p : x .list ≡ l = cc (x .is) in
     let w = m .together l e in
-    let v = still-valid (length input) (length s) (record { list = l; closed = b .closed }) input (omega arith) (subst Valid p (x .valid)) in
+    let v = still-valid (length input) (length s) (record { list = l; closed = b .closed }) input (omega arith) (loaded-valid b s l e) in
     ap (λ (y : Book). load y s′) (w .book) ∙ load-whole _ s′ v (w .bytes)
 
 -- ---- from a fresh book over 65,535 bytes

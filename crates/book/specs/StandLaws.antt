@@ -1,29 +1,29 @@
 -- What stands is written at its place in the lent bytes, can be written, and stands under one key and name only.
-use Prim.Native.Nat.{ℕ, zero, suc, _+_, _≤_, _<_}
+use Prim.Native.Nat.{ℕ, zero, suc, _≤_, _<_}
 use mathlib.Core.Path.{_≡_, refl, sym, ap, _∙_, subst}
 use mathlib.Core.List.{List, [], _∷_, _++_, append-assoc}
 use mathlib.Core.Bool.{Bool, true, false, cond}
 use native.Mathlib.Omega.{arith}
 use native.Mathlib.Nat.{not-suc-le-zero, le-of-suc-le-suc}
-use lib.ListN.{length, take, drop, getD, take-append-drop}
+use lib.ListN.{length, drop, getD, take-append-drop}
 use lib.Seq.{drop-append-le}
-use Rattle.book.specs.Layer.{Key, View, Rec, Change, filed, corrected, withdrawn, keyOf, write, Good, good-co, same, sameHour, same-true, same-refl, nameOf, nameBefore, names-apart, sameHour-same}
-use Rattle.book.specs.Register.{writeAll, without, play, standing, stands, place, refused, placeOf, startFrom, startIn, Reply}
-use Rattle.book.specs.Amounts.{Pick, is, nil, pick}
-use Rattle.book.specs.ByName.{inOrder, byName}
+use Rattle.book.specs.Layer.{Key, Name, View, Rec, Change, filed, corrected, withdrawn, write, Good, good-co, same, sameHour, same-true, same-refl, nameOf, nameBefore, names-apart, sameHour-same}
+use Rattle.book.specs.Register.{writeAll, without, standing, stands, place, refused, startFrom, startIn}
+use Rattle.book.specs.Amounts.{is, nil, pick}
+use Rattle.book.specs.ByName.{inOrder, byName, addName, sameMark, namesOf}
 use Rattle.book.specs.Meaning.{Valid}
 use Rattle.book.specs.Tables.{survey}
 use Rattle.book.specs.Worked.{Opened}
 use Rattle.book.specs.RegisterLaws.{by-test, true≠false, same-turned, survey-found, Once, once-standing}
-use Rattle.book.specs.PlaceLaws.{Written, survey-written, survey-place, pick-none}
+use Rattle.book.specs.PlaceLaws.{survey-written, survey-place, pick-none}
 
--- ---- a property of all records of a list
+-- ---- a property of all of a list
 
-pub data All (P : Rec → Type 0) : List Rec → Type 0 where
+pub data All {A : Type 0} (P : A → Type 0) : List A → Type 0 where
   done : All P []
-  also : {r : Rec} {rs : List Rec} → P r → All P rs → All P (r ∷ rs)
+  also : {r : A} {rs : List A} → P r → All P rs → All P (r ∷ rs)
 
-pub all-map : {P Q : Rec → Type 0} (f : (r : Rec) → P r → Q r) {rs : List Rec} → All P rs → All Q rs
+pub all-map : {A : Type 0} {P Q : A → Type 0} (f : (r : A) → P r → Q r) {rs : List A} → All P rs → All Q rs
 all-map f done = done
 all-map f (also {r = r} p a) = also (f r p) (all-map f a)
 
@@ -205,7 +205,7 @@ apart-by-name k u (also {r = r} {rs = rs} g a) = go (apart-by-name k (u .1) a) (
     go w false t = w
 
 -- the same by index
-pub all-at : {P : Rec → Type 0} {rs : List Rec} → All P rs → (d : Rec) (i : ℕ) → i < length rs → P (getD rs i d)
+pub all-at : {A : Type 0} {P : A → Type 0} {rs : List A} → All P rs → (d : A) (i : ℕ) → i < length rs → P (getD rs i d)
 all-at done d i h = absurd (not-suc-le-zero h)
 all-at (also p a) d zero h = p
 all-at (also p a) d (suc i) h = all-at a d i (le-of-suc-le-suc h)
@@ -215,3 +215,24 @@ apart-at lone d i j h l = absurd (not-suc-le-zero h)
 apart-at (apart n u) d zero j h l = absurd (not-suc-le-zero l)
 apart-at (apart n u) d (suc i) zero h l = all-at n d i (le-of-suc-le-suc h)
 apart-at (apart n u) d (suc i) (suc j) h l = apart-at u d i j (le-of-suc-le-suc h) (le-of-suc-le-suc l)
+
+-- ---- the names of a mark: what holds of each record's name
+
+all-add : {P : Name → Type 0} (n : Name) {ns : List Name} → P n → All P ns → All P (addName n ns)
+unfolding addName
+all-add n p done = also p done
+all-add {P} n p (also {r = x} {rs = xs} q a) = go (all-add n p a) (nameBefore (nameOf n) (nameOf x)) (nameBefore (nameOf x) (nameOf n))
+  where
+    go : All P (addName n xs) → (b c : Bool) → All P (cond b (n ∷ x ∷ xs) (cond c (x ∷ addName n xs) (x ∷ xs)))
+    go w true c = also p (also q a)
+    go w false true = also q w
+    go w false false = also q a
+
+pub all-names : {P : Name → Type 0} (k : Key) {rs : List Rec} → All (λ (r : Rec). sameMark k (r .key) ≡ true → P (r .key .name)) rs → All P (namesOf k rs)
+unfolding namesOf
+all-names k done = done
+all-names {P} k (also {r = r} {rs = rs} p a) = go (all-names k a) (sameMark k (r .key)) refl
+  where
+    go : All P (namesOf k rs) → (b : Bool) → sameMark k (r .key) ≡ b → All P (cond b (addName (r .key .name) (namesOf k rs)) (namesOf k rs))
+    go w true e = all-add (r .key .name) (p e) w
+    go w false e = w

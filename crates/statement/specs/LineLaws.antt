@@ -2,7 +2,7 @@
 use mathlib.Core.Path.{_≡_, refl, sym, ap, _∙_}
 use mathlib.Core.List.{List, [], _∷_, _++_, append-assoc, append-nil}
 use mathlib.Core.Bool.{Bool, true, false, cond, _&&_}
-use Prim.Native.Nat.{ℕ, _+_, _*_, _/_, _%_, _≤_, _<_}
+use Prim.Native.Nat.{ℕ, _+_, _/_, _%_, _≤_, _<_}
 use native.Mathlib.Omega.{arith}
 use native.Mathlib.Numerals.{add-one}
 use lib.Dec.{leb, eqb, ltb→lt}
@@ -14,7 +14,7 @@ use borrow.Author.Tests.{le-leb, lt-leb, leb-true}
 use Rattle.money.specs.declared.names.Name.{Name}
 use Rattle.records.specs.Numbers.{pad}
 use Rattle.records.specs.Names.{spell, bytesOf, spellingOf, spellingBytes}
-use Rattle.records.specs.NameLaws.{spell-length, take-pad}
+use Rattle.records.specs.BookLaws.{spelled-short, spelling-full, take-pad}
 use Rattle.records.specs.declared.names.Spelling.{Spelling}
 use Rattle.statement.specs.Decimal.{twoDigits, decimal}
 use Rattle.statement.specs.DecimalLaws.{decimal-length}
@@ -48,7 +48,7 @@ unfolding nameBytes
 name-some n h k = rw (le-leb 1 (n .len) h, le-leb (n .len) 12 k)
 
 spelled-most : (n : Name) → n .len ≤ 12 → length (spell (bytesOf n)) ≤ 36
-spelled-most n h = omega (arith, spell-length (bytesOf n), length-take (n .len) (n .bytes))
+spelled-most n h = spelled-short (bytesOf n) (omega (arith, length-take (n .len) (n .bytes)))
 
 -- the spelling that records gives of a name is what its line shows
 pub record Spells (n : Name) (s : Spelling) : Type 0 where
@@ -57,13 +57,9 @@ pub record Spells (n : Name) (s : Spelling) : Type 0 where
   pub within : s .len ≤ length (s .bytes)
   pub all : s .len ≡ length (take (s .len) (s .bytes))
 
-spelling-is : (n : Name) → n .len ≤ 12 → spellingOf n ≡ spellingBytes (spell (bytesOf n))
-unfolding spellingOf
-spelling-is n h = rw (le-leb (n .len) 12 h)
-
 pub spells : (n : Name) (s : Spelling) → 1 ≤ n .len → n .len ≤ 12 → s ≡ spellingOf n → Spells n s
 spells n s h k e =
-    let q : s ≡ spellingBytes (spell (bytesOf n)) = e ∙ spelling-is n k in
+    let q : s ≡ spellingBytes (spell (bytesOf n)) = e ∙ spelling-full n k in
     let xs : List ℕ = spell (bytesOf n) in
     let m : length xs ≤ 36 = spelled-most n k in
     let p : take (length xs) (pad 0 36 xs) ≡ xs = take-pad 0 36 xs m in
@@ -144,10 +140,6 @@ pub line-length : (l : Line) → Fits64 (l .cents .0) → length (lineBytes l) �
 unfolding lineBytes
 line-length l h = simp length-append (omega (arith, when-length (l .hour), kind-length (l .kind), name-length (l .name), figure-length (l .kind) (l .cents .0) h))
 
-pub text-cons : (l : Line) (ls : List Line) → textOf (l ∷ ls) ≡ lineBytes l ++ textOf ls
-unfolding textOf
-text-cons l ls = refl
-
 pub text-none : textOf [] ≡ []
 unfolding textOf
 text-none = refl
@@ -160,19 +152,6 @@ pub text-append : (xs ys : List Line) → textOf (xs ++ ys) ≡ textOf xs ++ tex
 unfolding textOf
 text-append [] ys = refl
 text-append (x ∷ xs) ys = rw (text-append xs ys, append-assoc)
-
-abbrev pub EachFits : List Line → Type 0
-EachFits [] = Unit
-EachFits (l ∷ ls) = Fits64 (l .cents .0) × EachFits ls
-
-pub each-append : (xs ys : List Line) → EachFits xs → EachFits ys → EachFits (xs ++ ys)
-each-append [] ys h k = k
-each-append (x ∷ xs) ys h k = (h .0, each-append xs ys (h .1) k)
-
-pub text-length : (ls : List Line) → EachFits ls → length (textOf ls) ≤ 66 * length ls
-unfolding textOf
-text-length [] h = omega arith
-text-length (l ∷ ls) h = rw (text-cons l ls, length-append) (omega (arith, line-length l (h .0), text-length ls (h .1)))
 
 -- one more line of a list
 pub text-more : (ls : List Line) (i : ℕ) (d : Line) → i < length ls → textOf (take (i + 1) ls) ≡ textOf (take i ls) ++ lineBytes (getD ls i d)

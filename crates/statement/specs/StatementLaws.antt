@@ -1,33 +1,30 @@
 -- The statement's text, one hour or unit after the other; and what the book's answers say of a loaded book. Assumes nothing.
 use mathlib.Core.Path.{_≡_, refl, sym, ap, _∙_, subst}
-use mathlib.Core.Bool.{Bool, true, false, cond}
+use mathlib.Core.Bool.{Bool, true, false}
 use mathlib.Core.List.{List, [], _∷_, _++_, append-assoc, append-nil}
 use Prim.Native.Nat.{ℕ, zero, suc, _+_, _≤_, _<_}
 use native.Mathlib.Omega.{arith}
-use native.Mathlib.Nat.{not-suc-le-zero, le-of-suc-le-suc}
 use native.Mathlib.Numerals.{add-one}
 use lib.Dec.{leb}
 use lib.ListN.{length, take, getD}
 use lib.Seq.{take-suc, getD-take, length-take-le}
-use borrow.Author.Tests.{le-leb, leb-true, leb-false}
+use borrow.Author.Tests.{leb-true, leb-false}
 use Rattle.money.specs.declared.names.Name.{Name}
-use Rattle.records.specs.Names.{decodeName, nameOf, spell, bytesOf}
+use Rattle.records.specs.Names.{nameOf, spell, bytesOf}
 use Rattle.records.specs.Marks.{hasName}
-use Rattle.records.specs.Keys.{askHourOf}
-use Rattle.records.specs.ReaderLaws.{bind-got}
-use Rattle.records.specs.KeyLaws.{own-name}
-use Rattle.records.specs.BookLaws.{Valid as ValidName, decoded-valid, unit-asked, at-hour}
-use Rattle.book.specs.Layer.{Key, Rec, Change, filed, Good, Mark, Pr, Im, Ex, Gh, Fi, Fe, got, nameBefore, isFailure}
+use Rattle.records.specs.BookLaws.{hour-key, name-decoded, unit-asked, at-hour}
+use Rattle.book.specs.Layer.{Key, Rec, Change, filed, Good, Mark, Pr, Im, Ex, Gh, Fi, Fe, got, isFailure}
 use Rattle.book.specs.Layer as layer
 use Rattle.book.specs.declared.journal.Book.{Book}
 use Rattle.book.specs.Amounts.{Charges, hourKey, guaranteesOf, chargesOf, unitDayOf, priceOf}
-use Rattle.book.specs.ByName.{addName, namesOf, sameMark}
+use Rattle.book.specs.ByName.{namesOf, sameMark}
 use Rattle.book.specs.Units.{ghKey}
-use Rattle.book.specs.Register.{Question, Reply, hourGuarantees, dayOf, ask, asking, answer, keyed, standing, startIn}
-use Rattle.book.specs.Meaning.{Load, belongs, astray, load, replay, Valid, settled, stepped, outcome, Meets, hourCharges}
-use Rattle.book.specs.ReplayLaws.{replay-sound}
+use Rattle.book.specs.Register.{Reply, hourGuarantees, dayOf, ask, keyed, standing, startIn}
+use Rattle.book.specs.Meaning.{load, Valid, Meets, hourCharges}
+use Rattle.book.specs.LoadLaws.{loaded-valid}
+use Rattle.book.specs.CallLaws.{question-loaded}
 use Rattle.book.specs.RegisterLaws.{true≠false}
-use Rattle.book.specs.StandLaws.{All, done, also, standing-good}
+use Rattle.book.specs.StandLaws.{All, all-map, all-at, standing-good, all-names}
 use Rattle.statement.specs.Lines.{textOf}
 use Rattle.statement.specs.LineLaws.{text-none, text-append}
 use Rattle.statement.specs.Statement.{hourLines, hourOf, unitLines, unitOf, hoursTo, eachUnit, statementLines, statementOf}
@@ -72,23 +69,6 @@ statement-text l = text-append (hoursTo 24 (hourIn l)) (eachUnit (unitIn l) (nam
 
 -- ---- the book's answers
 
--- a question's reply, for a loaded book
-pub question-loaded : (q : Question) (b : Book) (s : List ℕ) (l : List Change) (r : Reply) → load b s ≡ belongs l → Meets (ask q) b s b r s → r ≡ answer q (length s) (record { list = l; closed = b .closed })
-unfolding outcome
-question-loaded q b s l r e m = m .answer ∙ ap (λ (x : Load). settled b s (stepped (asking q) b s x) .answer) e
-
-pub loaded-valid : (b : Book) (s : List ℕ) (l : List Change) → load b s ≡ belongs l → Valid l
-unfolding load Valid
-loaded-valid b s l = go (leb (b .used) (length s))
-  where
-    go : (t : Bool) → cond t (replay (b .changes) [] (take (b .used) s)) astray ≡ belongs l → Valid l
-    go true e = replay-sound (b .changes) [] (take (b .used) s) l tt e .valid
-    go false e = let z : _≡_ {A = ℕ} 0 1 = cc in absurd (omega arith)
-
-hour-key : (m : Mark) (h : ℕ) → 1 ≤ h → h ≤ 24 → askHourOf m h ≡ got (hourKey m h) []
-unfolding askHourOf
-hour-key m h a b = rw (le-leb 1 h a, le-leb h 24 b)
-
 module _ {b : Book} {s : List ℕ} (x : Loaded b s) (h : ℕ) (low : 1 ≤ h) (high : h ≤ 24) where
   hour-guarantees : (r : Reply) → Meets (ask (hourGuarantees h)) b s b r s → r ≡ guaranteesOf (startIn (listIn b s)) (standing (listIn b s)) (priceOf (standing (listIn b s))) h
   hour-guarantees r m =
@@ -123,47 +103,19 @@ gh-mark Fe h = true≠false h refl
 
 askable : (r : Rec) → Good (filed r) → r .key .mark ≡ Gh → Askable (r .key .name)
 askable r g e =
-    let s : List ℕ = spell (bytesOf (r .key .name)) in
-    let x = bind-got (decodeName s) (λ v t. got (nameOf v) t) (r .key .name) [] (own-name r g (ap hasName e)) in
-    let p : nameOf (x .0) ≡ r .key .name = cc (x .3) in
-    let q : length (x .0) ≡ r .key .name .len = ap (λ (n : Name). n .len) p in
-    let v : ValidName (x .0) = decoded-valid s (x .0) (x .1) (x .2) in
+    let d = name-decoded r g (ap hasName e) in
+    let q : length (d .bytes) ≡ r .key .name .len = ap (λ (n : Name). n .len) (d .is) in
     record {
-      some = omega (arith, v .some);
-      few = omega (arith, v .few);
+      some = omega (arith, d .valid .some);
+      few = omega (arith, d .valid .few);
       asked = unit-asked r g e ∙ ap (λ (k : Key). got k []) (at-hour (r .key) 1) ∙ ap (λ (m : Mark). got (record { mark = m; hour = 1; name = r .key .name }) []) e;
     }
 
-abbrev EachAskable : List Name → Type 0
-EachAskable [] = Unit
-EachAskable (n ∷ ns) = Askable n × EachAskable ns
-
-add-askable : (n : Name) (ns : List Name) → Askable n → EachAskable ns → EachAskable (addName n ns)
-unfolding addName
-add-askable n [] a u = (a, tt)
-add-askable n (x ∷ ns) a u = go (nameBefore (bytesOf n) (bytesOf x)) (nameBefore (bytesOf x) (bytesOf n)) (add-askable n ns a (u .1))
-  where
-    go : (p q : Bool) → EachAskable (addName n ns) → EachAskable (cond p (n ∷ x ∷ ns) (cond q (x ∷ addName n ns) (x ∷ ns)))
-    go true q w = (a, u)
-    go false true w = (u .0, w)
-    go false false w = u
-
-names-askable : {rs : List Rec} → All (λ (r : Rec). Good (filed r)) rs → EachAskable (namesOf ghKey rs)
-unfolding namesOf
-names-askable done = tt
-names-askable (also {r = r} {rs = rs} g a) = go (sameMark ghKey (r .key)) refl (names-askable a)
-  where
-    go : (b : Bool) → sameMark ghKey (r .key) ≡ b → EachAskable (namesOf ghKey rs) → EachAskable (cond b (addName (r .key .name) (namesOf ghKey rs)) (namesOf ghKey rs))
-    go true e w = add-askable (r .key .name) (namesOf ghKey rs) (askable r g (gh-mark (r .key .mark) e)) w
-    go false e w = w
-
-askable-at : (ns : List Name) → EachAskable ns → (d : Name) (i : ℕ) → i < length ns → Askable (getD ns i d)
-askable-at [] u d i h = absurd (not-suc-le-zero h)
-askable-at (n ∷ ns) u d zero h = u .0
-askable-at (n ∷ ns) u d (suc i) h = askable-at ns (u .1) d i (le-of-suc-le-suc h)
+names-askable : (l : List Change) → Valid l → All Askable (namesOf ghKey (standing l))
+names-askable l v = all-names ghKey (all-map (λ r g e. askable r g (gh-mark (r .key .mark) e)) (standing-good l v))
 
 -- the i-th name of a loaded book's units
 pub listed-askable : {b : Book} {s : List ℕ} {ns : List Name} {n : ℕ} → Loaded b s → Listed (listIn b s) ns n → (d : Name) (i : ℕ) → i < n → n ≤ length ns → Askable (getD ns i d)
 listed-askable {b} {s} {ns} {n} x k d i h f =
-    let u : EachAskable (take n ns) = subst EachAskable (sym (k .names)) (names-askable (standing-good (listIn b s) (loaded-valid b s (listIn b s) (x .is)))) in
-    subst Askable (getD-take n ns i d h) (askable-at (take n ns) u d i (omega (arith, length-take-le n ns f)))
+    let u : All Askable (take n ns) = subst (All Askable) (sym (k .names)) (names-askable (listIn b s) (loaded-valid b s (listIn b s) (x .is))) in
+    subst Askable (getD-take n ns i d h) (all-at u d i (omega (arith, length-take-le n ns f)))
