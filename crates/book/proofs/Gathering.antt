@@ -7,13 +7,13 @@ use native.Mathlib.Omega.{arith}
 use lib.ListN.{length, take, drop, getD, length-append, length-take, drop-of-length-le}
 use lib.Dec.{eqb}
 use borrow.Author.Tests.{eq-eqb, ne-eqb}
-use Rattle.book.specs.Layer.{Key, View, KeyAnswer, Rec, Change, kindOf, keyOf, write, sameHour, nameOf, nameBefore, limit-most, Asked, got, bad, askHour, keyAnswer, askHour-fault}
+use Rattle.book.specs.Layer.{Key, View, Rec, Change, kindOf, keyOf, write, sameHour, nameOf, nameBefore, limit-most}
 use Rattle.book.specs.declared.survey.Survey.{Survey}
 use Rattle.book.specs.declared.places.Spot.{Spot}
 use Rattle.book.specs.declared.places.Places.{Places}
 use Rattle.book.specs.Register.{writeAll, standing, count}
 use Rattle.book.specs.ByName.{byName}
-use Rattle.book.specs.Meaning.{Load, belongs, astray, Valid}
+use Rattle.book.specs.Meaning.{Valid}
 use Rattle.book.specs.Tables.{Kept, Stored, survey, viewed}
 use Rattle.book.specs.Places.{offset, liveAt, spotOf, putSpot, spots}
 use Rattle.book.specs.RegisterLaws.{hour-few}

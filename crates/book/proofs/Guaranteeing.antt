@@ -1,15 +1,13 @@
 -- What an hour's guarantees rest on.
-use Prim.Native.Nat.{ℕ, _≤_, _<_}
+use Prim.Native.Nat.{ℕ, _≤_}
 use mathlib.Core.Path.{_≡_, refl, sym, ap, ap₂, _∙_, subst}
 use mathlib.Core.List.{List, [], _∷_, map}
 use mathlib.Core.Bool.{Bool, true, false, cond}
 use native.Mathlib.Omega.{arith}
 use lib.ListN.{length, take, drop, getD, length-map}
 use lib.Seq.{getD-take, length-take-le}
-use lib.IntN.{ℤ, pos}
-use lib.Dec.{eqb}
+use lib.IntN.{pos}
 use Rattle.records.specs.Amounts.{noImport}
-use Rattle.money.specs.declared.units.Answer.{Answer}
 use Rattle.money.specs.declared.units.Answer.the-variants.{Amount, Refused}
 use Rattle.book.specs.Layer.{Key, View, KeyAnswer, Rec, Change, Mark, Asked, got, bad, askHourOf, keyAnswer, hour-asked, askHourOf-fault, Im, Ex, Pr, HourPrices, Quantity, Ticks, Import, pricesIn, offset, offsetAnswer, offsetEntry, answer-front}
 use Rattle.book.specs.declared.answers.NamedAmount.{NamedAmount}

@@ -1,17 +1,17 @@
 -- The loop over the kept views that fills the hours of a day: what it keeps, and what each turn shows.
 use Prim.Native.Nat.{ℕ, zero, suc, _+_, _-_, _≤_, _<_}
 use mathlib.Core.Path.{_≡_, refl, sym, ap, ap₂, _∙_, subst, subst⁻¹}
-use mathlib.Core.List.{List, [], _∷_}
+use mathlib.Core.List.{List, _∷_}
 use mathlib.Core.Bool.{Bool, true, false, cond, _&&_}
 use native.Mathlib.Omega.{arith}
 use lib.ListN.{length, drop, getD, set, replicate, length-append, length-set, drop-of-length-le}
 use lib.Seq.{getD-set-same, getD-set-other}
 use lib.Dec.{eqb}
 use borrow.Author.Tests.{eq-eqb, ne-eqb, eqb-true, eqb-false}
-use Rattle.book.specs.Layer.{Key, View, KeyAnswer, Change, filed, corrected, withdrawn, keyOf, write, sameName, atHour, good-hour, same-at, write-pos, write-co, Asked, got, bad, keyAsked, keyAnswer, ask-fault}
+use Rattle.book.specs.Layer.{Key, View, Change, filed, corrected, withdrawn, keyOf, write, sameName, atHour, good-hour, same-at, write-pos, write-co}
 use Rattle.book.specs.declared.hours.Day.{Day}
-use Rattle.book.specs.Register.{writeAll, Reply, refused, place, written, placeOf}
-use Rattle.book.specs.Meaning.{Load, belongs, astray, Valid}
+use Rattle.book.specs.Register.{writeAll, refused, place, written, placeOf}
+use Rattle.book.specs.Meaning.{Valid}
 use Rattle.book.specs.Tables.{Kept, Stored, viewed}
 use Rattle.book.specs.Hours.{slot, startOf, lenOf, dayNoted, DayIs}
 use Rattle.book.specs.RegisterLaws.{by-test}

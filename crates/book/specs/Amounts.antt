@@ -2,7 +2,7 @@
 -- (`priceOf`); nothing else here looks for it. Hours of a day are counted from 0, so the j-th is hour 1 + j.
 use Prim.Native.Nat.{ℕ, _+_, _*_}
 use mathlib.Core.List.{List, [], _∷_, map}
-use mathlib.Core.Bool.{Bool, true, false, cond, not}
+use mathlib.Core.Bool.{Bool, true, false, cond}
 use lib.IntN.{ℤ, pos, _+ℤ_}
 use lib.ListN.{length}
 use Rattle.laws.specs.Sums.{Σℤ, every}

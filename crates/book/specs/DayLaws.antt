@@ -1,5 +1,5 @@
 -- A unit's day from the places of its hours is what 01's formulas give for the standing records.
-use Prim.Native.Nat.{ℕ, _+_, _*_, _≤_, _<_}
+use Prim.Native.Nat.{ℕ, _+_, _*_, _<_}
 use mathlib.Core.Path.{_≡_, refl, sym, ap, ap₂, _∙_, subst}
 use mathlib.Core.List.{List}
 use mathlib.Core.Bool.{Bool, true, false, cond, not, _||_}
@@ -8,16 +8,16 @@ use lib.ListN.{getD, drop}
 use lib.IntN.{ℤ, pos, _+ℤ_}
 use lib.Dec.{eqb}
 use Rattle.laws.specs.Sums.{Σℤ-ext, every, every-at, every-ext}
-use Rattle.book.specs.Layer.{Key, View, Rec, Change, Gh, Pr, HourPrices, PricesFit, Ticks, CentsPerStart, UnitPart, DayAnswer, atHour, at-hour, pricesIn, pricesOf, prices-view, standing-prices, unitPartIn, unit-written, unit-ready, unitTicks, startCents, unitHourOf, dayAnswer, day-amount, amount-ok, amountOk, noTicks, noStart, hourPart, daySum, day-sum, reversal}
+use Rattle.book.specs.Layer.{Key, View, Rec, Change, Gh, Pr, PricesFit, Ticks, CentsPerStart, UnitPart, atHour, at-hour, pricesIn, pricesOf, prices-view, standing-prices, unitPartIn, unit-written, unit-ready, unitTicks, startCents, unitHourOf, dayAnswer, day-amount, amount-ok, amountOk, noTicks, noStart, hourPart, daySum, day-sum, reversal}
 use Rattle.book.specs.declared.hours.Day.{Day}
-use Rattle.book.specs.Register.{standing, Reply, refused, place, placeOf, unitDay}
-use Rattle.book.specs.Amounts.{Pick, is, nil, pick, Price, priced, unpriced, hourKey, priceFrom, priceOf, hourTicks, absent, payable, unitAt, dayTotal, unitDayOf}
+use Rattle.book.specs.Register.{standing, refused, place, placeOf, unitDay}
+use Rattle.book.specs.Amounts.{Pick, is, nil, pick, Price, priced, unpriced, hourKey, priceFrom, priceOf, hourTicks, absent, payable, unitAt, dayTotal}
 use Rattle.book.specs.Tables.{survey}
 use Rattle.book.specs.Hours.{slot, DayIs}
-use Rattle.book.specs.Worked.{Opened, InDay, noPart, partAt, Parts, dayReply}
+use Rattle.book.specs.Worked.{Opened, noPart, partAt, Parts, dayReply}
 use Rattle.book.specs.RegisterLaws.{by-test, true≠false}
 use Rattle.book.specs.PlaceLaws.{survey-place}
-use Rattle.book.specs.StandLaws.{At, Found, found-at, none-at}
+use Rattle.book.specs.StandLaws.{Found, found-at, none-at}
 
 module _ {s : List ℕ} {views : List View} {n : ℕ} {l : List Change} (o : Opened s views n l) where
   -- what the slot of a key says of it

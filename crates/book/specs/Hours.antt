@@ -1,15 +1,14 @@
 -- The records of a mark and name in each hour, as one pass over the views finds them.
-use Prim.Native.Nat.{ℕ, zero, suc, _+_, _-_, _≤_, _<_}
+use Prim.Native.Nat.{ℕ, _+_, _-_, _≤_, _<_}
 use mathlib.Core.Path.{_≡_}
-use mathlib.Core.List.{List, [], _∷_}
+use mathlib.Core.List.{List}
 use mathlib.Core.Bool.{cond}
 use lib.ListN.{length, set, getD}
 use lib.Dec.{eqb}
-use Rattle.money.specs.Refusals.{noSuchKey, notTogether}
-use Rattle.book.specs.Layer.{Key, View, Change, sameName, atHour, Asked, got, bad}
+use Rattle.money.specs.Refusals.{noSuchKey}
+use Rattle.book.specs.Layer.{Key, View, Change, sameName, atHour}
 use Rattle.book.specs.declared.hours.Day.{Day}
 use Rattle.book.specs.Register.{writeAll, Reply, refused, place, placeOf}
-use Rattle.book.specs.Meaning.{Load, belongs, astray}
 
 -- ---- what the code answers
 

@@ -1,19 +1,19 @@
 -- What a book and the bytes lent to it mean, and what each call owes.
-use Prim.Native.Nat.{ℕ, zero, suc, _-_}
+use Prim.Native.Nat.{ℕ, zero, suc}
 use mathlib.Core.Path.{_≡_}
 use mathlib.Core.List.{List, [], _∷_}
 use mathlib.Core.Bool.{cond}
 use lib.ListN.{length, take, drop}
 use lib.Dec.{leb, eqb}
 use Rattle.money.specs.Refusals.{unknownMark, notTogether}
-use Rattle.book.specs.Layer.{Key, Change, Good, Scan, seen, blind, scan, Mark, isFailure, Asked, got, bad, askHourOf}
+use Rattle.book.specs.Layer.{Change, Good, Scan, seen, blind, scan, Mark, isFailure, Asked, got, bad, askHourOf}
 use Rattle.book.specs.declared.journal.Book.{Book}
 use Rattle.book.specs.declared.answers.Answer.{Answer}
 use Rattle.book.specs.declared.answers.Answer.the-variants.{Accepted, Refused, Place, Number, Day, Charge}
 use Rattle.book.specs.declared.answers.Guarantees.{Guarantees}
 use Rattle.book.specs.declared.answers.Charges as answers
 use Rattle.book.specs.Amounts.{Charges, charged, no, chargesOf, priceOf}
-use Rattle.book.specs.Register.{Reg, standing, startIn, Call, Step, answered, becomes, stepOf, writeAll, refusal, Reply, refused, accepted, place, number, guarantees, unitDay, charge, reply}
+use Rattle.book.specs.Register.{Reg, standing, startIn, Call, Step, answered, becomes, stepOf, writeAll, refusal, Reply, refused, accepted, place, number, guarantees, unitDay, charge}
 
 -- ---- which changes a book and its bytes stand for
 

@@ -1,17 +1,16 @@
 -- No amount depends on the order in which the standing records are listed.
 use Prim.Native.Nat.{ℕ, _+_}
-use mathlib.Core.Path.{_≡_, refl, sym, ap, ap₂, _∙_, subst}
+use mathlib.Core.Path.{_≡_, refl, sym, ap, ap₂, _∙_}
 use mathlib.Core.Logic.{_⊎_, inl, inr}
 use mathlib.Core.List.{List, [], _∷_}
 use mathlib.Core.Bool.{Bool, true, false, cond}
-use native.Mathlib.Omega.{arith}
 use Rattle.laws.specs.Sums.{Σℤ-ext, every-ext}
 use Rattle.book.specs.Layer.{Key, Rec, filed, Good, Im, Ex, Pr, same, sameHour, same-true, same-refl, sameHour-same, nameOf, nameBefore, names-apart, name-trans, name-tri, name-self, reversal, atHour}
-use Rattle.book.specs.Register.{stands, Reply, refused, unitDay}
-use Rattle.book.specs.Amounts.{Pick, is, nil, pick, Price, priceFrom, priceOf, hourKey, guaranteesAt, guaranteesOf, hourTicks, absent, payable, unitAt, dayTotal, unitDayOf, chargeAt, chargeOf, chargesAt, chargesOf}
+use Rattle.book.specs.Register.{stands, refused, unitDay}
+use Rattle.book.specs.Amounts.{Pick, is, pick, Price, priceFrom, priceOf, hourKey, guaranteesAt, guaranteesOf, hourTicks, absent, payable, unitAt, dayTotal, unitDayOf, chargeAt, chargeOf, chargesAt, chargesOf}
 use Rattle.book.specs.ByName.{inOrder, byName}
 use Rattle.book.specs.RegisterLaws.{by-test, true≠false, same-turned, Once}
-use Rattle.book.specs.StandLaws.{All, done, also}
+use Rattle.book.specs.StandLaws.{All, also}
 
 -- the same records, listed otherwise
 pub data Reordered : List Rec → List Rec → Type 0 where

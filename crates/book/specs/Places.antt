@@ -1,17 +1,13 @@
 -- The places of the standing records of a mark and hour, by decoded name, as one pass over the views finds them.
 use Prim.Native.Nat.{ℕ, _+_}
-use mathlib.Core.List.{List, [], _∷_, map}
+use mathlib.Core.List.{List, [], _∷_}
 use mathlib.Core.Bool.{Bool, false, cond}
 use lib.ListN.{take}
 use lib.Dec.{eqb}
-use Rattle.money.specs.Refusals.{notTogether}
-use Rattle.book.specs.Layer.{View, Rec, Change, nameOf, nameBefore, Asked, got, bad}
+use Rattle.book.specs.Layer.{View, Rec, Change, nameOf, nameBefore}
 use Rattle.book.specs.declared.survey.Survey.{Survey}
 use Rattle.book.specs.declared.places.Spot.{Spot}
 use Rattle.book.specs.declared.places.Places.{Places}
-use Rattle.book.specs.Register.{standing}
-use Rattle.book.specs.ByName.{byName}
-use Rattle.book.specs.Meaning.{Load, belongs, astray}
 use Rattle.book.specs.Tables.{survey}
 
 -- the length of the mark before a corrected record

@@ -2,11 +2,11 @@
 use Prim.Native.Nat.{ℕ, suc, _+_, _≤_}
 use mathlib.Core.Path.{_≡_}
 use mathlib.Core.List.{List, [], _∷_, _++_}
-use mathlib.Core.Bool.{true, false, cond}
+use mathlib.Core.Bool.{true, false}
 use lib.ListN.{length, take, drop, replicate}
 use Rattle.money.specs.Refusals.{noSuchKey}
 use Rattle.book.specs.declared.journal.Book.{Book}
-use Rattle.book.specs.Layer.{Key, Rec, filed, write, same, keyAsked, got, markBytes, askBytes, takeBackBytes}
+use Rattle.book.specs.Layer.{Key, Rec, filed, write, keyAsked, got, markBytes, askBytes, takeBackBytes}
 use Rattle.book.specs.Register.{Call, takeBack, ask, Question, answer, placeOf, standing, stands, writeAll, Reply, refused, accepted, place, Turn, run, told}
 use Rattle.book.specs.Meaning.{Meets, bookOf, Valid}
 use Rattle.book.specs.Amounts.{Pick, is, nil, pick}

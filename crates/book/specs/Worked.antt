@@ -6,7 +6,7 @@ use mathlib.Core.Bool.{cond}
 use lib.ListN.{length, take, drop, getD, replicate}
 use lib.IntN.{pos}
 use lib.Dec.{eqb}
-use Rattle.book.specs.Layer.{View, Change, Mark, UnitPart, CentsPerStart, unitPartIn, HourPrices, Quantity, Ticks, Import, Answer, Amount, DayAnswer, Day, Refused, noQuantity, offsetEntryIn, exportIn, pricesIn, chargeIn, ticksOf, totalsWith, offset, offsetAnswer, noTicks, noStart}
+use Rattle.book.specs.Layer.{View, Change, Mark, UnitPart, CentsPerStart, unitPartIn, HourPrices, Quantity, Ticks, Import, Amount, DayAnswer, Day, Refused, noQuantity, offsetEntryIn, exportIn, pricesIn, chargeIn, ticksOf, totalsWith, offset, offsetAnswer, noTicks, noStart}
 use Rattle.book.specs.declared.answers.NamedAmount.{NamedAmount}
 use Rattle.book.specs.declared.hours.Day as day
 use Rattle.book.specs.declared.places.Spot.{Spot}

@@ -2,24 +2,22 @@
 use Prim.Native.Nat.{ℕ, zero, suc, _+_, _*_, _≤_, _<_}
 use mathlib.Core.Path.{_≡_, refl, sym, ap, ap₂, _∙_, subst}
 use mathlib.Core.List.{List, [], _∷_, map}
-use mathlib.Core.Bool.{Bool, true, false, cond}
+use mathlib.Core.Bool.{true, false}
 use native.Mathlib.Omega.{arith}
 use native.Mathlib.Nat.{not-suc-le-zero, le-of-suc-le-suc}
-use lib.ListN.{length, take, drop, getD, replicate, length-map}
+use lib.ListN.{length, drop, getD, length-map}
 use lib.Seq.{getD-take, length-take-le}
-use lib.IntN.{pos}
 use Rattle.records.specs.Amounts.{sameName}
-use Rattle.book.specs.Layer.{Key, View, Rec, Change, filed, write, Good, HourPrices, PricesFit, Quantity, Import, Ticks, Amount, Im, Ex, Pr, noQuantity, quantityAt, rowOf, row-none, row-at, row-same, totalsWith, totals-more, quantity-most, rates-ok, entry, entryFault, offset, offsetAnswer, offset-amount, offsetEntry, offsetEntryIn, exportOf, exportIn, export-view, standing-export, entry-view, entry-sound, creditTicks, same-names, nameOf, sameHour, hour-parts, noOne}
-use Rattle.book.specs.declared.answers.NamedAmount.{NamedAmount}
+use Rattle.book.specs.Layer.{Key, View, Rec, Change, HourPrices, PricesFit, Quantity, Import, Amount, Im, Ex, quantityAt, rowOf, row-none, row-at, row-same, totalsWith, totals-more, quantity-most, rates-ok, entry, entryFault, offset, offsetAnswer, offset-amount, offsetEntry, offsetEntryIn, exportOf, exportIn, export-view, standing-export, entry-view, entry-sound, creditTicks, same-names, sameHour, hour-parts}
 use Rattle.book.specs.declared.places.Spot.{Spot}
 use Rattle.book.specs.declared.places.Places.{Places}
-use Rattle.book.specs.Register.{standing, startIn, Reply, guarantees}
+use Rattle.book.specs.Register.{standing, startIn, guarantees}
 use Rattle.book.specs.Amounts.{hourKey, priced, creditAt, exported, totalsOf, guaranteesAt}
 use Rattle.book.specs.ByName.{byName}
 use Rattle.book.specs.Places.{spotOf, spots}
-use Rattle.book.specs.Worked.{Opened, noSpot, Inside, entryAt, entriesIn, entryCredit, totalsFrom, totalsIn, namedOf, workedIn, Workable}
+use Rattle.book.specs.Worked.{Opened, noSpot, Inside, entriesIn, entryCredit, totalsFrom, totalsIn, namedOf}
 use Rattle.book.specs.RegisterLaws.{by-test, once-standing}
-use Rattle.book.specs.StandLaws.{All, done, also, all-map, all-at, At, Stands, all-stand, all-by-name, standing-good, apart-at, apart-by-name}
+use Rattle.book.specs.StandLaws.{All, also, all-at, Stands, all-stand, all-by-name, standing-good, apart-at, apart-by-name}
 
 -- an element of what a list is mapped to
 pub getD-mapped : {A B : Type 0} (f : A → B) (l : List A) (i : ℕ) (d : A) (e : B) → i < length l → getD (map f l) i e ≡ f (getD l i d)

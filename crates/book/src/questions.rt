@@ -7,7 +7,6 @@ use money::refusals::NO_SUCH_KEY;
 use money::refusals::NOT_TOGETHER;
 use records::keys::ask_hour;
 use records::keys::ask_key;
-ghost use mathlib.Core.Path.{_≡_};
 ghost use Rattle.book.specs.Register.{ask, recordOf, countOf, freeBytes};
 ghost use Rattle.book.specs.Meaning.{Meets, replyOf};
 

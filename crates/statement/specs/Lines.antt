@@ -1,7 +1,7 @@
 -- 01, "The statement and its examples": the text of a line. Assumes nothing.
 use mathlib.Core.List.{List, [], _∷_, _++_}
 use mathlib.Core.Bool.{Bool, true, false, cond}
-use Prim.Native.Nat.{ℕ, _+_, _/_, _%_}
+use Prim.Native.Nat.{ℕ, _/_, _%_}
 use lib.Dec.{eqb}
 use lib.IntN.{ℤ, pos, negsuc, natAbs}
 use Rattle.money.specs.declared.names.Name.{Name}

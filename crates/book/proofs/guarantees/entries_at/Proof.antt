@@ -1,6 +1,6 @@
 use Prim.Native.Nat.{_-_}
 use native.Mathlib.Omega.{arith}
-use mathlib.Core.Path.{refl, sym, ap, _∙_}
+use mathlib.Core.Path.{refl, ap, _∙_}
 use Rattle.book.specs.Built.{Filling, fill-start, fill-more, fill-all}
 use Prim.Native.Nat.{ℕ}
 use mathlib.Core.Path.{_≡_}

@@ -1,6 +1,5 @@
 use Prim.Native.Nat.{_-_}
 use native.Mathlib.Omega.{arith}
-use mathlib.Core.Path.{refl, sym, ap, _∙_}
 use Rattle.book.proofs.Pairing.{Naming, naming-start, naming-more, naming-all}
 use Rattle.book.proofs.Inserting.{unmapped}
 use borrow.Author.Needs.{needs}

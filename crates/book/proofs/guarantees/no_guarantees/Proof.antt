@@ -1,6 +1,5 @@
-use mathlib.Core.Path.{_≡_, ap}
+use mathlib.Core.Path.{ap}
 use Prim.Native.Nat.{ℕ}
-use mathlib.Core.List.{List}
 use mathlib.Core.Bool.{cond}
 use lib.ListN.{take}
 use lib.IntN.{pos}

@@ -1,13 +1,13 @@
 use Prim.Native.Nat.{_-_}
 use native.Mathlib.Omega.{arith}
-use mathlib.Core.Path.{refl, sym, ap, _∙_}
-use Prim.Native.Nat.{ℕ, _≤_}
+use mathlib.Core.Path.{refl, ap, _∙_}
+use Prim.Native.Nat.{ℕ}
 use mathlib.Core.Path.{_≡_}
 use mathlib.Core.List.{List}
 use lib.ListN.{length, getD}
 use Rattle.book.specs.Layer.{exportIn, totalsWith}
 use Rattle.book.proofs.Surveying.{to-end}
-use Rattle.book.specs.Worked.{totalsFrom, noSpot}
+use Rattle.book.specs.Worked.{noSpot}
 use Rattle.book.proofs.Totalling.{Totalling, totalling-start, totalling-more, totalling-all}
 use Rattle.book.proofs.Inserting.{unmapped}
 use borrow.Author.Needs.{needs}

@@ -1,10 +1,5 @@
-use Prim.Native.Nat.{ℕ}
-use mathlib.Core.Path.{_≡_, sym, ap, ap₂, _∙_}
-use native.Mathlib.Omega.{arith}
-use mathlib.Core.List.{List}
+use mathlib.Core.Path.{_≡_, sym, _∙_}
 use lib.ListN.{length}
-use Rattle.book.specs.Register.{Reply}
-use Rattle.book.specs.Layer.{Import}
 use Rattle.book.proofs.Inserting.{unmapped}
 use Rattle.book.proofs.Guaranteeing.{worked-offset, worked-is, never-refused}
 use borrow.Author.Needs.{needs}

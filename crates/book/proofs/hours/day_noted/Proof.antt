@@ -1,6 +1,5 @@
 use mathlib.Core.Path.{refl, sym, _∙_}
 use Rattle.book.proofs.Hourly.{noted-here, noted-not}
-use native.Mathlib.Omega.{arith}
 use borrow.Author.Needs.{needs}
 use Rattle.book.proofs.hours.day_noted.Statement.{statement}
 use Rattle.book.proofs.hours.day_noted.Tie as tie

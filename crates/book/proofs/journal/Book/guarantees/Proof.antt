@@ -1,11 +1,9 @@
 use mathlib.Core.Path.{subst, sym}
 use Rattle.book.specs.Register.{Reply, ask, hourGuarantees}
 use Rattle.book.specs.Meaning.{Meets}
-use mathlib.Core.Path.{_∙_}
 use Rattle.book.proofs.Answering.{is-tabled, not-tabled, leaves-16}
 use Rattle.book.proofs.ChargeAnswering.{opened-by, open-by}
 use Rattle.book.proofs.Guaranteeing.{hour-wrong, hour-right}
-use native.Mathlib.Omega.{arith}
 use borrow.Author.Needs.{needs}
 use Rattle.book.proofs.journal.Book.guarantees.Statement.{statement}
 use Rattle.book.proofs.journal.Book.guarantees.Tie as tie
