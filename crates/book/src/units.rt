@@ -6,7 +6,7 @@ use money::refusals::NOT_TOGETHER;
 use records::keys::Key;
 use records::keys::key_of;
 use records::marks::Mark;
-use records::marks::order;
+use records::marks::same_mark;
 use records::names::comes_before;
 use records::names::no_name;
 use records::scan::View;
@@ -41,21 +41,16 @@ struct Slot {
     new: bool,
 }
 
-fn same_mark(a: Key, b: Key) -> bool
-    ensures { λ r. ⌜ r ≡ sameMark a b ⌝ }
-{
-    let x = a.mark;
-    let y = b.mark;
-    order(x) == order(y)
-}
-
 // Whether the change at q wrote the record that stands under its key, of the key's mark.
 fn standing_in_mark(views: [View; 512], n: usize, key: Key, v: View, q: usize) -> bool
     requires { ⌜ Stored views n ⌝ }
     requires { ⌜ q < 9223372036854775808 ⌝ }
     ensures { λ r. ⌜ ((l : List Change) → Kept views l → length l ≡ n → r ≡ (sameMark key (v .key) && liveAt (survey (v .key) l) v q)) ⌝ }
 {
-    if same_mark(key, v.key) {
+    let wanted = key.mark;
+    let k = v.key;
+    let mark = k.mark;
+    if same_mark(wanted, mark) {
         return standing_in(views, n, v, q);
     }
     false

@@ -58,6 +58,9 @@ order Gh = 3
 order Fi = 4
 order Fe = 5
 
+abbrev pub sameMark : Mark → Mark → Bool
+sameMark a b = eqb (order a) (order b)
+
 -- "hour holds 16 of that mark (8 for `GH`)"
 abbrev pub limit : Mark → ℕ
 limit Pr = 16

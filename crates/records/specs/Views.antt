@@ -1,8 +1,6 @@
 -- 01, "Records": what a record is to the money rules. Assumes nothing.
 use mathlib.Core.List.{List, []}
-use mathlib.Core.Bool.{Bool}
 use Prim.Native.Nat.{ℕ}
-use lib.Dec.{eqb}
 use Rattle.money.specs.Refusals.{unknownMark}
 use Rattle.money.specs.Units.{noPrice, noQuantity}
 use Rattle.money.specs.declared.offers.Offer.{Offer}
@@ -11,7 +9,7 @@ use Rattle.money.specs.declared.production.UnitHour.{UnitHour}
 use Rattle.money.specs.declared.failure.Failure.{Failure}
 use Rattle.records.specs.Reading.{Res, bad, got, Reader, _>>=_, check}
 use Rattle.records.specs.Numbers.{hour, pad, offerOf}
-use Rattle.records.specs.Marks.{order}
+use Rattle.records.specs.Marks.{sameMark}
 use Rattle.records.specs.Layouts.{hourPrices, import, export, unit, failure}
 use Rattle.records.specs.Changes.{Rec, head, nameFor}
 use Rattle.records.specs.declared.marks.Mark.{Mark}
@@ -80,9 +78,6 @@ abbrev pub failureOf : Rec → Failure
 failureOf r = valueOr noFailure (failure (r .body))
 
 -- ---- the same in bytes that begin with the record as it was filed
-
-abbrev pub sameMark : Mark → Mark → Bool
-sameMark a b = eqb (order a) (order b)
 
 -- mark, hour and name
 unfoldable pub ahead : Mark → Reader Unit

@@ -4,7 +4,7 @@ use money::refusals::UNKNOWN_MARK;
 ghost use mathlib.Core.Path.{_≡_};
 ghost use mathlib.Core.List.{List, [], _∷_};
 ghost use Rattle.records.specs.Reading.{from};
-ghost use Rattle.records.specs.Marks.{is, mark, hasName, isFailure, order, limit};
+ghost use Rattle.records.specs.Marks.{is, mark, hasName, isFailure, order, sameMark, limit};
 ghost use Rattle.records.specs.Changes.{number, allowed, inside, head};
 ghost use Rattle.records.specs.Inner.{shown, headed};
 
@@ -200,6 +200,12 @@ pub fn order(m: Mark) -> u8
         Mark::Fi => 4,
         Mark::Fe => 5,
     }
+}
+
+pub fn same_mark(a: Mark, b: Mark) -> bool
+    ensures { λ r. ⌜ r ≡ sameMark a b ⌝ }
+{
+    order(a) == order(b)
 }
 
 // How many records of a mark an hour may hold.

@@ -10,10 +10,11 @@ use crate::layouts::failure_then;
 use crate::layouts::hour_prices_then;
 use crate::layouts::import_then;
 use crate::layouts::unit_then;
+use crate::marks::FILED;
 use crate::marks::Kind;
 use crate::marks::Mark;
 use crate::marks::head_at;
-use crate::marks::order;
+use crate::marks::same_mark;
 use money::failure::Failure;
 use money::offers::Offer;
 use money::production::Reserve;
@@ -25,22 +26,16 @@ use money::units::Price;
 use money::units::Quantity;
 ghost use mathlib.Core.Path.{_≡_};
 ghost use mathlib.Core.Bool.{Bool, true, false};
-ghost use Rattle.records.specs.Views.{sameMark, ahead, noOffer, noReserve, noUnit, pricesIn, importIn, exportIn, unitIn, failureIn};
+ghost use Rattle.records.specs.Views.{ahead, noOffer, noReserve, noUnit, pricesIn, importIn, exportIn, unitIn, failureIn};
 ghost use Rattle.records.specs.Inner.{shown};
 
 // What stands in bytes that begin with a record as it was filed: its fields as the money rules take them.
-
-fn same_mark(a: Mark, b: Mark) -> bool
-    ensures { λ r. ⌜ r ≡ sameMark a b ⌝ }
-{
-    order(a) == order(b)
-}
 
 // The place behind a record's mark, hour and name.
 fn fields_at(s: &[u8], mark: Mark) -> End
     ensures { λ r. ⌜ shown (now (s .entry)) r tt ≡ ahead mark (now (s .entry)) ⌝ }
 {
-    let h = head_at(s, 1);
+    let h = head_at(s, FILED);
     let e = h.end;
     let m = h.mark;
     let e1 = guard_end(e, same_mark(m, mark), UNKNOWN_MARK);

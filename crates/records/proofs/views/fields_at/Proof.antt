@@ -2,7 +2,8 @@ use mathlib.Core.Path.{_≡_, sym, ap, _∙_}
 use Rattle.records.specs.Numbers.{hour}
 use Rattle.records.specs.Changes.{head, nameFor}
 use Rattle.records.specs.Inner.{then, guarded}
-use Rattle.records.specs.Views.{sameMark, ahead}
+use Rattle.records.specs.Marks.{sameMark}
+use Rattle.records.specs.Views.{ahead}
 use Rattle.records.specs.declared.marks.Kind.the-variants.{File}
 use Rattle.records.proofs.Step.{first, next, test, last}
 use borrow.Author.Needs.{needs}
@@ -15,7 +16,7 @@ use Rattle.records.proofs.changes.name_then.Reads as name-then-reads
 use Rattle.records.proofs.fields.guard_end.Reads as guard-end-reads
 use Rattle.records.proofs.fields.hour_then.Reads as hour-then-reads
 use Rattle.records.proofs.marks.head_at.Reads as head-at-reads
-use Rattle.records.proofs.views.same_mark.Reads as same-mark-reads
+use Rattle.records.proofs.marks.same_mark.Reads as same-mark-reads
 
 head-at-requires : tie.Need-head-at-requires
 head-at-requires c κs = search needs
