@@ -17,7 +17,7 @@ pub use Rattle.records.specs.FirmLaws.{entry-more, entry-alone, entry-fi
 -- the records of one hour
 pub use Rattle.records.specs.HourRecordLaws.{OfHour, hour-record-got, hour-record-fault}
 -- keys, and the key of a question
-pub use Rattle.records.specs.KeyLaws.{same-true, same-refl, sameHour-same, hour-parts, askBytes, asked, ask-fault, askFailure-fault, askHour-fault, name-fault}
+pub use Rattle.records.specs.KeyLaws.{same-true, same-refl, sameHour-same, hour-parts, parts-hour, askBytes, asked, ask-fault, askFailure-fault, askHour-fault, name-fault}
 -- the key of a mark and hour, and of a unit: no fault is 0
 pub use Rattle.records.specs.KeyLaws.{askHourOf-fault, askUnit-fault}
 -- what such a key is; a failure's key has a failure's mark

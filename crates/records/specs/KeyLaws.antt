@@ -71,6 +71,10 @@ hour-parts a b h = (
   eqb-true (a .hour) (b .hour) (and-right (eqb (order (a .mark)) (order (b .mark))) _ h),
 )
 
+pub parts-hour : (a b : Key) → order (a .mark) ≡ order (b .mark) → a .hour ≡ b .hour → sameHour a b ≡ true
+unfolding sameHour
+parts-hour a b m h = simp (eq-eqb (order (a .mark)) (order (b .mark)) m, eq-eqb (a .hour) (b .hour) h)
+
 pub sameHour-same : (a b : Key) → sameHour a b ≡ true → (x : Key) → sameHour a x ≡ sameHour b x
 unfolding sameHour
 sameHour-same a b h x =
