@@ -1,5 +1,6 @@
 pub mod Weighing
 pub mod Surveying
+pub mod Indexing
 pub mod Replaying
 pub mod Answering
 pub mod Holding

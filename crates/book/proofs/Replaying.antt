@@ -1,20 +1,21 @@
 -- The loop that replays the log: what it keeps, and what each way out of it shows.
-use Prim.Native.Nat.{ℕ, suc, _+_, _-_, _≤_, _<_}
+use Prim.Native.Nat.{ℕ, zero, suc, _+_, _-_, _≤_, _<_}
 use mathlib.Core.Path.{_≡_, refl, sym, ap, ap₂, _∙_, subst}
 use mathlib.Core.List.{List, [], _∷_, _++_, append-assoc}
 use mathlib.Core.Bool.{Bool, true, cond}
 use native.Mathlib.Omega.{arith}
-use lib.ListN.{length, drop, set, length-append, length-drop, length-set, drop-of-length-le}
+use lib.ListN.{length, drop, getD, set, replicate, length-replicate, length-append, length-drop, length-set, drop-of-length-le}
 use lib.Seq.{drop-drop}
 use lib.Dec.{eqb, ltb}
 use borrow.Author.Tests.{eq-eqb, ne-eqb}
-use Rattle.book.specs.Layer.{View, Change, keyOf, write, blind, scan, limitOf, Found, scan-got, Read}
-use Rattle.book.specs.declared.survey.Survey.{Survey}
+use Rattle.book.specs.Layer.{Key, View, Change, keyOf, write, blind, scan, limitOf, Found, scan-got, Read, good-hour}
 use Rattle.book.specs.Register.{writeAll, refusal, room, stands, count, standing}
 use Rattle.book.specs.Meaning.{belongs, astray, onward, ended, replay, Valid}
 use Rattle.book.specs.Tables.{Kept, Tabled, Stored, together, survey, judge}
+use Rattle.book.specs.Index.{hourSlot, slot, latestOf, toldBy}
 use Rattle.book.specs.RegisterLaws.{survey-found, survey-count, refusal-judge}
-use Rattle.book.proofs.Surveying.{kept-more, judge-room, room-facts}
+use Rattle.book.proofs.Surveying.{kept-more, survey-few, judge-room, room-facts}
+use Rattle.book.proofs.Indexing.{latest-few, told-found, latest-next, counts-next}
 
 judge-few : (kind : ℕ) (f : Bool) (n most changes used len : ℕ) → judge kind f n most changes used len 65535 ≡ 0 → changes < 512
 unfolding judge
@@ -25,20 +26,29 @@ judge-few kind f n most changes used len e = room-facts changes used len 65535 (
 belongs-one : (a b : List Change) → belongs a ≡ belongs b → a ≡ b
 belongs-one a b e = cc
 
-pub record Head (part : List ℕ) (n : ℕ) (views : List View) (q i : ℕ) : Type 0 where
+pub record Head (part : List ℕ) (n : ℕ) (views : List View) (latest counts : List ℕ) (q i : ℕ) : Type 0 where
   pub acc : List Change
   pub valid : Valid acc
   pub inside : i ≤ n
   pub few : i ≤ 512
   pub size : length views ≡ 512
   pub kept : Kept views acc
+  pub latest-size : length latest ≡ 8192
+  pub latest-is : (h : ℕ) → getD latest h 0 ≡ latestOf h acc
+  pub counts-size : length counts ≡ 512
+  pub counts-is : (k : Key) → k .hour < 32 → getD counts (hourSlot k) 0 ≡ survey k acc .count
   pub count : length acc ≡ i
   pub at : length (writeAll acc) ≡ q
   pub split : part ≡ writeAll acc ++ drop q part
   pub goes : replay n [] part ≡ replay (n - i) acc (drop q part)
 
-pub head-start : (part : List ℕ) (n : ℕ) (views : List View) → length views ≡ 512 → Head part n views 0 0
-unfolding Valid writeAll Kept survey
+zeros : (n h : ℕ) → _≡_ {A = ℕ} (getD (replicate n 0) h 0) 0
+zeros zero h = refl
+zeros (suc n) zero = refl
+zeros (suc n) (suc h) = zeros n h
+
+pub head-start : (part : List ℕ) (n : ℕ) (views : List View) → length views ≡ 512 → Head part n views (replicate 8192 0) (replicate 512 0) 0 0
+unfolding Valid writeAll Kept survey latestOf
 head-start part n views e =
     let p : n ≡ n - 0 = omega arith in
     record {
@@ -48,13 +58,17 @@ head-start part n views e =
       few = omega arith;
       size = e;
       kept = tt;
+      latest-size = length-replicate {A = ℕ} 8192 0;
+      latest-is = zeros 8192;
+      counts-size = length-replicate {A = ℕ} 512 0;
+      counts-is = λ k h. zeros 512 (hourSlot k);
       count = refl;
       at = refl;
       split = refl;
       goes = ap (λ (m : ℕ). replay m [] part) p;
     }
 
-module _ (part : List ℕ) (n : ℕ) (views : List View) (q i : ℕ) (h : Head part n views q i) where
+module _ (part : List ℕ) (n : ℕ) (views : List View) (latest counts : List ℕ) (q i : ℕ) (h : Head part n views latest counts q i) where
   pub head-within : q ≤ length part
   head-within = omega (arith, ap length (h .split), length-append (writeAll (h .acc)) (drop q part), h .at)
 
@@ -88,47 +102,86 @@ module _ (part : List ℕ) (n : ℕ) (views : List View) (q i : ℕ) (h : Head p
         kept = λ l e. let same-list : h .acc ≡ l = belongs-one (h .acc) l (sym d ∙ e) in subst (Kept views) same-list (h .kept);
       }
 
-  -- a change is read, what the views tell of its key is judged
-  module _ (lt : i < n) (v : View) (r : Read (drop q part) v) (t : Survey) (told : (l : List Change) → Kept views l → length l ≡ i → t ≡ survey (v .key) l)
-      (most : ℕ) (em : most ≡ limitOf (v .key)) (w : ℕ) (e : w ≡ judge (v .kind) (t .found) (t .count) most i q (v .len) 65535) where
-    -- the code's judgement is the register's
-    judged-is : refusal (h .acc) 65535 (r .what) ≡ w
-    judged-is =
-        let c = r .what in
-        let es : t ≡ survey (keyOf c) (h .acc) = told (h .acc) (h .kept) (h .count) ∙ ap (λ (x : View). survey (x .key) (h .acc)) (r .view-is) in
-        let ef : t .found ≡ stands (keyOf c) (standing (h .acc)) = ap (λ (x : Survey). x .found) es ∙ survey-found (keyOf c) (h .acc) in
-        let ec : t .count ≡ count (keyOf c) (standing (h .acc)) = ap (λ (x : Survey). x .count) es ∙ survey-count (keyOf c) (h .acc) (h .valid) in
-        let el : most ≡ limitOf (keyOf c) = em ∙ ap (λ (x : View). limitOf (x .key)) (r .view-is) in
-        sym (e ∙ (λ s. judge (r .view-is s .kind) (ef s) (ec s) (el s) (sym (h .count) s) (sym (h .at) s) (r .view-is s .len) 65535) ∙ sym (refusal-judge (h .acc) 65535 c))
+  -- the latest change of a number
+  pub head-near : (s : ℕ) → getD latest s 0 - 1 < 512
+  head-near s = omega (arith, h .latest-is s, latest-few s (h .acc), h .count, h .few)
 
-    pub head-refused : (w ≡ 0 → ⊥) → replay n [] part ≡ astray
-    head-refused z =
-        one-turn lt ∙ ap (onward (h .acc) (drop q part) (replay (n - (i + 1)))) (r .scanned)
-        ∙ ap (λ (b : Bool). cond b (replay (n - (i + 1)) (r .what ∷ h .acc) (drop (v .len) (drop q part))) astray)
-        (ne-eqb (refusal (h .acc) 65535 (r .what)) 0 (λ y. z (sym judged-is ∙ y)))
+  -- a change is read
+  module _ (lt : i < n) (v : View) (r : Read (drop q part) v) where
+    c-is : keyOf (r .what) ≡ v .key
+    c-is = sym (ap (λ (x : View). x .key) (r .view-is))
 
-    pub head-few : w ≡ 0 → i < 512
-    head-few z = judge-few (v .kind) (t .found) (t .count) most i q (v .len) (sym e ∙ z)
+    good : Found (drop q part) (r .what) (v .len)
+    good = scan-got (drop q part) (r .what) (v .len) (r .scanned)
 
-    pub head-next : w ≡ 0 → Head part n (set views i v) (q + v .len) (i + 1)
-    unfolding Valid writeAll Kept survey
-    head-next z =
-        let c = r .what in
-        let f = scan-got (drop q part) c (v .len) (r .scanned) in
-        let y : refusal (h .acc) 65535 c ≡ 0 = judged-is ∙ z in
-        let room = head-few z in
-        record {
-          acc = c ∷ h .acc;
-          valid = (f .good, y, h .valid);
-          inside = omega arith;
-          few = omega arith;
-          size = length-set views i v ∙ h .size;
-          kept = kept-more views i v c (h .acc) (h .count) (omega (arith, h .size)) (r .view-is) (h .kept);
-          count = omega (arith, h .count);
-          at = length-append (writeAll (h .acc)) (write c) ∙ ap₂ _+_ (h .at) (sym (f .len));
-          split = h .split ∙ ap (λ (x : List ℕ). writeAll (h .acc) ++ x) (f .bytes ∙ ap (λ (x : List ℕ). write c ++ x) (drop-drop (v .len) q part))
-              ∙ sym (append-assoc (writeAll (h .acc)) (write c) (drop (q + v .len) part));
-          goes = one-turn lt ∙ ap (onward (h .acc) (drop q part) (replay (n - (i + 1)))) (r .scanned)
-              ∙ ap (λ (b : Bool). cond b (replay (n - (i + 1)) (c ∷ h .acc) (drop (v .len) (drop q part))) astray) (eq-eqb (refusal (h .acc) 65535 c) 0 y)
-              ∙ ap (replay (n - (i + 1)) (c ∷ h .acc)) (drop-drop (v .len) q part);
-        }
+    low : v .key .hour < 32
+    low = omega (arith, good-hour (r .what) (good .good) .1, ap (λ (k : Key). k .hour) c-is)
+
+    -- what the index tells of its key
+    pub head-told : (s : ℕ) → s ≡ slot (v .key) → (place : ℕ) → place ≡ getD latest s 0 - 1 → (d : View) (t : ℕ) → t ≡ toldBy (getD latest s 0) (getD views place d) (v .key) → (t ≡ 2 → ⊥)
+        → eqb t 1 ≡ survey (v .key) (h .acc) .found
+    head-told s es place ep d t e z =
+        let near : getD latest s 0 ≡ latestOf (slot (v .key)) (h .acc) = h .latest-is s ∙ ap (λ (m : ℕ). latestOf m (h .acc)) es in
+        sym (told-found views (v .key) (h .acc) (h .kept) d t (e ∙ ap (λ (m : ℕ). toldBy (getD latest s 0) (getD views m d) (v .key)) ep ∙ ap (λ (m : ℕ). toldBy m (getD views (m - 1) d) (v .key)) near) z)
+
+    module _ (hour : ℕ) (eh : hour ≡ hourSlot (v .key)) where
+      pub head-count : getD counts hour 0 ≡ survey (v .key) (h .acc) .count
+      head-count = ap (λ (m : ℕ). getD counts m 0) eh ∙ h .counts-is (v .key) low
+
+      pub head-fewer : getD counts hour 0 < 65536
+      head-fewer = omega (arith, head-count, survey-few (v .key) (h .acc), h .count, h .few)
+
+      -- what stands is judged
+      module _ (found : Bool) (ef : found ≡ survey (v .key) (h .acc) .found) (most : ℕ) (em : most ≡ limitOf (v .key))
+          (w : ℕ) (e : w ≡ judge (v .kind) found (getD counts hour 0) most i q (v .len) 65535) where
+        -- the code's judgement is the register's
+        judged-is : refusal (h .acc) 65535 (r .what) ≡ w
+        judged-is =
+            let c = r .what in
+            let fs : found ≡ stands (keyOf c) (standing (h .acc)) = ef ∙ ap (λ (x : Key). survey x (h .acc) .found) (sym c-is) ∙ survey-found (keyOf c) (h .acc) in
+            let cs : getD counts hour 0 ≡ count (keyOf c) (standing (h .acc)) = head-count ∙ ap (λ (x : Key). survey x (h .acc) .count) (sym c-is) ∙ survey-count (keyOf c) (h .acc) (h .valid) in
+            let ms : most ≡ limitOf (keyOf c) = em ∙ ap limitOf (sym c-is) in
+            sym (e ∙ (λ s. judge (r .view-is s .kind) (fs s) (cs s) (ms s) (sym (h .count) s) (sym (h .at) s) (r .view-is s .len) 65535) ∙ sym (refusal-judge (h .acc) 65535 c))
+
+        pub head-refused : (w ≡ 0 → ⊥) → replay n [] part ≡ astray
+        head-refused z =
+            one-turn lt ∙ ap (onward (h .acc) (drop q part) (replay (n - (i + 1)))) (r .scanned)
+            ∙ ap (λ (b : Bool). cond b (replay (n - (i + 1)) (r .what ∷ h .acc) (drop (v .len) (drop q part))) astray)
+            (ne-eqb (refusal (h .acc) 65535 (r .what)) 0 (λ y. z (sym judged-is ∙ y)))
+
+        pub head-few : w ≡ 0 → i < 512
+        head-few z = judge-few (v .kind) found (getD counts hour 0) most i q (v .len) (sym e ∙ z)
+
+        -- and taken into the table and the index
+        pub head-next : w ≡ 0 → (s : ℕ) → s ≡ slot (v .key) → s < 8192 → hour < 512
+            → (m : ℕ) → m ≡ cond (eqb (v .kind) 1) (getD counts hour 0 + 1) (cond (eqb (v .kind) 3) (getD counts hour 0 - 1) (getD counts hour 0))
+            → Head part n (set views i v) (set latest s (i + 1)) (set counts hour m) (q + v .len) (i + 1)
+        unfolding Valid writeAll
+        head-next z s es s-in hour-in m em′ =
+            let c = r .what in
+            let y : refusal (h .acc) 65535 c ≡ 0 = judged-is ∙ z in
+            let room = head-few z in
+            let sl : s ≡ slot (keyOf c) = es ∙ ap slot (sym c-is) in
+            let hr : hour ≡ hourSlot (keyOf c) = eh ∙ ap hourSlot (sym c-is) in
+            let i-is : i + 1 ≡ length (h .acc) + 1 = omega (arith, h .count) in
+            record {
+              acc = c ∷ h .acc;
+              valid = (good .good, y, h .valid);
+              inside = omega arith;
+              few = omega arith;
+              size = length-set views i v ∙ h .size;
+              kept = kept-more views i v c (h .acc) (h .count) (omega (arith, h .size)) (r .view-is) (h .kept);
+              latest-size = length-set latest s (i + 1) ∙ h .latest-size;
+              latest-is = λ k. (λ j. getD (set latest (sl j) (i-is j)) k 0) ∙ latest-next latest c (h .acc) k (omega (arith, sl, h .latest-size)) (h .latest-is k);
+              counts-size = length-set counts hour m ∙ h .counts-size;
+              counts-is = λ k lk. ap (λ (x : ℕ). getD (set counts x m) (hourSlot k) 0) hr
+                  ∙ counts-next counts c (h .acc) k m (omega (arith, hr, h .counts-size)) (omega (arith, low, ap (λ (x : Key). x .hour) c-is)) lk (h .counts-is k lk)
+                  (em′ ∙ (λ j. cond (eqb (r .view-is j .kind) 1) (getD counts (hr j) 0 + 1) (cond (eqb (r .view-is j .kind) 3) (getD counts (hr j) 0 - 1) (getD counts (hr j) 0))));
+              count = omega (arith, h .count);
+              at = length-append (writeAll (h .acc)) (write c) ∙ ap₂ _+_ (h .at) (sym (good .len));
+              split = h .split ∙ ap (λ (x : List ℕ). writeAll (h .acc) ++ x) (good .bytes ∙ ap (λ (x : List ℕ). write c ++ x) (drop-drop (v .len) q part))
+                  ∙ sym (append-assoc (writeAll (h .acc)) (write c) (drop (q + v .len) part));
+              goes = one-turn lt ∙ ap (onward (h .acc) (drop q part) (replay (n - (i + 1)))) (r .scanned)
+                  ∙ ap (λ (b : Bool). cond b (replay (n - (i + 1)) (c ∷ h .acc) (drop (v .len) (drop q part))) astray) (eq-eqb (refusal (h .acc) 65535 c) 0 y)
+                  ∙ ap (replay (n - (i + 1)) (c ∷ h .acc)) (drop-drop (v .len) q part);
+            }

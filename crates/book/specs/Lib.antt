@@ -10,6 +10,7 @@ pub mod RegisterLaws
 pub mod ReplayLaws
 pub mod LoadLaws
 pub mod CallLaws
+pub mod Index
 pub mod Held
 pub mod Feed
 pub mod FeedLaws

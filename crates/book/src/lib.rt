@@ -7,6 +7,7 @@ pub mod feed;
 pub mod guarantees;
 mod held;
 pub mod hours;
+mod index;
 pub mod journal;
 pub mod places;
 pub mod questions;

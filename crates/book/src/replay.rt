@@ -1,6 +1,13 @@
 // The one pass over a book's used part.
-use crate::refusal;
-use crate::survey;
+use crate::index::STANDS;
+use crate::index::UNSURE;
+use crate::index::hour_slot;
+use crate::index::place_before;
+use crate::index::slot_of;
+use crate::index::told_by;
+use crate::refusal::weigh;
+use crate::survey::count_with;
+use crate::survey::look_in;
 use records::hours::limit_of;
 use records::scan::View;
 use records::scan::nothing;
@@ -15,12 +22,15 @@ pub(crate) struct Table {
     pub(crate) views: [View; 512],
 }
 
-// Each change is read once and its view kept, so that what stands under a later change's key is found among the views.
+// Each change is read once and its view kept. What stands under its key says the latest change of the key's number, or all views where that
+// change has another key.
 pub(crate) fn replayed_table(part: &[u8], n: u16) -> Table
     ensures { λ r. ⌜ Tabled (replay n [] (now (part .entry))) r ⌝ }
 {
     let blank = nothing();
     let mut views = [blank; 512];
+    let mut latest = [0u16; 8192];
+    let mut counts = [0usize; 512];
     let mut q: usize = 0;
     let mut i: usize = 0;
     let end = n as usize;
@@ -29,12 +39,25 @@ pub(crate) fn replayed_table(part: &[u8], n: u16) -> Table
         if v.kind == 0 {
             return Table { ok: false, views };
         }
-        let s = survey::look_in(views, i, v.key);
+        let slot = slot_of(v.key);
+        let near = latest[slot] as usize;
+        let place = place_before(near);
+        let w = views[place];
+        let told = told_by(near, w, v.key);
+        let mut found = told == STANDS;
+        if told == UNSURE {
+            let s = look_in(views, i, v.key);
+            found = s.found;
+        }
+        let hour = hour_slot(v.key);
+        let count = counts[hour];
         let most = limit_of(v.key);
-        if refusal::weigh(v.kind, s.found, s.count, most, i, q, v.len, 65535) != 0 {
+        if weigh(v.kind, found, count, most, i, q, v.len, 65535) != 0 {
             return Table { ok: false, views };
         }
         views[i] = v;
+        latest[slot] = (i + 1) as u16;
+        counts[hour] = count_with(v.kind, count);
         q = q + v.len;
         i = i + 1;
     }

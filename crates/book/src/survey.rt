@@ -23,7 +23,7 @@ pub(crate) struct Survey {
     pub(crate) count: usize,
 }
 
-fn count_with(kind: u8, count: usize) -> usize
+pub(crate) fn count_with(kind: u8, count: usize) -> usize
     requires { ⌜ count < 65536 ⌝ }
     ensures { λ r. ⌜ r ≡ cond (eqb kind 1) (count + 1) (cond (eqb kind 3) (count - 1) count) ⌝ }
 {

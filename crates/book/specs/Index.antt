@@ -1,0 +1,27 @@
+-- The index with which a replay finds what stands: by a number of each key, and by mark and hour.
+use Prim.Native.Nat.{ℕ, _+_, _*_, _%_}
+use mathlib.Core.List.{List, [], _∷_}
+use mathlib.Core.Bool.{cond}
+use lib.ListN.{length}
+use lib.Dec.{eqb}
+use Rattle.book.specs.Layer.{Key, View, Change, keyOf, same, order}
+
+abbrev pub hourSlot : Key → ℕ
+hourSlot k = order (k .mark) * 32 + k .hour
+
+-- the bytes of a name, each with its weight
+unfoldable pub weighed : ℕ → ℕ → List ℕ → ℕ
+weighed sum weight [] = sum
+weighed sum weight (b ∷ bs) = weighed (sum + b * weight) (weight * 31 % 8192) bs
+
+unfoldable pub slot : Key → ℕ
+slot k = weighed (hourSlot k) 449 (k .name .bytes) % 8192
+
+-- 1 more than the place of the latest change whose key has a number, 0 for none
+unfoldable pub latestOf : ℕ → List Change → ℕ
+latestOf h [] = 0
+latestOf h (c ∷ l) = cond (eqb (slot (keyOf c)) h) (length l + 1) (latestOf h l)
+
+-- what that change says of a key: it is gone, it stands, or another key has its number
+abbrev pub toldBy : ℕ → View → Key → ℕ
+toldBy near v k = cond (eqb near 0) 0 (cond (same k (v .key)) (cond (eqb (v .kind) 3) 0 1) 2)
