@@ -1,6 +1,7 @@
 // Where a replay looks for a key: by a number of the key, and by mark and hour.
 use records::keys::Key;
 use records::keys::same_key;
+use records::marks::WITHDRAWN;
 use records::marks::order;
 use records::scan::View;
 ghost use mathlib.Core.Path.{_≡_};
@@ -60,7 +61,7 @@ pub(crate) fn told_by(near: usize, v: View, key: Key) -> u8
         return GONE;
     }
     if same_key(key, v.key) {
-        if v.kind == 3 {
+        if v.kind == WITHDRAWN {
             return GONE;
         }
         return STANDS;
