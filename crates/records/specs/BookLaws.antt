@@ -14,6 +14,8 @@ pub use Rattle.records.specs.ChangeLaws.{bare-exact}
 pub use Rattle.records.specs.EntryLaws.{Ahead, entry-got, entry-fault, any-fault, any-good, alone, asEntry, any-back, any-close, any-change}
 -- the first of several changes, with more bytes behind and by itself; a fault in any mark
 pub use Rattle.records.specs.FirmLaws.{entry-more, entry-alone, entry-firm, Unread, entry-bad}
+-- a record that ends early is shorter than the longest one
+pub use Rattle.records.specs.LengthLaws.{entry-early, unread-early, bare-early, whole-early}
 -- the records of one hour
 pub use Rattle.records.specs.HourRecordLaws.{OfHour, hour-record-got, hour-record-fault}
 -- keys, and the key of a question

@@ -18,6 +18,7 @@ pub mod HourLaws
 pub mod ViewLaws
 pub mod EntryLaws
 pub mod FirmLaws
+pub mod LengthLaws
 pub mod HourRecordLaws
 pub mod PutLaws
 pub mod StoreLaws
