@@ -32,3 +32,4 @@ pub mod GatherLaws
 pub mod Hours
 pub mod HourLaws
 pub mod Examples
+pub mod EarlyLaws
