@@ -15,6 +15,7 @@ pub mod Held
 pub mod Feed
 pub mod FeedLaws
 pub mod PieceLaws
+pub mod StopLaws
 pub mod FeedPromise
 pub mod SettleLaws
 pub mod SessionLaws
