@@ -3,3 +3,4 @@ pub mod Growing
 pub mod Stating
 pub mod Walking
 pub mod Writing
+pub mod Refusing

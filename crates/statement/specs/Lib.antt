@@ -5,6 +5,7 @@ pub mod LineLaws
 pub mod PutLaws
 pub mod Sheets
 pub mod Statement
+pub mod Refusal
 pub mod Inner
 pub mod StatementLaws
 pub mod Examples

@@ -56,10 +56,10 @@ isNumber Err = true
 unfoldable pub figure : Kind → ℤ → List ℕ
 figure k z = cond (isNumber k) (number z) (dollars z)
 
-abbrev space : List ℕ
+abbrev pub space : List ℕ
 space = 32 ∷ []
 
-abbrev newline : List ℕ
+abbrev pub newline : List ℕ
 newline = 10 ∷ []
 
 -- "Fields: hour or `DD`, kind, written name or `-`, dollars with two decimals"; one space between fields, one newline after each line

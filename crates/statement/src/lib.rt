@@ -1,7 +1,8 @@
-// The statement: the text of its lines, sheets of lines, and the lines of a book's day.
+// The statement: the text of its lines, sheets of lines, the lines of a book's day; and the line of a refusal.
 pub mod day;
 mod hours;
 pub mod lines;
+pub mod refusal;
 pub mod sheets;
 pub mod texts;
 mod units;

@@ -66,7 +66,7 @@ pub(crate) fn sheet_len(s: Sheet) -> usize
     sum
 }
 
-fn put_text(out: &mut [u8], at: usize, t: Text) -> usize
+pub(crate) fn put_text(out: &mut [u8], at: usize, t: Text) -> usize
     requires { ⌜ (t .len ≤ 66) × (at + t .len ≤ length (now out)) ⌝ }
     ensures { λ r. ⌜ (now (out .exit) ≡ put (now (out .entry)) at (take (t .len) (t .bytes))) × (r ≡ at + t .len) ⌝ }
 {
