@@ -1,0 +1,17 @@
+use mathlib.Core.Path.{ap}
+use Rattle.book.specs.declared.journal.Book.{Book}
+use borrow.Author.Needs.{needs}
+use Rattle.settling.proofs.reading.Reading.fresh.Statement.{statement}
+use Rattle.settling.proofs.reading.Reading.fresh.Tie as tie
+use Rattle.settling.proofs.reading.Reading.fresh.Reads as reads
+use Rattle.settling.proofs.reading.Reading.fresh.Lts as lts
+use Rattle.book.proofs.journal.Book.fresh.Reads as fresh-reads
+
+fresh-requires : tie.Need-fresh-requires
+fresh-requires c κs = search needs
+
+returns : tie.Need-returns
+returns c = ap (λ (b : Book). record { book = b; count = 0; held = 0; number = 0 }) ((c .fresh) .ensures)
+
+pub fresh-spec : {M : Type 1} → statement M
+fresh-spec = tie.close (tie.spec fresh-requires returns)

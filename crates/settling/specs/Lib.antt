@@ -1,0 +1,6 @@
+pub mod Output
+pub mod Reading
+pub mod Program
+pub mod MoveLaws
+pub mod OutputLaws
+pub mod ProgramLaws
