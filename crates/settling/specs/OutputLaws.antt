@@ -14,7 +14,7 @@ use Rattle.book.specs.Register.{fresh, writeAll}
 use Rattle.book.specs.Meaning.{Load, belongs, load, bookOf}
 use Rattle.book.specs.Feed.{Fed, fed, feeding, verdict, settled}
 use Rattle.book.specs.FeedPromise.{Ends, Feeds}
-use Rattle.book.specs.CallLaws.{load-fresh}
+use Rattle.book.specs.LoadLaws.{load-fresh}
 use Rattle.book.specs.PieceLaws.{resumed, Pieces, pieces}
 use Rattle.book.specs.SettleLaws.{feeds-again}
 use Rattle.book.specs.StopLaws.{stops, early-short}
