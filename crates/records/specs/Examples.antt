@@ -18,24 +18,24 @@ use Rattle.records.specs.Keys.{eqList}
 
 -- ---- bytes
 
-abbrev times : ℕ → List ℕ → List ℕ
+abbrev pub times : ℕ → List ℕ → List ℕ
 times zero s = []
 times (suc n) s = s ++ times n s
 
 -- a number of 32 bits
-abbrev w : ℕ → List ℕ
+abbrev pub w : ℕ → List ℕ
 w v = v % 256 ∷ v / 256 % 256 ∷ v / 65536 % 256 ∷ v / 16777216 % 256 ∷ []
 
 -- a list of one pair
-abbrev list : ℕ → ℕ → List ℕ
+abbrev pub list : ℕ → ℕ → List ℕ
 list p q = 1 ∷ (w p ++ w q)
 
 -- `PR` of hour 5, 3000 throughout
-abbrev pr : List ℕ
+abbrev pub pr : List ℕ
 pr = 80 ∷ 82 ∷ 5 ∷ times 13 (w 3000)
 
 -- `IM` `A%2FB` of hour 5, twelve times a quantity, and its list
-abbrev im : ℕ → List ℕ → List ℕ
+abbrev pub im : ℕ → List ℕ → List ℕ
 im q l = 73 ∷ 77 ∷ 5 ∷ 5 ∷ 65 ∷ 37 ∷ 50 ∷ 70 ∷ 66 ∷ (times 12 (w q) ++ l)
 
 -- `GH` `U` of hour 5: D, spinning schedules, the three lists of the reserves; DA and RT reach 600
@@ -53,7 +53,7 @@ falls = 2 ∷ (w 2000 ++ (w 100 ++ (w 1999 ++ w 200)))
 
 -- ---- cases
 
-data Case : Type 0 where
+pub data Case : Type 0 where
   -- the bytes lent to a method (1 file, 2 correct, 3 withdraw) have the number as their first fault, 0 for none
   gives : ℕ → List ℕ → ℕ → Case
   -- the same for the call that takes any mark
@@ -73,7 +73,7 @@ abbrev bytesAre : Res (List ℕ) → List ℕ → Bool
 bytesAre (bad k) n = false
 bytesAre (got v t) n = eqList v n
 
-abbrev holds : Case → Bool
+abbrev pub holds : Case → Bool
 holds (gives want s n) = eqb (numberOf (parse want s)) n
 holds (gives-any s n) = eqb (numberOf (parseAny s)) n
 holds (filing s free n) = eqb (putNumber (parse 1 s) 0 (pad 0 free [])) n
@@ -84,7 +84,7 @@ abbrev allHold : List Case → Bool
 allHold [] = true
 allHold (c ∷ cs) = holds c && allHold cs
 
-abbrev cases : List Case
+abbrev pub cases : List Case
 cases =
     -- (P) `A/B` and `A%2FB` are one name, `A%2fb` is `A/b`; it is written `A%2FB`
     decodes (65 ∷ 47 ∷ 66 ∷ []) (65 ∷ 47 ∷ 66 ∷ [])

@@ -3,4 +3,5 @@ pub mod Reading
 pub mod Program
 pub mod MoveLaws
 pub mod OutputLaws
+pub mod Examples
 pub mod ProgramLaws

@@ -22,7 +22,7 @@ use Rattle.statement.specs.declared.lines.Kind.the-variants.{Iog, Off, I
 use Rattle.statement.specs.declared.lines.Line.{Line}
 
 -- ---- what they are made of
-abbrev bytes : String → List ℕ
+abbrev pub bytes : String → List ℕ
 bytes end = []
 bytes (next c s) = code c ∷ bytes s
 
