@@ -12,7 +12,7 @@ use Rattle.book.specs.declared.journal.Book.{Book}
 use Rattle.book.specs.declared.survey.Survey.{Survey}
 use Rattle.book.specs.declared.replay.Table.{Table}
 use Rattle.book.specs.Register.{Reg, change, ask, recordOf, countOf, freeBytes, Reply, refused, accepted, place, number, guarantees, unitDay, charge, Step, answered, becomes, stepOf, listed, judged, unless-closed, keyed, answer, placeOf, writeAll, refusal, room, capped, stands, count, standing}
-use Rattle.book.specs.Meaning.{Load, belongs, astray, load, After, bookOf, settled, stepped, outcome, Leaves, Meets}
+use Rattle.book.specs.Meaning.{Load, belongs, astray, load, After, bookOf, leaving, stepped, outcome, Leaves, Meets}
 use Rattle.book.specs.Tables.{Tabled, Stored, together, survey, numberOf, replied, judge}
 use Rattle.book.specs.LoadLaws.{Loaded, loaded-from}
 use Rattle.book.specs.RegisterLaws.{survey-found, survey-count, refusal-judge}
@@ -59,7 +59,7 @@ module _ (f : ℕ → Reg → Step) (b : Book) (s : List ℕ) where
   pub leaves-answered : (r : Reply) → stepped f b s (load b s) ≡ answered r → Leaves f b s b r s
   unfolding outcome
   leaves-answered r e =
-      let o = ap (settled b s) e in
+      let o = ap (leaving b s) e in
       record {
         book = sym (ap (λ (x : After). x .book) o);
         answer = sym (ap (λ (x : After). x .answer) o);
@@ -74,7 +74,7 @@ module _ (f : ℕ → Reg → Step) (b : Book) (s : List ℕ) where
       → b′ ≡ bookOf g → length s′ ≡ length s → take (length (writeAll (g .list))) s′ ≡ writeAll (g .list) → Leaves f b s b′ accepted s′
   unfolding outcome
   leaves-accepted g b′ s′ e p size q =
-      let o = ap (settled b s) e in
+      let o = ap (leaving b s) e in
       record {
         book = p ∙ sym (ap (λ (x : After). x .book) o);
         answer = sym (ap (λ (x : After). x .answer) o);

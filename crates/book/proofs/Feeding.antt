@@ -18,23 +18,23 @@ use Rattle.book.specs.ReplayLaws.{called-valid}
 use Rattle.book.specs.Held.{Held, Makes}
 use Rattle.book.specs.LoadLaws.{Loaded, loaded-from}
 use Rattle.book.specs.CallLaws.{Decided, decided-change, turn-book, turn-reply, turn-bytes, unmoved}
-use Rattle.book.specs.Feed.{front, piece, Fed, stopped, later, onward, fed, feeding}
-use Rattle.book.specs.FeedLaws.{piece-front, piece-within, piece-some, first-then, none-before, both-before}
+use Rattle.book.specs.Feed.{front, firstRecord, Fed, stopped, later, onward, fed, feeding}
+use Rattle.book.specs.FeedLaws.{first-front, first-within, first-some, first-then, none-before, both-before}
 use Rattle.book.specs.FeedPromise.{Ends, Feeds}
 
 -- ---- the first record
 
 module _ (s : List ℕ) (f : Front) (e : f ≡ frontOf s (readEntry s)) where
-  pub all-unread : (f .number ≡ 0 → ⊥) → length s ≡ length (piece s)
-  unfolding piece
+  pub all-unread : (f .number ≡ 0 → ⊥) → length s ≡ length (firstRecord s)
+  unfolding firstRecord
   all-unread z = go (readEntry s) e
     where
       go : (r : Res Entry) → f ≡ frontOf s r → length s ≡ length (front s r)
       go (bad k) e = refl
       go (got x t) e = absurd (z (ap (λ (y : Front). y .number) e))
 
-  pub front-end : f .number ≡ 0 → f .end ≡ length (piece s)
-  unfolding piece
+  pub front-end : f .number ≡ 0 → f .end ≡ length (firstRecord s)
+  unfolding firstRecord
   front-end z = go (readEntry s) refl e
     where
       go : (r : Res Entry) → readEntry s ≡ r → f ≡ frontOf s r → f .end ≡ length (front s r)
@@ -85,7 +85,7 @@ started b s input views w h = record {
 -- one record more
 module _ (f : Fed) (s₀ input : List ℕ) (b : Book) (s : List ℕ) (n at : ℕ) (x : On f (length s₀) input b s n at) (size : length s ≡ length s₀) (some : at < length input) where
   abbrev p : List ℕ
-  p = piece (drop at input)
+  p = firstRecord (drop at input)
 
   rest-is : (st : Step) → called (change p) (length s) (x .reg) ≡ st → f ≡ later n at (onward (x .reg) p (drop at input) (feeding (length s₀)) st)
   rest-is st e =
@@ -151,20 +151,20 @@ module _ (b₀ : Book) (s₀ input : List ℕ) (b : Book) (views : List View) (s
   finished h l e = finishes _ s₀ input b s n at (g .on l e) (g .size) (omega (arith, g .within))
 
   -- the record that ends at a place, and what the book said to it
-  module _ (some : at < length input) (end : ℕ) (ends-at : end ≡ at + length (piece (drop at input))) where
+  module _ (some : at < length input) (end : ℕ) (ends-at : end ≡ at + length (firstRecord (drop at input))) where
     pub end-within : end ≤ length input
-    end-within = omega (arith, piece-within (drop at input), length-drop at input)
+    end-within = omega (arith, first-within (drop at input), length-drop at input)
 
     pub end-after : at < end
-    end-after = omega (arith, piece-some (drop at input) (omega (arith, length-drop at input)))
+    end-after = omega (arith, first-some (drop at input) (omega (arith, length-drop at input)))
 
-    between : take (end - at) (drop at input) ≡ piece (drop at input)
+    between : take (end - at) (drop at input) ≡ firstRecord (drop at input)
     between =
-        let n : end - at ≡ length (piece (drop at input)) = omega arith in
-        ap (λ (k : ℕ). take k (drop at input)) n ∙ piece-front (drop at input)
+        let n : end - at ≡ length (firstRecord (drop at input)) = omega arith in
+        ap (λ (k : ℕ). take k (drop at input)) n ∙ first-front (drop at input)
 
     module _ (r : Made) (s′ : List ℕ) (m : Makes (general (take (end - at) (drop at input))) b s views r s′) where
-      said : Meets (change (piece (drop at input))) b s (r .book) (replyOf (r .answer)) s′
+      said : Meets (change (firstRecord (drop at input))) b s (r .book) (replyOf (r .answer)) s′
       said = subst (λ (p : List ℕ). Meets (change p) b s (r .book) (replyOf (r .answer)) s′) between (m .leaves)
 
       pub stops : (k : ℕ) → k ≡ replied (replyOf (r .answer)) → (k ≡ 0 → ⊥) → (l : List Change) → load b₀ s₀ ≡ belongs l
@@ -210,5 +210,5 @@ fed-astray b s input e some = record {
 }
 
 -- where the record ends of which the code found the length
-pub record-end : (input : List ℕ) (at k : ℕ) → k ≡ length (piece (take (length input - at) (drop at input))) → at + k ≡ at + length (piece (drop at input))
-record-end input at k e = ap (λ (j : ℕ). at + j) (e ∙ ap (λ (l : List ℕ). length (piece l)) (take-all (length input - at) (drop at input) (omega (arith, length-drop at input))))
+pub record-end : (input : List ℕ) (at k : ℕ) → k ≡ length (firstRecord (take (length input - at) (drop at input))) → at + k ≡ at + length (firstRecord (drop at input))
+record-end input at k e = ap (λ (j : ℕ). at + j) (e ∙ ap (λ (l : List ℕ). length (firstRecord l)) (take-all (length input - at) (drop at input) (omega (arith, length-drop at input))))

@@ -15,16 +15,16 @@ use Rattle.book.specs.Register.{writeAll, standing, count}
 use Rattle.book.specs.ByName.{byName}
 use Rattle.book.specs.Meaning.{Valid}
 use Rattle.book.specs.Tables.{Kept, Stored, survey, viewed}
-use Rattle.book.specs.Places.{offset, liveAt, spotOf, putSpot, spots}
+use Rattle.book.specs.Places.{leadLength, liveAt, spotOf, putSpot, spots}
 use Rattle.book.specs.RegisterLaws.{hour-few}
 use Rattle.book.specs.GatherLaws.{Pass, gather, collect, gather-standing, hourPass, hour-standing}
 use Rattle.book.proofs.Surveying.{kept-at, Bounded, bounded}
 use Rattle.book.proofs.Inserting.{Sought, sought-here, sought-on, sought-end}
 
-pub place-co : (kind q : ℕ) → kind ≡ 2 → q + 2 ≡ q + offset kind
+pub place-co : (kind q : ℕ) → kind ≡ 2 → q + 2 ≡ q + leadLength kind
 place-co kind q h = simp (eq-eqb kind 2 h)
 
-pub place-filed : (kind q : ℕ) → (kind ≡ 2 → ⊥) → q ≡ q + offset kind
+pub place-filed : (kind q : ℕ) → (kind ≡ 2 → ⊥) → q ≡ q + leadLength kind
 place-filed kind q h = simp (ne-eqb kind 2 h) (omega arith)
 
 -- ---- whether a change's record stands
@@ -34,17 +34,17 @@ module _ (s : Survey) (v : View) (q : ℕ) where
   live-withdrawn h = simp (eq-eqb (v .kind) 3 h)
 
   module _ (h : v .kind ≡ 3 → ⊥) (u : Survey) (eu : u ≡ s) where
-    live-seen : liveAt s v q ≡ cond (u .found) (eqb (u .start) (q + offset (v .kind))) false
+    live-seen : liveAt s v q ≡ cond (u .found) (eqb (u .start) (q + leadLength (v .kind))) false
     unfolding liveAt
     live-seen =
-        ap (λ (b : Bool). cond b false (cond (s .found) (eqb (s .start) (q + offset (v .kind))) false)) (ne-eqb (v .kind) 3 h)
-        ∙ ap (λ (y : Survey). cond (y .found) (eqb (y .start) (q + offset (v .kind))) false) (sym eu)
+        ap (λ (b : Bool). cond b false (cond (s .found) (eqb (s .start) (q + leadLength (v .kind))) false)) (ne-eqb (v .kind) 3 h)
+        ∙ ap (λ (y : Survey). cond (y .found) (eqb (y .start) (q + leadLength (v .kind))) false) (sym eu)
 
     pub live-gone : u .found ≡ false → false ≡ liveAt s v q
-    live-gone f = sym (live-seen ∙ ap (λ (b : Bool). cond b (eqb (u .start) (q + offset (v .kind))) false) f)
+    live-gone f = sym (live-seen ∙ ap (λ (b : Bool). cond b (eqb (u .start) (q + leadLength (v .kind))) false) f)
 
-    pub live-there : u .found ≡ true → (x : ℕ) → x ≡ q + offset (v .kind) → eqb (u .start) x ≡ liveAt s v q
-    live-there f x ex = ap (eqb (u .start)) ex ∙ sym (live-seen ∙ ap (λ (b : Bool). cond b (eqb (u .start) (q + offset (v .kind))) false) f)
+    pub live-there : u .found ≡ true → (x : ℕ) → x ≡ q + leadLength (v .kind) → eqb (u .start) x ≡ liveAt s v q
+    live-there f x ex = ap (eqb (u .start)) ex ∙ sym (live-seen ∙ ap (λ (b : Bool). cond b (eqb (u .start) (q + leadLength (v .kind))) false) f)
 
 pub of-picked : {t a b r : Bool} → t ≡ a → t ≡ true → r ≡ b → r ≡ (a && b)
 of-picked {b = b} e h w = w ∙ ap (λ (x : Bool). x && b) (sym h ∙ e)
@@ -83,7 +83,7 @@ module _ {B : Type 0} {p : Pass B} {views : List View} {n i q : ℕ} {xs : B} (h
 
   module _ (lt : i < n) (d : View) {b : Bool}
       (eb : (l : List Change) → Kept views l → length l ≡ n → b ≡ (p .pick (getD views i d .key) && liveAt (survey (getD views i d .key) l) (getD views i d) q))
-      {x : ℕ} (ex : x ≡ q + offset (getD views i d .kind)) where
+      {x : ℕ} (ex : x ≡ q + leadLength (getD views i d .kind)) where
     pub held-turn : (l : List Change) → Kept views l → length l ≡ n → cond b (p .put (getD views i d .key) x xs) xs ≡ gather p l (drop (n - (i + 1)) l)
     unfolding gather
     held-turn l kept e =
@@ -92,7 +92,7 @@ module _ {B : Type 0} {p : Pass B} {views : List View} {n i q : ℕ} {xs : B} (h
         let q-is = h .at-is l kept e in
         let b-is : b ≡ (p .pick (keyOf (w .what)) && liveAt (survey (keyOf (w .what)) l) (viewed (w .what)) (length (writeAll l′))) =
         eb l kept e ∙ (λ t. p .pick (w .view d t .key) && liveAt (survey (w .view d t .key) l) (w .view d t) (q-is t)) in
-        let x-is : x ≡ length (writeAll l′) + offset (kindOf (w .what)) = ex ∙ (λ t. q-is t + offset (w .view d t .kind)) in
+        let x-is : x ≡ length (writeAll l′) + leadLength (kindOf (w .what)) = ex ∙ (λ t. q-is t + leadLength (w .view d t .kind)) in
         (λ t. cond (b-is t) (p .put (w .view d t .key) (x-is t) (h .is l kept e t)) (h .is l kept e t)) ∙ ap (gather p l) (sym (w .rest))
 
     pub held-next : {ys : B} → ys ≡ cond b (p .put (getD views i d .key) x xs) xs → Held p views n (i + 1) (q + getD views i d .len) ys
@@ -123,7 +123,7 @@ fewer k all (suc m) [] = omega arith
 fewer k all (suc m) (c ∷ l) = go (sameHour k (keyOf c) && liveAt (survey (keyOf c) all) (viewed c) (length (writeAll l))) (fewer k all m l)
   where
     spot : Spot
-    spot = record { name = keyOf c .name; start = length (writeAll l) + offset (kindOf c) }
+    spot = record { name = keyOf c .name; start = length (writeAll l) + leadLength (kindOf c) }
 
     go : (b : Bool) → length (gather (hourPass k) all (drop m l)) ≤ length (gather (hourPass k) all l)
         → length (gather (hourPass k) all (drop m l)) ≤ length (cond b (putSpot spot (gather (hourPass k) all l)) (gather (hourPass k) all l))
@@ -181,7 +181,7 @@ module _ {k : Key} {views : List View} {n i q : ℕ} {p : Places} (f : Filled k 
 
   module _ (lt : i < n) (d : View) {b : Bool}
       (eb : (l : List Change) → Kept views l → length l ≡ n → b ≡ (sameHour k (getD views i d .key) && liveAt (survey (getD views i d .key) l) (getD views i d) q))
-      {x : ℕ} (ex : x ≡ q + offset (getD views i d .kind)) where
+      {x : ℕ} (ex : x ≡ q + leadLength (getD views i d .kind)) where
     -- there is a place left for a record that stands
     pub filled-room : Stored views n → b ≡ true → p .n < 16
     filled-room st e =

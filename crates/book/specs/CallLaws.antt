@@ -13,7 +13,7 @@ use Rattle.book.specs.declared.journal.Book.{Book}
 use Rattle.book.specs.ByName.{byName}
 use Rattle.book.specs.Amounts.{Price, priced, unpriced, hourKey, priceOf, guaranteesAt, guaranteesOf}
 use Rattle.book.specs.Register.{Reg, standing, startIn, Question, hourGuarantees, keyed, asking, Call, file, change, ask, answer, Reply, refused, Step, answered, becomes, stepOf, called, listed, judged, takenBack, closing, shorter, unless-closed, bareTakeBack, bareClose, refusal, writeAll}
-use Rattle.book.specs.Meaning.{Load, belongs, astray, load, Valid, After, bookOf, settled, stepped, outcome, Meets}
+use Rattle.book.specs.Meaning.{Load, belongs, astray, load, Valid, After, bookOf, leaving, stepped, outcome, Meets}
 use Rattle.book.specs.ReplayLaws.{outcome-is}
 
 -- ---- a change is accepted, or refused with a number above 0
@@ -106,30 +106,30 @@ module _ (g : Reg) (s : List ℕ) (v : Valid (g .list)) (h : take (length (write
   held : length (writeAll (g .list)) ≤ length s
   held = omega (arith, simp length-take at (ap length h))
 
-  outcome-called : (call : Call) → outcome (stepOf call) (bookOf g) s ≡ settled (bookOf g) s (called call (length s) g)
+  outcome-called : (call : Call) → outcome (stepOf call) (bookOf g) s ≡ leaving (bookOf g) s (called call (length s) g)
   outcome-called call = outcome-is call g s v (h ∙ sym (take-all (length s) (writeAll (g .list)) held))
 
   pub asked : (q : Question) → outcome (stepOf (ask q)) (bookOf g) s .answer ≡ answer q (length s) g
-  asked q = ap (λ (x : After). x .answer) (outcome-called (ask q) ∙ ap (settled (bookOf g) s) (called-long (ask q) (length s) g held))
+  asked q = ap (λ (x : After). x .answer) (outcome-called (ask q) ∙ ap (leaving (bookOf g) s) (called-long (ask q) (length s) g held))
 
   module _ (call : Call) (b′ : Book) (r : Reply) (s′ : List ℕ) (m : Meets call (bookOf g) s b′ r s′) (st : Step) (e : called call (length s) g ≡ st) where
-    turn : outcome (stepOf call) (bookOf g) s ≡ settled (bookOf g) s st
-    turn = outcome-called call ∙ ap (settled (bookOf g) s) e
+    turn : outcome (stepOf call) (bookOf g) s ≡ leaving (bookOf g) s st
+    turn = outcome-called call ∙ ap (leaving (bookOf g) s) e
 
-    pub turn-book : b′ ≡ settled (bookOf g) s st .book
+    pub turn-book : b′ ≡ leaving (bookOf g) s st .book
     turn-book = m .book ∙ ap (λ (x : After). x .book) turn
 
-    pub turn-reply : r ≡ settled (bookOf g) s st .answer
+    pub turn-reply : r ≡ leaving (bookOf g) s st .answer
     turn-reply = m .answer ∙ ap (λ (x : After). x .answer) turn
 
-    pub turn-bytes : take (length (settled (bookOf g) s st .kept)) s′ ≡ settled (bookOf g) s st .kept
+    pub turn-bytes : take (length (leaving (bookOf g) s st .kept)) s′ ≡ leaving (bookOf g) s st .kept
     turn-bytes = subst (λ (x : After). take (length (x .kept)) s′ ≡ x .kept) turn (m .bytes)
 
 -- ---- a question, of a book and bytes that belong together
 
 pub question-loaded : (q : Question) (b : Book) (s : List ℕ) (l : List Change) (r : Reply) → load b s ≡ belongs l → Meets (ask q) b s b r s → r ≡ answer q (length s) (record { list = l; closed = b .closed })
 unfolding outcome
-question-loaded q b s l r e m = m .answer ∙ ap (λ (x : Load). settled b s (stepped (asking q) b s x) .answer) e
+question-loaded q b s l r e m = m .answer ∙ ap (λ (x : Load). leaving b s (stepped (asking q) b s x) .answer) e
 
 -- no refusal of an hour's guarantees is 0
 pub guarantees-fault : (h lent : ℕ) (g : Reg) (n : ℕ) → answer (hourGuarantees h) lent g ≡ refused n → 0 < n
@@ -153,9 +153,9 @@ pub unmoved : (s s′ : List ℕ) → length s′ ≡ length s → take (length 
 unmoved s s′ n e = sym (take-all (length s) s′ (omega arith)) ∙ e
 
 module _ (call : Call) (b : Book) (s : List ℕ) (e : load b s ≡ astray) where
-  pub outcome-astray : outcome (stepOf call) b s ≡ settled b s (answered (refused 16))
+  pub outcome-astray : outcome (stepOf call) b s ≡ leaving b s (answered (refused 16))
   unfolding outcome
-  outcome-astray = ap (λ (d : Load). settled b s (stepped (stepOf call) b s d)) e
+  outcome-astray = ap (λ (d : Load). leaving b s (stepped (stepOf call) b s d)) e
 
   module _ (b′ : Book) (r : Reply) (s′ : List ℕ) (m : Meets call b s b′ r s′) where
     pub astray-book : b′ ≡ b

@@ -13,8 +13,8 @@ abbrev pub front : List ℕ → Res Entry → List ℕ
 front s (bad k) = s
 front s (got x t) = take (length s - length t) s
 
-unfoldable pub piece : List ℕ → List ℕ
-piece s = front s (readEntry s)
+unfoldable pub firstRecord : List ℕ → List ℕ
+firstRecord s = front s (readEntry s)
 
 -- the register after some records, how many of them it accepted and how many bytes these took, and the number of the refusal at which
 -- reading stopped, 0 for none
@@ -40,7 +40,7 @@ onward g p s f (becomes h) = later 1 (length p) (f h (drop (length p) s))
 unfoldable pub fed : ℕ → ℕ → Reg → List ℕ → Fed
 fed zero lent g s = stopped g 0
 fed (suc n) lent g [] = stopped g 0
-fed (suc n) lent g (b ∷ s) = onward g (piece (b ∷ s)) (b ∷ s) (fed n lent) (called (change (piece (b ∷ s))) lent g)
+fed (suc n) lent g (b ∷ s) = onward g (firstRecord (b ∷ s)) (b ∷ s) (fed n lent) (called (change (firstRecord (b ∷ s))) lent g)
 
 -- all of them: no record is without a byte
 abbrev pub feeding : ℕ → Reg → List ℕ → Fed

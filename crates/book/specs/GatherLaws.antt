@@ -12,7 +12,7 @@ use Rattle.book.specs.Register.{writeAll, without, standing}
 use Rattle.book.specs.declared.places.Spot.{Spot}
 use Rattle.book.specs.ByName.{inOrder, byName, addName, sameMark, namesOf}
 use Rattle.book.specs.Tables.{survey, viewed}
-use Rattle.book.specs.Places.{offset, liveAt, spotOf, putSpot}
+use Rattle.book.specs.Places.{leadLength, liveAt, spotOf, putSpot}
 use Rattle.book.specs.RegisterLaws.{by-test, true≠false, same-turned}
 
 -- ---- what a pass collects: of the keys that it picks, each put to the rest with the place of its record
@@ -25,7 +25,7 @@ pub record Pass (B : Type 0) : Type 0 where
 unfoldable pub gather : {B : Type 0} → Pass B → List Change → List Change → B
 gather p all [] = p .none
 gather p all (c ∷ l) =
-    cond (p .pick (keyOf c) && liveAt (survey (keyOf c) all) (viewed c) (length (writeAll l))) (p .put (keyOf c) (length (writeAll l) + offset (kindOf c)) (gather p all l)) (gather p all l)
+    cond (p .pick (keyOf c) && liveAt (survey (keyOf c) all) (viewed c) (length (writeAll l))) (p .put (keyOf c) (length (writeAll l) + leadLength (kindOf c)) (gather p all l)) (gather p all l)
 
 -- from the records themselves
 unfoldable pub collect : {B : Type 0} → Pass B → List Change → List Rec → B
@@ -100,13 +100,13 @@ left-snoc newer c (r ∷ rs) =
     ∙ sym (ap (λ (b : Bool). left newer (cond b (without (keyOf c) rs) (r ∷ without (keyOf c) rs))) t))
 
 -- what the newest change of a key says of it
-own : (c : Change) (l : List Change) → eqb (kindOf c) 3 ≡ false → (survey (keyOf c) (c ∷ l) .found ≡ true) × (survey (keyOf c) (c ∷ l) .start ≡ length (writeAll l) + offset (kindOf c))
+own : (c : Change) (l : List Change) → eqb (kindOf c) 3 ≡ false → (survey (keyOf c) (c ∷ l) .found ≡ true) × (survey (keyOf c) (c ∷ l) .start ≡ length (writeAll l) + leadLength (kindOf c))
 unfolding survey
 own (filed r) l n = (ap (λ (b : Bool). cond b true (survey (r .key) l .found)) (same-refl (r .key)), ap (λ (b : Bool). cond b (length (writeAll l)) (survey (r .key) l .start)) (same-refl (r .key)) ∙ omega arith)
 own (corrected r) l n = (ap (λ (b : Bool). cond b true (survey (r .key) l .found)) (same-refl (r .key)), ap (λ (b : Bool). cond b (length (writeAll l) + 2) (survey (r .key) l .start)) (same-refl (r .key)))
 own (withdrawn k) l n = true≠false refl n
 
-short : (c : Change) → offset (kindOf c) < length (write c)
+short : (c : Change) → leadLength (kindOf c) < length (write c)
 short (filed r) = write-pos (filed r)
 short (corrected r) = omega (arith, write-co r .0, write-pos (filed r))
 short (withdrawn k) = write-pos (withdrawn k)
@@ -117,9 +117,9 @@ module _ (newer : List Change) (c : Change) (l : List Change) (n : eqb (kindOf c
   live-touched h =
       let s = survey (keyOf c) (newer ++ (c ∷ l)) in
       let w = beyond (keyOf c) newer (c ∷ l) h in
-      let e : eqb (s .start) (length (writeAll l) + offset (kindOf c)) ≡ false =
-      ne-eqb (s .start) (length (writeAll l) + offset (kindOf c)) (λ z. omega (arith, w, z, length-append (writeAll l) (write c), short c)) in
-      ap (λ (b : Bool). cond b false (cond (s .found) (eqb (s .start) (length (writeAll l) + offset (kindOf c))) false)) n
+      let e : eqb (s .start) (length (writeAll l) + leadLength (kindOf c)) ≡ false =
+      ne-eqb (s .start) (length (writeAll l) + leadLength (kindOf c)) (λ z. omega (arith, w, z, length-append (writeAll l) (write c), short c)) in
+      ap (λ (b : Bool). cond b false (cond (s .found) (eqb (s .start) (length (writeAll l) + leadLength (kindOf c))) false)) n
       ∙ ap (λ (b : Bool). cond (s .found) b false) e ∙ go (s .found)
     where
       go : (b : Bool) → cond b false false ≡ false
@@ -127,15 +127,15 @@ module _ (newer : List Change) (c : Change) (l : List Change) (n : eqb (kindOf c
       go false = refl
 
   live-own : touched (keyOf c) newer ≡ false
-      → (liveAt (survey (keyOf c) (newer ++ (c ∷ l))) (viewed c) (length (writeAll l)) ≡ true) × (survey (keyOf c) (newer ++ (c ∷ l)) .start ≡ length (writeAll l) + offset (kindOf c))
+      → (liveAt (survey (keyOf c) (newer ++ (c ∷ l))) (viewed c) (length (writeAll l)) ≡ true) × (survey (keyOf c) (newer ++ (c ∷ l)) .start ≡ length (writeAll l) + leadLength (kindOf c))
   unfolding liveAt
   live-own h =
       let s = survey (keyOf c) (newer ++ (c ∷ l)) in
       let p = passed (keyOf c) newer (c ∷ l) h in
       let o = own c l n in
-      let st : s .start ≡ length (writeAll l) + offset (kindOf c) = p .1 ∙ o .1 in (
-        ap (λ (b : Bool). cond b false (cond (s .found) (eqb (s .start) (length (writeAll l) + offset (kindOf c))) false)) n
-            ∙ ap₂ (λ (f e : Bool). cond f e false) (p .0 ∙ o .0) (eq-eqb (s .start) (length (writeAll l) + offset (kindOf c)) st),
+      let st : s .start ≡ length (writeAll l) + leadLength (kindOf c) = p .1 ∙ o .1 in (
+        ap (λ (b : Bool). cond b false (cond (s .found) (eqb (s .start) (length (writeAll l) + leadLength (kindOf c))) false)) n
+            ∙ ap₂ (λ (f e : Bool). cond f e false) (p .0 ∙ o .0) (eq-eqb (s .start) (length (writeAll l) + leadLength (kindOf c)) st),
         st,
       )
 
@@ -150,12 +150,12 @@ picked false x y = refl
 -- the pass at a record, against the record itself
 module _ {B : Type 0} (p : Pass B) (newer : List Change) (c : Change) (l : List Change) (n : eqb (kindOf c) 3 ≡ false) where
   at-own : (r : Rec) → keyOf c ≡ r .key → (rs : List Rec) (t : B) → t ≡ collect p (newer ++ (c ∷ l)) (left newer rs)
-      → cond (p .pick (keyOf c) && liveAt (survey (keyOf c) (newer ++ (c ∷ l))) (viewed c) (length (writeAll l))) (p .put (keyOf c) (length (writeAll l) + offset (kindOf c)) t) t
+      → cond (p .pick (keyOf c) && liveAt (survey (keyOf c) (newer ++ (c ∷ l))) (viewed c) (length (writeAll l))) (p .put (keyOf c) (length (writeAll l) + leadLength (kindOf c)) t) t
       ≡ collect p (newer ++ (c ∷ l)) (left newer (r ∷ rs))
   unfolding left collect
   at-own r e rs t et =
       let all = newer ++ (c ∷ l) in
-      let x = p .put (keyOf c) (length (writeAll l) + offset (kindOf c)) t in
+      let x = p .put (keyOf c) (length (writeAll l) + leadLength (kindOf c)) t in
       let rest = collect p all (left newer rs) in
       by-test (touched (keyOf c) newer)
       (λ h. ap (λ (b : Bool). cond (p .pick (keyOf c) && b) x t) (live-touched newer c l n h) ∙ unpicked (p .pick (keyOf c)) x t ∙ et

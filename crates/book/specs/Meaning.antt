@@ -59,9 +59,9 @@ abbrev pub bookOf : Reg → Book
 bookOf g = record { changes = length (g .list); used = length (writeAll (g .list)); closed = g .closed }
 
 -- at a refusal or a question "book and bytes remain"; after a change "the used part is the register's list as written"
-abbrev pub settled : Book → List ℕ → Step → After
-settled b s (answered r) = record { book = b; answer = r; kept = s }
-settled b s (becomes g) = record { book = bookOf g; answer = accepted; kept = writeAll (g .list) }
+abbrev pub leaving : Book → List ℕ → Step → After
+leaving b s (answered r) = record { book = b; answer = r; kept = s }
+leaving b s (becomes g) = record { book = bookOf g; answer = accepted; kept = writeAll (g .list) }
 
 -- "16 comes before all others, for questions too"
 abbrev pub stepped : (ℕ → Reg → Step) → Book → List ℕ → Load → Step
@@ -69,7 +69,7 @@ stepped f b s (belongs l) = f (length s) (record { list = l; closed = b .closed 
 stepped f b s astray = answered (refused notTogether)
 
 unfoldable pub outcome : (ℕ → Reg → Step) → Book → List ℕ → After
-outcome f b s = settled b s (stepped f b s (load b s))
+outcome f b s = leaving b s (stepped f b s (load b s))
 
 -- "Of answer, book and bytes only bytes past the used part are free"
 pub record Leaves (f : ℕ → Reg → Step) (b : Book) (s : List ℕ) (b′ : Book) (r : Reply) (s′ : List ℕ) : Type 0 where

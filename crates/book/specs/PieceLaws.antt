@@ -11,8 +11,8 @@ use Rattle.book.specs.Layer.{Res, bad, got, Entry, readEntry, entry-bad,
 use Rattle.book.specs.Register.{Reg, change, Reply, Step, answered, becomes, refused, called, writeAll}
 use Rattle.book.specs.Tables.{replied}
 use Rattle.book.specs.CallLaws.{Decided, decided-change, called-unread, called-short}
-use Rattle.book.specs.Feed.{front, piece, Fed, later, onward, fed, feeding}
-use Rattle.book.specs.FeedLaws.{piece-within, piece-some, piece-more, first-then, none-before, both-before}
+use Rattle.book.specs.Feed.{front, firstRecord, Fed, later, onward, fed, feeding}
+use Rattle.book.specs.FeedLaws.{first-within, first-some, first-more, first-then, none-before, both-before}
 
 -- a reading that goes on from where another one stopped
 abbrev pub resumed : ℕ → Fed → List ℕ → Fed
@@ -29,12 +29,12 @@ pub record Pieces (lent : ℕ) (g : Reg) (xs ys : List ℕ) : Type 0 where
 
 module _ (lent : ℕ) where
   -- an accepted record is accepted in front of more bytes too
-  same-piece : (g h : Reg) (xs ys : List ℕ) → called (change (piece xs)) lent g ≡ becomes h → piece (xs ++ ys) ≡ piece xs
-  unfolding piece
-  same-piece g h xs ys e = go (readEntry xs) refl
+  same-first : (g h : Reg) (xs ys : List ℕ) → called (change (firstRecord xs)) lent g ≡ becomes h → firstRecord (xs ++ ys) ≡ firstRecord xs
+  unfolding firstRecord
+  same-first g h xs ys e = go (readEntry xs) refl
     where
-      go : (r : Res Entry) → readEntry xs ≡ r → piece (xs ++ ys) ≡ piece xs
-      go (got x t) q = piece-more xs ys x t q
+      go : (r : Res Entry) → readEntry xs ≡ r → firstRecord (xs ++ ys) ≡ firstRecord xs
+      go (got x t) q = first-more xs ys x t q
       go (bad j) q =
           let w = called-unread xs lent g j (entry-bad xs j q) in
           let v : called (change xs) lent g ≡ becomes h = ap (λ (r : Res Entry). called (change (front xs r)) lent g) (sym q) ∙ e in
@@ -42,20 +42,20 @@ module _ (lent : ℕ) where
           absurd (omega arith)
 
   -- where it is accepted, reading all is reading the rest and what follows
-  over-first : (g h : Reg) (xs ys : List ℕ) → 0 < length xs → called (change (piece xs)) lent g ≡ becomes h
-      → feeding lent g (xs ++ ys) ≡ later 1 (length (piece xs)) (feeding lent h (drop (length (piece xs)) xs ++ ys))
+  over-first : (g h : Reg) (xs ys : List ℕ) → 0 < length xs → called (change (firstRecord xs)) lent g ≡ becomes h
+      → feeding lent g (xs ++ ys) ≡ later 1 (length (firstRecord xs)) (feeding lent h (drop (length (firstRecord xs)) xs ++ ys))
   over-first g h xs ys some e =
-      let p = same-piece g h xs ys e in
+      let p = same-first g h xs ys e in
       first-then lent g (xs ++ ys) (omega (arith, length-append xs ys))
       ∙ ap (λ (x : List ℕ). onward g x (xs ++ ys) (feeding lent) (called (change x) lent g)) p
-      ∙ ap (onward g (piece xs) (xs ++ ys) (feeding lent)) e
-      ∙ ap (λ (x : List ℕ). later 1 (length (piece xs)) (feeding lent h x)) (drop-append-le (length (piece xs)) xs ys (piece-within xs))
+      ∙ ap (onward g (firstRecord xs) (xs ++ ys) (feeding lent)) e
+      ∙ ap (λ (x : List ℕ). later 1 (length (firstRecord xs)) (feeding lent h x)) (drop-append-le (length (firstRecord xs)) xs ys (first-within xs))
 
-  at-first : (g : Reg) (xs : List ℕ) → 0 < length xs → (st : Step) → called (change (piece xs)) lent g ≡ st → feeding lent g xs ≡ onward g (piece xs) xs (feeding lent) st
-  at-first g xs some st e = first-then lent g xs some ∙ ap (onward g (piece xs) xs (feeding lent)) e
+  at-first : (g : Reg) (xs : List ℕ) → 0 < length xs → (st : Step) → called (change (firstRecord xs)) lent g ≡ st → feeding lent g xs ≡ onward g (firstRecord xs) xs (feeding lent) st
+  at-first g xs some st e = first-then lent g xs some ∙ ap (onward g (firstRecord xs) xs (feeding lent)) e
 
-  less : (n : ℕ) (xs : List ℕ) → 0 < length xs → length xs ≤ suc n → length (drop (length (piece xs)) xs) ≤ n
-  less n xs some h = omega (arith, length-drop (length (piece xs)) xs, piece-some xs some)
+  less : (n : ℕ) (xs : List ℕ) → 0 < length xs → length xs ≤ suc n → length (drop (length (firstRecord xs)) xs) ≤ n
+  less n xs some h = omega (arith, length-drop (length (firstRecord xs)) xs, first-some xs some)
 
   -- wherever reading stopped, it goes on from there
   goes-on : (ys : List ℕ) (n : ℕ) (g : Reg) (xs : List ℕ) → length xs ≤ n → feeding lent g (xs ++ ys) ≡ resumed lent (feeding lent g xs) (drop (feeding lent g xs .taken) xs ++ ys)
@@ -64,19 +64,19 @@ module _ (lent : ℕ) where
   goes-on ys (suc n) g [] h = none-before (feeding lent g ys)
   goes-on ys zero g (b ∷ xs) h = absurd (omega arith)
   goes-on ys (suc n) g (b ∷ xs) h =
-      go (λ x. goes-on ys n x (drop (length (piece (b ∷ xs))) (b ∷ xs)) (less n (b ∷ xs) (omega arith) h)) (called (change (piece (b ∷ xs))) lent g) refl
+      go (λ x. goes-on ys n x (drop (length (firstRecord (b ∷ xs))) (b ∷ xs)) (less n (b ∷ xs) (omega arith) h)) (called (change (firstRecord (b ∷ xs))) lent g) refl
     where
       s : List ℕ
       s = b ∷ xs
 
       k : ℕ
-      k = length (piece s)
+      k = length (firstRecord s)
 
       All : Fed → Type 0
       All f = feeding lent g (s ++ ys) ≡ resumed lent f (drop (f .taken) s ++ ys)
 
       go : ((x : Reg) → feeding lent x (drop k s ++ ys) ≡ resumed lent (feeding lent x (drop k s)) (drop (feeding lent x (drop k s) .taken) (drop k s) ++ ys))
-          → (st : Step) → called (change (piece s)) lent g ≡ st → All (feeding lent g s)
+          → (st : Step) → called (change (firstRecord s)) lent g ≡ st → All (feeding lent g s)
       go ih (answered r) e = subst⁻¹ All (at-first g s (omega arith) (answered r) e) (none-before (feeding lent g (s ++ ys)))
       go ih (becomes x) e =
           let f : Fed = feeding lent x (drop k s) in
@@ -92,34 +92,34 @@ module _ (lent : ℕ) where
   took-all (suc n) g [] h z = refl
   took-all zero g (b ∷ xs) h z = absurd (omega arith)
   took-all (suc n) g (b ∷ xs) h z =
-      go (λ x. took-all n x (drop (length (piece (b ∷ xs))) (b ∷ xs)) (less n (b ∷ xs) (omega arith) h)) (called (change (piece (b ∷ xs))) lent g) refl
+      go (λ x. took-all n x (drop (length (firstRecord (b ∷ xs))) (b ∷ xs)) (less n (b ∷ xs) (omega arith) h)) (called (change (firstRecord (b ∷ xs))) lent g) refl
     where
       s : List ℕ
       s = b ∷ xs
 
       k : ℕ
-      k = length (piece s)
+      k = length (firstRecord s)
 
       go : ((x : Reg) → feeding lent x (drop k s) .number ≡ 0 → feeding lent x (drop k s) .taken ≡ length (drop k s))
-          → (st : Step) → called (change (piece s)) lent g ≡ st → feeding lent g s .taken ≡ length s
+          → (st : Step) → called (change (firstRecord s)) lent g ≡ st → feeding lent g s .taken ≡ length s
       go ih (answered r) e =
-          let d : Decided (answered r) = subst Decided e (decided-change (piece s) lent g) in
+          let d : Decided (answered r) = subst Decided e (decided-change (firstRecord s) lent g) in
           let y : replied r ≡ 0 = sym (ap (λ (f : Fed). f .number) (at-first g s (omega arith) (answered r) e)) ∙ z in
           absurd (omega (arith, sym (ap replied (d .is)) ∙ y, d .above))
       go ih (becomes x) e =
           let a = at-first g s (omega arith) (becomes x) e in
           let i = ih x (sym (ap (λ (f : Fed). f .number) a) ∙ z) in
-          ap (λ (f : Fed). f .taken) a ∙ omega (arith, i, length-drop k s, piece-within s)
+          ap (λ (f : Fed). f .taken) a ∙ omega (arith, i, length-drop k s, first-within s)
 
   -- a refusal other than 1 comes whatever follows
-  stays : (ys : List ℕ) (g : Reg) (xs : List ℕ) → 0 < length xs → (r : Reply) → called (change (piece xs)) lent g ≡ answered r → (replied r ≡ 1 → ⊥)
-      → called (change (piece (xs ++ ys))) lent g ≡ answered r
-  unfolding piece
+  stays : (ys : List ℕ) (g : Reg) (xs : List ℕ) → 0 < length xs → (r : Reply) → called (change (firstRecord xs)) lent g ≡ answered r → (replied r ≡ 1 → ⊥)
+      → called (change (firstRecord (xs ++ ys))) lent g ≡ answered r
+  unfolding firstRecord
   stays ys g xs some r e z = go (readEntry xs) refl (ltb lent (length (writeAll (g .list)))) refl
     where
-      go : (i : Res Entry) → readEntry xs ≡ i → (b : Bool) → ltb lent (length (writeAll (g .list))) ≡ b → called (change (piece (xs ++ ys))) lent g ≡ answered r
-      go (got x t) q b w = ap (λ (l : List ℕ). called (change l) lent g) (piece-more xs ys x t q) ∙ e
-      go (bad j) q true w = called-short (change (piece (xs ++ ys))) lent g w ∙ sym (called-short (change (piece xs)) lent g w) ∙ e
+      go : (i : Res Entry) → readEntry xs ≡ i → (b : Bool) → ltb lent (length (writeAll (g .list))) ≡ b → called (change (firstRecord (xs ++ ys))) lent g ≡ answered r
+      go (got x t) q b w = ap (λ (l : List ℕ). called (change l) lent g) (first-more xs ys x t q) ∙ e
+      go (bad j) q true w = called-short (change (firstRecord (xs ++ ys))) lent g w ∙ sym (called-short (change (firstRecord xs)) lent g w) ∙ e
       go (bad j) q false w =
           let a : called (change xs) lent g ≡ answered r = ap (λ (i : Res Entry). called (change (front xs i)) lent g) (sym q) ∙ e in
           let c : called (change xs) lent g ≡ answered (refused j) = called-unread xs lent g j (entry-bad xs j q) ∙ ap (λ (b : Bool). answered (refused (cond b 16 j))) w in
@@ -134,16 +134,16 @@ module _ (lent : ℕ) where
   remains ys (suc n) g [] h z o = absurd (z refl)
   remains ys zero g (b ∷ xs) h z o = absurd (omega arith)
   remains ys (suc n) g (b ∷ xs) h z o =
-      go (λ x. remains ys n x (drop (length (piece (b ∷ xs))) (b ∷ xs)) (less n (b ∷ xs) (omega arith) h)) (called (change (piece (b ∷ xs))) lent g) refl
+      go (λ x. remains ys n x (drop (length (firstRecord (b ∷ xs))) (b ∷ xs)) (less n (b ∷ xs) (omega arith) h)) (called (change (firstRecord (b ∷ xs))) lent g) refl
     where
       s : List ℕ
       s = b ∷ xs
 
       k : ℕ
-      k = length (piece s)
+      k = length (firstRecord s)
 
       go : ((x : Reg) → (feeding lent x (drop k s) .number ≡ 0 → ⊥) → (feeding lent x (drop k s) .number ≡ 1 → ⊥) → feeding lent x (drop k s ++ ys) ≡ feeding lent x (drop k s))
-          → (st : Step) → called (change (piece s)) lent g ≡ st → feeding lent g (s ++ ys) ≡ feeding lent g s
+          → (st : Step) → called (change (firstRecord s)) lent g ≡ st → feeding lent g (s ++ ys) ≡ feeding lent g s
       go ih (answered r) e =
           let a = at-first g s (omega arith) (answered r) e in
           at-first g (s ++ ys) (omega (arith, length-append s ys)) (answered r) (stays ys g s (omega arith) r e (λ w. o (ap (λ (f : Fed). f .number) a ∙ w))) ∙ sym a

@@ -11,12 +11,12 @@ use Rattle.book.specs.declared.places.Places.{Places}
 use Rattle.book.specs.Tables.{survey}
 
 -- the length of the mark before a corrected record
-abbrev pub offset : ℕ → ℕ
-offset kind = cond (eqb kind 2) 2 0
+abbrev pub leadLength : ℕ → ℕ
+leadLength kind = cond (eqb kind 2) 2 0
 
 -- whether the change at q wrote the record that stands under its key, by the survey of its key
 unfoldable pub liveAt : Survey → View → ℕ → Bool
-liveAt s v q = cond (eqb (v .kind) 3) false (cond (s .found) (eqb (s .start) (q + offset (v .kind))) false)
+liveAt s v q = cond (eqb (v .kind) 3) false (cond (s .found) (eqb (s .start) (q + leadLength (v .kind))) false)
 
 -- a standing record's decoded name, and where it is written
 abbrev pub spotOf : List Change → Rec → Spot

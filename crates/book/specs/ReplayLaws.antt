@@ -10,7 +10,7 @@ use lib.Dec.{ltb, leb, eqb}
 use borrow.Author.Tests.{eq-eqb, eqb-true, le-leb, lt-leb, ltb-true, ltb-false, leb-true}
 use Rattle.book.specs.Layer.{Change, kindOf, keyOf, write, Good, Scan, seen, blind, scan, Input, fine, fault, parse, begins, takeBackBytes, closeBytes, limitOf, scan-write, scan-got, parse-fine}
 use Rattle.book.specs.Register.{Reg, Call, file, correct, withdraw, takeBack, close, change, ask, answered, becomes, refused, stepOf, called, listed, judged, takenBack, closing, shorter, unless-closed, bareTakeBack, bareClose, after, writeAll, refusal, room, stands, count, standing}
-use Rattle.book.specs.Meaning.{belongs, astray, onward, replay, load, Valid, bookOf, settled, stepped, outcome}
+use Rattle.book.specs.Meaning.{belongs, astray, onward, replay, load, Valid, bookOf, leaving, stepped, outcome}
 use Rattle.book.specs.Tables.{judge}
 use Rattle.book.specs.RegisterLaws.{refusal-judge}
 
@@ -151,7 +151,7 @@ called-valid call lent g v = go (ltb lent (length (writeAll (g .list))))
 -- a book that is the register's, over bytes that stand as they were left, does what the register does
 pub outcome-is : (call : Call) (g : Reg) (s : List ℕ) → Valid (g .list)
     → take (length (writeAll (g .list))) s ≡ take (length s) (writeAll (g .list))
-    → outcome (stepOf call) (bookOf g) s ≡ settled (bookOf g) s (called call (length s) g)
+    → outcome (stepOf call) (bookOf g) s ≡ leaving (bookOf g) s (called call (length s) g)
 unfolding outcome load called
 outcome-is call g s v h = go (ltb (length s) (length (writeAll (g .list)))) refl
   where
@@ -159,8 +159,8 @@ outcome-is call g s v h = go (ltb (length s) (length (writeAll (g .list)))) refl
     w = writeAll (g .list)
 
     go : (b : Bool) → ltb (length s) (length w) ≡ b
-        → settled (bookOf g) s (stepped (stepOf call) (bookOf g) s (cond (leb (length w) (length s)) (replay (length (g .list)) [] (take (length w) s)) astray))
-        ≡ settled (bookOf g) s (cond b (answered (refused 16)) (stepOf call (length s) g))
+        → leaving (bookOf g) s (stepped (stepOf call) (bookOf g) s (cond (leb (length w) (length s)) (replay (length (g .list)) [] (take (length w) s)) astray))
+        ≡ leaving (bookOf g) s (cond b (answered (refused 16)) (stepOf call (length s) g))
     go true t = simp (lt-leb (length w) (length s) (ltb-true (length s) (length w) t))
     go false t =
         let le = ltb-false (length s) (length w) t in

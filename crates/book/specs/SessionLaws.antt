@@ -11,7 +11,7 @@ use borrow.Author.Tests.{le-ltb, ltb-true, ltb-false}
 use Rattle.book.specs.Layer.{Change, bare-exact, takeBackBytes}
 use Rattle.book.specs.declared.journal.Book.{Book}
 use Rattle.book.specs.Register.{Reg, Call, takeBack, ask, answer, placeOf, standing, Step, answered, becomes, refused, accepted, stepOf, called, shorter, unless-closed, after, writeAll, Reply, reply, Turn, run, told}
-use Rattle.book.specs.Meaning.{After, bookOf, settled, Meets, Valid}
+use Rattle.book.specs.Meaning.{After, bookOf, leaving, Meets, Valid}
 use Rattle.book.specs.Amounts.{pick}
 use Rattle.book.specs.Session.{Session, start, next, Undo, undone, undo, Shows, Agrees, Restored, Holds, Throughout}
 use Rattle.book.specs.ReplayLaws.{called-valid, outcome-is}
@@ -44,16 +44,16 @@ unchanged g s s′ n-is h e =
 
 held-is : (g : Reg) (s s′ : List ℕ) (st : Step) → length s′ ≡ length s
     → take (length (writeAll (g .list))) s ≡ take (length s) (writeAll (g .list))
-    → take (length (settled (bookOf g) s st .kept)) s′ ≡ settled (bookOf g) s st .kept
-    → take (settled (bookOf g) s st .book .used) (s′ ++ drop (length s) (writeAll (g .list))) ≡ writeAll (after st g .list)
+    → take (length (leaving (bookOf g) s st .kept)) s′ ≡ leaving (bookOf g) s st .kept
+    → take (leaving (bookOf g) s st .book .used) (s′ ++ drop (length s) (writeAll (g .list))) ≡ writeAll (after st g .list)
 held-is g s s′ (answered r) n-is h e = unchanged g s s′ n-is h e
 held-is g s s′ (becomes k) n-is h e = take-append-le (length (writeAll (k .list))) s′ _ (within (writeAll (k .list)) s′ e) ∙ e
 
-book-is : (g : Reg) (s : List ℕ) (st : Step) → settled (bookOf g) s st .book ≡ bookOf (after st g)
+book-is : (g : Reg) (s : List ℕ) (st : Step) → leaving (bookOf g) s st .book ≡ bookOf (after st g)
 book-is g s (answered r) = refl
 book-is g s (becomes k) = refl
 
-answer-is : (g : Reg) (s : List ℕ) (st : Step) → settled (bookOf g) s st .answer ≡ reply st
+answer-is : (g : Reg) (s : List ℕ) (st : Step) → leaving (bookOf g) s st .answer ≡ reply st
 answer-is g s (answered r) = refl
 answer-is g s (becomes k) = refl
 
@@ -73,7 +73,7 @@ one-more ts rs e v call s h b′ r s′ m =
     let g = run ts in
     let st = called call (length s) g in
     let o = outcome-is call g s v h in
-    let pb : b′ ≡ settled (bookOf g) s st .book = m .book ∙ ap (λ (x : After). x .book) o in
+    let pb : b′ ≡ leaving (bookOf g) s st .book = m .book ∙ ap (λ (x : After). x .book) o in
     record {
       answers = ap₂ _∷_ (m .answer ∙ ap (λ (x : After). x .answer) o ∙ answer-is g s st) e;
       book = pb ∙ book-is g s st;

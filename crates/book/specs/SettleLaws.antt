@@ -1,5 +1,5 @@
 -- What a reading leaves is a book with its bytes, so that another may follow; and from a fresh book it is what the program says.
-use mathlib.Core.Path.{_≡_, sym, ap, _∙_, subst}
+use mathlib.Core.Path.{_≡_, refl, sym, ap, _∙_, subst}
 use mathlib.Core.List.{List, [], _∷_}
 use mathlib.Core.Bool.{false}
 use Prim.Native.Nat.{ℕ, zero, suc, _+_, _≤_}
@@ -11,8 +11,8 @@ use Rattle.book.specs.Register.{Reg, fresh, change, Step, answered, beco
 use Rattle.book.specs.Meaning.{belongs, load, Valid, bookOf}
 use Rattle.book.specs.ReplayLaws.{called-valid}
 use Rattle.book.specs.LoadLaws.{loaded-valid, load-whole, load-fresh}
-use Rattle.book.specs.Feed.{piece, Fed, onward, fed, feeding, Settled, statement, ref, verdict, settled}
-use Rattle.book.specs.FeedLaws.{piece-some, first-then}
+use Rattle.book.specs.Feed.{firstRecord, Fed, stopped, onward, fed, feeding, Settled, statement, ref, verdict, settled}
+use Rattle.book.specs.FeedLaws.{first-some, first-then}
 use Rattle.book.specs.FeedPromise.{Ends, Feeds}
 use Rattle.book.specs.declared.feed.Fed.{Fed as Result}
 
@@ -24,11 +24,11 @@ still-valid (suc n) lent g [] h v = v
 still-valid zero lent g (b ∷ s) h v = absurd (omega arith)
 still-valid (suc n) lent g (b ∷ s) h v =
     subst (λ (f : Fed). Valid (f .reg .list)) (sym (first-then lent g (b ∷ s) (omega arith)))
-    (go (λ x. still-valid n lent x (drop (length p) (b ∷ s)) (omega (arith, length-drop (length p) (b ∷ s), piece-some (b ∷ s) (omega arith))))
+    (go (λ x. still-valid n lent x (drop (length p) (b ∷ s)) (omega (arith, length-drop (length p) (b ∷ s), first-some (b ∷ s) (omega arith))))
     (called (change p) lent g) (called-valid (change p) lent g v))
   where
     p : List ℕ
-    p = piece (b ∷ s)
+    p = firstRecord (b ∷ s)
 
     go : ((x : Reg) → Valid (x .list) → Valid (feeding lent x (drop (length p) (b ∷ s)) .reg .list)) → (st : Step) → Valid (after st g .list) → Valid (onward g p (b ∷ s) (feeding lent) st .reg .list)
     go ih (answered r) w = w
@@ -65,3 +65,17 @@ settles s input r s′ e m =
         tell : (k : ℕ) → r .number ≡ k → Told (verdict (f .reg) (f .count) k) r s′
         tell zero q = record { number = q; book = w .book; bytes = w .bytes }
         tell (suc k) q = (ap (λ (n : ℕ). n + 1) (w .count), q)
+
+-- ---- for a program that reads on
+
+pub feeding-none : (lent : ℕ) (g : Reg) → feeding lent g [] ≡ stopped g 0
+unfolding fed
+feeding-none lent g = refl
+
+pub fresh-book : bookOf fresh ≡ record { changes = 0; used = 0; closed = false }
+unfolding writeAll
+fresh-book = refl
+
+pub settled-is : (s : List ℕ) → settled s ≡ verdict (feeding 65535 fresh s .reg) (feeding 65535 fresh s .count) (feeding 65535 fresh s .number)
+unfolding settled
+settled-is s = refl

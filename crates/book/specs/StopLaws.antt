@@ -11,8 +11,8 @@ use Rattle.records.specs.BookLaws.{entry-early, unread-early, whole-early}
 use Rattle.book.specs.Register.{Reg, change, Reply, Step, answered, becomes, called}
 use Rattle.book.specs.Tables.{replied}
 use Rattle.book.specs.EarlyLaws.{early}
-use Rattle.book.specs.Feed.{front, piece, Fed, onward, fed, feeding}
-use Rattle.book.specs.FeedLaws.{piece-within, piece-some, piece-whole, first-then}
+use Rattle.book.specs.Feed.{front, firstRecord, Fed, onward, fed, feeding}
+use Rattle.book.specs.FeedLaws.{first-within, first-some, first-whole, first-then}
 
 -- of n bytes
 pub record Stops (f : Fed) (n : ℕ) : Type 0 where
@@ -29,19 +29,19 @@ stops-from (suc n) lent g [] h = record { within = omega arith; few = omega arit
 stops-from zero lent g (b ∷ s) h = absurd (omega arith)
 stops-from (suc n) lent g (b ∷ s) h =
     subst (λ (f : Fed). Stops f (length (b ∷ s))) (sym (first-then lent g (b ∷ s) (omega arith)))
-    (go (λ x. stops-from n lent x (drop (length p) (b ∷ s)) (omega (arith, length-drop (length p) (b ∷ s), piece-some (b ∷ s) (omega arith)))) (called (change p) lent g))
+    (go (λ x. stops-from n lent x (drop (length p) (b ∷ s)) (omega (arith, length-drop (length p) (b ∷ s), first-some (b ∷ s) (omega arith)))) (called (change p) lent g))
   where
     p : List ℕ
-    p = piece (b ∷ s)
+    p = firstRecord (b ∷ s)
 
     go : ((x : Reg) → Stops (feeding lent x (drop (length p) (b ∷ s))) (length (drop (length p) (b ∷ s)))) → (st : Step) → Stops (onward g p (b ∷ s) (feeding lent) st) (length (b ∷ s))
     go ih (answered r) = record { within = omega arith; few = omega arith; refused = λ z. omega arith }
     go ih (becomes x) =
         let i = ih x in
-        let k : length (drop (length p) (b ∷ s)) + length p ≡ length (b ∷ s) = omega (arith, length-drop (length p) (b ∷ s), piece-within (b ∷ s)) in
+        let k : length (drop (length p) (b ∷ s)) + length p ≡ length (b ∷ s) = omega (arith, length-drop (length p) (b ∷ s), first-within (b ∷ s)) in
         record {
           within = omega (arith, i .within);
-          few = omega (arith, i .few, piece-some (b ∷ s) (omega arith));
+          few = omega (arith, i .few, first-some (b ∷ s) (omega arith));
           refused = λ z. omega (arith, i .refused z);
         }
 
@@ -50,13 +50,13 @@ stops lent g s = stops-from (length s) lent g s (omega arith)
 
 -- ---- bytes that end early
 
-early-first : (lent : ℕ) (g : Reg) (s : List ℕ) (r : Reply) → called (change (piece s)) lent g ≡ answered r → replied r ≡ 1 → length s < 1383
-unfolding piece
+early-first : (lent : ℕ) (g : Reg) (s : List ℕ) (r : Reply) → called (change (firstRecord s)) lent g ≡ answered r → replied r ≡ 1 → length s < 1383
+unfolding firstRecord
 early-first lent g s r e one = go (entry s) refl
   where
     go : (i : Res Entry) → entry s ≡ i → length s < 1383
     go (bad j) q = entry-early s (unread-early s (early s lent g r (ap (λ (x : Res Entry). called (change (front s x)) lent g) (sym q) ∙ e) one))
-    go (got x t) q = absurd (whole-early (piece s) x (piece-whole s x t q) (unread-early (piece s) (early (piece s) lent g r e one)))
+    go (got x t) q = absurd (whole-early (firstRecord s) x (first-whole s x t q) (unread-early (firstRecord s) (early (firstRecord s) lent g r e one)))
 
 early-from : (n lent : ℕ) (g : Reg) (s : List ℕ) → length s ≤ n → feeding lent g s .number ≡ 1 → length (drop (feeding lent g s .taken) s) < 1383
 unfolding fed
@@ -64,10 +64,10 @@ early-from zero lent g [] h z = absurd (omega arith)
 early-from (suc n) lent g [] h z = absurd (omega arith)
 early-from zero lent g (b ∷ s) h z = absurd (omega arith)
 early-from (suc n) lent g (b ∷ s) h z =
-    go (λ x. early-from n lent x (drop (length p) (b ∷ s)) (omega (arith, length-drop (length p) (b ∷ s), piece-some (b ∷ s) (omega arith)))) (called (change p) lent g) refl
+    go (λ x. early-from n lent x (drop (length p) (b ∷ s)) (omega (arith, length-drop (length p) (b ∷ s), first-some (b ∷ s) (omega arith)))) (called (change p) lent g) refl
   where
     p : List ℕ
-    p = piece (b ∷ s)
+    p = firstRecord (b ∷ s)
 
     Short : Fed → Type 0
     Short f = f .number ≡ 1 → length (drop (f .taken) (b ∷ s)) < 1383

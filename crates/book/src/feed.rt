@@ -10,7 +10,7 @@ ghost use lib.ListN.{length};
 ghost use Rattle.book.specs.Layer.{Change};
 ghost use Rattle.book.specs.Meaning.{belongs, load};
 ghost use Rattle.book.specs.Held.{Held};
-ghost use Rattle.book.specs.Feed.{piece, feeding};
+ghost use Rattle.book.specs.Feed.{firstRecord, feeding};
 ghost use Rattle.book.specs.FeedPromise.{Ends, Feeds};
 
 // The book with the records that it took, how many they were and how many bytes; and the number of the refusal that ended the reading, 0 for none.
@@ -23,7 +23,7 @@ pub struct Fed {
 
 // The length of the first record; of bytes that begin with none, of all.
 fn first_length(s: &[u8]) -> usize
-    ensures { λ r. ⌜ r ≡ length (piece (now (s .entry))) ⌝ }
+    ensures { λ r. ⌜ r ≡ length (firstRecord (now (s .entry))) ⌝ }
 {
     let f = first_change(s);
     if f.number != 0 {

@@ -17,7 +17,7 @@ ghost use Rattle.book.specs.Layer.{Change, sameHour};
 ghost use Rattle.book.specs.Register.{standing};
 ghost use Rattle.book.specs.ByName.{byName};
 ghost use Rattle.book.specs.Tables.{Kept, Stored, survey};
-ghost use Rattle.book.specs.Places.{offset, liveAt, spotOf, putSpot, spots};
+ghost use Rattle.book.specs.Places.{leadLength, liveAt, spotOf, putSpot, spots};
 
 // A standing record's decoded name, and where it is written.
 pub struct Spot {
@@ -34,7 +34,7 @@ pub struct Places {
 // Where a change at q has its record.
 fn place_of(kind: u8, q: usize) -> usize
     requires { ⌜ q < 9223372036854775808 ⌝ }
-    ensures { λ r. ⌜ r ≡ q + offset kind ⌝ }
+    ensures { λ r. ⌜ r ≡ q + leadLength kind ⌝ }
 {
     if kind == CORRECTED {
         return q + 2;

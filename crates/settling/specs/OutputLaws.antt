@@ -10,13 +10,13 @@ use lib.Seq.{drop-append-le, drop-drop, drop-length}
 use borrow.Author.Tests.{ltb-true, ltb-false, le-leb, ne-eqb}
 use Rattle.records.specs.Changes.{Change, put}
 use Rattle.book.specs.declared.journal.Book.{Book}
-use Rattle.book.specs.Register.{fresh, writeAll}
+use Rattle.book.specs.Register.{fresh}
 use Rattle.book.specs.Meaning.{Load, belongs, load, bookOf}
-use Rattle.book.specs.Feed.{Fed, fed, feeding, verdict, settled}
+use Rattle.book.specs.Feed.{Fed, stopped, feeding, verdict}
 use Rattle.book.specs.FeedPromise.{Ends, Feeds}
 use Rattle.book.specs.LoadLaws.{load-fresh}
 use Rattle.book.specs.PieceLaws.{resumed, Pieces, pieces}
-use Rattle.book.specs.SettleLaws.{feeds-again}
+use Rattle.book.specs.SettleLaws.{feeds-again, feeding-none, fresh-book, settled-is}
 use Rattle.book.specs.StopLaws.{stops, early-short}
 use Rattle.statement.specs.Statement.{Outcome, fitted, statementOf}
 use Rattle.statement.specs.Refusal.{refusalLine, Fits}
@@ -46,8 +46,17 @@ module _ (lent : ℕ) where
     bytes : isOver r ≡ false → take (r .held) input ≡ drop (reached s .taken) s
 
   stands-start : (log input : List ℕ) → length log ≡ lent → Stands [] begun log input
-  unfolding fed writeAll
-  stands-start log input e = record { size = e; book = refl; loaded = load-fresh log; count = refl; number = refl; held = λ z. refl; bytes = λ z. refl }
+  stands-start log input e =
+      let f : stopped fresh 0 ≡ reached [] = sym (feeding-none lent fresh) in
+      record {
+        size = e;
+        book = sym fresh-book ∙ ap (λ (x : Fed). bookOf (x .reg)) f;
+        loaded = load-fresh log ∙ ap (λ (x : Fed). belongs (x .reg .list)) f;
+        count = ap (λ (x : Fed). counted (x .count)) f;
+        number = ap (λ (x : Fed). x .number) f;
+        held = λ z. ap (λ (x : Fed). length (drop {A = ℕ} (x .taken) [])) f;
+        bytes = λ z. ap (λ (x : Fed). drop {A = ℕ} (x .taken) []) f;
+      }
 
   -- ---- a piece more
 
@@ -177,8 +186,8 @@ front-is t lent left w f h =
 module _ (s : List ℕ) (r : Reading) (log input : List ℕ) (x : Stands 65535 s r log input) (h : length s < 18446744073709551616) where
   -- the text of the reading is the output
   text-is : textIn r (reached 65535 s .reg .list) ≡ outputOf s
-  unfolding outputOf settled
-  text-is = go (reached 65535 s .number) refl
+  unfolding outputOf
+  text-is = go (reached 65535 s .number) refl ∙ sym (ap printed (settled-is s))
     where
       go : (n : ℕ) → reached 65535 s .number ≡ n → textIn r (reached 65535 s .reg .list) ≡ printed (verdict (reached 65535 s .reg) (reached 65535 s .count) n)
       go zero e = rw (x .number ∙ e)

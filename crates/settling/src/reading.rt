@@ -1,7 +1,7 @@
 // Records that arrive in pieces of any size.
-use book::journal::Book;
 use book::feed::Fed;
 use book::feed::feed;
+use book::journal::Book;
 use money::refusals::ENDS_EARLY;
 ghost use mathlib.Core.Path.{_≡_};
 ghost use Prim.Native.Nat.{_+_, _≤_, min};
