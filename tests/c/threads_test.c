@@ -16,7 +16,7 @@
 #define THREADS 4
 #define ROUNDS 20000
 #define ROOM 8192
-#define STACK (160 * 1024) /* 128 KiB for the call, the rest for the thread */
+#define STACK (192 * 1024) /* 168 KiB for the call, the rest for the thread */
 
 struct work {
     const uint8_t *records;
