@@ -127,9 +127,9 @@ fn cut_down(
     }
 }
 
-/// What an outcome lacks: numbers that can occur and didn't, or not often
-/// enough, and numbers that can't occur and did. The second is whether this is
-/// a failure.
+/// What an outcome lacks: calls that a missing layer didn't answer, numbers
+/// that can occur and didn't, or not often enough, and numbers that can't occur
+/// and did. The second is whether this is a failure.
 pub fn shortcomings(options: &Options, layers: Layers, outcome: &Outcome) -> (Vec<String>, bool) {
     let impossible = outcome.tally.impossible();
     let mut lines: Vec<String> = impossible
@@ -141,6 +141,14 @@ pub fn shortcomings(options: &Options, layers: Layers, outcome: &Outcome) -> (Ve
             )
         })
         .collect();
+    let skipped = outcome.tally.skipped();
+    let is_partial = skipped > 0 || outcome.tally.compared() == 0;
+    if is_partial {
+        lines.push(format!(
+            "{} calls compared and {skipped} skipped, because a layer is missing: this compares nothing or a part",
+            outcome.tally.compared()
+        ));
+    }
     let is_gate = options.is_gate_or_longer();
     let least = if is_gate { OFTEN } else { 1 };
     let rare = outcome.tally.below(least, &options.parts, layers);
@@ -152,6 +160,6 @@ pub fn shortcomings(options: &Options, layers: Layers, outcome: &Outcome) -> (Ve
             )
         }));
     }
-    let fails = !impossible.is_empty() || is_gate && !rare.is_empty();
+    let fails = is_partial || !impossible.is_empty() || is_gate && !rare.is_empty();
     (lines, fails)
 }

@@ -52,14 +52,19 @@ fn nothing_differs_and_every_number_occurs() {
 }
 
 #[test]
-fn missing_layers_are_skipped_and_counted() {
+fn missing_layers_are_skipped_counted_and_fail() {
     let options = options(&[Part::Books], 5000);
-    let outcome = run(&options, Layers(0b00_0100), |_| {});
+    let some = Layers(0b00_0100);
+    let outcome = run(&options, some, |_| {});
     assert!(outcome.tally.skipped() > 100);
     assert!(outcome.tally.compared() > 100);
+    assert!(shortcomings(&options, some, &outcome).1);
     let outcome = run(&options, Layers(0), |_| {});
     assert_eq!(outcome.tally.compared(), 0);
     assert!(outcome.tally.skipped() >= 5000);
+    assert!(shortcomings(&options, Layers(0), &outcome).1);
+    let whole = run(&options, ALL, |_| {});
+    assert!(!shortcomings(&options, ALL, &whole).1);
 }
 
 #[test]

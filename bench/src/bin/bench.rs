@@ -30,12 +30,12 @@ fn compared(options: &Options, layers: Layers) -> ExitCode {
     let begun = Instant::now();
     let outcome = run(options, layers, |line| println!("{line}"));
     let seconds = begun.elapsed().as_secs_f64();
-    let (lines, is_short) = shortcomings(options, layers, &outcome);
+    let (lines, is_lacking) = shortcomings(options, layers, &outcome);
     print!("{}", outcome.tally);
     for line in &lines {
         println!("{line}");
     }
-    if !lines.is_empty() && !is_short {
+    if !lines.is_empty() && !is_lacking {
         println!("(shorter than the gate's run, so this is no failure)");
     }
     let compared = outcome.tally.compared() + outcome.mismatches;
@@ -47,9 +47,13 @@ fn compared(options: &Options, layers: Layers) -> ExitCode {
         "bench: {compared} calls compared, {} mismatches, {} skipped{}",
         outcome.mismatches,
         outcome.tally.skipped(),
-        if is_short { ", numbers lacking" } else { "" }
+        if is_lacking {
+            ", lacking as told above"
+        } else {
+            ""
+        }
     );
-    match outcome.mismatches == 0 && !is_short {
+    match outcome.mismatches == 0 && !is_lacking {
         true => ExitCode::SUCCESS,
         false => ExitCode::FAILURE,
     }
@@ -63,7 +67,7 @@ fn print_head(options: &Options, layers: Layers) {
     }
     for layer in Layer::ALL {
         if !layers.has(layer) {
-            println!("layer missing, its calls are skipped: {}", layer.words());
+            println!("layer missing, so this run fails: {}", layer.words());
         }
     }
 }

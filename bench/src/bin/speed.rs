@@ -1,6 +1,6 @@
 //! The benchmarks: the same work on the proved side and on the peer.
 
-use pewatuno_bench::bridge;
+use pewatuno_bench::bridge::{self, Layer};
 use pewatuno_bench::timing::{readable, Pace};
 use pewatuno_bench::workloads::{Bench, Row, BOOKS};
 use std::env;
@@ -21,7 +21,10 @@ fn main() -> ExitCode {
     match bridge::open() {
         Ok(layers) => {
             print_all(Bench { layers, pace });
-            ExitCode::SUCCESS
+            match Layer::ALL.into_iter().all(|layer| layers.has(layer)) {
+                true => ExitCode::SUCCESS,
+                false => ExitCode::FAILURE,
+            }
         }
         Err(wrong) => {
             eprintln!("speed: {wrong}");
