@@ -16,9 +16,9 @@ use Rattle.book.specs.ByName.{byName}
 use Rattle.book.specs.Meaning.{Valid}
 use Rattle.book.specs.Tables.{Kept, Stored, survey, viewed}
 use Rattle.book.specs.Places.{leadLength, liveAt, spotOf, putSpot, spots}
-use Rattle.book.specs.RegisterLaws.{hour-few}
+use Rattle.book.specs.RegisterLaws.{valid-new, hour-few}
 use Rattle.book.specs.GatherLaws.{Pass, gather, collect, gather-standing, hourPass, hour-standing}
-use Rattle.book.proofs.Surveying.{kept-at, Bounded, bounded}
+use Rattle.book.proofs.Surveying.{kept-at, stored-new, Bounded, bounded}
 use Rattle.book.proofs.Inserting.{Sought, sought-here, sought-on, sought-end}
 
 pub place-co : (kind q : ℕ) → kind ≡ 2 → q + 2 ≡ q + leadLength kind
@@ -142,7 +142,7 @@ collect-length k all (r ∷ rs) = go (sameHour k (r .key)) (collect-length k all
 
 gather-few : (k : Key) (l : List Change) → Valid l → (m : ℕ) → length (gather (hourPass k) l (drop m l)) ≤ 16
 gather-few k l v m =
-    omega (arith, fewer k l m l, ap length (gather-standing (hourPass k) l), collect-length k l (standing l), hour-few k l v, limit-most k)
+    omega (arith, fewer k l m l, ap length (gather-standing (hourPass k) l (valid-new l v)), collect-length k l (standing l), hour-few k l v, limit-most k)
 
 -- ---- the place of a spot
 module _ (s : Spot) (p : Places) (i : ℕ) (h : Sought (putSpot s) (p .at) (p .n) i) (le : p .n ≤ length (p .at)) where
@@ -176,8 +176,8 @@ filled-start k views n p e z =
     }
 
 module _ {k : Key} {views : List View} {n i q : ℕ} {p : Places} (f : Filled k views n i q p) where
-  pub filled-end : n ≤ i → (l : List Change) → Kept views l → length l ≡ n → spots p ≡ map (spotOf l) (byName k (standing l))
-  filled-end le l kept e = held-end (f .held) le l kept e ∙ hour-standing k l
+  pub filled-end : Stored views n → n ≤ i → (l : List Change) → Kept views l → length l ≡ n → spots p ≡ map (spotOf l) (byName k (standing l))
+  filled-end st le l kept e = held-end (f .held) le l kept e ∙ hour-standing k l (stored-new views n st l kept e)
 
   module _ (lt : i < n) (d : View) {b : Bool}
       (eb : (l : List Change) → Kept views l → length l ≡ n → b ≡ (sameHour k (getD views i d .key) && liveAt (survey (getD views i d .key) l) (getD views i d) q))

@@ -14,7 +14,7 @@ use Rattle.book.specs.Tables.{Kept, Stored, survey}
 use Rattle.book.specs.Places.{liveAt}
 use Rattle.book.specs.Units.{ghKey, namesIn, named, unitNames}
 use Rattle.book.specs.GatherLaws.{markPass, mark-standing}
-use Rattle.book.proofs.Surveying.{valid-size}
+use Rattle.book.proofs.Surveying.{stored-new, valid-size}
 use Rattle.book.proofs.Inserting.{Sought, sought-here, sought-there, sought-on, sought-end}
 use Rattle.book.proofs.Gathering.{Held, held-start, held-next, held-end}
 
@@ -62,8 +62,8 @@ listed-start k views n u e z =
     }
 
 module _ {k : Key} {views : List View} {n i q : ℕ} {u : Units} (f : Listed k views n i q u) where
-  pub listed-end : n ≤ i → (l : List Change) → Kept views l → length l ≡ n → namesIn u ≡ namesOf k (standing l)
-  listed-end le l kept e = held-end (f .held) le l kept e ∙ mark-standing k l
+  pub listed-end : Stored views n → n ≤ i → (l : List Change) → Kept views l → length l ≡ n → namesIn u ≡ namesOf k (standing l)
+  listed-end st le l kept e = held-end (f .held) le l kept e ∙ mark-standing k l (stored-new views n st l kept e)
 
   pub listed-few : Stored views n → u .n ≤ 512
   listed-few st = omega (arith, f .few, f .held .inside, st .count, valid-size (st .list) (st .valid) .0)

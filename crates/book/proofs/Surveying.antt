@@ -2,7 +2,7 @@
 use Prim.Native.Nat.{ℕ, zero, suc, _+_, _-_, _≤_, _<_}
 use mathlib.Core.Path.{_≡_, refl, sym, ap, _∙_, subst}
 use mathlib.Core.List.{List, [], _∷_}
-use mathlib.Core.Bool.{Bool, true, false, cond}
+use mathlib.Core.Bool.{Bool, true, false, cond, not}
 use native.Mathlib.Omega.{arith}
 use lib.ListN.{length, take, drop, getD, set, length-append, length-drop, drop-of-length-le}
 use lib.Seq.{take-all, getD-set-same, getD-set-other}
@@ -10,12 +10,12 @@ use mir.Syntax.{w64}
 use mir.Val.{Fits}
 use lib.Dec.{eqb, leb, ltb}
 use borrow.Author.Tests.{leb-true, ltb-true, ltb-false}
-use Rattle.book.specs.Layer.{Key, View, Change, filed, corrected, withdrawn, kindOf, keyOf, write, sameHour, limitOf, Found, scan-got, Read, write-co}
+use Rattle.book.specs.Layer.{Key, View, Change, filed, corrected, withdrawn, kindOf, keyOf, write, same, sameHour, limitOf, Found, scan-got, Read, write-co}
 use Rattle.book.specs.declared.survey.Survey.{Survey}
 use Rattle.book.specs.Register.{writeAll, room, stands, count, standing}
 use Rattle.book.specs.Meaning.{Valid}
 use Rattle.book.specs.Tables.{Kept, Stored, survey, noted, viewed, none, judge}
-use Rattle.book.specs.RegisterLaws.{refusal-judge}
+use Rattle.book.specs.RegisterLaws.{refusal-judge, New, valid-new, survey-found}
 
 -- a part to the end is what is left
 pub to-end : (q : ℕ) (log : List ℕ) → take (length log - q) (drop q log) ≡ drop q log
@@ -84,6 +84,32 @@ kept-at views (c ∷ l) j n k e h = go (ltb j (length l)) refl (λ lt. kept-at v
           view = λ d. ap (λ (m : ℕ). getD views m d) ej ∙ k .0 d;
           rest = ap (λ (m : ℕ). drop m (c ∷ l)) e1 ∙ ap (λ (m : ℕ). c ∷ drop m (c ∷ l)) (sym e2);
         }
+
+-- two lists with one table have the same keys stand, so what is filed in the one did not stand if it did not in the other
+kept-found : (views : List View) (k : Key) (l m : List Change) → Kept views l → Kept views m → length l ≡ length m → survey k l .found ≡ survey k m .found
+unfolding Kept survey
+kept-found views k [] [] a b e = refl
+kept-found views k [] (d ∷ m) a b e = absurd (omega arith)
+kept-found views k (c ∷ l) [] a b e = absurd (omega arith)
+kept-found views k (c ∷ l) (d ∷ m) a b e =
+    let n : length l ≡ length m = omega arith in
+    let v : viewed c ≡ viewed d = sym (a .0 (viewed c)) ∙ ap (λ (i : ℕ). getD views i (viewed c)) n ∙ b .0 (viewed c) in
+    let ih = kept-found views k l m (a .1) (b .1) n in
+    λ i. cond (same k (v i .key)) (not (eqb (v i .kind) 3)) (ih i)
+
+kept-new : (views : List View) (l m : List Change) → Kept views l → Kept views m → length l ≡ length m → New m → New l
+unfolding Kept New
+kept-new views [] m a b e w = tt
+kept-new views (c ∷ l) [] a b e w = absurd (omega arith)
+kept-new views (c ∷ l) (d ∷ m) a b e w =
+    let n : length l ≡ length m = omega arith in
+    let v : viewed c ≡ viewed d = sym (a .0 (viewed c)) ∙ ap (λ (i : ℕ). getD views i (viewed c)) n ∙ b .0 (viewed c) in
+    let s : stands (keyOf c) (standing l) ≡ stands (keyOf d) (standing m) =
+    sym (survey-found (keyOf c) l) ∙ kept-found views (keyOf c) l m (a .1) (b .1) n ∙ ap (λ (x : View). survey (x .key) m .found) v ∙ survey-found (keyOf d) m in
+    ((λ q. s ∙ w .0 (sym (ap (λ (x : View). x .kind) v) ∙ q)), kept-new views l m (a .1) (b .1) n (w .1))
+
+pub stored-new : (views : List View) (n : ℕ) → Stored views n → (l : List Change) → Kept views l → length l ≡ n → New l
+stored-new views n st l kept e = kept-new views l (st .list) kept (st .kept) (e ∙ sym (st .count)) (valid-new (st .list) (st .valid))
 
 -- ---- what validity bounds
 pub judge-room : (k f w : Bool) (r : ℕ) → cond k (cond f 10 (cond w r 12)) (cond f r 11) ≡ 0 → r ≡ 0

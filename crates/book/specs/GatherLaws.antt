@@ -13,7 +13,7 @@ use Rattle.book.specs.declared.places.Spot.{Spot}
 use Rattle.book.specs.ByName.{inOrder, byName, addName, sameMark, namesOf}
 use Rattle.book.specs.Tables.{survey, viewed}
 use Rattle.book.specs.Places.{leadLength, liveAt, spotOf, putSpot}
-use Rattle.book.specs.RegisterLaws.{by-test, true≠false, same-turned}
+use Rattle.book.specs.RegisterLaws.{by-test, true≠false, same-turned, New, new-without}
 
 -- ---- what a pass collects: of the keys that it picks, each put to the rest with the place of its record
 pub record Pass (B : Type 0) : Type 0 where
@@ -166,18 +166,18 @@ module _ {B : Type 0} (p : Pass B) (newer : List Change) (c : Change) (l : List 
       ∙ ap (λ (y : Key). cond (p .pick y) (p .put y (survey y all .start) rest) rest) e
       ∙ sym (ap (λ (b : Bool). collect p all (cond b (left newer rs) (r ∷ left newer rs))) (ap (λ (y : Key). touched y newer) (sym e) ∙ h)))
 
-gather-left : {B : Type 0} (p : Pass B) (newer l : List Change) → gather p (newer ++ l) l ≡ collect p (newer ++ l) (left newer (standing l))
-unfolding gather standing liveAt
-gather-left p newer [] = unfold left collect in refl
-gather-left p newer (c ∷ l) =
-    step c (subst (λ (x : List Change). gather p x l ≡ collect p x (left (newer ++ (c ∷ [])) (standing l))) (append-assoc newer (c ∷ []) l) (gather-left p (newer ++ (c ∷ [])) l)
+gather-left : {B : Type 0} (p : Pass B) (newer l : List Change) → New l → gather p (newer ++ l) l ≡ collect p (newer ++ l) (left newer (standing l))
+unfolding gather standing liveAt New
+gather-left p newer [] w = unfold left collect in refl
+gather-left p newer (c ∷ l) w =
+    step c w (subst (λ (x : List Change). gather p x l ≡ collect p x (left (newer ++ (c ∷ [])) (standing l))) (append-assoc newer (c ∷ []) l) (gather-left p (newer ++ (c ∷ [])) l (w .1))
     ∙ ap (collect p (newer ++ (c ∷ l))) (left-snoc newer c (standing l)))
   where
-    step : (c : Change) → gather p (newer ++ (c ∷ l)) l ≡ collect p (newer ++ (c ∷ l)) (left newer (without (keyOf c) (standing l)))
+    step : (c : Change) → New (c ∷ l) → gather p (newer ++ (c ∷ l)) l ≡ collect p (newer ++ (c ∷ l)) (left newer (without (keyOf c) (standing l)))
         → gather p (newer ++ (c ∷ l)) (c ∷ l) ≡ collect p (newer ++ (c ∷ l)) (left newer (standing (c ∷ l)))
-    step (filed r) e = at-own p newer (filed r) l refl r refl (without (r .key) (standing l)) _ e
-    step (corrected r) e = at-own p newer (corrected r) l refl r refl (without (r .key) (standing l)) _ e
-    step (withdrawn j) e = unpicked (p .pick j) _ _ ∙ e
+    step (filed r) n e = at-own p newer (filed r) l refl r refl (standing l) _ (e ∙ ap (λ (xs : List Rec). collect p (newer ++ (filed r ∷ l)) (left newer xs)) (new-without r l n))
+    step (corrected r) n e = at-own p newer (corrected r) l refl r refl (without (r .key) (standing l)) _ e
+    step (withdrawn j) n e = unpicked (p .pick j) _ _ ∙ e
 
 left-none : (rs : List Rec) → left [] rs ≡ rs
 unfolding left touched
@@ -185,8 +185,8 @@ left-none [] = refl
 left-none (r ∷ rs) = ap (λ (x : List Rec). r ∷ x) (left-none rs)
 
 -- the pass finds exactly the standing records, each at its place
-pub gather-standing : {B : Type 0} (p : Pass B) (l : List Change) → gather p l l ≡ collect p l (standing l)
-gather-standing p l = gather-left p [] l ∙ ap (collect p l) (left-none (standing l))
+pub gather-standing : {B : Type 0} (p : Pass B) (l : List Change) → New l → gather p l l ≡ collect p l (standing l)
+gather-standing p l w = gather-left p [] l w ∙ ap (collect p l) (left-none (standing l))
 
 -- ---- the records of a mark and hour, by name
 abbrev pub hourPass : Key → Pass (List Spot)
@@ -212,8 +212,8 @@ collect-by-name k all (r ∷ rs) = go (sameHour k (r .key)) (collect-by-name k a
     go true e = ap (putSpot (spotOf all r)) e ∙ put-in-order all r (byName k rs)
     go false e = e
 
-pub hour-standing : (k : Key) (l : List Change) → gather (hourPass k) l l ≡ map (spotOf l) (byName k (standing l))
-hour-standing k l = gather-standing (hourPass k) l ∙ collect-by-name k l (standing l)
+pub hour-standing : (k : Key) (l : List Change) → New l → gather (hourPass k) l l ≡ map (spotOf l) (byName k (standing l))
+hour-standing k l w = gather-standing (hourPass k) l w ∙ collect-by-name k l (standing l)
 
 -- ---- the names of a mark
 abbrev pub markPass : Key → Pass (List Name)
@@ -224,5 +224,5 @@ unfolding collect namesOf
 collect-names k all [] = refl
 collect-names k all (r ∷ rs) = ap (λ (xs : List Name). cond (sameMark k (r .key)) (addName (r .key .name) xs) xs) (collect-names k all rs)
 
-pub mark-standing : (k : Key) (l : List Change) → gather (markPass k) l l ≡ namesOf k (standing l)
-mark-standing k l = gather-standing (markPass k) l ∙ collect-names k l (standing l)
+pub mark-standing : (k : Key) (l : List Change) → New l → gather (markPass k) l l ≡ namesOf k (standing l)
+mark-standing k l w = gather-standing (markPass k) l w ∙ collect-names k l (standing l)

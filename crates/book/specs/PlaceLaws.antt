@@ -26,7 +26,7 @@ pick-without k j (x ∷ xs) h =
 
 pick-other : (k : Key) (c : Change) (xs : List Rec) → same k (keyOf c) ≡ false → pick k (play c xs) ≡ pick k xs
 unfolding pick
-pick-other k (filed r) xs h = ap (λ (b : Bool). cond b (is r) (pick k (without (r .key) xs))) h ∙ pick-without k (r .key) xs h
+pick-other k (filed r) xs h = ap (λ (b : Bool). cond b (is r) (pick k xs)) h
 pick-other k (corrected r) xs h = ap (λ (b : Bool). cond b (is r) (pick k (without (r .key) xs))) h ∙ pick-without k (r .key) xs h
 pick-other k (withdrawn j) xs h = pick-without k j xs h
 
@@ -57,7 +57,7 @@ unfolding writeAll standing
 newest k (filed r) l t f =
     record {
       what = r;
-      stands-so = unfold pick in (ap (λ (b : Bool). cond b (is r) (pick k (without (r .key) (standing l)))) t);
+      stands-so = unfold pick in (ap (λ (b : Bool). cond b (is r) (pick k (standing l))) t);
       inside = omega (arith, length-append (writeAll l) (write (filed r)));
       bytes = ap (take (length (write (filed r)))) (drop-append-seam (writeAll l) (write (filed r))) ∙ take-length (write (filed r));
     }
@@ -140,8 +140,7 @@ standing-each P f k [] v h = true≠false h refl
 standing-each P f k (filed r ∷ l) v h =
     by-test (same k (r .key))
     (λ t. subst⁻¹ P (same-true k (r .key) t) (f (filed r) (v .0)))
-    (λ t. standing-each P f k l (v .2)
-    (sym (stands-without-other k (r .key) (standing l) t) ∙ sym (ap (λ (b : Bool). cond b true (stands k (without (r .key) (standing l)))) t) ∙ h))
+    (λ t. standing-each P f k l (v .2) (sym (ap (λ (b : Bool). cond b true (stands k (standing l))) t) ∙ h))
 standing-each P f k (corrected r ∷ l) v h =
     by-test (same k (r .key))
     (λ t. subst⁻¹ P (same-true k (r .key) t) (f (corrected r) (v .0)))

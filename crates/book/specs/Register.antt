@@ -32,7 +32,7 @@ without k (x ∷ xs) = cond (same k (x .key)) (without k xs) (x ∷ without k xs
 
 -- "Filing adds a record; `CO` replaces the one of its key; `WD` removes it"
 abbrev pub play : Change → List Rec → List Rec
-play (filed r) rs = r ∷ without (r .key) rs
+play (filed r) rs = r ∷ rs
 play (corrected r) rs = r ∷ without (r .key) rs
 play (withdrawn k) rs = without k rs
 

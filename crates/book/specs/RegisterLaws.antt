@@ -61,13 +61,6 @@ once-without k (x ∷ xs) u =
     (λ t. subst (λ (b : Bool). Once (cond b (without k xs) (x ∷ without k xs))) (sym t) (once-without k xs (u .1)))
     (λ t. subst (λ (b : Bool). Once (cond b (without k xs) (x ∷ without k xs))) (sym t) (stands-without-other (x .key) k xs (same-turned k (x .key) t) ∙ u .0, once-without k xs (u .1)))
 
-pub once-standing : (l : List Change) → Once (standing l)
-unfolding standing Once
-once-standing [] = tt
-once-standing (filed r ∷ l) = (stands-without-self (r .key) (standing l), once-without (r .key) (standing l) (once-standing l))
-once-standing (corrected r ∷ l) = (stands-without-self (r .key) (standing l), once-without (r .key) (standing l) (once-standing l))
-once-standing (withdrawn k ∷ l) = once-without k (standing l) (once-standing l)
-
 count-pos : (k j : Key) (xs : List Rec) → stands j xs ≡ true → sameHour k j ≡ true → 0 < count k xs
 unfolding stands count
 count-pos k j [] h e = true≠false h refl
@@ -122,6 +115,31 @@ refusal-found l lent c h =
     judge-found (eqb (kindOf c) 1) (stands (keyOf c) (standing l)) (ltb (count (keyOf c) (standing l)) (limitOf (keyOf c)))
     (room (length l) (length (writeAll l)) (length (write c)) lent) (sym (refusal-judge l lent c) ∙ h)
 
+-- ---- what is filed did not stand: "key stands already" is refused
+
+unfoldable pub New : List Change → Type 0
+New [] = Unit {0}
+New (c ∷ l) = (kindOf c ≡ 1 → stands (keyOf c) (standing l) ≡ false) × New l
+
+pub valid-new : (l : List Change) → Valid l → New l
+unfolding Valid New
+valid-new [] v = tt
+valid-new (c ∷ l) v = ((λ e. refusal-found l 65535 c (v .1) ∙ ap (λ (n : ℕ). not (eqb n 1)) e), valid-new l (v .2))
+
+-- so a filing, too, leaves no other record of its key
+pub new-without : (r : Rec) (l : List Change) → New (filed r ∷ l) → without (r .key) (standing l) ≡ standing l
+unfolding New
+new-without r l w = without-none (r .key) (standing l) (w .0 refl)
+
+pub once-standing : (l : List Change) → New l → Once (standing l)
+unfolding standing Once New
+once-standing [] w = tt
+once-standing (filed r ∷ l) w = (w .0 refl, once-standing l (w .1))
+once-standing (corrected r ∷ l) w = (stands-without-self (r .key) (standing l), once-without (r .key) (standing l) (once-standing l (w .1)))
+once-standing (withdrawn k ∷ l) w = once-without k (standing l) (once-standing l (w .1))
+
+-- ---- what a survey finds
+
 -- with a newer change of the key j that leaves it standing or not
 newer : (k j : Key) (a f : Bool) (xs : List Rec) → f ≡ stands k xs → cond (same k j) a f ≡ cond (same k j) a (stands k (without j xs))
 newer k j a f xs e =
@@ -138,7 +156,7 @@ gone k j xs =
 pub survey-found : (k : Key) (l : List Change) → survey k l .found ≡ stands k (standing l)
 unfolding standing survey stands
 survey-found k [] = refl
-survey-found k (filed r ∷ l) = newer k (r .key) true _ (standing l) (survey-found k l)
+survey-found k (filed r ∷ l) = ap (cond (same k (r .key)) true) (survey-found k l)
 survey-found k (corrected r ∷ l) = newer k (r .key) true _ (standing l) (survey-found k l)
 survey-found k (withdrawn j ∷ l) = newer k j false _ (standing l) (survey-found k l) ∙ gone k j (standing l)
 
@@ -150,14 +168,14 @@ pub survey-count : (k : Key) (l : List Change) → Valid l → survey k l .count
 unfolding Valid standing survey count
 survey-count k [] v = refl
 survey-count k (filed r ∷ l) v =
-    ap (λ (n : ℕ). cond (sameHour k (r .key)) (n + 1) n) (survey-count k l (v .2) ∙ sym (ap (count k) (without-none (r .key) (standing l) (refusal-found l 65535 (filed r) (v .1)))))
+    ap (λ (n : ℕ). cond (sameHour k (r .key)) (n + 1) n) (survey-count k l (v .2))
 survey-count k (corrected r ∷ l) v =
     let h = refusal-found l 65535 (corrected r) (v .1) in
     ap (λ (n : ℕ). cond (sameHour k (r .key)) n n) (survey-count k l (v .2))
     ∙ back-one (sameHour k (r .key)) (count k (standing l)) (count-pos k (r .key) (standing l) h)
-    ∙ ap (λ (n : ℕ). cond (sameHour k (r .key)) (n + 1) n) (sym (count-without k (r .key) (standing l) (once-standing l) h))
+    ∙ ap (λ (n : ℕ). cond (sameHour k (r .key)) (n + 1) n) (sym (count-without k (r .key) (standing l) (once-standing l (valid-new l (v .2))) h))
 survey-count k (withdrawn j ∷ l) v =
-    ap (λ (n : ℕ). cond (sameHour k j) (n - 1) n) (survey-count k l (v .2)) ∙ sym (count-without k j (standing l) (once-standing l) (refusal-found l 65535 (withdrawn j) (v .1)))
+    ap (λ (n : ℕ). cond (sameHour k j) (n - 1) n) (survey-count k l (v .2)) ∙ sym (count-without k j (standing l) (once-standing l (valid-new l (v .2))) (refusal-found l 65535 (withdrawn j) (v .1)))
 
 -- ---- "hour holds 16 of that mark (8 for `GH`)"
 count-same : (k j : Key) (xs : List Rec) → sameHour k j ≡ true → count k xs ≡ count j xs
@@ -194,17 +212,16 @@ hour-few k [] v = omega arith
 hour-few k (filed r ∷ l) v =
     let few = ltb-true (count (r .key) (standing l)) (limitOf (r .key))
     (few-filed (stands (r .key) (standing l)) (ltb (count (r .key) (standing l)) (limitOf (r .key))) (room (length l) (length (writeAll l)) (length (write (filed r))) 65535) (v .1)) in
-    go (sameHour k (r .key)) refl few (count-less k (r .key) (standing l)) (hour-few k l (v .2))
+    go (sameHour k (r .key)) refl few (hour-few k l (v .2))
   where
-    go : (b : Bool) → sameHour k (r .key) ≡ b → count (r .key) (standing l) < limitOf (r .key) → count k (without (r .key) (standing l)) ≤ count k (standing l) → count k (standing l) ≤ limitOf k
-        → cond b (count k (without (r .key) (standing l)) + 1) (count k (without (r .key) (standing l))) ≤ limitOf k
-    go true e few less all = omega (arith, count-same k (r .key) (standing l) e, limit-same k (r .key) e)
-    go false e few less all = omega arith
+    go : (b : Bool) → sameHour k (r .key) ≡ b → count (r .key) (standing l) < limitOf (r .key) → count k (standing l) ≤ limitOf k → cond b (count k (standing l) + 1) (count k (standing l)) ≤ limitOf k
+    go true e few all = omega (arith, count-same k (r .key) (standing l) e, limit-same k (r .key) e)
+    go false e few all = all
 hour-few k (corrected r ∷ l) v =
     let h = refusal-found l 65535 (corrected r) (v .1) in
     subst (λ (n : ℕ). n ≤ limitOf k)
     (go (sameHour k (r .key)) ∙ back-one (sameHour k (r .key)) (count k (standing l)) (count-pos k (r .key) (standing l) h)
-    ∙ ap (λ (n : ℕ). cond (sameHour k (r .key)) (n + 1) n) (sym (count-without k (r .key) (standing l) (once-standing l) h)))
+    ∙ ap (λ (n : ℕ). cond (sameHour k (r .key)) (n + 1) n) (sym (count-without k (r .key) (standing l) (once-standing l (valid-new l (v .2))) h)))
     (hour-few k l (v .2))
   where
     go : (b : Bool) → count k (standing l) ≡ cond b (count k (standing l)) (count k (standing l))

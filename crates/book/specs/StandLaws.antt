@@ -14,7 +14,7 @@ use Rattle.book.specs.ByName.{inOrder, byName, addName, sameMark, namesO
 use Rattle.book.specs.Meaning.{Valid}
 use Rattle.book.specs.Tables.{survey}
 use Rattle.book.specs.Worked.{Opened}
-use Rattle.book.specs.RegisterLaws.{by-test, true≠false, same-turned, survey-found, Once, once-standing}
+use Rattle.book.specs.RegisterLaws.{by-test, true≠false, same-turned, survey-found, Once, valid-new, once-standing}
 use Rattle.book.specs.PlaceLaws.{survey-written, survey-place, pick-none}
 
 -- ---- a property of all of a list
@@ -44,7 +44,7 @@ all-without {P} k (also {r = r} {rs = rs} p a) = go (all-without k a) (same k (r
 pub standing-good : (l : List Change) → Valid l → All (λ (r : Rec). Good (filed r)) (standing l)
 unfolding standing Valid
 standing-good [] v = done
-standing-good (filed r ∷ l) v = also (v .0) (all-without (r .key) (standing-good l (v .2)))
+standing-good (filed r ∷ l) v = also (v .0) (standing-good l (v .2))
 standing-good (corrected r ∷ l) v = also (good-co r (v .0)) (all-without (r .key) (standing-good l (v .2)))
 standing-good (withdrawn k ∷ l) v = all-without k (standing-good l (v .2))
 
@@ -153,7 +153,7 @@ module _ {s : List ℕ} {views : List View} {n : ℕ} {l : List Change} (o : Ope
       record { at = subst (At s (survey (r .key) l .start)) p (f .at); start = f .start }
 
   pub all-stand : All Stands (standing l)
-  all-stand = all-map standing-at (own-pick (standing l) (once-standing l))
+  all-stand = all-map standing-at (own-pick (standing l) (once-standing l (valid-new l (o .valid))))
 
 -- ---- by name
 

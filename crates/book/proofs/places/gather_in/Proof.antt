@@ -48,7 +48,7 @@ loop-again : tie.Need-loop-again Inv-loop μ-loop
 loop-again c = let z : length ((c .before .with-spot) .result .at) ≡ 16 = search (needs, unmapped) in filled-next ((c .before .before .before .before .before .before .before .loop) .inv) ((c .before .before .before .before .before .before .loop-test) .taken) _ ((c .before .before .before .before .standing-in-hour) .ensures) ((c .before .before .before .place-of) .ensures) ((c .before .with-spot) .result) z ((c .before .with-spot) .ensures)
 
 returns : tie.Need-returns Inv-loop μ-loop
-returns c = (filled-end ((c .before .loop) .inv) ((c .loop-test) .left), (c .before .loop) .inv .few)
+returns c = (filled-end ((c .before .loop) .inv) (c .before .before .before .pre) ((c .loop-test) .left), (c .before .loop) .inv .few)
 
 pub gather-in-spec : {M : Type 1} → statement M
 gather-in-spec =
