@@ -56,6 +56,7 @@ pub record Going (b₀ : Book) (s₀ input : List ℕ) (b : Book) (views : List 
   pub size : length s ≡ length s₀
   pub within : at ≤ length input
   pub few : n ≤ at
+  pub kept : n ≡ 0 → s ≡ s₀
   pub places : length views ≡ 512
   pub held : Held b s views
   pub on : (l : List Change) → load b₀ s₀ ≡ belongs l → On (feeding (length s₀) (record { list = l; closed = b₀ .closed }) input) (length s₀) input b s n at
@@ -77,13 +78,15 @@ started b s input views w h = record {
   size = refl;
   within = omega arith;
   few = omega arith;
+  kept = λ z. refl;
   places = w;
   held = h;
   on = λ l e. first-of b s input l e (loaded-from b s l e);
 }
 
 -- one record more
-module _ (f : Fed) (s₀ input : List ℕ) (b : Book) (s : List ℕ) (n at : ℕ) (x : On f (length s₀) input b s n at) (size : length s ≡ length s₀) (some : at < length input) where
+module _ (f : Fed) (s₀ input : List ℕ) (b : Book) (s : List ℕ) (n at : ℕ) (x : On f (length s₀) input b s n at)
+    (size : length s ≡ length s₀) (kept : n ≡ 0 → s ≡ s₀) (some : at < length input) where
   abbrev p : List ℕ
   p = firstRecord (drop at input)
 
@@ -111,6 +114,7 @@ module _ (f : Fed) (s₀ input : List ℕ) (b : Book) (s : List ℕ) (n at : ℕ
               book = turn-book (x .reg) s (x .valid) (x .bytes) (change p) b′ r s′ m (answered y) e;
               size = m .size ∙ size;
               bytes = ap (take (length (writeAll (x .reg .list)))) u ∙ x .bytes;
+              kept = λ o. u ∙ kept (omega arith);
             })
         go (becomes y) e = absurd (z (q ∙ ap replied (turn-reply (x .reg) s (x .valid) (x .bytes) (change p) b′ r s′ m (becomes y) e)))
 
@@ -133,9 +137,10 @@ module _ (f : Fed) (s₀ input : List ℕ) (b : Book) (s : List ℕ) (n at : ℕ
         }
 
 -- nothing is left
-finishes : (f : Fed) (s₀ input : List ℕ) (b : Book) (s : List ℕ) (n at : ℕ) → On f (length s₀) input b s n at → length s ≡ length s₀ → at ≡ length input → Ends f s₀ (record { book = b; count = n; taken = at; number = 0 }) s
+finishes : (f : Fed) (s₀ input : List ℕ) (b : Book) (s : List ℕ) (n at : ℕ) → On f (length s₀) input b s n at
+    → length s ≡ length s₀ → (n ≡ 0 → s ≡ s₀) → at ≡ length input → Ends f s₀ (record { book = b; count = n; taken = at; number = 0 }) s
 unfolding fed
-finishes f s₀ input b s n at x size all =
+finishes f s₀ input b s n at x size kept all =
     let w : f ≡ later n at (stopped (x .reg) 0) = x .so-far ∙ ap (λ (l : List ℕ). later n at (feeding (length s₀) (x .reg) l)) (ap (λ (k : ℕ). drop k input) all ∙ drop-length input) in
     subst⁻¹ (λ (f : Fed). Ends f s₀ (record { book = b; count = n; taken = at; number = 0 }) s) w (record {
       count = omega arith;
@@ -144,11 +149,12 @@ finishes f s₀ input b s n at x size all =
       book = x .book;
       size = size;
       bytes = x .bytes;
+      kept = λ o. kept (omega arith);
     })
 
 module _ (b₀ : Book) (s₀ input : List ℕ) (b : Book) (views : List View) (s : List ℕ) (n at : ℕ) (g : Going b₀ s₀ input b views s n at) where
   pub finished : length input ≤ at → (l : List Change) → load b₀ s₀ ≡ belongs l → Ends (feeding (length s₀) (record { list = l; closed = b₀ .closed }) input) s₀ (record { book = b; count = n; taken = at; number = 0 }) s
-  finished h l e = finishes _ s₀ input b s n at (g .on l e) (g .size) (omega (arith, g .within))
+  finished h l e = finishes _ s₀ input b s n at (g .on l e) (g .size) (g .kept) (omega (arith, g .within))
 
   -- the record that ends at a place, and what the book said to it
   module _ (some : at < length input) (end : ℕ) (ends-at : end ≡ at + length (firstRecord (drop at input))) where
@@ -169,16 +175,17 @@ module _ (b₀ : Book) (s₀ input : List ℕ) (b : Book) (views : List View) (s
 
       pub stops : (k : ℕ) → k ≡ replied (replyOf (r .answer)) → (k ≡ 0 → ⊥) → (l : List Change) → load b₀ s₀ ≡ belongs l
           → Ends (feeding (length s₀) (record { list = l; closed = b₀ .closed }) input) s₀ (record { book = r .book; count = n; taken = at; number = k }) s′
-      stops k q z l e = ends _ s₀ input b s n at (g .on l e) (g .size) some (r .book) (replyOf (r .answer)) s′ said k q z
+      stops k q z l e = ends _ s₀ input b s n at (g .on l e) (g .size) (g .kept) some (r .book) (replyOf (r .answer)) s′ said k q z
 
       continues : replied (replyOf (r .answer)) ≡ 0 → (views′ : List View) → views′ ≡ set views (b .changes) (r .view) → Going b₀ s₀ input (r .book) views′ s′ (n + 1) end
       continues z views′ w = subst⁻¹ (Going b₀ s₀ input (r .book) views′ s′ (n + 1)) ends-at (record {
         size = m .leaves .size ∙ g .size;
         within = omega (arith, end-within);
         few = omega (arith, g .few, end-after);
+        kept = λ o. absurd (omega arith);
         places = ap length w ∙ length-set views (b .changes) (r .view) ∙ g .places;
         held = subst⁻¹ (Held (r .book) s′) w (m .held);
-        on = λ l e. on-with _ s₀ input b s n at (g .on l e) (g .size) some (r .book) (replyOf (r .answer)) s′ said z;
+        on = λ l e. on-with _ s₀ input b s n at (g .on l e) (g .size) (g .kept) some (r .book) (replyOf (r .answer)) s′ said z;
       })
 
       -- the change's view is kept at its place, if there is one
@@ -191,7 +198,7 @@ module _ (b₀ : Book) (s₀ input : List ℕ) (b : Book) (views : List View) (s
 -- no record at all
 pub fed-none : (b : Book) (s input : List ℕ) → length input ≡ 0 → Feeds b s input (record { book = b; count = 0; taken = 0; number = 0 }) s
 fed-none b s input e = record {
-  together = λ l d. finishes _ s input b s 0 0 (on l d) refl (sym e);
+  together = λ l d. finishes _ s input b s 0 0 (on l d) refl (λ z. refl) (sym e);
   apart = λ d. record { count = refl; taken = refl; number = ap (λ (t : Bool). cond t 0 16) (sym (eq-eqb (length input) 0 e)); book = refl; bytes = refl };
 }
   where

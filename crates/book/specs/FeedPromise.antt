@@ -21,6 +21,8 @@ pub record Ends (f : Fed) (s : List ℕ) (r : Result) (s′ : List ℕ) : Type 0
   pub book : r .book ≡ bookOf (f .reg)
   pub size : length s′ ≡ length s
   pub bytes : take (length (writeAll (f .reg .list))) s′ ≡ writeAll (f .reg .list)
+  -- where no record is taken, none of the bytes is touched
+  pub kept : f .count ≡ 0 → s′ ≡ s
 
 -- "book and bytes remain"; 16 is the first record's, where there is one
 pub record Remains (b : Book) (s input : List ℕ) (r : Result) (s′ : List ℕ) : Type 0 where
