@@ -14,3 +14,4 @@ pub mod Pairing
 pub mod ChargeAnswering
 pub mod DayAnswering
 pub mod Guaranteeing
+pub mod Handing

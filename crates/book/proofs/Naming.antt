@@ -1,11 +1,12 @@
 -- The loop over the kept views that gathers the names of a mark, each once.
 use Prim.Native.Nat.{ℕ, _+_, _≤_, _<_}
 use mathlib.Core.Path.{_≡_, refl, sym, ap, _∙_, subst⁻¹}
-use mathlib.Core.List.{List, _∷_, _++_}
+use mathlib.Core.List.{List, [], _∷_, _++_}
 use mathlib.Core.Bool.{Bool, true, false, cond, _&&_}
 use native.Mathlib.Omega.{arith}
-use lib.ListN.{length, take, drop, getD}
-use Rattle.book.specs.Layer.{Key, View, Name, Change, nameOf, nameBefore}
+use lib.ListN.{length, take, drop, getD, set, length-set}
+use lib.Seq.{length-take-le}
+use Rattle.book.specs.Layer.{Key, View, Name, Change, nameOf, nameBefore, noOne, pad}
 use Rattle.book.specs.declared.units.Units.{Units}
 use Rattle.book.specs.Register.{standing}
 use Rattle.book.specs.ByName.{addName, sameMark, namesOf}
@@ -13,9 +14,11 @@ use Rattle.book.specs.Meaning.{Load, belongs}
 use Rattle.book.specs.Tables.{Kept, Stored, survey}
 use Rattle.book.specs.Places.{liveAt}
 use Rattle.book.specs.Units.{ghKey, namesIn, named, unitNames}
+use Rattle.book.specs.Handed.{unitsOf}
+use Rattle.book.specs.HandedLaws.{pad-behind, pad-front}
 use Rattle.book.specs.GatherLaws.{markPass, mark-standing}
 use Rattle.book.proofs.Surveying.{stored-new, valid-size}
-use Rattle.book.proofs.Inserting.{Sought, sought-here, sought-there, sought-on, sought-end}
+use Rattle.book.proofs.Inserting.{Sought, sought-here, sought-there, sought-on, sought-end, Opened, opened-behind}
 use Rattle.book.proofs.Gathering.{Held, held-start, held-next, held-end}
 
 -- ---- the place of a name
@@ -47,17 +50,39 @@ module _ (a : Name) (u : Units) (i : ℕ) (h : Sought (addName a) (u .names) (u 
       let e : i ≡ u .n = omega (arith, h .inside) in
       sought-end h a refl le out ∙ ap (λ (m : ℕ). take m (namesIn u) ++ (a ∷ drop m (namesIn u))) e
 
+-- ---- the places behind the names
+module _ (u : Units) (size : length (u .names) ≡ 512) (few : u .n < 512) where
+  blank-behind : u ≡ unitsOf (namesIn u) → drop (u .n + 1) (u .names) ≡ drop (u .n + 1) (pad noOne 512 [])
+  unfolding unitsOf
+  blank-behind e =
+      let count : length (namesIn u) ≡ u .n = length-take-le (u .n) (u .names) (omega arith) in
+      ap (λ (x : Units). drop (u .n + 1) (x .names)) e ∙ pad-behind noOne 512 (namesIn u) (u .n + 1) (omega arith)
+
+  pub inserted-whole : {row : List Name} {j i : ℕ} → Opened (u .names) row (u .n) j i → i ≤ j → (s : Name) → u ≡ unitsOf (namesIn u)
+      → _≡_ {A = Units} (record { n = u .n + 1; names = set row j s }) (unitsOf (take (u .n + 1) (set row j s)))
+  unfolding unitsOf
+  inserted-whole {row} {j} {i} o le s e =
+      let names = set row j s in
+      let long : length names ≡ 512 = length-set row j s ∙ o .size ∙ size in
+      let count : length (take (u .n + 1) names) ≡ u .n + 1 = length-take-le (u .n + 1) names (omega arith) in
+      let blank : names ≡ pad noOne 512 (take (u .n + 1) names) = pad-front noOne 512 (u .n + 1) names long (opened-behind (omega arith) o le s ∙ blank-behind e) in
+      λ k. record { n = sym count k; names = blank k }
+
 -- ---- the loop over a mark
 pub record Listed (k : Key) (views : List View) (n i q : ℕ) (u : Units) : Type 0 where
   pub size : length (u .names) ≡ 512
   pub few : u .n ≤ i
+  pub whole : u ≡ unitsOf (namesIn u)
   pub held : Held (markPass k) views n i q (namesIn u)
 
-pub listed-start : (k : Key) (views : List View) (n : ℕ) (u : Units) → length (u .names) ≡ 512 → u .n ≡ 0 → Listed k views n 0 0 u
-listed-start k views n u e z =
+pub listed-start : (k : Key) (views : List View) (n : ℕ) (u : Units) → length (u .names) ≡ 512 → u ≡ unitsOf [] → Listed k views n 0 0 u
+unfolding unitsOf
+listed-start k views n u e w =
+    let z : u .n ≡ 0 = ap (λ (x : Units). x .n) w in
     record {
       size = e;
       few = omega arith;
+      whole = w ∙ ap unitsOf (sym (ap (λ (m : ℕ). take m (u .names)) z));
       held = subst⁻¹ (Held (markPass k) views n 0 0) (ap (λ (m : ℕ). take m (u .names)) z) (held-start (markPass k) views n);
     }
 
@@ -71,8 +96,9 @@ module _ {k : Key} {views : List View} {n i q : ℕ} {u : Units} (f : Listed k v
   pub listed-next : i < n → (d : View) {b : Bool}
       → ((l : List Change) → Kept views l → length l ≡ n → b ≡ (sameMark k (getD views i d .key) && liveAt (survey (getD views i d .key) l) (getD views i d) q))
       → (u′ : Units) → length (u′ .names) ≡ 512
-      → (u′ .n ≤ u .n + 1) × (namesIn u′ ≡ cond b (addName (getD views i d .key .name) (namesIn u)) (namesIn u)) → Listed k views n (i + 1) (q + getD views i d .len) u′
-  listed-next lt d eb u′ size w = record { size = size; few = omega (arith, f .few, w .0); held = held-next (f .held) lt d eb refl (w .1) }
+      → (u′ .n ≤ u .n + 1) × (namesIn u′ ≡ cond b (addName (getD views i d .key .name) (namesIn u)) (namesIn u)) × (u ≡ unitsOf (namesIn u) → u′ ≡ unitsOf (namesIn u′))
+      → Listed k views n (i + 1) (q + getD views i d .len) u′
+  listed-next lt d eb u′ size w = record { size = size; few = omega (arith, f .few, w .0); whole = w .2 (f .whole); held = held-next (f .held) lt d eb refl (w .1) }
 
 -- ---- the answer
 pub units-at : (d : Load) (l : List Change) → d ≡ belongs l → (k : Key) → k ≡ ghKey → (u : Units) → namesIn u ≡ namesOf k (standing l) → named (namesIn u) ≡ unitNames d

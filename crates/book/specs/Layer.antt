@@ -22,6 +22,8 @@ pub use Rattle.records.specs.Hours.{limitOf, sameName, atHour}
 -- decoded names and their order
 pub use Rattle.money.specs.declared.names.Name.{Name}
 pub use Rattle.records.specs.Names.{noOne}
+-- places that a list leaves
+pub use Rattle.records.specs.Numbers.{pad}
 -- amounts: what a record is to the money rules, and the rules themselves
 pub use Rattle.records.specs.declared.layouts.HourPrices.{HourPrices}
 pub use Rattle.records.specs.declared.amounts.UnitPart.{UnitPart}

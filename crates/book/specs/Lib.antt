@@ -29,6 +29,8 @@ pub mod DayLaws
 pub mod ChargeLaws
 pub mod OrderLaws
 pub mod Units
+pub mod Handed
+pub mod HandedLaws
 pub mod GatherLaws
 pub mod Hours
 pub mod HourLaws

@@ -31,6 +31,7 @@ ghost use Rattle.book.specs.Layer.{Change, isFailure};
 ghost use Rattle.book.specs.Register.{standing, startIn, ask, failureCharge};
 ghost use Rattle.book.specs.Meaning.{Meets, replyOf, load, chargesReply, hourCharges};
 ghost use Rattle.book.specs.Amounts.{hourKey, chargeOf, chargesOf, priceOf};
+ghost use Rattle.book.specs.Handed.{chargesFrom};
 ghost use Rattle.book.specs.Worked.{Inside, chargesIn, noCharges, Open, Opened};
 
 // By the kept views of n changes, for a key.
@@ -71,7 +72,7 @@ fn charges_at(log: &[u8], p: Places, mark: Mark, prices: HourPrices) -> [Ticks; 
 }
 
 fn no_charges(number: u8) -> Charges
-    ensures { λ r. ⌜ (chargesReply r ≡ noCharges number) × (r .charges .n ≤ 16) ⌝ }
+    ensures { λ r. ⌜ (chargesReply r ≡ noCharges number) × (r .charges .n ≤ 16) × (r ≡ chargesFrom (chargesReply r)) ⌝ }
 {
     let charges = no_amounts();
     Charges { number, charges }
@@ -80,7 +81,7 @@ fn no_charges(number: u8) -> Charges
 // By the kept views of n changes, for a mark and hour.
 fn of_hour(log: &[u8], views: [View; 512], n: usize, mark: Mark, hour: u8) -> Charges
     requires { ⌜ Open (now log) views n ⌝ }
-    ensures { λ r. ⌜ ((l : List Change) → Opened (now (log .entry)) views n l → isFailure mark ≡ true → chargesReply r ≡ chargesOf (startIn l) (hourKey mark hour) (standing l) (priceOf (standing l))) × (r .charges .n ≤ 16) ⌝ }
+    ensures { λ r. ⌜ ((l : List Change) → Opened (now (log .entry)) views n l → isFailure mark ≡ true → chargesReply r ≡ chargesOf (startIn l) (hourKey mark hour) (standing l) (priceOf (standing l))) × (r .charges .n ≤ 16) × (r ≡ chargesFrom (chargesReply r)) ⌝ }
 {
     let failures = places::gather_in(views, n, key_of(mark, hour));
     if failures.n == 0 {
@@ -116,7 +117,7 @@ impl Book {
 
     // The charges of an hour's failed imports (FI) or exports (FE), by name.
     pub fn charges(self, log: &[u8], mark: Mark, hour: u8) -> Charges
-        ensures { λ r. ⌜ (chargesReply r ≡ hourCharges mark hour (load self (now (log .entry)))) × (r .charges .n ≤ 16) ⌝ }
+        ensures { λ r. ⌜ (chargesReply r ≡ hourCharges mark hour (load self (now (log .entry)))) × (r .charges .n ≤ 16) × (r ≡ chargesFrom (chargesReply r)) ⌝ }
     {
         let k = self.check_table(log);
         if k.ok {

@@ -23,13 +23,14 @@ use records::names::no_name;
 use records::scan::View;
 use records::views::prices_of;
 ghost use mathlib.Core.Path.{_≡_};
-ghost use mathlib.Core.List.{List, map};
+ghost use mathlib.Core.List.{List, [], map};
 ghost use lib.ListN.{take};
 ghost use Prim.Native.Nat.{_≤_};
 ghost use Rattle.book.specs.Layer.{Change};
 ghost use Rattle.book.specs.Register.{standing, startIn, ask, hourGuarantees};
 ghost use Rattle.book.specs.Meaning.{Meets, guaranteesReply};
 ghost use Rattle.book.specs.Amounts.{guaranteesOf, priceOf};
+ghost use Rattle.book.specs.Handed.{amountsOf, guaranteesFrom};
 ghost use Rattle.book.specs.Worked.{Inside, entriesIn, totalsIn, entryCredit, namedOf, noGuarantees, Workable, workedIn, Open, Opened};
 
 // The offset's entries of the imports at the places.
@@ -83,7 +84,7 @@ fn credits_of(entries: [Import; 16], n: usize) -> [Ticks; 16]
 }
 
 pub(crate) fn no_amounts() -> Amounts
-    ensures { λ r. ⌜ r .n ≡ 0 ⌝ }
+    ensures { λ r. ⌜ r ≡ amountsOf [] ⌝ }
 {
     let name = no_name();
     let none = NamedAmount {
@@ -100,7 +101,7 @@ pub(crate) fn no_amounts() -> Amounts
 // The amounts of the records at the places, with their names.
 pub(crate) fn named(p: Places, ticks: [Ticks; 16]) -> Amounts
     requires { ⌜ p .n ≤ 16 ⌝ }
-    ensures { λ r. ⌜ (take (r .n) (r .list) ≡ namedOf (take (p .n) (p .at)) (take (p .n) ticks)) × (r .n ≤ 16) ⌝ }
+    ensures { λ r. ⌜ (take (r .n) (r .list) ≡ namedOf (take (p .n) (p .at)) (take (p .n) ticks)) × (r .n ≤ 16) × (r ≡ amountsOf (take (r .n) (r .list))) ⌝ }
 {
     let mut a = no_amounts();
     let mut i: usize = 0;
@@ -121,7 +122,7 @@ pub(crate) fn named(p: Places, ticks: [Ticks; 16]) -> Amounts
 }
 
 fn no_guarantees(number: u8) -> Guarantees
-    ensures { λ r. ⌜ (guaranteesReply r ≡ noGuarantees number) × (r .credits .n ≤ 16) ⌝ }
+    ensures { λ r. ⌜ (guaranteesReply r ≡ noGuarantees number) × (r .credits .n ≤ 16) × (r ≡ guaranteesFrom (guaranteesReply r)) ⌝ }
 {
     let credits = no_amounts();
     Guarantees {
@@ -134,7 +135,7 @@ fn no_guarantees(number: u8) -> Guarantees
 // Of the imports and exports at the places, at their hour's prices.
 fn worked(log: &[u8], imports: Places, exports: Places, prices: HourPrices) -> Guarantees
     requires { ⌜ Workable (now log) imports exports prices ⌝ }
-    ensures { λ r. ⌜ (guaranteesReply r ≡ workedIn (now (log .entry)) prices (take (imports .n) (imports .at)) (take (exports .n) (exports .at))) × (r .credits .n ≤ 16) ⌝ }
+    ensures { λ r. ⌜ (guaranteesReply r ≡ workedIn (now (log .entry)) prices (take (imports .n) (imports .at)) (take (exports .n) (exports .at))) × (r .credits .n ≤ 16) × (r ≡ guaranteesFrom (guaranteesReply r)) ⌝ }
 {
     let entries = entries_at(log, imports, prices);
     let totals = totals_at(log, exports);
@@ -156,7 +157,7 @@ fn worked(log: &[u8], imports: Places, exports: Places, prices: HourPrices) -> G
 // By the kept views of n changes.
 fn of_hour(log: &[u8], views: [View; 512], n: usize, hour: u8) -> Guarantees
     requires { ⌜ Open (now log) views n ⌝ }
-    ensures { λ r. ⌜ ((l : List Change) → Opened (now (log .entry)) views n l → guaranteesReply r ≡ guaranteesOf (startIn l) (standing l) (priceOf (standing l)) hour) × (r .credits .n ≤ 16) ⌝ }
+    ensures { λ r. ⌜ ((l : List Change) → Opened (now (log .entry)) views n l → guaranteesReply r ≡ guaranteesOf (startIn l) (standing l) (priceOf (standing l)) hour) × (r .credits .n ≤ 16) × (r ≡ guaranteesFrom (guaranteesReply r)) ⌝ }
 {
     let imports = places::gather_in(views, n, key_of(Mark::Im, hour));
     if imports.n == 0 {
@@ -175,7 +176,7 @@ fn of_hour(log: &[u8], views: [View; 512], n: usize, hour: u8) -> Guarantees
 impl Book {
     // The credit of each import of an hour by name, and the wheel offset.
     pub fn guarantees(self, log: &[u8], hour: u8) -> Guarantees
-        ensures { λ r. ⌜ Meets (ask (hourGuarantees hour)) self (now (log .entry)) self (guaranteesReply r) (now (log .entry)) × (r .credits .n ≤ 16) ⌝ }
+        ensures { λ r. ⌜ Meets (ask (hourGuarantees hour)) self (now (log .entry)) self (guaranteesReply r) (now (log .entry)) × (r .credits .n ≤ 16) × (r ≡ guaranteesFrom (guaranteesReply r)) ⌝ }
     {
         let k = self.check_table(log);
         if k.ok {

@@ -12,7 +12,7 @@ use records::names::no_name;
 use records::scan::View;
 ghost use mathlib.Core.Path.{_≡_};
 ghost use mathlib.Core.Bool.{cond, true, _&&_};
-ghost use mathlib.Core.List.{List, _∷_, _++_};
+ghost use mathlib.Core.List.{List, [], _∷_, _++_};
 ghost use lib.ListN.{length, take, drop};
 ghost use Prim.Native.Nat.{_<_, _≤_, _+_};
 ghost use Rattle.book.specs.Layer.{Change};
@@ -22,6 +22,7 @@ ghost use Rattle.book.specs.Meaning.{load};
 ghost use Rattle.book.specs.Tables.{Kept, Stored, survey};
 ghost use Rattle.book.specs.Places.{liveAt};
 ghost use Rattle.book.specs.Units.{namesIn, unitNames, unitListOf};
+ghost use Rattle.book.specs.Handed.{unitsOf, unitListFrom};
 
 // Decoded names in byte order, each once: the first n of `names`.
 pub struct Units {
@@ -79,7 +80,7 @@ fn slot_of(u: Units, name: Name) -> Slot
 // With the name at j, and those from there on one place further.
 fn inserted(u: Units, j: usize, name: Name) -> Units
     requires { ⌜ (j ≤ u .n) × (u .n < 512) ⌝ }
-    ensures { λ r. ⌜ (r .n ≡ u .n + 1) × (namesIn r ≡ take j (namesIn u) ++ (name ∷ drop j (namesIn u))) ⌝ }
+    ensures { λ r. ⌜ (r .n ≡ u .n + 1) × (namesIn r ≡ take j (namesIn u) ++ (name ∷ drop j (namesIn u))) × (u ≡ unitsOf (namesIn u) → r ≡ unitsOf (namesIn r)) ⌝ }
 {
     let mut next = u;
     let mut i = u.n;
@@ -96,7 +97,7 @@ fn inserted(u: Units, j: usize, name: Name) -> Units
 
 fn with_name(u: Units, live: bool, name: Name) -> Units
     requires { ⌜ u .n < 512 ⌝ }
-    ensures { λ r. ⌜ (r .n ≤ u .n + 1) × (namesIn r ≡ cond live (addName name (namesIn u)) (namesIn u)) ⌝ }
+    ensures { λ r. ⌜ (r .n ≤ u .n + 1) × (namesIn r ≡ cond live (addName name (namesIn u)) (namesIn u)) × (u ≡ unitsOf (namesIn u) → r ≡ unitsOf (namesIn r)) ⌝ }
 {
     if live {
         let s = slot_of(u, name);
@@ -109,7 +110,7 @@ fn with_name(u: Units, live: bool, name: Name) -> Units
 }
 
 fn no_names() -> Units
-    ensures { λ r. ⌜ r .n ≡ 0 ⌝ }
+    ensures { λ r. ⌜ r ≡ unitsOf [] ⌝ }
 {
     let blank = no_name();
     Units {
@@ -121,7 +122,7 @@ fn no_names() -> Units
 // By the kept views of n changes, for the key's mark.
 pub(crate) fn names_in(views: [View; 512], n: usize, key: Key) -> Units
     requires { ⌜ Stored views n ⌝ }
-    ensures { λ r. ⌜ ((l : List Change) → Kept views l → length l ≡ n → take (r .n) (r .names) ≡ namesOf key (standing l)) × (r .n ≤ 512) ⌝ }
+    ensures { λ r. ⌜ ((l : List Change) → Kept views l → length l ≡ n → take (r .n) (r .names) ≡ namesOf key (standing l)) × (r .n ≤ 512) × (r ≡ unitsOf (namesIn r)) ⌝ }
 {
     let mut u = no_names();
     let mut q: usize = 0;
@@ -139,7 +140,7 @@ pub(crate) fn names_in(views: [View; 512], n: usize, key: Key) -> Units
 impl Book {
     // The names of the units, by decoded name in byte order.
     pub fn units(self, log: &[u8]) -> UnitList
-        ensures { λ r. ⌜ (unitListOf r ≡ unitNames (load self (now (log .entry)))) × (r .units .n ≤ 512) ⌝ }
+        ensures { λ r. ⌜ (unitListOf r ≡ unitNames (load self (now (log .entry)))) × (r .units .n ≤ 512) × (r ≡ unitListFrom (unitListOf r)) ⌝ }
     {
         let k = self.check_table(log);
         if k.ok {

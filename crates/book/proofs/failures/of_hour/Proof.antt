@@ -5,6 +5,7 @@ use Rattle.book.proofs.Inserting.{unmapped}
 use Rattle.book.proofs.Surveying.{to-end}
 use Rattle.book.proofs.ChargeAnswering.{seen-inside, gathered-inside, hour-absent, hour-unpriced, hour-charged}
 use native.Mathlib.Omega.{arith}
+use Rattle.book.proofs.Handing.{with-charges}
 use borrow.Author.Needs.{needs}
 use Rattle.book.proofs.failures.of_hour.Statement.{statement}
 use Rattle.book.proofs.failures.of_hour.Tie as tie
@@ -19,7 +20,7 @@ no-charges-requires : tie.Need-no-charges-requires
 no-charges-requires c κs = search needs
 
 returns : tie.Need-returns
-returns c = (λ l o b. hour-absent ((c .before .before .before .before .before .before .args) .mark) ((c .before .before .before .before .before .before .args) .hour) ((c .before .before .before .before .key-of) .result) ((c .before .before .before .before .key-of) .ensures) ((c .before .before .before .gather-in) .result) ((c .before .before .before .gather-in) .ensures .0) ((c .before .if1) .taken) _ ((c .no-charges) .ensures .0) l o, (c .no-charges) .ensures .1)
+returns c = (λ l o b. hour-absent ((c .before .before .before .before .before .before .args) .mark) ((c .before .before .before .before .before .before .args) .hour) ((c .before .before .before .before .key-of) .result) ((c .before .before .before .before .key-of) .ensures) ((c .before .before .before .gather-in) .result) ((c .before .before .before .gather-in) .ensures .0) ((c .before .if1) .taken) _ ((c .no-charges) .ensures .0) l o, (c .no-charges) .ensures .1, (c .no-charges) .ensures .2)
 
 key-of-requires-2 : tie.Need-key-of-requires-2
 key-of-requires-2 c κs = search needs
@@ -46,13 +47,13 @@ named-requires : tie.Need-named-requires
 named-requires c κs = search needs
 
 returns-2 : tie.Need-returns-2
-returns-2 c = (λ l o b. let k = (c .before .before .before .before .before .before .before .before .before .gather-in) .ok in ap charged ((c .named) .ensures .0) ∙ hour-charged ((c .before .before .before .before .before .before .before .before .before .before .before .before .args) .mark) ((c .before .before .before .before .before .before .before .before .before .before .before .before .args) .hour) ((c .before .before .before .before .before .before .before .before .before .before .key-of) .result) ((c .before .before .before .before .before .before .before .before .before .before .key-of) .ensures) ((c .before .before .before .before .before .before .before .before .before .gather-in) .result) ((c .before .before .before .before .before .before .before .before .before .gather-in) .ensures .0) ((c .before .before .before .before .before .before .before .before .before .gather-in) .ensures .1) (search (needs, unmapped)) ((c .before .before .before .before .before .before .before .if1) .left) ((c .before .before .before .before .before .before .key-of2) .result) ((c .before .before .before .before .before .before .key-of2) .ensures) ((c .before .before .before .before .before .look-in) .result) ((c .before .before .before .before .before .look-in) .ensures) ((c .before .before .before .before .if2) .taken) ((c .before .before .prices-of) .result) ((c .before .before .prices-of) .ensures ∙ ap pricesIn (to-end ((c .before .before .before .before .before .look-in) .result .start) ((c .before .before .before .before .before .before .before .before .before .before .before .before .args) .log .now))) ((c .before .charges-at) .result) ((c .before .charges-at) .ensures) l o b, (c .named) .ensures .1)
+returns-2 c = (λ l o b. let k = (c .before .before .before .before .before .before .before .before .before .gather-in) .ok in ap charged ((c .named) .ensures .0) ∙ hour-charged ((c .before .before .before .before .before .before .before .before .before .before .before .before .args) .mark) ((c .before .before .before .before .before .before .before .before .before .before .before .before .args) .hour) ((c .before .before .before .before .before .before .before .before .before .before .key-of) .result) ((c .before .before .before .before .before .before .before .before .before .before .key-of) .ensures) ((c .before .before .before .before .before .before .before .before .before .gather-in) .result) ((c .before .before .before .before .before .before .before .before .before .gather-in) .ensures .0) ((c .before .before .before .before .before .before .before .before .before .gather-in) .ensures .1) (search (needs, unmapped)) ((c .before .before .before .before .before .before .before .if1) .left) ((c .before .before .before .before .before .before .key-of2) .result) ((c .before .before .before .before .before .before .key-of2) .ensures) ((c .before .before .before .before .before .look-in) .result) ((c .before .before .before .before .before .look-in) .ensures) ((c .before .before .before .before .if2) .taken) ((c .before .before .prices-of) .result) ((c .before .before .prices-of) .ensures ∙ ap pricesIn (to-end ((c .before .before .before .before .before .look-in) .result .start) ((c .before .before .before .before .before .before .before .before .before .before .before .before .args) .log .now))) ((c .before .charges-at) .result) ((c .before .charges-at) .ensures) l o b, (c .named) .ensures .1, with-charges ((c .named) .result) ((c .named) .ensures .2))
 
 no-charges-requires-2 : tie.Need-no-charges-requires-2
 no-charges-requires-2 c κs = search needs
 
 returns-3 : tie.Need-returns-3
-returns-3 c = (λ l o b. let k = (c .before .before .before .before .before .before .gather-in) .ok in hour-unpriced ((c .before .before .before .before .before .before .before .before .before .args) .mark) ((c .before .before .before .before .before .before .before .before .before .args) .hour) ((c .before .before .before .before .before .before .before .key-of) .result) ((c .before .before .before .before .before .before .before .key-of) .ensures) ((c .before .before .before .before .before .before .gather-in) .result) ((c .before .before .before .before .before .before .gather-in) .ensures .0) ((c .before .before .before .before .before .before .gather-in) .ensures .1) (search (needs, unmapped)) ((c .before .before .before .before .if1) .left) ((c .before .before .before .key-of2) .result) ((c .before .before .before .key-of2) .ensures) ((c .before .before .look-in) .result) ((c .before .before .look-in) .ensures) ((c .before .if2) .left) _ ((c .no-charges2) .ensures .0) l o, (c .no-charges2) .ensures .1)
+returns-3 c = (λ l o b. let k = (c .before .before .before .before .before .before .gather-in) .ok in hour-unpriced ((c .before .before .before .before .before .before .before .before .before .args) .mark) ((c .before .before .before .before .before .before .before .before .before .args) .hour) ((c .before .before .before .before .before .before .before .key-of) .result) ((c .before .before .before .before .before .before .before .key-of) .ensures) ((c .before .before .before .before .before .before .gather-in) .result) ((c .before .before .before .before .before .before .gather-in) .ensures .0) ((c .before .before .before .before .before .before .gather-in) .ensures .1) (search (needs, unmapped)) ((c .before .before .before .before .if1) .left) ((c .before .before .before .key-of2) .result) ((c .before .before .before .key-of2) .ensures) ((c .before .before .look-in) .result) ((c .before .before .look-in) .ensures) ((c .before .if2) .left) _ ((c .no-charges2) .ensures .0) l o, (c .no-charges2) .ensures .1, (c .no-charges2) .ensures .2)
 
 pub of-hour-spec : {M : Type 1} → statement M
 of-hour-spec =

@@ -1,6 +1,6 @@
 use Prim.Native.Nat.{_-_}
 use native.Mathlib.Omega.{arith}
-use Rattle.book.proofs.Pairing.{Naming, naming-start, naming-more, naming-all}
+use Rattle.book.proofs.Pairing.{Naming, naming-start, naming-more, naming-all, naming-whole}
 use Rattle.book.proofs.Inserting.{unmapped}
 use borrow.Author.Needs.{needs}
 use Rattle.book.proofs.guarantees.named.Statement.{statement}
@@ -19,7 +19,7 @@ no-amounts-requires : tie.Need-no-amounts-requires Inv-loop μ-loop
 no-amounts-requires c κs = search needs
 
 loop-holds : tie.Need-loop-holds Inv-loop μ-loop
-loop-holds c = naming-start ((c .before .args) .t1) ((c .before .args) .t2) (search (needs, unmapped))
+loop-holds c = naming-start ((c .before .args) .t1) ((c .before .args) .t2) ((c .no-amounts) .result) ((c .no-amounts) .ensures)
 
 mul-x : tie.Need-mul-x Inv-loop μ-loop
 mul-x c = omega (arith, (c .before .loop) .inv .upto, (c .before .before .before .pre), (c .loop-test) .taken)
@@ -49,7 +49,7 @@ loop-again : tie.Need-loop-again Inv-loop μ-loop
 loop-again c = naming-more ((c .before .before .before .before .loop) .inv) ((c .before .before .before .loop-test) .taken) ((c .before .before .before .before .before .before .pre))
 
 returns : tie.Need-returns Inv-loop μ-loop
-returns c = (naming-all ((c .before .loop) .inv) ((c .loop-test) .left) ((c .before .before .before .pre)) (search (needs, unmapped)) (search (needs, unmapped)), (c .before .before .before .pre))
+returns c = (naming-all ((c .before .loop) .inv) ((c .loop-test) .left) ((c .before .before .before .pre)) (search (needs, unmapped)) (search (needs, unmapped)), (c .before .before .before .pre), naming-whole ((c .before .loop) .inv) ((c .loop-test) .left) (c .before .before .before .pre))
 
 pub named-spec : {M : Type 1} → statement M
 named-spec =

@@ -29,7 +29,7 @@ no-guarantees-requires c κs = search needs
 
 returns : tie.Need-returns
 returns c = let k = (c .before .before .before .gather-in) .ok in let la : length ((c .before .before .before .gather-in) .result .at) ≡ 16 = search (needs, unmapped) in
-    (λ l o. (c .no-guarantees) .ensures .0 ∙ hour-none o ((c .before .before .before .before .before .before .args) .hour) ((c .before .before .before .gather-in) .result) (passed o ((c .before .before .before .before .before .before .args) .hour) ((c .before .before .before .before .key-of) .ensures) ((c .before .before .before .gather-in) .ensures .0 l (o .kept) (o .count)) ((c .before .before .before .gather-in) .ensures .1) la) ((c .before .if1) .taken), (c .no-guarantees) .ensures .1)
+    (λ l o. (c .no-guarantees) .ensures .0 ∙ hour-none o ((c .before .before .before .before .before .before .args) .hour) ((c .before .before .before .gather-in) .result) (passed o ((c .before .before .before .before .before .before .args) .hour) ((c .before .before .before .before .key-of) .ensures) ((c .before .before .before .gather-in) .ensures .0 l (o .kept) (o .count)) ((c .before .before .before .gather-in) .ensures .1) la) ((c .before .if1) .taken), (c .no-guarantees) .ensures .1, (c .no-guarantees) .ensures .2)
 
 key-of-requires-2 : tie.Need-key-of-requires-2
 key-of-requires-2 c κs = search needs
@@ -68,6 +68,7 @@ returns-2 c = let k = (c .before .before .before .before .before .before .before
       ((c .before .before .before .before .before .before .before .before .before .before .gather-in) .result) (passed o ((c .before .before .before .before .before .before .before .before .before .before .before .before .before .args) .hour) ((c .before .before .before .before .before .before .before .before .before .before .before .key-of) .ensures) ((c .before .before .before .before .before .before .before .before .before .before .gather-in) .ensures .0 l (o .kept) (o .count)) ((c .before .before .before .before .before .before .before .before .before .before .gather-in) .ensures .1) la)
       ((c .before .before .before .gather-in2) .result) (passed o ((c .before .before .before .before .before .before .before .before .before .before .before .before .before .args) .hour) ((c .before .before .before .before .key-of3) .ensures) ((c .before .before .before .gather-in2) .ensures .0 l (o .kept) (o .count)) ((c .before .before .before .gather-in2) .ensures .1) lb) ((c .before .before .before .before .before .before .before .before .if1) .left),
   (c .worked) .ensures .1,
+  (c .worked) .ensures .2,
 )
 
 no-guarantees-requires-2 : tie.Need-no-guarantees-requires-2
@@ -78,6 +79,7 @@ returns-3 c = let k = (c .before .before .before .before .before .before .gather
   λ l o. (c .no-guarantees2) .ensures .0 ∙ lacks-price o ((c .before .before .before .before .before .before .before .before .before .args) .hour) ((c .before .before .before .key-of2) .result) ((c .before .before .before .key-of2) .ensures) ((c .before .before .look-in) .result) ((c .before .before .look-in) .ensures) ((c .before .before .before .before .before .before .gather-in) .result)
       (passed o ((c .before .before .before .before .before .before .before .before .before .args) .hour) ((c .before .before .before .before .before .before .before .key-of) .ensures) ((c .before .before .before .before .before .before .gather-in) .ensures .0 l (o .kept) (o .count)) ((c .before .before .before .before .before .before .gather-in) .ensures .1) la) ((c .before .before .before .before .if1) .left) ((c .before .if2) .left),
   (c .no-guarantees2) .ensures .1,
+  (c .no-guarantees2) .ensures .2,
 )
 
 pub of-hour-spec : {M : Type 1} → statement M

@@ -2,6 +2,7 @@ use mathlib.Core.Path.{_≡_, sym, _∙_}
 use lib.ListN.{length}
 use Rattle.book.proofs.Inserting.{unmapped}
 use Rattle.book.proofs.Guaranteeing.{worked-offset, worked-is, never-refused}
+use Rattle.book.proofs.Handing.{with-credits}
 use borrow.Author.Needs.{needs}
 use Rattle.book.proofs.guarantees.worked.Statement.{statement}
 use Rattle.book.proofs.guarantees.worked.Tie as tie
@@ -46,6 +47,7 @@ returns c = let la : length ((c .before .before .before .before .before .before 
   worked-is ((c .before .before .before .before .before .before .before .before .before .before .args) .log .now) ((c .before .before .before .before .before .before .before .before .before .before .args) .imports) ((c .before .before .before .before .before .before .before .before .before .before .args) .exports) ((c .before .before .before .before .before .before .before .before .before .before .args) .prices) ((c .before .before .before .before .before .before .before .before .entries-at) .result) ((c .before .before .before .before .before .before .before .before .entries-at) .ensures) ((c .before .credits-of) .result) ((c .before .credits-of) .ensures) ((c .named) .result) ((c .named) .ensures .0) _
       (sym ((c .before .before .before .a) .given .1) ∙ (c .before .before .before .before .before .hour-offset) .ensures ∙ worked-offset ((c .before .before .before .before .before .before .before .before .before .before .args) .log .now) ((c .before .before .before .before .before .before .before .before .before .before .args) .imports) ((c .before .before .before .before .before .before .before .before .before .before .args) .exports) ((c .before .before .before .before .before .before .before .before .before .before .args) .prices) ((c .before .before .before .before .before .before .before .before .before .before .pre)) la ((c .before .before .before .before .before .before .before .before .entries-at) .result) ((c .before .before .before .before .before .before .before .before .entries-at) .ensures) ((c .before .before .before .before .before .before .before .totals-at) .result) ((c .before .before .before .before .before .before .before .totals-at) .ensures)),
   (c .named) .ensures .1,
+  with-credits ((c .named) .result) _ ((c .named) .ensures .2),
 )
 
 returns-2 : tie.Need-returns-2

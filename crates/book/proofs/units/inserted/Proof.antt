@@ -1,4 +1,5 @@
 use Rattle.book.proofs.Inserting.{unmapped, Opened, opened-start, opened-next, opened-end}
+use Rattle.book.proofs.Naming.{inserted-whole}
 use lib.ListN.{length}
 use mathlib.Core.Path.{_≡_, refl}
 use borrow.Author.Needs.{needs}
@@ -46,7 +47,7 @@ add-next : tie.Need-add-next Inv-loop μ-loop
 add-next c = search needs
 
 returns : tie.Need-returns Inv-loop μ-loop
-returns c = let z : length ((c .before .before .args) .t1 .names) ≡ 512 = search (needs, unmapped) in (refl, opened-end (omega (arith, (c .before .before .pre) .1)) ((c .before .loop) .inv) ((c .loop-test) .left) _)
+returns c = let z : length ((c .before .before .args) .t1 .names) ≡ 512 = search (needs, unmapped) in (refl, opened-end (omega (arith, (c .before .before .pre) .1)) ((c .before .loop) .inv) ((c .loop-test) .left) _, inserted-whole ((c .before .before .args) .t1) z ((c .before .before .pre) .1) ((c .before .loop) .inv) ((c .loop-test) .left) _)
 
 pub inserted-spec : {M : Type 1} → statement M
 inserted-spec =

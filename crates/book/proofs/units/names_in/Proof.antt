@@ -46,7 +46,7 @@ loop-again : tie.Need-loop-again Inv-loop μ-loop
 loop-again c = let z : length ((c .before .with-name) .result .names) ≡ 512 = search (needs, unmapped) in listed-next ((c .before .before .before .before .before .loop) .inv) ((c .before .before .before .before .loop-test) .taken) _ ((c .before .before .standing-in-mark) .ensures) ((c .before .with-name) .result) z ((c .before .with-name) .ensures)
 
 returns : tie.Need-returns Inv-loop μ-loop
-returns c = (listed-end ((c .before .loop) .inv) (c .before .before .before .pre) ((c .loop-test) .left), listed-few ((c .before .loop) .inv) (c .before .before .before .pre))
+returns c = (listed-end ((c .before .loop) .inv) (c .before .before .before .pre) ((c .loop-test) .left), listed-few ((c .before .loop) .inv) (c .before .before .before .pre), (c .before .loop) .inv .whole)
 
 pub names-in-spec : {M : Type 1} → statement M
 names-in-spec =

@@ -21,6 +21,7 @@ returns c = (
   let x = is-tabled ((c .before .before .before .before .before .before .args) .self) ((c .before .before .before .before .before .before .args) .log .now) ((c .before .before .before .before .check-table) .result) ((c .before .before .before .before .check-table) .ensures) ((c .before .before .before .if1) .taken) in
       charges-other ((c .before .before .before .before .before .before .args) .mark) ((c .before .before .before .before .before .before .args) .hour) (load ((c .before .before .before .before .before .before .args) .self) ((c .before .before .before .before .before .before .args) .log .now)) (x .list) (x .is) _ ((c .no-charges) .ensures .0) (sym ((c .before .before .is-failure) .ensures) ∙ not-true _ ((c .before .if2) .taken)),
   (c .no-charges) .ensures .1,
+  (c .no-charges) .ensures .2,
 )
 
 hour-key-requires : tie.Need-hour-key-requires
@@ -34,6 +35,7 @@ returns-2 c = (
   let x = is-tabled ((c .before .before .before .before .before .before .before .before .before .args) .self) ((c .before .before .before .before .before .before .before .before .before .args) .log .now) ((c .before .before .before .before .before .before .before .check-table) .result) ((c .before .before .before .before .before .before .before .check-table) .ensures) ((c .before .before .before .before .before .before .if1) .taken) in
       charges-wrong ((c .before .before .before .before .before .before .before .before .before .args) .mark) ((c .before .before .before .before .before .before .before .before .before .args) .hour) (load ((c .before .before .before .before .before .before .before .before .before .args) .self) ((c .before .before .before .before .before .before .before .before .before .args) .log .now)) (x .list) (x .is) (sym ((c .before .before .before .before .before .is-failure) .ensures) ∙ not-false _ ((c .before .before .before .before .if2) .left)) ((c .before .before .before .hour-key) .result) ((c .before .before .before .hour-key) .ensures) _ ((c .no-charges2) .ensures .0) ((c .before .if3) .taken),
   (c .no-charges2) .ensures .1,
+  (c .no-charges2) .ensures .2,
 )
 
 cast-of-hour : tie.Need-cast-of-hour
@@ -48,13 +50,14 @@ returns-3 c = (
       charges-at ((c .before .before .before .before .before .before .before .before .before .before .before .args) .mark) ((c .before .before .before .before .before .before .before .before .before .before .before .args) .hour) (load ((c .before .before .before .before .before .before .before .before .before .before .before .args) .self) ((c .before .before .before .before .before .before .before .before .before .before .before .args) .log .now)) (x .list) (x .is) (sym ((c .before .before .before .before .before .before .before .is-failure) .ensures) ∙ not-false _ ((c .before .before .before .before .before .before .if2) .left)) ((c .before .before .before .before .before .hour-key) .result) ((c .before .before .before .before .before .hour-key) .ensures) ((c .before .before .before .if3) .left) _
       ((c .of-hour) .ensures .0 (x .list) (opened-by ((c .before .before .before .before .before .before .before .before .before .before .before .args) .self) ((c .before .before .before .before .before .before .before .before .before .before .before .args) .log .now) ((c .before .before .before .before .before .before .before .before .before .check-table) .result) ((c .before .before .before .before .before .before .before .before .before .check-table) .ensures) x) (sym ((c .before .before .before .before .before .before .before .is-failure) .ensures) ∙ not-false _ ((c .before .before .before .before .before .before .if2) .left))),
   (c .of-hour) .ensures .1,
+  (c .of-hour) .ensures .2,
 )
 
 no-charges-requires-3 : tie.Need-no-charges-requires-3
 no-charges-requires-3 c κs = search needs
 
 returns-4 : tie.Need-returns-4
-returns-4 c = (charges-astray ((c .before .before .before .before .args) .mark) ((c .before .before .before .before .args) .hour) (load ((c .before .before .before .before .args) .self) ((c .before .before .before .before .args) .log .now)) _ ((c .no-charges3) .ensures .0) (not-tabled ((c .before .before .before .before .args) .self) ((c .before .before .before .before .args) .log .now) ((c .before .before .check-table) .result) ((c .before .before .check-table) .ensures) ((c .before .if1) .left)), (c .no-charges3) .ensures .1)
+returns-4 c = (charges-astray ((c .before .before .before .before .args) .mark) ((c .before .before .before .before .args) .hour) (load ((c .before .before .before .before .args) .self) ((c .before .before .before .before .args) .log .now)) _ ((c .no-charges3) .ensures .0) (not-tabled ((c .before .before .before .before .args) .self) ((c .before .before .before .before .args) .log .now) ((c .before .before .check-table) .result) ((c .before .before .check-table) .ensures) ((c .before .if1) .left)), (c .no-charges3) .ensures .1, (c .no-charges3) .ensures .2)
 
 pub charges-spec : {M : Type 1} → statement M
 charges-spec =

@@ -25,7 +25,7 @@ no-guarantees-requires c κs = search needs
 
 returns : tie.Need-returns
 returns c = let x = is-tabled ((c .before .before .before .before .before .before .before .args) .self) ((c .before .before .before .before .before .before .before .args) .log .now) ((c .before .before .before .before .before .check-table) .result) ((c .before .before .before .before .before .check-table) .ensures) ((c .before .before .before .before .if1) .taken) in
-    (hour-wrong ((c .before .before .before .before .before .before .before .args) .self) ((c .before .before .before .before .before .before .before .args) .log .now) ((c .before .before .before .before .before .before .before .args) .hour) x ((c .before .before .before .hour-key) .result) ((c .before .before .before .hour-key) .ensures) _ ((c .no-guarantees) .ensures .0) ((c .before .if2) .taken), (c .no-guarantees) .ensures .1)
+    (hour-wrong ((c .before .before .before .before .before .before .before .args) .self) ((c .before .before .before .before .before .before .before .args) .log .now) ((c .before .before .before .before .before .before .before .args) .hour) x ((c .before .before .before .hour-key) .result) ((c .before .before .before .hour-key) .ensures) _ ((c .no-guarantees) .ensures .0) ((c .before .if2) .taken), (c .no-guarantees) .ensures .1, (c .no-guarantees) .ensures .2)
 
 cast-of-hour : tie.Need-cast-of-hour
 cast-of-hour c = search needs
@@ -35,13 +35,13 @@ of-hour-requires c κs = open-by ((c .before .before .before .before .before .be
 
 returns-2 : tie.Need-returns-2
 returns-2 c = let x = is-tabled ((c .before .before .before .before .before .before .before .before .before .args) .self) ((c .before .before .before .before .before .before .before .before .before .args) .log .now) ((c .before .before .before .before .before .before .before .check-table) .result) ((c .before .before .before .before .before .before .before .check-table) .ensures) ((c .before .before .before .before .before .before .if1) .taken) in
-    (hour-right ((c .before .before .before .before .before .before .before .before .before .args) .self) ((c .before .before .before .before .before .before .before .before .before .args) .log .now) ((c .before .before .before .before .before .before .before .before .before .args) .hour) x ((c .before .before .before .before .before .hour-key) .result) ((c .before .before .before .before .before .hour-key) .ensures) ((c .before .before .before .if2) .left) _ ((c .of-hour) .ensures .0 (x .list) (opened-by ((c .before .before .before .before .before .before .before .before .before .args) .self) ((c .before .before .before .before .before .before .before .before .before .args) .log .now) ((c .before .before .before .before .before .before .before .check-table) .result) ((c .before .before .before .before .before .before .before .check-table) .ensures) x)), (c .of-hour) .ensures .1)
+    (hour-right ((c .before .before .before .before .before .before .before .before .before .args) .self) ((c .before .before .before .before .before .before .before .before .before .args) .log .now) ((c .before .before .before .before .before .before .before .before .before .args) .hour) x ((c .before .before .before .before .before .hour-key) .result) ((c .before .before .before .before .before .hour-key) .ensures) ((c .before .before .before .if2) .left) _ ((c .of-hour) .ensures .0 (x .list) (opened-by ((c .before .before .before .before .before .before .before .before .before .args) .self) ((c .before .before .before .before .before .before .before .before .before .args) .log .now) ((c .before .before .before .before .before .before .before .check-table) .result) ((c .before .before .before .before .before .before .before .check-table) .ensures) x)), (c .of-hour) .ensures .1, (c .of-hour) .ensures .2)
 
 no-guarantees-requires-2 : tie.Need-no-guarantees-requires-2
 no-guarantees-requires-2 c κs = search needs
 
 returns-3 : tie.Need-returns-3
-returns-3 c = (subst (λ (y : Reply). Meets (ask (hourGuarantees ((c .before .before .before .before .args) .hour))) ((c .before .before .before .before .args) .self) ((c .before .before .before .before .args) .log .now) ((c .before .before .before .before .args) .self) y ((c .before .before .before .before .args) .log .now)) (sym ((c .no-guarantees2) .ensures .0)) (leaves-16 _ ((c .before .before .before .before .args) .self) ((c .before .before .before .before .args) .log .now) (not-tabled ((c .before .before .before .before .args) .self) ((c .before .before .before .before .args) .log .now) ((c .before .before .check-table) .result) ((c .before .before .check-table) .ensures) ((c .before .if1) .left))), (c .no-guarantees2) .ensures .1)
+returns-3 c = (subst (λ (y : Reply). Meets (ask (hourGuarantees ((c .before .before .before .before .args) .hour))) ((c .before .before .before .before .args) .self) ((c .before .before .before .before .args) .log .now) ((c .before .before .before .before .args) .self) y ((c .before .before .before .before .args) .log .now)) (sym ((c .no-guarantees2) .ensures .0)) (leaves-16 _ ((c .before .before .before .before .args) .self) ((c .before .before .before .before .args) .log .now) (not-tabled ((c .before .before .before .before .args) .self) ((c .before .before .before .before .args) .log .now) ((c .before .before .check-table) .result) ((c .before .before .check-table) .ensures) ((c .before .if1) .left))), (c .no-guarantees2) .ensures .1, (c .no-guarantees2) .ensures .2)
 
 pub guarantees-spec : {M : Type 1} → statement M
 guarantees-spec =

@@ -1,0 +1,50 @@
+-- 01, "How the promises read": "Of answer, book and bytes only bytes past the used part are free". So an answer that holds a list is fixed whole:
+-- its array has more places than the list may fill, and those behind the list are blank; beside a refusal's number all of them are. Assumes nothing.
+use Prim.Native.Nat.{ℕ}
+use mathlib.Core.List.{List, []}
+use lib.IntN.{ℤ}
+use lib.ListN.{length}
+use Rattle.book.specs.Layer.{Name, noOne, noTicks, pad}
+use Rattle.book.specs.declared.answers.NamedAmount.{NamedAmount}
+use Rattle.book.specs.declared.answers.Amounts.{Amounts}
+use Rattle.book.specs.declared.answers.Charges as answers
+use Rattle.book.specs.declared.answers.Guarantees.{Guarantees}
+use Rattle.book.specs.declared.units.Units.{Units}
+use Rattle.book.specs.declared.units.UnitList.{UnitList}
+use Rattle.book.specs.Replies.{Reply, refused, accepted, place, number, guarantees, unitDay, charge}
+use Rattle.book.specs.Amounts.{Charges, charged, no}
+use Rattle.book.specs.Units.{NameList, named, no as unlisted}
+
+-- ---- amounts by name, in 16 places
+
+abbrev pub noAmount : NamedAmount
+noAmount = record { name = noOne; start = 0; ticks = noTicks }
+
+unfoldable pub amountsOf : List NamedAmount → Amounts
+amountsOf xs = record { n = length xs; list = pad noAmount 16 xs }
+
+abbrev pub hourHanded : ℕ → List NamedAmount → ℤ → Guarantees
+hourHanded n cs o = record { number = n; credits = amountsOf cs; offset = record { 0 = o } }
+
+-- an hour's guarantees; no other reply is one of theirs
+abbrev pub guaranteesFrom : Reply → Guarantees
+guaranteesFrom (guarantees cs o) = hourHanded 0 cs o
+guaranteesFrom (refused n) = hourHanded n [] (noTicks .0)
+guaranteesFrom accepted = hourHanded 0 [] (noTicks .0)
+guaranteesFrom (place a b) = hourHanded 0 [] (noTicks .0)
+guaranteesFrom (number n) = hourHanded 0 [] (noTicks .0)
+guaranteesFrom (unitDay t v) = hourHanded 0 [] (noTicks .0)
+guaranteesFrom (charge t) = hourHanded 0 [] (noTicks .0)
+
+abbrev pub chargesFrom : Charges → answers.Charges
+chargesFrom (charged cs) = record { number = 0; charges = amountsOf cs }
+chargesFrom (no n) = record { number = n; charges = amountsOf [] }
+
+-- ---- the names of units, in 512 places
+
+unfoldable pub unitsOf : List Name → Units
+unitsOf ns = record { n = length ns; names = pad noOne 512 ns }
+
+abbrev pub unitListFrom : NameList → UnitList
+unitListFrom (named ns) = record { number = 0; units = unitsOf ns }
+unitListFrom (unlisted n) = record { number = n; units = unitsOf [] }
