@@ -1,22 +1,18 @@
 -- The fields of a change at a place of some bytes.
-use mathlib.Core.Path.{_≡_, refl, sym, ap, ap₂, _∙_, subst}
+use mathlib.Core.Path.{_≡_, refl, sym, ap, _∙_}
 use mathlib.Core.List.{List, [], _∷_, _++_}
-use mathlib.Core.Bool.{Bool, true, false, cond, _&&_}
 use Prim.Native.Nat.{ℕ, zero, suc, _+_, _-_, _≤_, _<_}
 use native.Mathlib.Omega.{arith}
 use native.Mathlib.Nat.{sub-self}
-use lib.Dec.{ltb, leb, eqb}
 use lib.ListN.{length, take, drop, length-append, length-drop}
-use borrow.Author.Tests.{le-leb, lt-leb, leb-true, leb-false}
 use Rattle.records.specs.Reading.{Res, bad, got, Reader, _>>=_, check, from}
 use Rattle.records.specs.Numbers.{hour}
 use Rattle.records.specs.Layouts.{layout, taken, skip}
 use Rattle.records.specs.Changes.{Change, made, bodyOf, bodyFor, head, nameFor, rest, change}
-use Rattle.records.specs.Inner.{shown, then, layoutFor, clamped, placeOf, told, Placed, headed, Named, ReadIs}
+use Rattle.records.specs.Inner.{shown, EndIn, then, layoutFor, placeOf, told, Placed, headed, Named, ReadIs}
 use Rattle.records.specs.declared.fields.End.{End}
 use Rattle.records.specs.declared.fields.End.the-variants.{At, No}
 use Rattle.records.proofs.Step.{first, next, last}
-use Rattle.records.proofs.Spelled.{at-end}
 use Rattle.records.specs.declared.marks.Mark.{Mark}
 use Rattle.records.specs.declared.marks.Kind.{Kind}
 use Rattle.records.specs.declared.marks.Kind.the-variants.{File, Correct, Withdraw}
@@ -49,21 +45,10 @@ body-own File x s b t e = refl
 body-own Correct x s b t e = refl
 body-own Withdraw x s b t e = let p : [] ≡ b = cc in p
 
-clamped-from : (s : List ℕ) (n : ℕ) → (j : ℕ) × (clamped s (At n) ≡ At j) × (j ≤ length s) × (from s j ≡ from s n)
-clamped-from s n = go (leb n (length s)) refl
-  where
-    go : (b : Bool) → leb n (length s) ≡ b → (j : ℕ) × (cond b (At n) (At (length s)) ≡ At j) × (j ≤ length s) × (from s j ≡ from s n)
-    go true e = (n, refl, leb-true n (length s) e, refl)
-    go false e = let l = leb-false n (length s) e in (length s, refl, omega arith, at-end s (length s) (omega arith) ∙ sym (at-end s n (omega arith)))
-
-pub clamped-then : {A : Type 0} (s : List ℕ) (e : End) (f : Reader A) → then s (clamped s e) f ≡ then s e f
-clamped-then s (No k) f = refl
-clamped-then s (At n) f = let x = clamped-from s n in ap (λ d. then s d f) (x .1) ∙ ap f (x .3)
-
 -- the end of a body that was read from a place of the bytes
 pub record Body (s : List ℕ) (start f : End) (k : Kind) (x : Key) : Type 0 where
-  pub value : told s (clamped s f) k x (placeOf start) ≡ then s start (λ t. bodyFor k (x .mark) t >>= λ b v. got (made k x b) v)
-  pub placed : Placed s (clamped s f) k x (placeOf start)
+  pub value : told s f k x (placeOf start) ≡ then s start (λ t. bodyFor k (x .mark) t >>= λ b v. got (made k x b) v)
+  pub placed : Placed s f k x (placeOf start)
 
 module _ (s : List ℕ) (k : Kind) (x : Key) where
   at-place : (b n : ℕ) → b ≤ length s → n ≤ length s → got tt (from s n) ≡ layoutFor k (x .mark) (from s b)
@@ -78,29 +63,26 @@ module _ (s : List ℕ) (k : Kind) (x : Key) where
       let d : length (from s b) - length (from s n) ≡ n - b = omega arith in
       (w, rw (← e, d))
 
-  body-at : (b : ℕ) (f : End) → b ≤ length s → shown s f tt ≡ layoutFor k (x .mark) (from s b) → Body s (At b) f k x
+  body-at : (b : ℕ) (f : End) → b ≤ length s → EndIn s f → shown s f tt ≡ layoutFor k (x .mark) (from s b) → Body s (At b) f k x
   unfolding taken
-  body-at b (No j) h e = record {
+  body-at b (No j) h i e = record {
     value = sym (ap (λ r. r >>= λ y v. got (made k x y) v) (body-taken k (x .mark) (from s b) ∙ ap (λ r. r >>= λ y t. got (take (length (from s b) - length t) (from s b)) t) (sym e)));
     placed = tt;
   }
-  body-at b (At n) h e =
-      let z = clamped-from s n in
-      let q = at-place b (z .0) h (z .2) (ap (got tt) (z .3) ∙ e) in
+  body-at b (At n) h i e =
+      let q = at-place b n h i e in
       record {
-        value = ap (λ d. told s d k x b) (z .1) ∙ ap (λ r. r >>= λ y v. got (made k x y) v) (q .1 ∙ sym (body-taken k (x .mark) (from s b)));
-        placed = subst (λ d. Placed s d k x b) (sym (z .1)) (record { low = q .0; high = z .2; own = body-own k x (from s b) (take (z .0 - b) (from s b)) (from s (z .0)) (body-taken k (x .mark) (from s b) ∙ sym (q .1)) });
+        value = ap (λ r. r >>= λ y v. got (made k x y) v) (q .1 ∙ sym (body-taken k (x .mark) (from s b)));
+        placed = record { low = q .0; high = i; own = body-own k x (from s b) (take (n - b) (from s b)) (from s n) (body-taken k (x .mark) (from s b) ∙ sym (q .1)) };
       }
 
   body-no : (j : ℕ) (f : End) → _≡_ {A = Res Unit} (shown s f tt) (bad j) → Body s (No j) f k x
   body-no j (No i) e = record { value = let p : i ≡ j = cc in ap bad p; placed = tt }
   body-no j (At n) e = absurd (bad-got (sym e))
 
-  pub body-is : (d f : End) → shown s f tt ≡ then s (clamped s d) (layoutFor k (x .mark)) → Body s (clamped s d) f k x
-  body-is (No j) f e = body-no j f e
-  body-is (At n) f e =
-      let z = clamped-from s n in
-      subst (λ g. Body s g f k x) (sym (z .1)) (body-at (z .0) f (z .2) (e ∙ ap (λ g. then s g (layoutFor k (x .mark))) (z .1)))
+  pub body-is : (d f : End) → EndIn s d → EndIn s f → shown s f tt ≡ then s d (layoutFor k (x .mark)) → Body s d f k x
+  body-is (No j) f h i e = body-no j f e
+  body-is (At n) f h i e = body-at n f h i e
 
 pub skip-is : {A : Type 0} (s : List ℕ) (e d : End) (v : A) (f : Reader A) → shown s d v ≡ then s e f → _≡_ {A = Res Unit} (shown s d tt) (then s e (skip f))
 skip-is s e d v f h = sym (next s e d v f (λ x t. got tt t) h ∙ last s d tt)
@@ -110,15 +92,15 @@ pub change-is : (s : List ℕ) (want : ℕ) (h : HeadRead) (o : HourField) (n : 
     → headed s h ≡ head want s
     → shown s (o .end) (o .hour) ≡ then s (h .end) hour
     → Named s (then s (o .end) (nameFor (h .kind) (h .mark))) n
-    → shown s f tt ≡ then s (clamped s (n .end)) (layoutFor (h .kind) (h .mark))
-    → ReadIs s want (record { end = clamped s f; kind = h .kind; key = record { mark = h .mark; hour = o .hour; name = n .name }; body = placeOf (clamped s (n .end)) })
+    → (shown s f tt ≡ then s (n .end) (layoutFor (h .kind) (h .mark))) × EndIn s f
+    → ReadIs s want (record { end = f; kind = h .kind; key = record { mark = h .mark; hour = o .hour; name = n .name }; body = placeOf (n .end) })
 unfolding change rest
 change-is s want h o n f a b c d =
     let x : Key = record { mark = h .mark; hour = o .hour; name = n .name } in
-    let q = body-is s (h .kind) x (n .end) f d in
+    let q = body-is s (h .kind) x (n .end) f (c .placed) (d .1) (d .0) in
     record {
       value =
-          q .value ∙ clamped-then s (n .end) (λ t. bodyFor (h .kind) (h .mark) t >>= λ y v. got (made (h .kind) x y) v)
+          q .value
           ∙ sym (first s (h .end) (record { kind = h .kind; mark = h .mark }) (head want s) (λ g t. rest g t) a
           ∙ next s (h .end) (o .end) (o .hour) hour (λ p t. nameFor (h .kind) (h .mark) t >>= λ m u. bodyFor (h .kind) (h .mark) u >>= λ y v. got (made (h .kind) (record { mark = h .mark; hour = p; name = m }) y) v) b
           ∙ next s (o .end) (n .end) (n .name) (nameFor (h .kind) (h .mark)) (λ m u. bodyFor (h .kind) (h .mark) u >>= λ y v. got (made (h .kind) (record { mark = h .mark; hour = o .hour; name = m }) y) v) (c .value));

@@ -5,7 +5,7 @@ use mathlib.Core.Bool.{Bool, true, false}
 use native.Mathlib.Omega.{arith}
 use Prim.Native.Nat.{ℕ}
 use Rattle.records.specs.Reading.{Res, bad, got, Reader, _>>=_, check, from}
-use Rattle.records.specs.Inner.{shown, then, guarded}
+use Rattle.records.specs.Inner.{shown, EndIn, then, guarded}
 use Rattle.records.specs.declared.fields.End.{End}
 use Rattle.records.specs.declared.fields.End.the-variants.{At, No}
 
@@ -27,6 +27,12 @@ test s (No i) b j k = refl
 pub last : {A : Type 0} (s : List ℕ) (e : End) (v : A) → then s e (λ t. got v t) ≡ shown s e v
 last s (At n) v = refl
 last s (No j) v = refl
+
+-- a test moves no end
+pub guarded-in : (s : List ℕ) (e : End) (b : Bool) (k : ℕ) → EndIn s e → EndIn s (guarded e b k)
+guarded-in s (At n) true k h = h
+guarded-in s (At n) false k h = tt
+guarded-in s (No j) b k h = tt
 
 pub guard-yes : (e : End) (k : ℕ) → e ≡ guarded e true k
 guard-yes (At n) k = refl

@@ -1,9 +1,8 @@
 -- What the values that inner functions return say. No definition of 01 stands here. Assumes nothing.
 use mathlib.Core.Path.{_≡_}
 use mathlib.Core.List.{List, [], _∷_, _++_}
-use mathlib.Core.Bool.{Bool, true, false, cond}
+use mathlib.Core.Bool.{Bool, true, false}
 use Prim.Native.Nat.{ℕ, _+_, _-_, _≤_}
-use lib.Dec.{leb}
 use lib.ListN.{length, take}
 use Rattle.money.specs.declared.units.Price.{Price}
 use Rattle.money.specs.declared.units.Quantity.{Quantity}
@@ -40,7 +39,7 @@ use Rattle.records.specs.declared.parse.ViewRead.{ViewRead}
 
 -- ---- ends
 
--- the value, and the rest of s from the place where its reader stopped
+-- the value, and the rest of s from the place where its reader stopped; past the bytes every place has the same rest, so readers promise EndIn too
 abbrev pub shown : {A : Type 0} → List ℕ → End → A → Res A
 shown s (At next) v = got v (from s next)
 shown s (No k) v = bad k
@@ -56,40 +55,61 @@ guarded (At n) true k = At n
 guarded (At n) false k = No k
 guarded (No j) ok k = No j
 
--- an end no further than the bytes
-abbrev pub clamped : List ℕ → End → End
-clamped s (At n) = cond (leb n (length s)) (At n) (At (length s))
-clamped s (No k) = No k
+-- a reader stopped within the bytes or right behind them
+abbrev pub EndIn : List ℕ → End → Type 0
+EndIn s (At n) = n ≤ length s
+EndIn s (No k) = Unit
 
 abbrev pub placeOf : End → ℕ
 placeOf (At n) = n
 placeOf (No k) = 0
 
--- ---- numbers, pairs, names
+-- ---- numbers, pairs, names: what was read, and (NumIn ..) that the place after it lies within the bytes or right behind them
 
 abbrev pub num : List ℕ → Num → Res ℕ
 num s (Got v next) = got v (from s next)
 num s (NoNum k) = bad k
 
+abbrev pub NumIn : List ℕ → Num → Type 0
+NumIn s (Got v next) = next ≤ length s
+NumIn s (NoNum k) = Unit
+
 abbrev pub priceAt : List ℕ → PriceAt → Res Price
 priceAt s (GotPrice v next) = got v (from s next)
 priceAt s (NoPrice k) = bad k
+
+abbrev pub PriceIn : List ℕ → PriceAt → Type 0
+PriceIn s (GotPrice v next) = next ≤ length s
+PriceIn s (NoPrice k) = Unit
 
 abbrev pub quantityAt : List ℕ → QuantityAt → Res Quantity
 quantityAt s (GotQuantity v next) = got v (from s next)
 quantityAt s (NoQuantity k) = bad k
 
+abbrev pub QuantityIn : List ℕ → QuantityAt → Type 0
+QuantityIn s (GotQuantity v next) = next ≤ length s
+QuantityIn s (NoQuantity k) = Unit
+
 abbrev pub pairAt : List ℕ → PairAt → Res (Price × Quantity)
 pairAt s (GotPair p q next) = got (p, q) (from s next)
 pairAt s (NoPair k) = bad k
+
+abbrev pub PairIn : List ℕ → PairAt → Type 0
+PairIn s (GotPair p q next) = next ≤ length s
+PairIn s (NoPair k) = Unit
 
 abbrev pub chr : List ℕ → Chr → Res ℕ
 chr s (GotChr v next) = got v (from s next)
 chr s (NoChr k) = bad k
 
+abbrev pub ChrIn : List ℕ → Chr → Type 0
+ChrIn s (GotChr v next) = next ≤ length s
+ChrIn s (NoChr k) = Unit
+
 -- an offer that was read; of at most 20 pairs in any case
 pub record OfferIs (s : List ℕ) (x : Res Offer) (r : OfferRead) : Type 0 where
   pub value : shown s (r .end) (r .offer) ≡ x
+  pub placed : EndIn s (r .end)
   pub few : r .offer .count ≤ 20
 
 -- the lists of a unit's hour; of at most 20 pairs each in any case
@@ -98,11 +118,13 @@ Few l = (l .ahead .count ≤ 20) × (l .real .count ≤ 20) × (l .spinning .cou
 
 pub record ListsIs (s : List ℕ) (x : Res Lists) (r : ListsRead) : Type 0 where
   pub value : shown s (r .end) (r .lists) ≡ x
+  pub placed : EndIn s (r .end)
   pub few : Few (r .lists)
 
 -- a name that was read; of at most 12 bytes in any case
 pub record Named (s : List ℕ) (x : Res Name) (r : NameRead) : Type 0 where
   pub value : shown s (r .end) (r .name) ≡ x
+  pub placed : EndIn s (r .end)
   pub few : r .name .len ≤ 12
 
 -- ---- changes
@@ -135,11 +157,7 @@ pub record ReadIs (s : List ℕ) (want : ℕ) (r : Read) : Type 0 where
   pub placed : Placed s (r .end) (r .kind) (r .key) (r .body)
   pub few : r .key .name .len ≤ 12
 
--- a change at the front of the bytes; it ends within them
-abbrev pub EndIn : List ℕ → End → Type 0
-EndIn s (At n) = n ≤ length s
-EndIn s (No k) = Unit
-
+-- a change at the front of the bytes
 pub record ViewIs (s : List ℕ) (x : Res View) (r : ViewRead) : Type 0 where
   pub value : shown s (r .end) (r .view) ≡ x
   pub placed : EndIn s (r .end)

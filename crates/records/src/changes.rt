@@ -1,5 +1,4 @@
 use crate::fields::End;
-use crate::fields::clamp;
 use crate::fields::hour_then;
 use crate::fields::place;
 use crate::keys::Key;
@@ -16,7 +15,7 @@ use money::refusals::ENDS_EARLY;
 ghost use mathlib.Core.Path.{_≡_};
 ghost use Rattle.records.specs.Names.{noOne};
 ghost use Rattle.records.specs.Changes.{nameless, nameFor};
-ghost use Rattle.records.specs.Inner.{shown, then, Named, layoutFor, ReadIs};
+ghost use Rattle.records.specs.Inner.{shown, EndIn, then, Named, layoutFor, ReadIs};
 
 // A change that was read: its body stands from `body` to the end.
 pub struct Read {
@@ -27,7 +26,7 @@ pub struct Read {
 }
 
 fn zero_then(s: &[u8], e: End) -> End
-    ensures { λ r. ⌜ shown (now (s .entry)) r (noOne) ≡ then (now (s .entry)) e (nameless Kind.Withdraw) ⌝ }
+    ensures { λ r. ⌜ (shown (now (s .entry)) r (noOne) ≡ then (now (s .entry)) e (nameless Kind.Withdraw)) × EndIn (now (s .entry)) r ⌝ }
 {
     match e {
         End::At(at) => {
@@ -44,7 +43,9 @@ fn zero_then(s: &[u8], e: End) -> End
     }
 }
 
+// Where nothing is read, the end that came is handed on: it has to lie within the bytes.
 fn nameless_then(s: &[u8], e: End, kind: Kind) -> NameRead
+    requires { ⌜ EndIn (now s) e ⌝ }
     ensures { λ r. ⌜ Named (now (s .entry)) (then (now (s .entry)) e (nameless kind)) r ⌝ }
 {
     match kind {
@@ -58,6 +59,7 @@ fn nameless_then(s: &[u8], e: End, kind: Kind) -> NameRead
 }
 
 pub(crate) fn name_then(s: &[u8], e: End, kind: Kind, mark: Mark) -> NameRead
+    requires { ⌜ EndIn (now s) e ⌝ }
     ensures { λ r. ⌜ Named (now (s .entry)) (then (now (s .entry)) e (nameFor kind mark)) r ⌝ }
 {
     if has_name(mark) {
@@ -66,8 +68,10 @@ pub(crate) fn name_then(s: &[u8], e: End, kind: Kind, mark: Mark) -> NameRead
     nameless_then(s, e, kind)
 }
 
+// A withdrawal has no fields: the end that came is handed on.
 fn fields_then(s: &[u8], e: End, kind: Kind, mark: Mark) -> End
-    ensures { λ r. ⌜ shown (now (s .entry)) r tt ≡ then (now (s .entry)) e (layoutFor kind mark) ⌝ }
+    requires { ⌜ EndIn (now s) e ⌝ }
+    ensures { λ r. ⌜ (shown (now (s .entry)) r tt ≡ then (now (s .entry)) e (layoutFor kind mark)) × EndIn (now (s .entry)) r ⌝ }
 {
     match kind {
         Kind::File => layout_then(s, e, mark),
@@ -89,10 +93,8 @@ pub(crate) fn read_change(s: &[u8], want: u8) -> Read
     let n = name_then(s, e2, kind, mark);
     let e3 = n.end;
     let name = n.name;
-    let start = clamp(s, e3);
-    let f = fields_then(s, start, kind, mark);
-    let end = clamp(s, f);
-    let body = place(start);
+    let end = fields_then(s, e3, kind, mark);
+    let body = place(e3);
     Read {
         end,
         kind,

@@ -9,7 +9,7 @@ use money::units::QuantityRead;
 ghost use mathlib.Core.Path.{_≡_};
 ghost use Rattle.records.specs.Reading.{from, byte};
 ghost use Rattle.records.specs.Numbers.{le32, word, signed, price, quantity, amount, hour};
-ghost use Rattle.records.specs.Inner.{num, priceAt, quantityAt, shown, then, guarded, clamped, placeOf};
+ghost use Rattle.records.specs.Inner.{num, NumIn, priceAt, PriceIn, quantityAt, QuantityIn, shown, EndIn, then, guarded, placeOf};
 
 // Where a reader stopped: at a place of the bytes, or with the number of the first fault.
 pub enum End {
@@ -54,7 +54,7 @@ pub struct HourField {
 }
 
 pub(crate) fn read_byte(s: &[u8], at: usize) -> Num
-    ensures { λ r. ⌜ num (now (s .entry)) r ≡ byte (from (now (s .entry)) at) ⌝ }
+    ensures { λ r. ⌜ (num (now (s .entry)) r ≡ byte (from (now (s .entry)) at)) × NumIn (now (s .entry)) r ⌝ }
 {
     if s.len() <= at {
         return Num::No(ENDS_EARLY);
@@ -69,7 +69,7 @@ fn join(a: u8, b: u8, c: u8, d: u8) -> u32
 }
 
 fn read_word(s: &[u8], at: usize) -> Num
-    ensures { λ r. ⌜ num (now (s .entry)) r ≡ word (from (now (s .entry)) at) ⌝ }
+    ensures { λ r. ⌜ (num (now (s .entry)) r ≡ word (from (now (s .entry)) at)) × NumIn (now (s .entry)) r ⌝ }
 {
     if s.len() < at {
         return Num::No(ENDS_EARLY);
@@ -91,7 +91,7 @@ fn signed_of(u: u32) -> i32
 }
 
 pub(crate) fn read_price(s: &[u8], at: usize) -> PriceAt
-    ensures { λ r. ⌜ priceAt (now (s .entry)) r ≡ price (from (now (s .entry)) at) ⌝ }
+    ensures { λ r. ⌜ (priceAt (now (s .entry)) r ≡ price (from (now (s .entry)) at)) × PriceIn (now (s .entry)) r ⌝ }
 {
     let w = read_word(s, at);
     match w {
@@ -107,7 +107,7 @@ pub(crate) fn read_price(s: &[u8], at: usize) -> PriceAt
 }
 
 pub(crate) fn read_quantity(s: &[u8], at: usize) -> QuantityAt
-    ensures { λ r. ⌜ quantityAt (now (s .entry)) r ≡ quantity (from (now (s .entry)) at) ⌝ }
+    ensures { λ r. ⌜ (quantityAt (now (s .entry)) r ≡ quantity (from (now (s .entry)) at)) × QuantityIn (now (s .entry)) r ⌝ }
 {
     let w = read_word(s, at);
     match w {
@@ -124,7 +124,7 @@ pub(crate) fn read_quantity(s: &[u8], at: usize) -> QuantityAt
 
 // Cents of a start or of an hour: both have the same limit.
 fn read_amount(s: &[u8], at: usize) -> Num
-    ensures { λ r. ⌜ num (now (s .entry)) r ≡ amount (from (now (s .entry)) at) ⌝ }
+    ensures { λ r. ⌜ (num (now (s .entry)) r ≡ amount (from (now (s .entry)) at)) × NumIn (now (s .entry)) r ⌝ }
 {
     let w = read_word(s, at);
     match w {
@@ -140,7 +140,7 @@ fn read_amount(s: &[u8], at: usize) -> Num
 // ---- the same fields, each where the one before it ended
 
 pub(crate) fn price_then(s: &[u8], e: End) -> PriceField
-    ensures { λ r. ⌜ shown (now (s .entry)) (r .end) (r .price) ≡ then (now (s .entry)) e price ⌝ }
+    ensures { λ r. ⌜ (shown (now (s .entry)) (r .end) (r .price) ≡ then (now (s .entry)) e price) × EndIn (now (s .entry)) (r .end) ⌝ }
 {
     match e {
         End::At(at) => {
@@ -164,7 +164,7 @@ pub(crate) fn price_then(s: &[u8], e: End) -> PriceField
 }
 
 pub(crate) fn quantity_then(s: &[u8], e: End) -> QuantityField
-    ensures { λ r. ⌜ shown (now (s .entry)) (r .end) (r .quantity) ≡ then (now (s .entry)) e quantity ⌝ }
+    ensures { λ r. ⌜ (shown (now (s .entry)) (r .end) (r .quantity) ≡ then (now (s .entry)) e quantity) × EndIn (now (s .entry)) (r .end) ⌝ }
 {
     match e {
         End::At(at) => {
@@ -188,7 +188,7 @@ pub(crate) fn quantity_then(s: &[u8], e: End) -> QuantityField
 }
 
 pub(crate) fn amount_then(s: &[u8], e: End) -> AmountField
-    ensures { λ r. ⌜ shown (now (s .entry)) (r .end) (r .value) ≡ then (now (s .entry)) e amount ⌝ }
+    ensures { λ r. ⌜ (shown (now (s .entry)) (r .end) (r .value) ≡ then (now (s .entry)) e amount) × EndIn (now (s .entry)) (r .end) ⌝ }
 {
     match e {
         End::At(at) => {
@@ -221,7 +221,7 @@ fn hour_no(k: u8) -> HourField
 }
 
 pub(crate) fn hour_then(s: &[u8], e: End) -> HourField
-    ensures { λ r. ⌜ shown (now (s .entry)) (r .end) (r .hour) ≡ then (now (s .entry)) e hour ⌝ }
+    ensures { λ r. ⌜ (shown (now (s .entry)) (r .end) (r .hour) ≡ then (now (s .entry)) e hour) × EndIn (now (s .entry)) (r .end) ⌝ }
 {
     match e {
         End::At(at) => {
@@ -256,22 +256,6 @@ pub(crate) fn guard_end(e: End, ok: bool, k: u8) -> End
     match e {
         End::At(_n) => End::No(k),
         End::No(j) => End::No(j),
-    }
-}
-
-// No reader ends past the bytes; here it is seen.
-pub(crate) fn clamp(s: &[u8], e: End) -> End
-    ensures { λ r. ⌜ r ≡ clamped (now (s .entry)) e ⌝ }
-{
-    match e {
-        End::At(n) => {
-            if n <= s.len() {
-                End::At(n)
-            } else {
-                End::At(s.len())
-            }
-        }
-        End::No(k) => End::No(k),
     }
 }
 

@@ -11,7 +11,7 @@ use money::refusals::UNKNOWN_MARK;
 ghost use mathlib.Core.Path.{_≡_};
 ghost use Rattle.records.specs.HourRecord.{ofHour, sameAs, hourRecord, hourFrontOf};
 ghost use Rattle.records.specs.Changes.{change};
-ghost use Rattle.records.specs.Inner.{then};
+ghost use Rattle.records.specs.Inner.{then, EndIn};
 
 // The first of them: its hour and the place where it ends, or the number of its first fault.
 pub struct HourFront {
@@ -45,7 +45,7 @@ fn same_as(first: u8, hour: u8) -> bool
 
 // The mark and the hour of a record, each checked at its place.
 fn start_of(s: &[u8], first: u8) -> End
-    ensures { λ r. ⌜ hourRecord first (now (s .entry)) ≡ then (now (s .entry)) r (λ t. change 1 (now (s .entry))) ⌝ }
+    ensures { λ r. ⌜ (hourRecord first (now (s .entry)) ≡ then (now (s .entry)) r (λ t. change 1 (now (s .entry)))) × EndIn (now (s .entry)) r ⌝ }
 {
     let h = head_at(s, FILED);
     let e1 = h.end;

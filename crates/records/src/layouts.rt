@@ -21,7 +21,7 @@ use money::units::Quantity;
 ghost use mathlib.Core.Path.{_≡_};
 ghost use Prim.Native.Nat.{ℕ, _≤_};
 ghost use Rattle.records.specs.Layouts.{hourPrices, import, export, failure, schedules, reserveRows, fewest, lists, within, allWithin, unitOf, unit, layout};
-ghost use Rattle.records.specs.Inner.{shown, ListsIs, then};
+ghost use Rattle.records.specs.Inner.{shown, EndIn, ListsIs, then};
 
 // The hour's energy prices, and its pre-dispatch price.
 pub struct HourPrices {
@@ -106,7 +106,7 @@ pub struct ListsRead {
 // ---- a reader for each layout
 
 pub(crate) fn hour_prices_then(s: &[u8], e: End) -> HourPricesRead
-    ensures { λ r. ⌜ shown (now (s .entry)) (r .end) (r .prices) ≡ then (now (s .entry)) e hourPrices ⌝ }
+    ensures { λ r. ⌜ (shown (now (s .entry)) (r .end) (r .prices) ≡ then (now (s .entry)) e hourPrices) × EndIn (now (s .entry)) (r .end) ⌝ }
 {
     let v = prices_then(s, e);
     let e1 = v.end;
@@ -121,7 +121,7 @@ pub(crate) fn hour_prices_then(s: &[u8], e: End) -> HourPricesRead
 }
 
 pub(crate) fn import_then(s: &[u8], e: End) -> ImportRead
-    ensures { λ r. ⌜ shown (now (s .entry)) (r .end) (r .import) ≡ then (now (s .entry)) e import ⌝ }
+    ensures { λ r. ⌜ (shown (now (s .entry)) (r .end) (r .import) ≡ then (now (s .entry)) e import) × EndIn (now (s .entry)) (r .end) ⌝ }
 {
     let v = quantities_then(s, e);
     let e1 = v.end;
@@ -138,7 +138,7 @@ pub(crate) fn import_then(s: &[u8], e: End) -> ImportRead
 }
 
 pub(crate) fn export_then(s: &[u8], e: End) -> ExportRead
-    ensures { λ r. ⌜ shown (now (s .entry)) (r .end) (r .export) ≡ then (now (s .entry)) e export ⌝ }
+    ensures { λ r. ⌜ (shown (now (s .entry)) (r .end) (r .export) ≡ then (now (s .entry)) e export) × EndIn (now (s .entry)) (r .end) ⌝ }
 {
     let v = quantities_then(s, e);
     let end = v.end;
@@ -150,7 +150,7 @@ pub(crate) fn export_then(s: &[u8], e: End) -> ExportRead
 }
 
 pub(crate) fn failure_then(s: &[u8], e: End) -> FailureRead
-    ensures { λ r. ⌜ shown (now (s .entry)) (r .end) (r .failure) ≡ then (now (s .entry)) e failure ⌝ }
+    ensures { λ r. ⌜ (shown (now (s .entry)) (r .end) (r .failure) ≡ then (now (s .entry)) e failure) × EndIn (now (s .entry)) (r .end) ⌝ }
 {
     let x = quantity_then(s, e);
     let e1 = x.end;
@@ -176,7 +176,7 @@ pub(crate) fn failure_then(s: &[u8], e: End) -> FailureRead
 }
 
 fn schedules_then(s: &[u8], e: End) -> SchedulesRead
-    ensures { λ r. ⌜ shown (now (s .entry)) (r .end) (r .schedules) ≡ then (now (s .entry)) e schedules ⌝ }
+    ensures { λ r. ⌜ (shown (now (s .entry)) (r .end) (r .schedules) ≡ then (now (s .entry)) e schedules) × EndIn (now (s .entry)) (r .end) ⌝ }
 {
     let a0 = amount_then(s, e);
     let e0 = a0.end;
@@ -212,7 +212,7 @@ fn schedules_then(s: &[u8], e: End) -> SchedulesRead
 }
 
 fn reserve_rows_then(s: &[u8], e: End) -> ReserveRowsRead
-    ensures { λ r. ⌜ shown (now (s .entry)) (r .end) (r .rows) ≡ then (now (s .entry)) e reserveRows ⌝ }
+    ensures { λ r. ⌜ (shown (now (s .entry)) (r .end) (r .rows) ≡ then (now (s .entry)) e reserveRows) × EndIn (now (s .entry)) (r .end) ⌝ }
 {
     let p = prices_then(s, e);
     let e1 = p.end;
@@ -352,7 +352,7 @@ fn unit_of(
 }
 
 pub(crate) fn unit_then(s: &[u8], e: End) -> UnitRead
-    ensures { λ r. ⌜ shown (now (s .entry)) (r .end) (r .unit) ≡ then (now (s .entry)) e unit ⌝ }
+    ensures { λ r. ⌜ (shown (now (s .entry)) (r .end) (r .unit) ≡ then (now (s .entry)) e unit) × EndIn (now (s .entry)) (r .end) ⌝ }
 {
     let h = schedules_then(s, e);
     let e0 = h.end;
@@ -385,7 +385,7 @@ pub(crate) fn unit_then(s: &[u8], e: End) -> UnitRead
 }
 
 pub(crate) fn layout_then(s: &[u8], e: End, mark: Mark) -> End
-    ensures { λ r. ⌜ shown (now (s .entry)) r tt ≡ then (now (s .entry)) e (layout mark) ⌝ }
+    ensures { λ r. ⌜ (shown (now (s .entry)) r tt ≡ then (now (s .entry)) e (layout mark)) × EndIn (now (s .entry)) r ⌝ }
 {
     match mark {
         Mark::Pr => {

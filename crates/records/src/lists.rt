@@ -12,10 +12,11 @@ use money::units::Price;
 use money::units::Quantity;
 ghost use mathlib.Core.Path.{_≡_};
 ghost use Prim.Native.Nat.{ℕ, _≤_};
+ghost use lib.ListN.{length};
 ghost use Rattle.money.specs.Offers.{lastQ};
 ghost use Rattle.records.specs.Reading.{from};
 ghost use Rattle.records.specs.Numbers.{pair, pairs, listOk, listFrom};
-ghost use Rattle.records.specs.Inner.{pairAt, OfferIs, then};
+ghost use Rattle.records.specs.Inner.{pairAt, PairIn, OfferIs, then};
 
 pub enum PairAt {
     Got(Price, Quantity, usize),
@@ -28,7 +29,7 @@ pub struct OfferRead {
 }
 
 fn read_pair(s: &[u8], at: usize) -> PairAt
-    ensures { λ r. ⌜ pairAt (now (s .entry)) r ≡ pair (from (now (s .entry)) at) ⌝ }
+    ensures { λ r. ⌜ (pairAt (now (s .entry)) r ≡ pair (from (now (s .entry)) at)) × PairIn (now (s .entry)) r ⌝ }
 {
     let p = read_price(s, at);
     match p {
@@ -58,9 +59,9 @@ fn offer_no(k: u8) -> OfferRead
     }
 }
 
-// A number of pairs; the places behind them stay 0.
+// A number of pairs, 0 too: then the place that came is handed on. The places of the arrays behind them stay 0.
 fn read_pairs(s: &[u8], at: usize, n: usize) -> OfferRead
-    requires { ⌜ n ≤ 20 ⌝ }
+    requires { ⌜ (n ≤ 20) × (at ≤ length (now s)) ⌝ }
     ensures { λ r. ⌜ OfferIs (now (s .entry)) (pairs n (from (now (s .entry)) at)) r ⌝ }
 {
     let mut prices = [Price(0); 20];

@@ -6,7 +6,7 @@ ghost use mathlib.Core.List.{List, [], _∷_};
 ghost use Rattle.records.specs.Reading.{from};
 ghost use Rattle.records.specs.Marks.{is, mark, hasName, isFailure, order, sameMark, limit};
 ghost use Rattle.records.specs.Changes.{number, allowed, inside, head};
-ghost use Rattle.records.specs.Inner.{shown, headed};
+ghost use Rattle.records.specs.Inner.{shown, EndIn, headed};
 
 // The kinds of changes, as they are asked for and answered; 0 asks for any of the first three.
 pub const FILED: u8 = 1;
@@ -73,7 +73,7 @@ fn marked(mark: Mark, next: usize) -> MarkRead
 }
 
 pub(crate) fn mark_at(s: &[u8], at: usize) -> MarkRead
-    ensures { λ r. ⌜ shown (now (s .entry)) (r .end) (r .mark) ≡ mark (from (now (s .entry)) at) ⌝ }
+    ensures { λ r. ⌜ (shown (now (s .entry)) (r .end) (r .mark) ≡ mark (from (now (s .entry)) at)) × EndIn (now (s .entry)) (r .end) ⌝ }
 {
     if s.len() <= at {
         return mark_no(ENDS_EARLY);
@@ -125,7 +125,7 @@ fn allowed(want: u8, k: Kind) -> bool
 }
 
 fn inside_at(s: &[u8], at: usize, want: u8, kind: Kind) -> HeadRead
-    ensures { λ r. ⌜ headed (now (s .entry)) r ≡ inside want kind (from (now (s .entry)) at) ⌝ }
+    ensures { λ r. ⌜ (headed (now (s .entry)) r ≡ inside want kind (from (now (s .entry)) at)) × EndIn (now (s .entry)) (r .end) ⌝ }
 {
     if allowed(want, kind) {
         let m = mark_at(s, at);
@@ -142,7 +142,7 @@ fn inside_at(s: &[u8], at: usize, want: u8, kind: Kind) -> HeadRead
 }
 
 pub(crate) fn head_at(s: &[u8], want: u8) -> HeadRead
-    ensures { λ r. ⌜ headed (now (s .entry)) r ≡ head want (now (s .entry)) ⌝ }
+    ensures { λ r. ⌜ (headed (now (s .entry)) r ≡ head want (now (s .entry))) × EndIn (now (s .entry)) (r .end) ⌝ }
 {
     if s.len() < 2 {
         return HeadRead {

@@ -8,11 +8,10 @@ use money::refusals::ENDS_EARLY;
 ghost use mathlib.Core.Path.{_≡_};
 ghost use Prim.Native.Nat.{ℕ, _+_, _≤_, _<_};
 ghost use lib.ListN.{length};
-ghost use Rattle.money.specs.Refusals.{endsEarly};
 ghost use Rattle.money.specs.Names.{nameOf, nameBefore};
 ghost use Rattle.records.specs.Reading.{from};
 ghost use Rattle.records.specs.Names.{visible, hexVal, escaped, one, decodeName, unreserved, digit, spellByte, spell, nameField, noOne, bytesOf, held, spellingOf};
-ghost use Rattle.records.specs.Inner.{then, Named, chr, Wrote};
+ghost use Rattle.records.specs.Inner.{then, Named, chr, ChrIn, Wrote};
 
 pub struct NameRead {
     pub end: End,
@@ -65,7 +64,7 @@ fn hex(x: u8) -> u8
 
 // the byte that % and two hex digits at a place of s stand for
 fn escaped_at(s: &[u8], at: usize) -> Chr
-    ensures { λ r. ⌜ chr (now (s .entry)) r ≡ escaped (from (now (s .entry)) at) ⌝ }
+    ensures { λ r. ⌜ (chr (now (s .entry)) r ≡ escaped (from (now (s .entry)) at)) × ChrIn (now (s .entry)) r ⌝ }
 {
     if s.len() <= at {
         return Chr::No(BAD_NAME);
@@ -91,7 +90,7 @@ fn escaped_at(s: &[u8], at: usize) -> Chr
 
 fn one_at(s: &[u8], at: usize) -> Chr
     requires { ⌜ at < length (now s) ⌝ }
-    ensures { λ r. ⌜ chr (now (s .entry)) r ≡ one (from (now (s .entry)) at) ⌝ }
+    ensures { λ r. ⌜ (chr (now (s .entry)) r ≡ one (from (now (s .entry)) at)) × ChrIn (now (s .entry)) r ⌝ }
 {
     let x = s[at];
     if x == 37 {
@@ -264,13 +263,6 @@ pub(crate) fn spelled_len(name: Name) -> usize
     sum
 }
 
-// A name whose bytes are not all there.
-fn cut_short() -> NameRead
-    ensures { λ r. ⌜ (r .end ≡ End.No endsEarly) × (r .name .len ≡ 0) ⌝ }
-{
-    name_no(ENDS_EARLY)
-}
-
 fn read_name(s: &[u8], at: usize) -> NameRead
     ensures { λ r. ⌜ Named (now (s .entry)) (held (nameField (from (now (s .entry)) at))) r ⌝ }
 {
@@ -284,11 +276,8 @@ fn read_name(s: &[u8], at: usize) -> NameRead
                 return name_no(BAD_NAME);
             }
             let k = n as usize;
-            if s.len() < first {
-                return cut_short();
-            }
             if s.len() - first < k {
-                return cut_short();
+                return name_no(ENDS_EARLY);
             }
             let r = decode(&s[first..first + k]);
             let e = r.end;

@@ -9,7 +9,7 @@ ghost use mathlib.Core.Path.{_≡_};
 ghost use Rattle.money.specs.Units.{withinOk};
 ghost use Rattle.records.specs.Reading.{from, many};
 ghost use Rattle.records.specs.Numbers.{price, quantity};
-ghost use Rattle.records.specs.Inner.{shown, then};
+ghost use Rattle.records.specs.Inner.{shown, EndIn, then};
 
 pub struct PriceRow {
     pub end: End,
@@ -22,7 +22,7 @@ pub struct QuantityRow {
 }
 
 fn read_prices(s: &[u8], at: usize) -> PriceRow
-    ensures { λ r. ⌜ shown (now (s .entry)) (r .end) (r .values) ≡ many 12 price (from (now (s .entry)) at) ⌝ }
+    ensures { λ r. ⌜ (shown (now (s .entry)) (r .end) (r .values) ≡ many 12 price (from (now (s .entry)) at)) × EndIn (now (s .entry)) (r .end) ⌝ }
 {
     let mut values = [Price(0); 12];
     let mut next = at;
@@ -50,7 +50,7 @@ fn read_prices(s: &[u8], at: usize) -> PriceRow
 }
 
 fn read_quantities(s: &[u8], at: usize) -> QuantityRow
-    ensures { λ r. ⌜ shown (now (s .entry)) (r .end) (r .values) ≡ many 12 quantity (from (now (s .entry)) at) ⌝ }
+    ensures { λ r. ⌜ (shown (now (s .entry)) (r .end) (r .values) ≡ many 12 quantity (from (now (s .entry)) at)) × EndIn (now (s .entry)) (r .end) ⌝ }
 {
     let mut values = [Quantity(0); 12];
     let mut next = at;
@@ -78,7 +78,7 @@ fn read_quantities(s: &[u8], at: usize) -> QuantityRow
 }
 
 pub(crate) fn prices_then(s: &[u8], e: End) -> PriceRow
-    ensures { λ r. ⌜ shown (now (s .entry)) (r .end) (r .values) ≡ then (now (s .entry)) e (many 12 price) ⌝ }
+    ensures { λ r. ⌜ (shown (now (s .entry)) (r .end) (r .values) ≡ then (now (s .entry)) e (many 12 price)) × EndIn (now (s .entry)) (r .end) ⌝ }
 {
     match e {
         End::At(at) => read_prices(s, at),
@@ -93,7 +93,7 @@ pub(crate) fn prices_then(s: &[u8], e: End) -> PriceRow
 }
 
 pub(crate) fn quantities_then(s: &[u8], e: End) -> QuantityRow
-    ensures { λ r. ⌜ shown (now (s .entry)) (r .end) (r .values) ≡ then (now (s .entry)) e (many 12 quantity) ⌝ }
+    ensures { λ r. ⌜ (shown (now (s .entry)) (r .end) (r .values) ≡ then (now (s .entry)) e (many 12 quantity)) × EndIn (now (s .entry)) (r .end) ⌝ }
 {
     match e {
         End::At(at) => read_quantities(s, at),

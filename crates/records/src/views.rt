@@ -27,13 +27,13 @@ use money::units::Quantity;
 ghost use mathlib.Core.Path.{_≡_};
 ghost use mathlib.Core.Bool.{Bool, true, false};
 ghost use Rattle.records.specs.Views.{ahead, noOffer, noReserve, noUnit, pricesIn, importIn, exportIn, unitIn, failureIn};
-ghost use Rattle.records.specs.Inner.{shown};
+ghost use Rattle.records.specs.Inner.{shown, EndIn};
 
 // What stands in bytes that begin with a record as it was filed: its fields as the money rules take them.
 
 // The place behind a record's mark, hour and name.
 fn fields_at(s: &[u8], mark: Mark) -> End
-    ensures { λ r. ⌜ shown (now (s .entry)) r tt ≡ ahead mark (now (s .entry)) ⌝ }
+    ensures { λ r. ⌜ (shown (now (s .entry)) r tt ≡ ahead mark (now (s .entry))) × EndIn (now (s .entry)) r ⌝ }
 {
     let h = head_at(s, FILED);
     let e = h.end;

@@ -26,15 +26,15 @@ enum-told-3 c = search needs
 
 returns : tie.Need-returns
 unfolding layoutFor
-returns c = rw ((c .before .enum-told) .given .1) ((c .layout-then) .ensures)
+returns c = (rw ((c .before .enum-told) .given .1) ((c .layout-then) .ensures .0), (c .layout-then) .ensures .1)
 
 returns-2 : tie.Need-returns-2
 unfolding layoutFor
-returns-2 c = rw ((c .before .enum-told2) .given .1) ((c .layout-then2) .ensures)
+returns-2 c = (rw ((c .before .enum-told2) .given .1) ((c .layout-then2) .ensures .0), (c .layout-then2) .ensures .1)
 
 returns-3 : tie.Need-returns-3
 unfolding layoutFor
-returns-3 c = rw ((c .enum-told3) .given .1) (sym (last ((c .before .before .before .args) .s .now) ((c .before .before .before .args) .e) tt))
+returns-3 c = (rw ((c .enum-told3) .given .1) (sym (last ((c .before .before .before .args) .s .now) ((c .before .before .before .args) .e) tt)), (c .before .before .before .pre))
 
 pub fields-then-spec : {M : Type 1} → statement M
 fields-then-spec =

@@ -17,13 +17,13 @@ name-field-then-requires : tie.Need-name-field-then-requires
 name-field-then-requires c κs = search needs
 
 returns : tie.Need-returns
-returns c = record { value = (c .name-field-then) .ensures .value ∙ name-named ((c .before .before .before .before .args) .s .now) ((c .before .before .before .before .args) .e) ((c .before .before .before .before .args) .kind) ((c .before .before .before .before .args) .mark) (sym ((c .before .before .has-name) .ensures) ∙ (c .before .if1) .taken); few = (c .name-field-then) .ensures .few }
+returns c = record { value = (c .name-field-then) .ensures .value ∙ name-named ((c .before .before .before .before .args) .s .now) ((c .before .before .before .before .args) .e) ((c .before .before .before .before .args) .kind) ((c .before .before .before .before .args) .mark) (sym ((c .before .before .has-name) .ensures) ∙ (c .before .if1) .taken); placed = (c .name-field-then) .ensures .placed; few = (c .name-field-then) .ensures .few }
 
 nameless-then-requires : tie.Need-nameless-then-requires
-nameless-then-requires c κs = search needs
+nameless-then-requires c κs = (c .before .before .before .pre)
 
 returns-2 : tie.Need-returns-2
-returns-2 c = record { value = (c .nameless-then) .ensures .value ∙ name-less ((c .before .before .before .before .args) .s .now) ((c .before .before .before .before .args) .e) ((c .before .before .before .before .args) .kind) ((c .before .before .before .before .args) .mark) (sym ((c .before .before .has-name) .ensures) ∙ (c .before .if1) .left); few = (c .nameless-then) .ensures .few }
+returns-2 c = record { value = (c .nameless-then) .ensures .value ∙ name-less ((c .before .before .before .before .args) .s .now) ((c .before .before .before .before .args) .e) ((c .before .before .before .before .args) .kind) ((c .before .before .before .before .args) .mark) (sym ((c .before .before .has-name) .ensures) ∙ (c .before .if1) .left); placed = (c .nameless-then) .ensures .placed; few = (c .nameless-then) .ensures .few }
 
 pub name-then-spec : {M : Type 1} → statement M
 name-then-spec =

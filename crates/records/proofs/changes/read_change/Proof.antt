@@ -7,7 +7,6 @@ use Rattle.records.proofs.changes.read_change.Reads as reads
 use Rattle.records.proofs.changes.read_change.Lts as lts
 use Rattle.records.proofs.changes.fields_then.Reads as fields-then-reads
 use Rattle.records.proofs.changes.name_then.Reads as name-then-reads
-use Rattle.records.proofs.fields.clamp.Reads as clamp-reads
 use Rattle.records.proofs.fields.hour_then.Reads as hour-then-reads
 use Rattle.records.proofs.fields.place.Reads as place-reads
 use Rattle.records.proofs.marks.head_at.Reads as head-at-reads
@@ -19,26 +18,22 @@ hour-then-requires : tie.Need-hour-then-requires
 hour-then-requires c κs = search needs
 
 name-then-requires : tie.Need-name-then-requires
-name-then-requires c κs = search needs
-
-clamp-requires : tie.Need-clamp-requires
-clamp-requires c κs = search needs
+name-then-requires c κs = (c .hour-then) .ensures .1
 
 fields-then-requires : tie.Need-fields-then-requires
-fields-then-requires c κs = search needs
-
-clamp-requires-2 : tie.Need-clamp-requires-2
-clamp-requires-2 c κs = search needs
+fields-then-requires c κs = (c .before .name-then) .ensures .placed
 
 place-requires : tie.Need-place-requires
 place-requires c κs = search needs
 
 returns : tie.Need-returns
 returns c =
-    let a = (c .before .before .fields-then) .ensures in
-    rw ((c .place) .ensures, (c .before .clamp2) .ensures, (c .before .before .before .clamp) .ensures)
-    (change-is ((c .before .before .before .before .before .before .before .before .before .args) .s .now) ((c .before .before .before .before .before .before .before .before .before .args) .want) ((c .before .before .before .before .before .before .before .head-at) .result) ((c .before .before .before .before .before .before .hour-then) .result) ((c .before .before .before .before .before .name-then) .result) ((c .before .before .fields-then) .result)
-    ((c .before .before .before .before .before .before .before .head-at) .ensures) ((c .before .before .before .before .before .before .hour-then) .ensures) ((c .before .before .before .before .before .name-then) .ensures) (rw ((c .before .before .before .clamp) .ensures) at a))
+    let h = (c .before .before .before .before .before .head-at) in
+    let o = (c .before .before .before .before .hour-then) in
+    let n = (c .before .before .before .name-then) in
+    let f = (c .before .fields-then) in
+    rw ((c .place) .ensures)
+    (change-is ((c .before .before .before .before .before .before .before .args) .s .now) ((c .before .before .before .before .before .before .before .args) .want) (h .result) (o .result) (n .result) (f .result) (h .ensures .0) (o .ensures .0) (n .ensures) (f .ensures))
 
 pub read-change-spec : {M : Type 1} → statement M
 read-change-spec =
@@ -47,8 +42,6 @@ read-change-spec =
     head-at-requires
     hour-then-requires
     name-then-requires
-    clamp-requires
     fields-then-requires
-    clamp-requires-2
     place-requires
     returns)

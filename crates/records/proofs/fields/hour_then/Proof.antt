@@ -14,7 +14,7 @@ hour-no-requires : tie.Need-hour-no-requires
 hour-no-requires c κs = search needs
 
 returns : tie.Need-returns
-returns c = rw ((c .hour-no) .ensures, (c .before .before .before .e) .given .1) (hour-past ((c .before .before .before .before .before .before .args) .s .now) _ ((c .before .if1) .taken))
+returns c = (rw ((c .hour-no) .ensures, (c .before .before .before .e) .given .1) (hour-past ((c .before .before .before .before .before .before .args) .s .now) _ ((c .before .if1) .taken)), rw ((c .hour-no) .ensures) tt)
 
 shared-slice-read-hour : tie.Need-shared-slice-read-hour
 shared-slice-read-hour c = search needs
@@ -23,13 +23,13 @@ hour-no-requires-2 : tie.Need-hour-no-requires-2
 hour-no-requires-2 c κs = search needs
 
 returns-2 : tie.Need-returns-2
-returns-2 c = rw ((c .hour-no2) .ensures, (c .before .before .before .before .before .e) .given .1) (hour-low ((c .before .before .before .before .before .before .before .before .args) .s .now) _ ((c .before .before .before .if1) .left) ((c .before .if2) .taken))
+returns-2 c = (rw ((c .hour-no2) .ensures, (c .before .before .before .before .before .e) .given .1) (hour-low ((c .before .before .before .before .before .before .before .before .args) .s .now) _ ((c .before .before .before .if1) .left) ((c .before .if2) .taken)), rw ((c .hour-no2) .ensures) tt)
 
 hour-no-requires-3 : tie.Need-hour-no-requires-3
 hour-no-requires-3 c κs = search needs
 
 returns-3 : tie.Need-returns-3
-returns-3 c = rw ((c .hour-no3) .ensures, (c .before .before .before .before .before .before .e) .given .1) (hour-high ((c .before .before .before .before .before .before .before .before .before .args) .s .now) _ ((c .before .before .before .before .if1) .left) ((c .before .before .if2) .left) ((c .before .if3) .taken))
+returns-3 c = (rw ((c .hour-no3) .ensures, (c .before .before .before .before .before .before .e) .given .1) (hour-high ((c .before .before .before .before .before .before .before .before .before .args) .s .now) _ ((c .before .before .before .before .if1) .left) ((c .before .before .if2) .left) ((c .before .if3) .taken)), rw ((c .hour-no3) .ensures) tt)
 
 add-t7 : tie.Need-add-t7
 add-t7 c = search needs
@@ -41,10 +41,10 @@ hour-no-requires-4 : tie.Need-hour-no-requires-4
 hour-no-requires-4 c κs = search needs
 
 returns-4 : tie.Need-returns-4
-returns-4 c = rw ((c .before .before .before .before .before .e) .given .1) (hour-here ((c .before .before .before .before .before .before .before .before .args) .s .now) _ ((c .before .before .before .if1) .left) ((c .before .if2) .left) ((c .if3) .left))
+returns-4 c = (rw ((c .before .before .before .before .before .e) .given .1) (hour-here ((c .before .before .before .before .before .before .before .before .args) .s .now) _ ((c .before .before .before .if1) .left) ((c .before .if2) .left) ((c .if3) .left)), search needs)
 
 returns-5 : tie.Need-returns-5
-returns-5 c = rw ((c .hour-no4) .ensures, (c .before .before .e2) .given .1)
+returns-5 c = (rw ((c .hour-no4) .ensures, (c .before .before .e2) .given .1), rw ((c .hour-no4) .ensures) tt)
 
 pub hour-then-spec : {M : Type 1} → statement M
 hour-then-spec =

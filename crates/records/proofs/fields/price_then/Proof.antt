@@ -22,13 +22,15 @@ enum-known-e-2 : tie.Need-enum-known-e-2
 enum-known-e-2 c = search needs
 
 returns : tie.Need-returns
-returns c = rw ((c .before .before .before .before .before .e) .given .1, ← (c .before .before .before .read-price) .ensures, (c .before .p) .given .1)
+returns c =
+    let h = (c .before .before .before .read-price) .ensures .1 in
+    (rw ((c .before .before .before .before .before .e) .given .1, ← (c .before .before .before .read-price) .ensures .0, (c .before .p) .given .1), rw ((c .before .p) .given .1) at h)
 
 returns-2 : tie.Need-returns-2
-returns-2 c = rw ((c .before .before .before .before .before .e) .given .1, ← (c .before .before .before .read-price) .ensures, (c .before .p2) .given .1)
+returns-2 c = (rw ((c .before .before .before .before .before .e) .given .1, ← (c .before .before .before .read-price) .ensures .0, (c .before .p2) .given .1), tt)
 
 returns-3 : tie.Need-returns-3
-returns-3 c = rw ((c .before .e2) .given .1)
+returns-3 c = (rw ((c .before .e2) .given .1), tt)
 
 pub price-then-spec : {M : Type 1} → statement M
 price-then-spec =

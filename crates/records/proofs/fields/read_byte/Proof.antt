@@ -8,7 +8,7 @@ use Rattle.records.proofs.fields.read_byte.Reads as reads
 use Rattle.records.proofs.fields.read_byte.Lts as lts
 
 returns : tie.Need-returns
-returns c = sym (byte-past _ _ (c .if1 .taken))
+returns c = (sym (byte-past _ _ (c .if1 .taken)), tt)
 
 shared-slice-read-t6 : tie.Need-shared-slice-read-t6
 shared-slice-read-t6 c = search needs
@@ -20,7 +20,7 @@ add-t3 : tie.Need-add-t3
 add-t3 c = search needs
 
 returns-2 : tie.Need-returns-2
-returns-2 c = sym (byte-at _ _ (c .before .if1 .left))
+returns-2 c = (sym (byte-at _ _ (c .before .if1 .left)), search needs)
 
 pub read-byte-spec : {M : Type 1} → statement M
 read-byte-spec = tie.close (tie.spec returns shared-slice-read-t6 cast-t7 add-t3 returns-2)

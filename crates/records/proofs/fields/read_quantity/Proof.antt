@@ -29,13 +29,15 @@ enum-known-w-2 : tie.Need-enum-known-w-2
 enum-known-w-2 c = search needs
 
 returns : tie.Need-returns
-returns c = quantity-good ((c .before .before .before .before .before .before .before .before .before .args) .s .now) ((c .before .before .before .before .before .before .before .before .before .args) .at) ((c .before .before .before .before .before .w) .given .0 .0) ((c .before .before .before .before .before .w) .given .0 .1 .0) (sym ((c .before .before .before .before .before .before .before .read-word) .ensures) ∙ ap (num _) ((c .before .before .before .before .before .w) .given .1)) _ (sym ((c .before .before .before .new) .ensures) ∙ (c .before .q) .given .1)
+returns c =
+    let h = (c .before .before .before .before .before .before .before .read-word) .ensures .1 in
+    (quantity-good ((c .before .before .before .before .before .before .before .before .before .args) .s .now) ((c .before .before .before .before .before .before .before .before .before .args) .at) ((c .before .before .before .before .before .w) .given .0 .0) ((c .before .before .before .before .before .w) .given .0 .1 .0) (sym ((c .before .before .before .before .before .before .before .read-word) .ensures .0) ∙ ap (num _) ((c .before .before .before .before .before .w) .given .1)) _ (sym ((c .before .before .before .new) .ensures) ∙ (c .before .q) .given .1), rw ((c .before .before .before .before .before .w) .given .1) at h)
 
 returns-2 : tie.Need-returns-2
-returns-2 c = quantity-refused ((c .before .before .before .before .before .before .before .before .before .args) .s .now) ((c .before .before .before .before .before .before .before .before .before .args) .at) ((c .before .before .before .before .before .w) .given .0 .0) ((c .before .before .before .before .before .w) .given .0 .1 .0) (sym ((c .before .before .before .before .before .before .before .read-word) .ensures) ∙ ap (num _) ((c .before .before .before .before .before .w) .given .1)) _ (sym ((c .before .before .before .new) .ensures) ∙ (c .before .q2) .given .1)
+returns-2 c = (quantity-refused ((c .before .before .before .before .before .before .before .before .before .args) .s .now) ((c .before .before .before .before .before .before .before .before .before .args) .at) ((c .before .before .before .before .before .w) .given .0 .0) ((c .before .before .before .before .before .w) .given .0 .1 .0) (sym ((c .before .before .before .before .before .before .before .read-word) .ensures .0) ∙ ap (num _) ((c .before .before .before .before .before .w) .given .1)) _ (sym ((c .before .before .before .new) .ensures) ∙ (c .before .q2) .given .1), tt)
 
 returns-3 : tie.Need-returns-3
-returns-3 c = quantity-bad ((c .before .before .before .before .before .args) .s .now) ((c .before .before .before .before .before .args) .at) _ (sym ((c .before .before .before .read-word) .ensures) ∙ ap (num _) ((c .before .w2) .given .1))
+returns-3 c = (quantity-bad ((c .before .before .before .before .before .args) .s .now) ((c .before .before .before .before .before .args) .at) _ (sym ((c .before .before .before .read-word) .ensures .0) ∙ ap (num _) ((c .before .w2) .given .1)), tt)
 
 pub read-quantity-spec : {M : Type 1} → statement M
 read-quantity-spec =

@@ -13,10 +13,10 @@ sub-if2 : tie.Need-sub-if2
 sub-if2 c = search needs
 
 returns : tie.Need-returns
-returns c = sym (word-past _ _ (c .if1 .taken))
+returns c = (sym (word-past _ _ (c .if1 .taken)), tt)
 
 returns-2 : tie.Need-returns-2
-returns-2 c = sym (word-ends _ _ (c .if2 .taken))
+returns-2 c = (sym (word-ends _ _ (c .if2 .taken)), tt)
 
 shared-slice-read-join : tie.Need-shared-slice-read-join
 shared-slice-read-join c = search needs
@@ -48,7 +48,7 @@ add-t16 c = search needs
 returns-3 : tie.Need-returns-3
 returns-3 c =
     let a = c .before .before .before .before .before .before .before .before .args in
-    rw (word-at (a .s .now) (a .at) (omega arith) (omega arith), c .join .ensures)
+    (rw (word-at (a .s .now) (a .at) (omega arith) (omega arith), c .join .ensures), search needs)
 
 pub read-word-spec : {M : Type 1} → statement M
 read-word-spec =

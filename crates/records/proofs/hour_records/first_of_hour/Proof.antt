@@ -25,10 +25,10 @@ no-record-requires : tie.Need-no-record-requires
 no-record-requires c κs = search needs
 
 returns : tie.Need-returns
-returns c = (c .filed-front) .ensures ∙ front-filed ((c .before .before .before .before .before .before .args) .s .now) ((c .before .before .before .before .before .before .args) .first) ((c .before .before .before .before .start-of) .result) ((c .before .before .before .before .start-of) .ensures) ((c .before .before .e) .given .0 .0) ((c .before .before .e) .given .1)
+returns c = (c .filed-front) .ensures ∙ front-filed ((c .before .before .before .before .before .before .args) .s .now) ((c .before .before .before .before .before .before .args) .first) ((c .before .before .before .before .start-of) .result) ((c .before .before .before .before .start-of) .ensures .0) ((c .before .before .e) .given .0 .0) ((c .before .before .e) .given .1)
 
 returns-2 : tie.Need-returns-2
-returns-2 c = (c .no-record) .ensures ∙ front-not ((c .before .before .before .before .before .before .args) .s .now) ((c .before .before .before .before .before .before .args) .first) ((c .before .before .before .before .start-of) .result) ((c .before .before .before .before .start-of) .ensures) ((c .before .before .e2) .given .0 .0) ((c .before .before .e2) .given .1)
+returns-2 c = (c .no-record) .ensures ∙ front-not ((c .before .before .before .before .before .before .args) .s .now) ((c .before .before .before .before .before .before .args) .first) ((c .before .before .before .before .start-of) .result) ((c .before .before .before .before .start-of) .ensures .0) ((c .before .before .e2) .given .0 .0) ((c .before .before .e2) .given .1)
 
 pub first-of-hour-spec : {M : Type 1} → statement M
 first-of-hour-spec =

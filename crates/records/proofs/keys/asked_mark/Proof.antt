@@ -13,7 +13,7 @@ mark-at-requires : tie.Need-mark-at-requires
 mark-at-requires c κs = search needs
 
 returns : tie.Need-returns
-returns c = (c .mark-at) .ensures ∙ mark-two ((c .before .before .before .args) .mark .now) ((c .before .if1) .taken)
+returns c = (c .mark-at) .ensures .0 ∙ mark-two ((c .before .before .before .args) .mark .now) ((c .before .if1) .taken)
 
 mark-no-requires : tie.Need-mark-no-requires
 mark-no-requires c κs = search needs

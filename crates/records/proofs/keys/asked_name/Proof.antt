@@ -17,19 +17,19 @@ decode-requires : tie.Need-decode-requires
 decode-requires c κs = search needs
 
 returns : tie.Need-returns
-returns c = record { value = (c .decode) .ensures .value ∙ name-asked ((c .before .before .before .before .args) .mark) ((c .before .before .before .before .args) .name .now) (sym ((c .before .before .has-name) .ensures) ∙ (c .before .if1) .taken); few = (c .decode) .ensures .few }
+returns c = record { value = (c .decode) .ensures .value ∙ name-asked ((c .before .before .before .before .args) .mark) ((c .before .before .before .before .args) .name .now) (sym ((c .before .before .has-name) .ensures) ∙ (c .before .if1) .taken); placed = (c .decode) .ensures .placed; few = (c .decode) .ensures .few }
 
 unnamed-requires : tie.Need-unnamed-requires
 unnamed-requires c κs = search needs
 
 returns-2 : tie.Need-returns-2
-returns-2 c = record { value = rw ((c .unnamed) .ensures .0, (c .unnamed) .ensures .1) (name-none ((c .before .before .before .before .before .args) .mark) ((c .before .before .before .before .before .args) .name .now) (sym ((c .before .before .before .has-name) .ensures) ∙ (c .before .before .if1) .left) ((c .before .if2) .taken)); few = rw ((c .unnamed) .ensures .1) (omega arith) }
+returns-2 c = record { value = rw ((c .unnamed) .ensures .0, (c .unnamed) .ensures .1) (name-none ((c .before .before .before .before .before .args) .mark) ((c .before .before .before .before .before .args) .name .now) (sym ((c .before .before .before .has-name) .ensures) ∙ (c .before .before .if1) .left) ((c .before .if2) .taken)); placed = rw ((c .unnamed) .ensures .0) (omega arith); few = rw ((c .unnamed) .ensures .1) (omega arith) }
 
 unnamed-requires-2 : tie.Need-unnamed-requires-2
 unnamed-requires-2 c κs = search needs
 
 returns-3 : tie.Need-returns-3
-returns-3 c = record { value = rw ((c .unnamed2) .ensures .0) (name-some ((c .before .before .before .before .before .args) .mark) ((c .before .before .before .before .before .args) .name .now) (sym ((c .before .before .before .has-name) .ensures) ∙ (c .before .before .if1) .left) ((c .before .if2) .left)); few = rw ((c .unnamed2) .ensures .1) (omega arith) }
+returns-3 c = record { value = rw ((c .unnamed2) .ensures .0) (name-some ((c .before .before .before .before .before .args) .mark) ((c .before .before .before .before .before .args) .name .now) (sym ((c .before .before .before .has-name) .ensures) ∙ (c .before .before .if1) .left) ((c .before .if2) .left)); placed = rw ((c .unnamed2) .ensures .0) tt; few = rw ((c .unnamed2) .ensures .1) (omega arith) }
 
 pub asked-name-spec : {M : Type 1} → statement M
 asked-name-spec =

@@ -18,9 +18,11 @@ returns : tie.Need-returns
 unfolding export
 returns c =
     let s = (c .before .before .before .args) .s .now in
-    let v = (c .before .quantities-then) .result in
-    sym (next s ((c .before .before .before .args) .e) (v .end) (v .values) (many 12 quantity) _ ((c .before .quantities-then) .ensures)
-    ∙ last s (v .end) _)
+    let v = (c .before .quantities-then) .result in (
+      sym (next s ((c .before .before .before .args) .e) (v .end) (v .values) (many 12 quantity) _ ((c .before .quantities-then) .ensures .0)
+          ∙ last s (v .end) _),
+      (c .before .quantities-then) .ensures .1,
+    )
 
 pub export-then-spec : {M : Type 1} → statement M
 export-then-spec = tie.close (tie.spec quantities-then-requires returns)

@@ -30,12 +30,14 @@ returns c =
     let x = (c .before .before .before .before .before .before .before .quantity-then) .result in
     let y = (c .before .before .before .before .before .before .quantity-then2) .result in
     let p = (c .before .before .before .before .before .price-then) .result in
-    let q = (c .before .before .before .before .price-then2) .result in
-    sym (next s ((c .before .before .before .before .before .before .before .before .before .args) .e) (x .end) (x .quantity) quantity _ ((c .before .before .before .before .before .before .before .quantity-then) .ensures)
-    ∙ next s (x .end) (y .end) (y .quantity) quantity _ ((c .before .before .before .before .before .before .quantity-then2) .ensures)
-    ∙ next s (y .end) (p .end) (p .price) price _ ((c .before .before .before .before .before .price-then) .ensures)
-    ∙ next s (p .end) (q .end) (q .price) price _ ((c .before .before .before .before .price-then2) .ensures)
-    ∙ last s (q .end) _)
+    let q = (c .before .before .before .before .price-then2) .result in (
+      sym (next s ((c .before .before .before .before .before .before .before .before .before .args) .e) (x .end) (x .quantity) quantity _ ((c .before .before .before .before .before .before .before .quantity-then) .ensures .0)
+          ∙ next s (x .end) (y .end) (y .quantity) quantity _ ((c .before .before .before .before .before .before .quantity-then2) .ensures .0)
+          ∙ next s (y .end) (p .end) (p .price) price _ ((c .before .before .before .before .before .price-then) .ensures .0)
+          ∙ next s (p .end) (q .end) (q .price) price _ ((c .before .before .before .before .price-then2) .ensures .0)
+          ∙ last s (q .end) _),
+      (c .before .before .before .before .price-then2) .ensures .1,
+    )
 
 pub failure-then-spec : {M : Type 1} → statement M
 failure-then-spec =

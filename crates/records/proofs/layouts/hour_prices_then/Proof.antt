@@ -23,10 +23,12 @@ unfolding hourPrices
 returns c =
     let s = (c .before .before .before .before .before .args) .s .now in
     let v = (c .before .before .before .prices-then) .result in
-    let p = (c .before .before .price-then) .result in
-    sym (next s ((c .before .before .before .before .before .args) .e) (v .end) (v .values) (many 12 price) _ ((c .before .before .before .prices-then) .ensures)
-    ∙ next s (v .end) (p .end) (p .price) price _ ((c .before .before .price-then) .ensures)
-    ∙ last s (p .end) _)
+    let p = (c .before .before .price-then) .result in (
+      sym (next s ((c .before .before .before .before .before .args) .e) (v .end) (v .values) (many 12 price) _ ((c .before .before .before .prices-then) .ensures .0)
+          ∙ next s (v .end) (p .end) (p .price) price _ ((c .before .before .price-then) .ensures .0)
+          ∙ last s (p .end) _),
+      (c .before .before .price-then) .ensures .1,
+    )
 
 pub hour-prices-then-spec : {M : Type 1} → statement M
 hour-prices-then-spec = tie.close (tie.spec prices-then-requires price-then-requires returns)

@@ -3,7 +3,7 @@ use Rattle.records.specs.Reading.{many}
 use Rattle.records.specs.Numbers.{quantity, listFrom}
 use Rattle.records.specs.Layouts.{import, within}
 use Rattle.records.specs.Inner.{guarded}
-use Rattle.records.proofs.Step.{next, test, last}
+use Rattle.records.proofs.Step.{next, test, last, guarded-in}
 use native.Mathlib.Omega.{arith}
 use borrow.Author.Needs.{needs}
 use Rattle.records.proofs.layouts.import_then.Statement.{statement}
@@ -37,12 +37,14 @@ returns c =
     let s = (c .before .before .before .before .before .before .before .before .args) .s .now in
     let v = (c .before .before .before .before .before .before .quantities-then) .result in
     let o = (c .before .before .before .before .before .list-then) .result in
-    let ok = within (o .offer) (v .values) in
-    rw ((c .guard-end) .ensures, (c .before .within) .ensures, (c .before .before .last-quantity) .ensures)
-    (sym (next s ((c .before .before .before .before .before .before .before .before .args) .e) (v .end) (v .values) (many 12 quantity) _ ((c .before .before .before .before .before .before .quantities-then) .ensures)
-    ∙ next s (v .end) (o .end) (o .offer) (listFrom 1) _ ((c .before .before .before .before .before .list-then) .ensures .value)
-    ∙ test s (o .end) ok 7 _
-    ∙ last s (guarded (o .end) ok 7) _))
+    let ok = within (o .offer) (v .values) in (
+      rw ((c .guard-end) .ensures, (c .before .within) .ensures, (c .before .before .last-quantity) .ensures)
+          (sym (next s ((c .before .before .before .before .before .before .before .before .args) .e) (v .end) (v .values) (many 12 quantity) _ ((c .before .before .before .before .before .before .quantities-then) .ensures .0)
+          ∙ next s (v .end) (o .end) (o .offer) (listFrom 1) _ ((c .before .before .before .before .before .list-then) .ensures .value)
+          ∙ test s (o .end) ok 7 _
+          ∙ last s (guarded (o .end) ok 7) _)),
+      rw ((c .guard-end) .ensures) (guarded-in s (o .end) _ 7 ((c .before .before .before .before .before .list-then) .ensures .placed)),
+    )
 
 pub import-then-spec : {M : Type 1} → statement M
 import-then-spec =

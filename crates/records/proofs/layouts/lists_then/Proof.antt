@@ -53,6 +53,7 @@ returns c =
           ∙ next s (o3 .end) (o4 .end) (o4 .offer) (listFrom (fewest ((c .before .before .before .before .before .before .before .before .before .before .before .before .before .before .args) .s2))) _ ((c .before .before .before .before .before .before .before .list-then4) .ensures .value ∙ ap (λ n. then s (o3 .end) (listFrom n)) ((c .before .before .before .before .before .before .before .before .fewest-of2) .ensures))
           ∙ next s (o4 .end) (o5 .end) (o5 .offer) (listFrom (fewest ((c .before .before .before .before .before .before .before .before .before .before .before .before .before .before .args) .s3))) _ ((c .before .before .before .before .before .list-then5) .ensures .value ∙ ap (λ n. then s (o4 .end) (listFrom n)) ((c .before .before .before .before .before .before .fewest-of3) .ensures))
           ∙ last s (o5 .end) _);
+      placed = (c .before .before .before .before .before .list-then5) .ensures .placed;
       few = ((c .before .before .before .before .before .before .before .before .before .before .before .before .list-then) .ensures .few, (c .before .before .before .before .before .before .before .before .before .before .before .list-then2) .ensures .few, (c .before .before .before .before .before .before .before .before .before .list-then3) .ensures .few, (c .before .before .before .before .before .before .before .list-then4) .ensures .few, (c .before .before .before .before .before .list-then5) .ensures .few);
     }
 

@@ -23,10 +23,12 @@ unfolding reserveRows
 returns c =
     let s = (c .before .before .before .before .before .args) .s .now in
     let p = (c .before .before .before .prices-then) .result in
-    let q = (c .before .before .quantities-then) .result in
-    sym (next s ((c .before .before .before .before .before .args) .e) (p .end) (p .values) (many 12 price) _ ((c .before .before .before .prices-then) .ensures)
-    ∙ next s (p .end) (q .end) (q .values) (many 12 quantity) _ ((c .before .before .quantities-then) .ensures)
-    ∙ last s (q .end) _)
+    let q = (c .before .before .quantities-then) .result in (
+      sym (next s ((c .before .before .before .before .before .args) .e) (p .end) (p .values) (many 12 price) _ ((c .before .before .before .prices-then) .ensures .0)
+          ∙ next s (p .end) (q .end) (q .values) (many 12 quantity) _ ((c .before .before .quantities-then) .ensures .0)
+          ∙ last s (q .end) _),
+      (c .before .before .quantities-then) .ensures .1,
+    )
 
 pub reserve-rows-then-spec : {M : Type 1} → statement M
 reserve-rows-then-spec = tie.close (tie.spec prices-then-requires quantities-then-requires returns)

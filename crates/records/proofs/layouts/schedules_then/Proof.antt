@@ -43,15 +43,17 @@ returns c =
     let v3 = (c .before .before .before .before .before .before .before .before .quantities-then2) .result in
     let v4 = (c .before .before .before .before .before .before .before .quantities-then3) .result in
     let v5 = (c .before .before .before .before .before .before .quantities-then4) .result in
-    let v6 = (c .before .before .before .before .before .quantities-then5) .result in
-    sym (next s ((c .before .before .before .before .before .before .before .before .before .before .before .before .before .args) .e) (a .end) (a .value) amount _ ((c .before .before .before .before .before .before .before .before .before .before .before .amount-then) .ensures)
-    ∙ next s (a .end) (b .end) (b .value) amount _ ((c .before .before .before .before .before .before .before .before .before .before .amount-then2) .ensures)
-    ∙ next s (b .end) (v2 .end) (v2 .values) (many 12 quantity) _ ((c .before .before .before .before .before .before .before .before .before .quantities-then) .ensures)
-    ∙ next s (v2 .end) (v3 .end) (v3 .values) (many 12 quantity) _ ((c .before .before .before .before .before .before .before .before .quantities-then2) .ensures)
-    ∙ next s (v3 .end) (v4 .end) (v4 .values) (many 12 quantity) _ ((c .before .before .before .before .before .before .before .quantities-then3) .ensures)
-    ∙ next s (v4 .end) (v5 .end) (v5 .values) (many 12 quantity) _ ((c .before .before .before .before .before .before .quantities-then4) .ensures)
-    ∙ next s (v5 .end) (v6 .end) (v6 .values) (many 12 quantity) _ ((c .before .before .before .before .before .quantities-then5) .ensures)
-    ∙ last s (v6 .end) _)
+    let v6 = (c .before .before .before .before .before .quantities-then5) .result in (
+      sym (next s ((c .before .before .before .before .before .before .before .before .before .before .before .before .before .args) .e) (a .end) (a .value) amount _ ((c .before .before .before .before .before .before .before .before .before .before .before .amount-then) .ensures .0)
+          ∙ next s (a .end) (b .end) (b .value) amount _ ((c .before .before .before .before .before .before .before .before .before .before .amount-then2) .ensures .0)
+          ∙ next s (b .end) (v2 .end) (v2 .values) (many 12 quantity) _ ((c .before .before .before .before .before .before .before .before .before .quantities-then) .ensures .0)
+          ∙ next s (v2 .end) (v3 .end) (v3 .values) (many 12 quantity) _ ((c .before .before .before .before .before .before .before .before .quantities-then2) .ensures .0)
+          ∙ next s (v3 .end) (v4 .end) (v4 .values) (many 12 quantity) _ ((c .before .before .before .before .before .before .before .quantities-then3) .ensures .0)
+          ∙ next s (v4 .end) (v5 .end) (v5 .values) (many 12 quantity) _ ((c .before .before .before .before .before .before .quantities-then4) .ensures .0)
+          ∙ next s (v5 .end) (v6 .end) (v6 .values) (many 12 quantity) _ ((c .before .before .before .before .before .quantities-then5) .ensures .0)
+          ∙ last s (v6 .end) _),
+      (c .before .before .before .before .before .quantities-then5) .ensures .1,
+    )
 
 pub schedules-then-spec : {M : Type 1} → statement M
 schedules-then-spec =

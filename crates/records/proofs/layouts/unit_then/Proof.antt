@@ -1,7 +1,7 @@
 use mathlib.Core.Path.{_≡_, sym, _∙_}
 use Rattle.records.specs.Layouts.{unit, schedules, reserveRows, lists, allWithin}
 use Rattle.records.specs.Inner.{guarded}
-use Rattle.records.proofs.Step.{next, test, last}
+use Rattle.records.proofs.Step.{next, test, last, guarded-in}
 use native.Mathlib.Omega.{arith}
 use borrow.Author.Needs.{needs}
 use Rattle.records.proofs.layouts.unit_then.Statement.{statement}
@@ -61,15 +61,17 @@ returns c =
     let s1 = v1 .rows .schedules in
     let s2 = v2 .rows .schedules in
     let s3 = v3 .rows .schedules in
-    let ok = allWithin (k .lists) (h .schedules .ahead) s1 s2 s3 in
-    rw ((c .unit-of) .ensures, (c .before .before .before .reserve) .ensures, (c .before .before .reserve2) .ensures, (c .before .reserve3) .ensures, (c .before .before .before .before .before .before .before .before .before .guard-end) .ensures, (c .before .before .before .before .before .before .before .before .before .before .all-inside) .ensures)
-    (sym (next s ((c .before .before .before .before .before .before .before .before .before .before .before .before .before .before .before .before .before .before .before .before .before .before .before .before .before .before .args) .e) (h .end) (h .schedules) schedules _ ((c .before .before .before .before .before .before .before .before .before .before .before .before .before .before .before .before .before .before .before .before .before .before .before .before .schedules-then) .ensures)
-    ∙ next s (h .end) (v1 .end) (v1 .rows) reserveRows _ ((c .before .before .before .before .before .before .before .before .before .before .before .before .before .before .before .before .before .before .before .before .before .before .before .reserve-rows-then) .ensures)
-    ∙ next s (v1 .end) (v2 .end) (v2 .rows) reserveRows _ ((c .before .before .before .before .before .before .before .before .before .before .before .before .before .before .before .before .before .before .before .before .before .before .reserve-rows-then2) .ensures)
-    ∙ next s (v2 .end) (v3 .end) (v3 .rows) reserveRows _ ((c .before .before .before .before .before .before .before .before .before .before .before .before .before .before .before .before .before .before .before .before .before .reserve-rows-then3) .ensures)
-    ∙ next s (v3 .end) (k .end) (k .lists) (lists s1 s2 s3) _ ((c .before .before .before .before .before .before .before .before .before .before .before .before .lists-then) .ensures .value)
-    ∙ test s (k .end) ok 7 _
-    ∙ last s (guarded (k .end) ok 7) _))
+    let ok = allWithin (k .lists) (h .schedules .ahead) s1 s2 s3 in (
+      rw ((c .unit-of) .ensures, (c .before .before .before .reserve) .ensures, (c .before .before .reserve2) .ensures, (c .before .reserve3) .ensures, (c .before .before .before .before .before .before .before .before .before .guard-end) .ensures, (c .before .before .before .before .before .before .before .before .before .before .all-inside) .ensures)
+          (sym (next s ((c .before .before .before .before .before .before .before .before .before .before .before .before .before .before .before .before .before .before .before .before .before .before .before .before .before .before .args) .e) (h .end) (h .schedules) schedules _ ((c .before .before .before .before .before .before .before .before .before .before .before .before .before .before .before .before .before .before .before .before .before .before .before .before .schedules-then) .ensures .0)
+          ∙ next s (h .end) (v1 .end) (v1 .rows) reserveRows _ ((c .before .before .before .before .before .before .before .before .before .before .before .before .before .before .before .before .before .before .before .before .before .before .before .reserve-rows-then) .ensures .0)
+          ∙ next s (v1 .end) (v2 .end) (v2 .rows) reserveRows _ ((c .before .before .before .before .before .before .before .before .before .before .before .before .before .before .before .before .before .before .before .before .before .before .reserve-rows-then2) .ensures .0)
+          ∙ next s (v2 .end) (v3 .end) (v3 .rows) reserveRows _ ((c .before .before .before .before .before .before .before .before .before .before .before .before .before .before .before .before .before .before .before .before .before .reserve-rows-then3) .ensures .0)
+          ∙ next s (v3 .end) (k .end) (k .lists) (lists s1 s2 s3) _ ((c .before .before .before .before .before .before .before .before .before .before .before .before .lists-then) .ensures .value)
+          ∙ test s (k .end) ok 7 _
+          ∙ last s (guarded (k .end) ok 7) _)),
+      rw ((c .before .before .before .before .before .before .before .before .before .guard-end) .ensures) (guarded-in s (k .end) ((c .before .before .before .before .before .before .before .before .before .before .all-inside) .result) 7 ((c .before .before .before .before .before .before .before .before .before .before .before .before .lists-then) .ensures .placed)),
+    )
 
 pub unit-then-spec : {M : Type 1} → statement M
 unit-then-spec =

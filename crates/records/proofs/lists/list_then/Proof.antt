@@ -20,10 +20,10 @@ offer-no-requires : tie.Need-offer-no-requires
 offer-no-requires c κs = search needs
 
 returns : tie.Need-returns
-returns c = record { value = rw ((c .before .before .e) .given .1) ((c .read-list) .ensures .value); few = (c .read-list) .ensures .few }
+returns c = record { value = rw ((c .before .before .e) .given .1) ((c .read-list) .ensures .value); placed = (c .read-list) .ensures .placed; few = (c .read-list) .ensures .few }
 
 returns-2 : tie.Need-returns-2
-returns-2 c = record { value = rw ((c .offer-no) .ensures .0, (c .before .before .e2) .given .1); few = omega (arith, (c .offer-no) .ensures .1) }
+returns-2 c = record { value = rw ((c .offer-no) .ensures .0, (c .before .before .e2) .given .1); placed = rw ((c .offer-no) .ensures .0) tt; few = omega (arith, (c .offer-no) .ensures .1) }
 
 pub list-then-spec : {M : Type 1} → statement M
 list-then-spec =

@@ -22,20 +22,20 @@ offer-no-requires c κs = search needs
 
 returns : tie.Need-returns
 unfolding listFrom
-returns c = record { value = rw ((c .offer-no) .ensures .0, ← (c .before .before .before .before .before .read-byte) .ensures, (c .before .before .before .c) .given .1, lt-leb _ _ ((c .before .if1) .taken)); few = omega (arith, (c .offer-no) .ensures .1) }
+returns c = record { value = rw ((c .offer-no) .ensures .0, ← (c .before .before .before .before .before .read-byte) .ensures .0, (c .before .before .before .c) .given .1, lt-leb _ _ ((c .before .if1) .taken)); placed = rw ((c .offer-no) .ensures .0) tt; few = omega (arith, (c .offer-no) .ensures .1) }
 
 offer-no-requires-2 : tie.Need-offer-no-requires-2
 offer-no-requires-2 c κs = search needs
 
 returns-2 : tie.Need-returns-2
 unfolding listFrom
-returns-2 c = record { value = rw ((c .offer-no2) .ensures .0, ← (c .before .before .before .before .before .before .read-byte) .ensures, (c .before .before .before .before .c) .given .1, le-leb _ _ ((c .before .before .if1) .left), lt-leb _ _ ((c .before .if2) .taken)); few = omega (arith, (c .offer-no2) .ensures .1) }
+returns-2 c = record { value = rw ((c .offer-no2) .ensures .0, ← (c .before .before .before .before .before .before .read-byte) .ensures .0, (c .before .before .before .before .c) .given .1, le-leb _ _ ((c .before .before .if1) .left), lt-leb _ _ ((c .before .if2) .taken)); placed = rw ((c .offer-no2) .ensures .0) tt; few = omega (arith, (c .offer-no2) .ensures .1) }
 
 cast-read-pairs : tie.Need-cast-read-pairs
 cast-read-pairs c = search needs
 
 read-pairs-requires : tie.Need-read-pairs-requires
-read-pairs-requires c κs = search needs
+read-pairs-requires c κs = let h = (c .before .before .before .before .before .read-byte) .ensures .1 in (search needs, rw ((c .before .before .before .c) .given .1) at h)
 
 enum-known-e : tie.Need-enum-known-e
 enum-known-e c = search needs
@@ -60,19 +60,19 @@ offer-no-requires-5 c κs = search needs
 
 returns-3 : tie.Need-returns-3
 unfolding listFrom
-returns-3 c = record { value = rw (← (c .before .before .before .before .before .before .before .before .before .before .before .before .read-byte) .ensures, (c .before .before .before .before .before .before .before .before .before .before .c) .given .1, le-leb _ _ ((c .before .before .before .before .before .before .before .before .if1) .left), le-leb _ _ ((c .before .before .before .before .before .before .before .if2) .left), ← (c .before .before .before .before .before .before .read-pairs) .ensures .value, (c .before .before .before .before .e) .given .1, ← (c .before .list-ok) .ensures, (c .if3) .taken); few = (c .before .before .before .before .before .before .read-pairs) .ensures .few }
+returns-3 c = record { value = rw (← (c .before .before .before .before .before .before .before .before .before .before .before .before .read-byte) .ensures .0, (c .before .before .before .before .before .before .before .before .before .before .c) .given .1, le-leb _ _ ((c .before .before .before .before .before .before .before .before .if1) .left), le-leb _ _ ((c .before .before .before .before .before .before .before .if2) .left), ← (c .before .before .before .before .before .before .read-pairs) .ensures .value, (c .before .before .before .before .e) .given .1, ← (c .before .list-ok) .ensures, (c .if3) .taken); placed = (c .before .before .before .before .before .before .read-pairs) .ensures .placed; few = (c .before .before .before .before .before .before .read-pairs) .ensures .few }
 
 returns-4 : tie.Need-returns-4
 unfolding listFrom
-returns-4 c = record { value = rw ((c .offer-no3) .ensures .0, ← (c .before .before .before .before .before .before .before .before .before .before .before .before .before .read-byte) .ensures, (c .before .before .before .before .before .before .before .before .before .before .before .c) .given .1, le-leb _ _ ((c .before .before .before .before .before .before .before .before .before .if1) .left), le-leb _ _ ((c .before .before .before .before .before .before .before .before .if2) .left), ← (c .before .before .before .before .before .before .before .read-pairs) .ensures .value, (c .before .before .before .before .before .e) .given .1, ← (c .before .before .list-ok) .ensures, (c .before .if3) .left); few = omega (arith, (c .offer-no3) .ensures .1) }
+returns-4 c = record { value = rw ((c .offer-no3) .ensures .0, ← (c .before .before .before .before .before .before .before .before .before .before .before .before .before .read-byte) .ensures .0, (c .before .before .before .before .before .before .before .before .before .before .before .c) .given .1, le-leb _ _ ((c .before .before .before .before .before .before .before .before .before .if1) .left), le-leb _ _ ((c .before .before .before .before .before .before .before .before .if2) .left), ← (c .before .before .before .before .before .before .before .read-pairs) .ensures .value, (c .before .before .before .before .before .e) .given .1, ← (c .before .before .list-ok) .ensures, (c .before .if3) .left); placed = rw ((c .offer-no3) .ensures .0) tt; few = omega (arith, (c .offer-no3) .ensures .1) }
 
 returns-5 : tie.Need-returns-5
 unfolding listFrom
-returns-5 c = record { value = rw ((c .offer-no4) .ensures .0, ← (c .before .before .before .before .before .before .before .before .before .before .read-byte) .ensures, (c .before .before .before .before .before .before .before .before .c) .given .1, le-leb _ _ ((c .before .before .before .before .before .before .if1) .left), le-leb _ _ ((c .before .before .before .before .before .if2) .left), ← (c .before .before .before .before .read-pairs) .ensures .value, (c .before .before .e2) .given .1); few = omega (arith, (c .offer-no4) .ensures .1) }
+returns-5 c = record { value = rw ((c .offer-no4) .ensures .0, ← (c .before .before .before .before .before .before .before .before .before .before .read-byte) .ensures .0, (c .before .before .before .before .before .before .before .before .c) .given .1, le-leb _ _ ((c .before .before .before .before .before .before .if1) .left), le-leb _ _ ((c .before .before .before .before .before .if2) .left), ← (c .before .before .before .before .read-pairs) .ensures .value, (c .before .before .e2) .given .1); placed = rw ((c .offer-no4) .ensures .0) tt; few = omega (arith, (c .offer-no4) .ensures .1) }
 
 returns-6 : tie.Need-returns-6
 unfolding listFrom
-returns-6 c = record { value = rw ((c .offer-no5) .ensures .0, ← (c .before .before .before .before .read-byte) .ensures, (c .before .before .c2) .given .1); few = omega (arith, (c .offer-no5) .ensures .1) }
+returns-6 c = record { value = rw ((c .offer-no5) .ensures .0, ← (c .before .before .before .before .read-byte) .ensures .0, (c .before .before .c2) .given .1); placed = rw ((c .offer-no5) .ensures .0) tt; few = omega (arith, (c .offer-no5) .ensures .1) }
 
 pub read-list-spec : {M : Type 1} → statement M
 read-list-spec =

@@ -28,15 +28,17 @@ enum-known-p-2 c = search needs
 
 returns : tie.Need-returns
 unfolding pair
-returns c = rw (← (c .before .before .before .before .before .before .before .read-price) .ensures, (c .before .before .before .before .before .p) .given .1, ← (c .before .before .before .read-quantity) .ensures, (c .before .q) .given .1)
+returns c =
+    let h = (c .before .before .before .read-quantity) .ensures .1 in
+    (rw (← (c .before .before .before .before .before .before .before .read-price) .ensures .0, (c .before .before .before .before .before .p) .given .1, ← (c .before .before .before .read-quantity) .ensures .0, (c .before .q) .given .1), rw ((c .before .q) .given .1) at h)
 
 returns-2 : tie.Need-returns-2
 unfolding pair
-returns-2 c = rw (← (c .before .before .before .before .before .before .before .read-price) .ensures, (c .before .before .before .before .before .p) .given .1, ← (c .before .before .before .read-quantity) .ensures, (c .before .q2) .given .1)
+returns-2 c = (rw (← (c .before .before .before .before .before .before .before .read-price) .ensures .0, (c .before .before .before .before .before .p) .given .1, ← (c .before .before .before .read-quantity) .ensures .0, (c .before .q2) .given .1), tt)
 
 returns-3 : tie.Need-returns-3
 unfolding pair
-returns-3 c = rw (← (c .before .before .before .read-price) .ensures, (c .before .p2) .given .1)
+returns-3 c = (rw (← (c .before .before .before .read-price) .ensures .0, (c .before .p2) .given .1), tt)
 
 pub read-pair-spec : {M : Type 1} → statement M
 read-pair-spec =

@@ -16,13 +16,13 @@ use Rattle.records.proofs.lists.offer_no.Reads as offer-no-reads
 use Rattle.records.proofs.lists.read_pair.Reads as read-pair-reads
 
 abbrev Inv-loop : tie.InvT-loop
-Inv-loop s at n prices₀ quantities₀ next₀ i₀ prices quantities next i = (i ≤ n) × (length prices ≡ 20) × (length quantities ≡ 20) × (n ≤ 20) × Padded noPrice 20 prices i × Padded noQuantity 20 quantities i × Filled pair s n at (zip prices quantities) i next
+Inv-loop s at n prices₀ quantities₀ next₀ i₀ prices quantities next i = (i ≤ n) × (length prices ≡ 20) × (length quantities ≡ 20) × (n ≤ 20) × (next ≤ length s) × Padded noPrice 20 prices i × Padded noQuantity 20 quantities i × Filled pair s n at (zip prices quantities) i next
 
 abbrev μ-loop : tie.MeasureT-loop
 μ-loop s at n prices₀ quantities₀ next₀ i₀ prices quantities next i = n - i
 
 loop-holds : tie.Need-loop-holds Inv-loop μ-loop
-loop-holds c = (search needs, refl, refl, search needs, record { long = refl; behind = refl }, record { long = refl; behind = refl }, filled-none)
+loop-holds c = (search needs, refl, refl, search needs, search needs, record { long = refl; behind = refl }, record { long = refl; behind = refl }, filled-none)
 
 read-pair-requires : tie.Need-read-pair-requires Inv-loop μ-loop
 read-pair-requires c κs = search needs
@@ -50,14 +50,16 @@ loop-less c = search needs
 
 loop-again : tie.Need-loop-again Inv-loop μ-loop
 loop-again c =
-    let l = (c .before .before .before .before .before .loop) in (
+    let l = (c .before .before .before .before .before .loop) in
+    let h = (c .before .before .before .read-pair) .ensures .1 in (
       search needs,
       search needs,
       search needs,
       search needs,
-      padded-more _ (l .inv .4) (omega arith),
+      rw ((c .before .t) .given .1) at h,
       padded-more _ (l .inv .5) (omega arith),
-      rw (zip-set (l .prices) (l .quantities) (l .i)) (filled-more (l .inv .6) (search needs) (rw (length-zip (l .prices) (l .quantities) (omega arith)) (omega arith)) (sym ((c .before .before .before .read-pair) .ensures) ∙ ap (pairAt _) ((c .before .t) .given .1))),
+      padded-more _ (l .inv .6) (omega arith),
+      rw (zip-set (l .prices) (l .quantities) (l .i)) (filled-more (l .inv .7) (search needs) (rw (length-zip (l .prices) (l .quantities) (omega arith)) (omega arith)) (sym ((c .before .before .before .read-pair) .ensures .0) ∙ ap (pairAt _) ((c .before .t) .given .1))),
     )
 
 enum-known-t-2 : tie.Need-enum-known-t-2 Inv-loop μ-loop
@@ -67,13 +69,13 @@ offer-no-requires : tie.Need-offer-no-requires Inv-loop μ-loop
 offer-no-requires c κs = search needs
 
 returns : tie.Need-returns Inv-loop μ-loop
-returns c = record { value = rw ((c .offer-no) .ensures .0) (pairs-bad ((c .before .before .before .before .before .before .loop) .inv .6) (search needs) (sym ((c .before .before .before .before .read-pair) .ensures) ∙ ap (pairAt _) ((c .before .before .t2) .given .1))); few = omega (arith, (c .offer-no) .ensures .1) }
+returns c = record { value = rw ((c .offer-no) .ensures .0) (pairs-bad ((c .before .before .before .before .before .before .loop) .inv .7) (search needs) (sym ((c .before .before .before .before .read-pair) .ensures .0) ∙ ap (pairAt _) ((c .before .before .t2) .given .1))); placed = rw ((c .offer-no) .ensures .0) tt; few = omega (arith, (c .offer-no) .ensures .1) }
 
 cast-t22 : tie.Need-cast-t22 Inv-loop μ-loop
 cast-t22 c = search needs
 
 returns-2 : tie.Need-returns-2 Inv-loop μ-loop
-returns-2 c = record { value = pairs-all ((c .before .loop) .inv .6) (search needs) (search needs) (search needs) ((c .before .loop) .inv .4) ((c .before .loop) .inv .5); few = search needs }
+returns-2 c = record { value = pairs-all ((c .before .loop) .inv .7) (search needs) (search needs) (search needs) ((c .before .loop) .inv .5) ((c .before .loop) .inv .6); placed = (c .before .loop) .inv .4; few = search needs }
 
 pub read-pairs-spec : {M : Type 1} → statement M
 read-pairs-spec =

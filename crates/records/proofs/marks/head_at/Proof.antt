@@ -11,7 +11,7 @@ use Rattle.records.proofs.marks.inside_at.Reads as inside-at-reads
 use Rattle.records.proofs.marks.is.Reads as is-reads
 
 returns : tie.Need-returns
-returns c = head-short ((c .before .before .args) .want) ((c .before .before .args) .s .now) ((c .if1) .taken)
+returns c = (head-short ((c .before .before .args) .want) ((c .before .before .args) .s .now) ((c .if1) .taken), tt)
 
 shared-slice-read-a : tie.Need-shared-slice-read-a
 shared-slice-read-a c = search needs
@@ -26,7 +26,7 @@ inside-at-requires : tie.Need-inside-at-requires
 inside-at-requires c κs = search needs
 
 returns-2 : tie.Need-returns-2
-returns-2 c = (c .inside-at) .ensures ∙ head-is ((c .before .before .before .before .before .before .before .args) .want) ((c .before .before .before .before .before .before .before .args) .s .now) ((c .before .before .before .before .before .if1) .left) true _ (sym ((c .before .before .is) .ensures) ∙ (c .before .if2) .taken) refl
+returns-2 c = ((c .inside-at) .ensures .0 ∙ head-is ((c .before .before .before .before .before .before .before .args) .want) ((c .before .before .before .before .before .before .before .args) .s .now) ((c .before .before .before .before .before .if1) .left) true _ (sym ((c .before .before .is) .ensures) ∙ (c .before .if2) .taken) refl, (c .inside-at) .ensures .1)
 
 is-requires-2 : tie.Need-is-requires-2
 is-requires-2 c κs = search needs
@@ -35,13 +35,13 @@ inside-at-requires-2 : tie.Need-inside-at-requires-2
 inside-at-requires-2 c κs = search needs
 
 returns-3 : tie.Need-returns-3
-returns-3 c = (c .inside-at2) .ensures ∙ head-is ((c .before .before .before .before .before .before .before .before .before .args) .want) ((c .before .before .before .before .before .before .before .before .before .args) .s .now) ((c .before .before .before .before .before .before .before .if1) .left) false true (sym ((c .before .before .before .before .is) .ensures) ∙ (c .before .before .before .if2) .left) (sym ((c .before .before .is2) .ensures) ∙ (c .before .if3) .taken)
+returns-3 c = ((c .inside-at2) .ensures .0 ∙ head-is ((c .before .before .before .before .before .before .before .before .before .args) .want) ((c .before .before .before .before .before .before .before .before .before .args) .s .now) ((c .before .before .before .before .before .before .before .if1) .left) false true (sym ((c .before .before .before .before .is) .ensures) ∙ (c .before .before .before .if2) .left) (sym ((c .before .before .is2) .ensures) ∙ (c .before .if3) .taken), (c .inside-at2) .ensures .1)
 
 inside-at-requires-3 : tie.Need-inside-at-requires-3
 inside-at-requires-3 c κs = search needs
 
 returns-4 : tie.Need-returns-4
-returns-4 c = (c .inside-at3) .ensures ∙ head-is ((c .before .before .before .before .before .before .before .before .before .args) .want) ((c .before .before .before .before .before .before .before .before .before .args) .s .now) ((c .before .before .before .before .before .before .before .if1) .left) false false (sym ((c .before .before .before .before .is) .ensures) ∙ (c .before .before .before .if2) .left) (sym ((c .before .before .is2) .ensures) ∙ (c .before .if3) .left)
+returns-4 c = ((c .inside-at3) .ensures .0 ∙ head-is ((c .before .before .before .before .before .before .before .before .before .args) .want) ((c .before .before .before .before .before .before .before .before .before .args) .s .now) ((c .before .before .before .before .before .before .before .if1) .left) false false (sym ((c .before .before .before .before .is) .ensures) ∙ (c .before .before .before .if2) .left) (sym ((c .before .before .is2) .ensures) ∙ (c .before .if3) .left), (c .inside-at3) .ensures .1)
 
 pub head-at-spec : {M : Type 1} → statement M
 head-at-spec =

@@ -18,10 +18,10 @@ mark-at-requires : tie.Need-mark-at-requires
 mark-at-requires c κs = search needs
 
 returns : tie.Need-returns
-returns c = inside-is ((c .before .before .before .before .args) .s .now) ((c .mark-at) .result .end) ((c .mark-at) .result .mark) ((c .before .before .before .before .args) .want) ((c .before .before .before .before .args) .kind) _ ((c .mark-at) .ensures) (sym ((c .before .before .allowed) .ensures) ∙ (c .before .if1) .taken)
+returns c = (inside-is ((c .before .before .before .before .args) .s .now) ((c .mark-at) .result .end) ((c .mark-at) .result .mark) ((c .before .before .before .before .args) .want) ((c .before .before .before .before .args) .kind) _ ((c .mark-at) .ensures .0) (sym ((c .before .before .allowed) .ensures) ∙ (c .before .if1) .taken), (c .mark-at) .ensures .1)
 
 returns-2 : tie.Need-returns-2
-returns-2 c = inside-not ((c .before .before .before .args) .want) ((c .before .before .before .args) .kind) (mark (from ((c .before .before .before .args) .s .now) ((c .before .before .before .args) .at))) (sym ((c .before .allowed) .ensures) ∙ (c .if1) .left)
+returns-2 c = (inside-not ((c .before .before .before .args) .want) ((c .before .before .before .args) .kind) (mark (from ((c .before .before .before .args) .s .now) ((c .before .before .before .args) .at))) (sym ((c .before .allowed) .ensures) ∙ (c .if1) .left), tt)
 
 pub inside-at-spec : {M : Type 1} → statement M
 inside-at-spec = tie.close (tie.spec allowed-requires mark-at-requires returns returns-2)

@@ -17,7 +17,7 @@ use Rattle.records.proofs.names.name_no.Reads as name-no-reads
 use Rattle.records.proofs.names.one_at.Reads as one-at-reads
 
 abbrev Inv-loop : tie.InvT-loop
-Inv-loop spelled bytes₀ n₀ at₀ bytes n at = (n ≤ 12) × (length bytes ≡ 12) × Spelled spelled 12 0 bytes n at × Padded 0 12 bytes n
+Inv-loop spelled bytes₀ n₀ at₀ bytes n at = (n ≤ 12) × (length bytes ≡ 12) × (at ≤ length spelled) × Spelled spelled 12 0 bytes n at × Padded 0 12 bytes n
 
 abbrev μ-loop : tie.MeasureT-loop
 μ-loop spelled bytes₀ n₀ at₀ bytes n at = 12 - n
@@ -27,24 +27,24 @@ name-no-requires c κs = search needs
 
 returns : tie.Need-returns Inv-loop μ-loop
 unfolding decodeName
-returns c = record { value = rw ((c .name-no) .ensures .0, lt-leb _ _ ((c .before .if1) .taken)); few = omega (arith, (c .name-no) .ensures .1) }
+returns c = record { value = rw ((c .name-no) .ensures .0, lt-leb _ _ ((c .before .if1) .taken)); placed = rw ((c .name-no) .ensures .0) tt; few = omega (arith, (c .name-no) .ensures .1) }
 
 name-no-requires-2 : tie.Need-name-no-requires-2 Inv-loop μ-loop
 name-no-requires-2 c κs = search needs
 
 returns-2 : tie.Need-returns-2 Inv-loop μ-loop
 unfolding decodeName
-returns-2 c = record { value = rw ((c .name-no2) .ensures .0, le-leb _ _ ((c .before .before .if1) .left), lt-leb _ _ ((c .before .if2) .taken)); few = omega (arith, (c .name-no2) .ensures .1) }
+returns-2 c = record { value = rw ((c .name-no2) .ensures .0, le-leb _ _ ((c .before .before .if1) .left), lt-leb _ _ ((c .before .if2) .taken)); placed = rw ((c .name-no2) .ensures .0) tt; few = omega (arith, (c .name-no2) .ensures .1) }
 
 loop-holds : tie.Need-loop-holds Inv-loop μ-loop
-loop-holds c = (search needs, refl, spelled-none, record { long = refl; behind = refl })
+loop-holds c = (search needs, refl, search needs, spelled-none, record { long = refl; behind = refl })
 
 name-no-requires-3 : tie.Need-name-no-requires-3 Inv-loop μ-loop
 name-no-requires-3 c κs = search needs
 
 returns-3 : tie.Need-returns-3 Inv-loop μ-loop
 unfolding decodeName from
-returns-3 c = record { value = rw ((c .name-no3) .ensures .0, le-leb _ _ ((c .before .before .before .before .before .if1) .left), le-leb _ _ ((c .before .before .before .before .if2) .left)) (ap held (spelled-full ((c .before .before .before .loop) .inv .2) ((c .before .before .loop-test) .taken) ((c .before .if3) .taken))); few = omega (arith, (c .name-no3) .ensures .1) }
+returns-3 c = record { value = rw ((c .name-no3) .ensures .0, le-leb _ _ ((c .before .before .before .before .before .if1) .left), le-leb _ _ ((c .before .before .before .before .if2) .left)) (ap held (spelled-full ((c .before .before .before .loop) .inv .3) ((c .before .before .loop-test) .taken) ((c .before .if3) .taken))); placed = rw ((c .name-no3) .ensures .0) tt; few = omega (arith, (c .name-no3) .ensures .1) }
 
 one-at-requires : tie.Need-one-at-requires Inv-loop μ-loop
 one-at-requires c κs = search needs
@@ -62,7 +62,9 @@ loop-less : tie.Need-loop-less Inv-loop μ-loop
 loop-less c = search needs
 
 loop-again : tie.Need-loop-again Inv-loop μ-loop
-loop-again c = (search needs, search needs, spelled-more ((c .before .before .before .before .before .before .loop) .inv .2) ((c .before .before .before .before .before .loop-test) .taken) ((c .before .before .before .before .if3) .left) (omega arith) (sym ((c .before .before .before .one-at) .ensures) ∙ ap (chr _) ((c .before .b) .given .1)), padded-more _ ((c .before .before .before .before .before .before .loop) .inv .3) (omega arith))
+loop-again c =
+    let h = (c .before .before .before .one-at) .ensures .1 in
+    (search needs, search needs, rw ((c .before .b) .given .1) at h, spelled-more ((c .before .before .before .before .before .before .loop) .inv .3) ((c .before .before .before .before .before .loop-test) .taken) ((c .before .before .before .before .if3) .left) (omega arith) (sym ((c .before .before .before .one-at) .ensures .0) ∙ ap (chr _) ((c .before .b) .given .1)), padded-more _ ((c .before .before .before .before .before .before .loop) .inv .4) (omega arith))
 
 enum-known-b-2 : tie.Need-enum-known-b-2 Inv-loop μ-loop
 enum-known-b-2 c = search needs
@@ -72,14 +74,14 @@ name-no-requires-4 c κs = search needs
 
 returns-4 : tie.Need-returns-4 Inv-loop μ-loop
 unfolding decodeName from
-returns-4 c = record { value = rw ((c .name-no4) .ensures .0, le-leb _ _ ((c .before .before .before .before .before .before .before .before .before .if1) .left), le-leb _ _ ((c .before .before .before .before .before .before .before .before .if2) .left)) (ap held (spelled-bad ((c .before .before .before .before .before .before .before .loop) .inv .2) ((c .before .before .before .before .before .before .loop-test) .taken) ((c .before .before .before .before .before .if3) .left) (sym ((c .before .before .before .before .one-at) .ensures) ∙ ap (chr _) ((c .before .before .b2) .given .1)))); few = omega (arith, (c .name-no4) .ensures .1) }
+returns-4 c = record { value = rw ((c .name-no4) .ensures .0, le-leb _ _ ((c .before .before .before .before .before .before .before .before .before .if1) .left), le-leb _ _ ((c .before .before .before .before .before .before .before .before .if2) .left)) (ap held (spelled-bad ((c .before .before .before .before .before .before .before .loop) .inv .3) ((c .before .before .before .before .before .before .loop-test) .taken) ((c .before .before .before .before .before .if3) .left) (sym ((c .before .before .before .before .one-at) .ensures .0) ∙ ap (chr _) ((c .before .before .b2) .given .1)))); placed = rw ((c .name-no4) .ensures .0) tt; few = omega (arith, (c .name-no4) .ensures .1) }
 
 cast-t16 : tie.Need-cast-t16 Inv-loop μ-loop
 cast-t16 c = search needs
 
 returns-5 : tie.Need-returns-5 Inv-loop μ-loop
 unfolding decodeName from
-returns-5 c = record { value = rw (le-leb _ _ ((c .before .before .before .if1) .left), le-leb _ _ ((c .before .before .if2) .left)) (name-all ((c .before .loop) .inv .2) ((c .before .loop) .inv .0) ((c .before .loop) .inv .3) ((c .loop-test) .left)); few = (c .before .loop) .inv .0 }
+returns-5 c = record { value = rw (le-leb _ _ ((c .before .before .before .if1) .left), le-leb _ _ ((c .before .before .if2) .left)) (name-all ((c .before .loop) .inv .3) ((c .before .loop) .inv .0) ((c .before .loop) .inv .4) ((c .loop-test) .left)); placed = (c .before .loop) .inv .2; few = (c .before .loop) .inv .0 }
 
 pub decode-spec : {M : Type 1} → statement M
 decode-spec =

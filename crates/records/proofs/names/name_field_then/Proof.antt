@@ -20,10 +20,10 @@ name-no-requires : tie.Need-name-no-requires
 name-no-requires c κs = search needs
 
 returns : tie.Need-returns
-returns c = record { value = rw ((c .before .before .e) .given .1) ((c .read-name) .ensures .value); few = (c .read-name) .ensures .few }
+returns c = record { value = rw ((c .before .before .e) .given .1) ((c .read-name) .ensures .value); placed = (c .read-name) .ensures .placed; few = (c .read-name) .ensures .few }
 
 returns-2 : tie.Need-returns-2
-returns-2 c = record { value = rw ((c .name-no) .ensures .0, (c .before .before .e2) .given .1); few = omega (arith, (c .name-no) .ensures .1) }
+returns-2 c = record { value = rw ((c .name-no) .ensures .0, (c .before .before .e2) .given .1); placed = rw ((c .name-no) .ensures .0) tt; few = omega (arith, (c .name-no) .ensures .1) }
 
 pub name-field-then-spec : {M : Type 1} → statement M
 name-field-then-spec =

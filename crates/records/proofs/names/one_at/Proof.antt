@@ -22,7 +22,7 @@ escaped-at-requires c κs = search needs
 
 returns : tie.Need-returns
 unfolding one
-returns c = let a = c .before .before .before .before .args in rw (at-next (a .s .now) (a .at) (omega arith), eq-eqb _ _ (c .before .if1 .taken)) (c .escaped-at .ensures)
+returns c = let a = c .before .before .before .before .args in (rw (at-next (a .s .now) (a .at) (omega arith), eq-eqb _ _ (c .before .if1 .taken)) (c .escaped-at .ensures .0), c .escaped-at .ensures .1)
 
 visible-requires : tie.Need-visible-requires
 visible-requires c κs = search needs
@@ -32,11 +32,11 @@ add-t10 c = search needs
 
 returns-2 : tie.Need-returns-2
 unfolding one
-returns-2 c = let a = c .before .before .before .before .before .args in rw (at-next (a .s .now) (a .at) (omega arith), ne-eqb _ _ (c .before .before .if1 .left), ← c .before .visible .ensures, c .if2 .taken)
+returns-2 c = let a = c .before .before .before .before .before .args in (rw (at-next (a .s .now) (a .at) (omega arith), ne-eqb _ _ (c .before .before .if1 .left), ← c .before .visible .ensures, c .if2 .taken), search needs)
 
 returns-3 : tie.Need-returns-3
 unfolding one
-returns-3 c = let a = c .before .before .before .before .before .args in rw (at-next (a .s .now) (a .at) (omega arith), ne-eqb _ _ (c .before .before .if1 .left), ← c .before .visible .ensures, c .if2 .left)
+returns-3 c = let a = c .before .before .before .before .before .args in (rw (at-next (a .s .now) (a .at) (omega arith), ne-eqb _ _ (c .before .before .if1 .left), ← c .before .visible .ensures, c .if2 .left), tt)
 
 pub one-at-spec : {M : Type 1} → statement M
 one-at-spec =

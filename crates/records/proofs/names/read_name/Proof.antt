@@ -16,7 +16,6 @@ use Rattle.records.proofs.names.read_name.Lts as lts
 use Rattle.records.proofs.fields.read_byte.Reads as read-byte-reads
 use Rattle.records.proofs.names.decode.Reads as decode-reads
 use Rattle.records.proofs.names.name_no.Reads as name-no-reads
-use Rattle.records.proofs.names.cut_short.Reads as cut-short-reads
 
 read-byte-requires : tie.Need-read-byte-requires
 read-byte-requires c κs = search needs
@@ -29,34 +28,27 @@ name-no-requires c κs = search needs
 
 returns : tie.Need-returns
 unfolding nameField
-returns c = record { value = rw ((c .name-no) .ensures .0, ← (c .before .before .before .before .before .read-byte) .ensures, (c .before .before .before .c) .given .1, lt-leb _ _ ((c .before .if1) .taken)); few = omega (arith, (c .name-no) .ensures .1) }
+returns c = record { value = rw ((c .name-no) .ensures .0, ← (c .before .before .before .before .before .read-byte) .ensures .0, (c .before .before .before .c) .given .1, lt-leb _ _ ((c .before .if1) .taken)); placed = rw ((c .name-no) .ensures .0) tt; few = omega (arith, (c .name-no) .ensures .1) }
 
 name-no-requires-2 : tie.Need-name-no-requires-2
 name-no-requires-2 c κs = search needs
 
 returns-2 : tie.Need-returns-2
 unfolding nameField
-returns-2 c = record { value = rw ((c .name-no2) .ensures .0, ← (c .before .before .before .before .before .before .read-byte) .ensures, (c .before .before .before .before .c) .given .1, le-leb _ _ ((c .before .before .if1) .left), lt-leb _ _ ((c .before .if2) .taken)); few = omega (arith, (c .name-no2) .ensures .1) }
+returns-2 c = record { value = rw ((c .name-no2) .ensures .0, ← (c .before .before .before .before .before .before .read-byte) .ensures .0, (c .before .before .before .before .c) .given .1, le-leb _ _ ((c .before .before .if1) .left), lt-leb _ _ ((c .before .if2) .taken)); placed = rw ((c .name-no2) .ensures .0) tt; few = omega (arith, (c .name-no2) .ensures .1) }
 
 cast-k : tie.Need-cast-k
 cast-k c = search needs
 
-cut-short-requires : tie.Need-cut-short-requires
-cut-short-requires c κs = search needs
+sub-if3 : tie.Need-sub-if3
+sub-if3 c = let h = (c .before .before .before .before .before .read-byte) .ensures .1 in rw ((c .before .before .before .c) .given .1) at h
+
+name-no-requires-3 : tie.Need-name-no-requires-3
+name-no-requires-3 c κs = search needs
 
 returns-3 : tie.Need-returns-3
 unfolding nameField
-returns-3 c = record { value = rw ((c .cut-short) .ensures .0, ← (c .before .before .before .before .before .before .before .read-byte) .ensures, (c .before .before .before .before .before .c) .given .1, le-leb _ _ ((c .before .before .before .if1) .left), le-leb _ _ ((c .before .before .if2) .left), some-short ((c .before .before .before .before .before .before .before .before .before .args) .s .now) ((c .before .before .before .before .before .c) .given .0 .1 .0) ((c .before .before .before .before .before .c) .given .0 .0) (omega arith)); few = omega (arith, (c .cut-short) .ensures .1) }
-
-sub-if4 : tie.Need-sub-if4
-sub-if4 c = search needs
-
-cut-short-requires-2 : tie.Need-cut-short-requires-2
-cut-short-requires-2 c κs = search needs
-
-returns-4 : tie.Need-returns-4
-unfolding nameField
-returns-4 c = record { value = rw ((c .cut-short2) .ensures .0, ← (c .before .before .before .before .before .before .before .before .read-byte) .ensures, (c .before .before .before .before .before .before .c) .given .1, le-leb _ _ ((c .before .before .before .before .if1) .left), le-leb _ _ ((c .before .before .before .if2) .left), some-short ((c .before .before .before .before .before .before .before .before .before .before .args) .s .now) ((c .before .before .before .before .before .before .c) .given .0 .1 .0) ((c .before .before .before .before .before .before .c) .given .0 .0) ((c .before .if4) .taken)); few = omega (arith, (c .cut-short2) .ensures .1) }
+returns-3 c = record { value = rw ((c .name-no3) .ensures .0, ← (c .before .before .before .before .before .before .before .read-byte) .ensures .0, (c .before .before .before .before .before .c) .given .1, le-leb _ _ ((c .before .before .before .if1) .left), le-leb _ _ ((c .before .before .if2) .left), some-short ((c .before .before .before .before .before .before .before .before .before .args) .s .now) ((c .before .before .before .before .before .c) .given .0 .1 .0) ((c .before .before .before .before .before .c) .given .0 .0) ((c .before .if3) .taken)); placed = rw ((c .name-no3) .ensures .0) tt; few = omega (arith, (c .name-no3) .ensures .1) }
 
 add-decode : tie.Need-add-decode
 add-decode c = search needs
@@ -82,14 +74,29 @@ add-t21 c = search needs
 enum-known-e-2 : tie.Need-enum-known-e-2
 enum-known-e-2 c = search needs
 
-name-no-requires-3 : tie.Need-name-no-requires-3
-name-no-requires-3 c κs = search needs
+name-no-requires-4 : tie.Need-name-no-requires-4
+name-no-requires-4 c κs = search needs
 
 enum-known-c-2 : tie.Need-enum-known-c-2
 enum-known-c-2 c = search needs
 
-name-no-requires-4 : tie.Need-name-no-requires-4
-name-no-requires-4 c κs = search needs
+name-no-requires-5 : tie.Need-name-no-requires-5
+name-no-requires-5 c κs = search needs
+
+returns-4 : tie.Need-returns-4
+unfolding nameField
+returns-4 c =
+    let s = (c .before .before .before .before .before .before .before .before .before .before .before .before .before .before .args) .s .now in
+    let first = (c .before .before .before .before .before .before .before .before .before .before .c) .given .0 .1 .0 in
+    let k = (c .before .before .before .before .before .before .before .before .before .before .c) .given .0 .0 in
+    let part = take (first + k - first) (drop first s) in
+    record {
+      value =
+          rw (← (c .before .before .before .before .before .before .before .before .before .before .before .before .read-byte) .ensures .0, (c .before .before .before .before .before .before .before .before .before .before .c) .given .1, le-leb _ _ ((c .before .before .before .before .before .before .before .before .if1) .left), le-leb _ _ ((c .before .before .before .before .before .before .before .if2) .left), some-at s first k ((c .before .before .before .before .before .before .if3) .left))
+          (held-got (decodeName part) ((c .before .before .before .before .decode) .result .name) (from part ((c .before .e) .given .0 .0)) _ (sym (ap (λ d. shown part d ((c .before .before .before .before .decode) .result .name)) ((c .before .e) .given .1)) ∙ (c .before .before .before .before .decode) .ensures .value));
+      placed = search needs;
+      few = (c .before .before .before .before .decode) .ensures .few;
+    }
 
 returns-5 : tie.Need-returns-5
 unfolding nameField
@@ -100,28 +107,15 @@ returns-5 c =
     let part = take (first + k - first) (drop first s) in
     record {
       value =
-          rw (← (c .before .before .before .before .before .before .before .before .before .before .before .before .before .read-byte) .ensures, (c .before .before .before .before .before .before .before .before .before .before .before .c) .given .1, le-leb _ _ ((c .before .before .before .before .before .before .before .before .before .if1) .left), le-leb _ _ ((c .before .before .before .before .before .before .before .before .if2) .left), some-at s first k ((c .before .before .before .before .before .before .if4) .left))
-          (held-got (decodeName part) ((c .before .before .before .before .decode) .result .name) (from part ((c .before .e) .given .0 .0)) _ (sym (ap (λ d. shown part d ((c .before .before .before .before .decode) .result .name)) ((c .before .e) .given .1)) ∙ (c .before .before .before .before .decode) .ensures .value));
-      few = (c .before .before .before .before .decode) .ensures .few;
+          rw ((c .name-no4) .ensures .0, ← (c .before .before .before .before .before .before .before .before .before .before .before .before .before .read-byte) .ensures .0, (c .before .before .before .before .before .before .before .before .before .before .before .c) .given .1, le-leb _ _ ((c .before .before .before .before .before .before .before .before .before .if1) .left), le-leb _ _ ((c .before .before .before .before .before .before .before .before .if2) .left), some-at s first k ((c .before .before .before .before .before .before .before .if3) .left))
+          (held-bad (decodeName part) ((c .before .before .e2) .given .0 .0) _ (sym (ap (λ d. shown part d ((c .before .before .before .before .before .decode) .result .name)) ((c .before .before .e2) .given .1)) ∙ (c .before .before .before .before .before .decode) .ensures .value));
+      placed = rw ((c .name-no4) .ensures .0) tt;
+      few = omega (arith, (c .name-no4) .ensures .1);
     }
 
 returns-6 : tie.Need-returns-6
 unfolding nameField
-returns-6 c =
-    let s = (c .before .before .before .before .before .before .before .before .before .before .before .before .before .before .before .before .args) .s .now in
-    let first = (c .before .before .before .before .before .before .before .before .before .before .before .before .c) .given .0 .1 .0 in
-    let k = (c .before .before .before .before .before .before .before .before .before .before .before .before .c) .given .0 .0 in
-    let part = take (first + k - first) (drop first s) in
-    record {
-      value =
-          rw ((c .name-no3) .ensures .0, ← (c .before .before .before .before .before .before .before .before .before .before .before .before .before .before .read-byte) .ensures, (c .before .before .before .before .before .before .before .before .before .before .before .before .c) .given .1, le-leb _ _ ((c .before .before .before .before .before .before .before .before .before .before .if1) .left), le-leb _ _ ((c .before .before .before .before .before .before .before .before .before .if2) .left), some-at s first k ((c .before .before .before .before .before .before .before .if4) .left))
-          (held-bad (decodeName part) ((c .before .before .e2) .given .0 .0) _ (sym (ap (λ d. shown part d ((c .before .before .before .before .before .decode) .result .name)) ((c .before .before .e2) .given .1)) ∙ (c .before .before .before .before .before .decode) .ensures .value));
-      few = omega (arith, (c .name-no3) .ensures .1);
-    }
-
-returns-7 : tie.Need-returns-7
-unfolding nameField
-returns-7 c = record { value = rw ((c .name-no4) .ensures .0, ← (c .before .before .before .before .read-byte) .ensures, (c .before .before .c2) .given .1); few = omega (arith, (c .name-no4) .ensures .1) }
+returns-6 c = record { value = rw ((c .name-no5) .ensures .0, ← (c .before .before .before .before .read-byte) .ensures .0, (c .before .before .c2) .given .1); placed = rw ((c .name-no5) .ensures .0) tt; few = omega (arith, (c .name-no5) .ensures .1) }
 
 pub read-name-spec : {M : Type 1} → statement M
 read-name-spec =
@@ -134,11 +128,9 @@ read-name-spec =
     name-no-requires-2
     returns-2
     cast-k
-    cut-short-requires
+    sub-if3
+    name-no-requires-3
     returns-3
-    sub-if4
-    cut-short-requires-2
-    returns-4
     add-decode
     sub-decode
     part-decode-start
@@ -147,9 +139,9 @@ read-name-spec =
     enum-known-e
     add-t21
     enum-known-e-2
-    name-no-requires-3
-    enum-known-c-2
     name-no-requires-4
+    enum-known-c-2
+    name-no-requires-5
+    returns-4
     returns-5
-    returns-6
-    returns-7)
+    returns-6)

@@ -24,10 +24,10 @@ enum-known-e-2 : tie.Need-enum-known-e-2
 enum-known-e-2 c = search needs
 
 returns : tie.Need-returns
-returns c = view-at ((c .before .before .before .before .before .before .before .args) .s .now) Ex export ((c .before .before .before .before .before .fields-at) .result) ((c .before .before .before .before .export-then) .result .end) ((c .before .before .before .before .export-then) .result .export) noExport ((c .before .before .before .before .before .fields-at) .ensures) ((c .before .before .before .before .export-then) .ensures) ((c .before .before .e) .given .0 .0) ((c .before .before .e) .given .1)
+returns c = view-at ((c .before .before .before .before .before .before .before .args) .s .now) Ex export ((c .before .before .before .before .before .fields-at) .result) ((c .before .before .before .before .export-then) .result .end) ((c .before .before .before .before .export-then) .result .export) noExport ((c .before .before .before .before .before .fields-at) .ensures .0) ((c .before .before .before .before .export-then) .ensures .0) ((c .before .before .e) .given .0 .0) ((c .before .before .e) .given .1)
 
 returns-2 : tie.Need-returns-2
-returns-2 c = view-no ((c .before .before .before .before .before .before .args) .s .now) Ex export ((c .before .before .before .before .fields-at) .result) ((c .before .before .before .export-then) .result .end) ((c .before .before .before .export-then) .result .export) noExport ((c .before .before .before .before .fields-at) .ensures) ((c .before .before .before .export-then) .ensures) ((c .before .e2) .given .0 .0) ((c .before .e2) .given .1)
+returns-2 c = view-no ((c .before .before .before .before .before .before .args) .s .now) Ex export ((c .before .before .before .before .fields-at) .result) ((c .before .before .before .export-then) .result .end) ((c .before .before .before .export-then) .result .export) noExport ((c .before .before .before .before .fields-at) .ensures .0) ((c .before .before .before .export-then) .ensures .0) ((c .before .e2) .given .0 .0) ((c .before .e2) .given .1)
 
 pub export-of-spec : {M : Type 1} → statement M
 export-of-spec =

@@ -31,7 +31,7 @@ hour-then-requires : tie.Need-hour-then-requires
 hour-then-requires c κs = search needs
 
 name-then-requires : tie.Need-name-then-requires
-name-then-requires c κs = search needs
+name-then-requires c κs = (c .hour-then) .ensures .1
 
 returns : tie.Need-returns
 unfolding ahead
@@ -41,12 +41,14 @@ returns c =
     let o = (c .before .hour-then) .result in
     let n = (c .name-then) .result in
     let ok = sameMark (h .mark) ((c .before .before .before .before .before .before .args) .mark) in
-    let g = (c .before .before .guard-end) .ensures ∙ ap (λ b. guarded (h .end) b 2) ((c .before .before .before .same-mark) .ensures) in
-    sym (first s (h .end) (record { kind = h .kind; mark = h .mark }) (head 1 s) _ ((c .before .before .before .before .head-at) .ensures)
-    ∙ test s (h .end) ok 2 _
-    ∙ next s (guarded (h .end) ok 2) (o .end) (o .hour) hour _ ((c .before .hour-then) .ensures ∙ ap (λ d. then s d hour) g)
-    ∙ next s (o .end) (n .end) (n .name) (nameFor File ((c .before .before .before .before .before .before .args) .mark)) _ ((c .name-then) .ensures .value)
-    ∙ last s (n .end) tt)
+    let g = (c .before .before .guard-end) .ensures ∙ ap (λ b. guarded (h .end) b 2) ((c .before .before .before .same-mark) .ensures) in (
+      sym (first s (h .end) (record { kind = h .kind; mark = h .mark }) (head 1 s) _ ((c .before .before .before .before .head-at) .ensures .0)
+          ∙ test s (h .end) ok 2 _
+          ∙ next s (guarded (h .end) ok 2) (o .end) (o .hour) hour _ ((c .before .hour-then) .ensures .0 ∙ ap (λ d. then s d hour) g)
+          ∙ next s (o .end) (n .end) (n .name) (nameFor File ((c .before .before .before .before .before .before .args) .mark)) _ ((c .name-then) .ensures .value)
+          ∙ last s (n .end) tt),
+      (c .name-then) .ensures .placed,
+    )
 
 pub fields-at-spec : {M : Type 1} → statement M
 fields-at-spec =

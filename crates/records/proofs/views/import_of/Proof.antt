@@ -28,10 +28,10 @@ no-offer-requires : tie.Need-no-offer-requires
 no-offer-requires c κs = search needs
 
 returns : tie.Need-returns
-returns c = view-at ((c .before .before .before .before .before .before .before .args) .s .now) Im import ((c .before .before .before .before .before .fields-at) .result) ((c .before .before .before .before .import-then) .result .end) ((c .before .before .before .before .import-then) .result .import) noImport ((c .before .before .before .before .before .fields-at) .ensures) ((c .before .before .before .before .import-then) .ensures) ((c .before .before .e) .given .0 .0) ((c .before .before .e) .given .1)
+returns c = view-at ((c .before .before .before .before .before .before .before .args) .s .now) Im import ((c .before .before .before .before .before .fields-at) .result) ((c .before .before .before .before .import-then) .result .end) ((c .before .before .before .before .import-then) .result .import) noImport ((c .before .before .before .before .before .fields-at) .ensures .0) ((c .before .before .before .before .import-then) .ensures .0) ((c .before .before .e) .given .0 .0) ((c .before .before .e) .given .1)
 
 returns-2 : tie.Need-returns-2
-returns-2 c = rw ((c .no-offer) .ensures) (view-no ((c .before .before .before .before .before .before .before .args) .s .now) Im import ((c .before .before .before .before .before .fields-at) .result) ((c .before .before .before .before .import-then) .result .end) ((c .before .before .before .before .import-then) .result .import) noImport ((c .before .before .before .before .before .fields-at) .ensures) ((c .before .before .before .before .import-then) .ensures) ((c .before .before .e2) .given .0 .0) ((c .before .before .e2) .given .1))
+returns-2 c = rw ((c .no-offer) .ensures) (view-no ((c .before .before .before .before .before .before .before .args) .s .now) Im import ((c .before .before .before .before .before .fields-at) .result) ((c .before .before .before .before .import-then) .result .end) ((c .before .before .before .before .import-then) .result .import) noImport ((c .before .before .before .before .before .fields-at) .ensures .0) ((c .before .before .before .before .import-then) .ensures .0) ((c .before .before .e2) .given .0 .0) ((c .before .before .e2) .given .1))
 
 pub import-of-spec : {M : Type 1} → statement M
 import-of-spec =

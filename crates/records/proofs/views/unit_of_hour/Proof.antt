@@ -29,10 +29,10 @@ no-unit-requires : tie.Need-no-unit-requires
 no-unit-requires c κs = search needs
 
 returns : tie.Need-returns
-returns c = view-at ((c .before .before .before .before .before .before .before .args) .s .now) Gh unit ((c .before .before .before .before .before .fields-at) .result) ((c .before .before .before .before .unit-then) .result .end) ((c .before .before .before .before .unit-then) .result .unit) noUnit ((c .before .before .before .before .before .fields-at) .ensures) ((c .before .before .before .before .unit-then) .ensures) ((c .before .before .e) .given .0 .0) ((c .before .before .e) .given .1)
+returns c = view-at ((c .before .before .before .before .before .before .before .args) .s .now) Gh unit ((c .before .before .before .before .before .fields-at) .result) ((c .before .before .before .before .unit-then) .result .end) ((c .before .before .before .before .unit-then) .result .unit) noUnit ((c .before .before .before .before .before .fields-at) .ensures .0) ((c .before .before .before .before .unit-then) .ensures .0) ((c .before .before .e) .given .0 .0) ((c .before .before .e) .given .1)
 
 returns-2 : tie.Need-returns-2
-returns-2 c = (c .no-unit) .ensures ∙ view-no ((c .before .before .before .before .before .before .before .args) .s .now) Gh unit ((c .before .before .before .before .before .fields-at) .result) ((c .before .before .before .before .unit-then) .result .end) ((c .before .before .before .before .unit-then) .result .unit) noUnit ((c .before .before .before .before .before .fields-at) .ensures) ((c .before .before .before .before .unit-then) .ensures) ((c .before .before .e2) .given .0 .0) ((c .before .before .e2) .given .1)
+returns-2 c = (c .no-unit) .ensures ∙ view-no ((c .before .before .before .before .before .before .before .args) .s .now) Gh unit ((c .before .before .before .before .before .fields-at) .result) ((c .before .before .before .before .unit-then) .result .end) ((c .before .before .before .before .unit-then) .result .unit) noUnit ((c .before .before .before .before .before .fields-at) .ensures .0) ((c .before .before .before .before .unit-then) .ensures .0) ((c .before .before .e2) .given .0 .0) ((c .before .before .e2) .given .1)
 
 pub unit-of-hour-spec : {M : Type 1} → statement M
 unit-of-hour-spec =
