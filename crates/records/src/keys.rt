@@ -23,7 +23,7 @@ ghost use Rattle.records.specs.Numbers.{between};
 ghost use Rattle.records.specs.Names.{decodeName, noOne, held};
 ghost use Rattle.records.specs.Changes.{noKey};
 ghost use Rattle.records.specs.Keys.{eqList, sameHour, same, askMark, askName, askFailureMark, askFrom, ask, askFailure, askHourOf, askHour, askUnit, keyAnswer, nameAnswer};
-ghost use Rattle.records.specs.Inner.{shown, Named};
+ghost use Rattle.records.specs.Inner.{shown, EndIn, Named};
 
 pub struct Key {
     pub mark: Mark,
@@ -86,7 +86,7 @@ pub fn same_key(a: Key, b: Key) -> bool
 // ---- the key of a question
 
 fn asked_mark(mark: &[u8]) -> MarkRead
-    ensures { λ r. ⌜ shown (now (mark .entry)) (r .end) (r .mark) ≡ askMark (now (mark .entry)) ⌝ }
+    ensures { λ r. ⌜ (shown (now (mark .entry)) (r .end) (r .mark) ≡ askMark (now (mark .entry))) × EndIn (now (mark .entry)) (r .end) ⌝ }
 {
     if mark.len() == 2 {
         return mark_at(mark, 0);
@@ -179,7 +179,7 @@ pub fn ask_key(mark: &[u8], hour: u8, name: &[u8]) -> KeyAnswer
 }
 
 fn asked_failure_mark(mark: &[u8]) -> MarkRead
-    ensures { λ r. ⌜ shown (now (mark .entry)) (r .end) (r .mark) ≡ askFailureMark (now (mark .entry)) ⌝ }
+    ensures { λ r. ⌜ (shown (now (mark .entry)) (r .end) (r .mark) ≡ askFailureMark (now (mark .entry))) × EndIn (now (mark .entry)) (r .end) ⌝ }
 {
     let m = asked_mark(mark);
     let e = m.end;

@@ -16,7 +16,7 @@ key-from-requires : tie.Need-key-from-requires
 key-from-requires c κs = search needs
 
 returns : tie.Need-returns
-returns c = (c .key-from) .ensures ((c .before .before .before .before .args) .mark .now) ∙ ap (λ x. keyAnswer (askFrom x ((c .before .before .before .before .args) .hour) ((c .before .before .before .before .args) .name .now))) ((c .before .asked-failure-mark) .ensures)
+returns c = (c .key-from) .ensures ((c .before .before .before .before .args) .mark .now) ∙ ap (λ x. keyAnswer (askFrom x ((c .before .before .before .before .args) .hour) ((c .before .before .before .before .args) .name .now))) ((c .before .asked-failure-mark) .ensures .0)
 
 pub ask-failure-spec : {M : Type 1} → statement M
 ask-failure-spec = tie.close (tie.spec asked-failure-mark-requires key-from-requires returns)

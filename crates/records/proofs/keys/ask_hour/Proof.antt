@@ -32,13 +32,13 @@ returns : tie.Need-returns
 returns c =
     let ms = (c .before .before .before .before .before .before .args) .mark .now in
     let m = (c .before .before .before .before .asked-mark) .result .mark in
-    (c .hour-key) .ensures ∙ sym (ap keyAnswer (hour-of ms ((c .before .before .before .before .before .before .args) .hour) m (from ms ((c .before .before .e) .given .0 .0)) (sym ((c .before .before .before .before .asked-mark) .ensures) ∙ ap (λ d. shown ms d m) ((c .before .before .e) .given .1))))
+    (c .hour-key) .ensures ∙ sym (ap keyAnswer (hour-of ms ((c .before .before .before .before .before .before .args) .hour) m (from ms ((c .before .before .e) .given .0 .0)) (sym ((c .before .before .before .before .asked-mark) .ensures .0) ∙ ap (λ d. shown ms d m) ((c .before .before .e) .given .1))))
 
 returns-2 : tie.Need-returns-2
 returns-2 c =
     let ms = (c .before .before .before .before .before .before .args) .mark .now in
     let m = (c .before .before .before .before .asked-mark) .result .mark in
-    (c .key-no) .ensures ∙ sym (ap keyAnswer (hour-mark ms ((c .before .before .before .before .before .before .args) .hour) ((c .before .before .e2) .given .0 .0) (sym ((c .before .before .before .before .asked-mark) .ensures) ∙ ap (λ d. shown ms d m) ((c .before .before .e2) .given .1))))
+    (c .key-no) .ensures ∙ sym (ap keyAnswer (hour-mark ms ((c .before .before .before .before .before .before .args) .hour) ((c .before .before .e2) .given .0 .0) (sym ((c .before .before .before .before .asked-mark) .ensures .0) ∙ ap (λ d. shown ms d m) ((c .before .before .e2) .given .1))))
 
 pub ask-hour-spec : {M : Type 1} → statement M
 ask-hour-spec =

@@ -2,7 +2,7 @@ use mathlib.Core.Path.{_≡_, sym, ap, _∙_}
 use Rattle.records.specs.Marks.{isFailure}
 use Rattle.records.specs.Keys.{askMark, askFailureMark}
 use Rattle.records.specs.Inner.{guarded}
-use Rattle.records.proofs.Step.{first, test, last}
+use Rattle.records.proofs.Step.{first, test, last, guarded-in}
 use native.Mathlib.Omega.{arith}
 use borrow.Author.Needs.{needs}
 use Rattle.records.proofs.keys.asked_failure_mark.Statement.{statement}
@@ -27,9 +27,11 @@ unfolding askFailureMark
 returns c =
     let s = (c .before .before .before .before .args) .mark .now in
     let r = (c .before .before .asked-mark) .result in
-    let ok = isFailure (r .mark) in
-    rw ((c .guard-end) .ensures, (c .before .is-failure) .ensures)
-    (sym (first s (r .end) (r .mark) (askMark s) _ ((c .before .before .asked-mark) .ensures) ∙ test s (r .end) ok 2 _ ∙ last s (guarded (r .end) ok 2) (r .mark)))
+    let ok = isFailure (r .mark) in (
+      rw ((c .guard-end) .ensures, (c .before .is-failure) .ensures)
+          (sym (first s (r .end) (r .mark) (askMark s) _ ((c .before .before .asked-mark) .ensures .0) ∙ test s (r .end) ok 2 _ ∙ last s (guarded (r .end) ok 2) (r .mark))),
+      rw ((c .guard-end) .ensures) (guarded-in s (r .end) _ 2 ((c .before .before .asked-mark) .ensures .1)),
+    )
 
 pub asked-failure-mark-spec : {M : Type 1} → statement M
 asked-failure-mark-spec =
