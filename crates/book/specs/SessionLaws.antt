@@ -42,18 +42,18 @@ unchanged g s s′ n-is h e =
     let p : s′ ≡ s = sym (take-all (length s) s′ (omega arith)) ∙ e in
     ap (λ (x : List ℕ). take (length (writeAll (g .list))) (x ++ drop (length s) (writeAll (g .list)))) p ∙ restored (writeAll (g .list)) s h
 
-held-is : (g : Reg) (s s′ : List ℕ) (st : Step) → length s′ ≡ length s
+pub held-is : (g : Reg) (s s′ : List ℕ) (st : Step) → length s′ ≡ length s
     → take (length (writeAll (g .list))) s ≡ take (length s) (writeAll (g .list))
     → take (length (leaving (bookOf g) s st .kept)) s′ ≡ leaving (bookOf g) s st .kept
     → take (leaving (bookOf g) s st .book .used) (s′ ++ drop (length s) (writeAll (g .list))) ≡ writeAll (after st g .list)
 held-is g s s′ (answered r) n-is h e = unchanged g s s′ n-is h e
 held-is g s s′ (becomes k) n-is h e = take-append-le (length (writeAll (k .list))) s′ _ (within (writeAll (k .list)) s′ e) ∙ e
 
-book-is : (g : Reg) (s : List ℕ) (st : Step) → leaving (bookOf g) s st .book ≡ bookOf (after st g)
+pub book-is : (g : Reg) (s : List ℕ) (st : Step) → leaving (bookOf g) s st .book ≡ bookOf (after st g)
 book-is g s (answered r) = refl
 book-is g s (becomes k) = refl
 
-answer-is : (g : Reg) (s : List ℕ) (st : Step) → leaving (bookOf g) s st .answer ≡ reply st
+pub answer-is : (g : Reg) (s : List ℕ) (st : Step) → leaving (bookOf g) s st .answer ≡ reply st
 answer-is g s (answered r) = refl
 answer-is g s (becomes k) = refl
 

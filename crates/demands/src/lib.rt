@@ -1,0 +1,126 @@
+// The machine link between the three demands (specs/Demands.antt) and the book's methods: one function that makes any call of the register
+// by the book's own method. It promises demands 1 and 3 of that call, so it is proved only while every method keeps its own promise whole.
+use book::answers::Amounts;
+use book::answers::Answer;
+use book::answers::Done;
+use book::answers::Guarantees;
+use book::answers::NamedAmount;
+use book::journal::Book;
+use money::units::Ticks;
+use records::names::no_name;
+ghost use mathlib.Core.List.{[]};
+ghost use Rattle.book.specs.Register.{ask};
+ghost use Rattle.book.specs.Meaning.{replyOf};
+ghost use Rattle.book.specs.Session.{Session};
+ghost use Rattle.demands.specs.Demands.{Demanded};
+ghost use Rattle.demands.specs.Script.{changeOf, questionOf, callOf, saidOf};
+
+// What a call hands back: the book, and its answer, or an hour's guarantees where it asked for them.
+pub struct Turned {
+    pub book: Book,
+    pub hourly: bool,
+    pub answer: Answer,
+    pub guarantees: Guarantees,
+}
+
+// The book that every list of calls starts from.
+pub fn begin() -> Book
+    ensures { λ r. ⌜ Session [] [] r [] ⌝ }
+{
+    Book::fresh()
+}
+
+// File, correct, withdraw, take back and close (1 to 5), or the change of any mark.
+pub fn make_change(b: Book, log: &mut [u8], method: u8, bytes: &[u8]) -> Done
+    ensures { λ r. ⌜ Demanded (changeOf method (now (bytes .entry))) b (now (log .entry)) (r .book) (replyOf (r .answer)) (now (log .exit)) ⌝ }
+{
+    if method == 1 {
+        return b.file(log, bytes);
+    }
+    if method == 2 {
+        return b.correct(log, bytes);
+    }
+    if method == 3 {
+        return b.withdraw(log, bytes);
+    }
+    if method == 4 {
+        return b.take_back(&log[..], bytes);
+    }
+    if method == 5 {
+        return b.close(&log[..], bytes);
+    }
+    b.change(log, bytes)
+}
+
+// The record of a key, counts by mark and hour, free bytes, a unit's day (7 to 10), or a failure charge.
+pub fn put_question(b: Book, log: &[u8], method: u8, mark: &[u8], hour: u8, bytes: &[u8]) -> Answer
+    ensures { λ r. ⌜ Demanded (ask (questionOf method (now (mark .entry)) hour (now (bytes .entry)))) b (now (log .entry)) b (replyOf r) (now (log .entry)) ⌝ }
+{
+    if method == 7 {
+        return b.record_of(log, mark, hour, bytes);
+    }
+    if method == 8 {
+        return b.count_of(log, mark, hour);
+    }
+    if method == 9 {
+        return b.free_bytes(log);
+    }
+    if method == 10 {
+        return b.unit_day(log, bytes);
+    }
+    b.failure_charge(log, mark, hour, bytes)
+}
+
+fn no_guarantees() -> Guarantees {
+    let name = no_name();
+    let none = NamedAmount {
+        name,
+        start: 0,
+        ticks: Ticks(0),
+    };
+    let credits = Amounts {
+        n: 0,
+        list: [none; 16],
+    };
+    Guarantees {
+        number: 0,
+        credits,
+        offset: Ticks(0),
+    }
+}
+
+// Any call of the register: a change (0 to 5), an hour's guarantees (6), or another question (7 to 11).
+pub fn step(b: Book, log: &mut [u8], method: u8, mark: &[u8], hour: u8, bytes: &[u8]) -> Turned
+    ensures { λ r. ⌜ Demanded (callOf method (now (mark .entry)) hour (now (bytes .entry))) b (now (log .entry)) (r .book) (saidOf r) (now (log .exit)) ⌝ }
+{
+    if method < 6 {
+        let d = make_change(b, log, method, bytes);
+        let book = d.book;
+        let answer = d.answer;
+        let guarantees = no_guarantees();
+        return Turned {
+            book,
+            hourly: false,
+            answer,
+            guarantees,
+        };
+    }
+    if method == 6 {
+        let guarantees = b.guarantees(&log[..], hour);
+        let answer = Answer::Accepted;
+        return Turned {
+            book: b,
+            hourly: true,
+            answer,
+            guarantees,
+        };
+    }
+    let answer = put_question(b, &log[..], method, mark, hour, bytes);
+    let guarantees = no_guarantees();
+    Turned {
+        book: b,
+        hourly: false,
+        answer,
+        guarantees,
+    }
+}
