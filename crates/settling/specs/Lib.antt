@@ -4,4 +4,3 @@ pub mod Program
 pub mod MoveLaws
 pub mod OutputLaws
 pub mod Examples
-pub mod ProgramLaws

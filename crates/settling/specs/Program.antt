@@ -1,7 +1,7 @@
 -- 01, "The statement and its examples": a program's reads of its input, and the one claim about what it prints.
 use mathlib.Core.Path.{_≡_}
 use mathlib.Core.List.{List, [], _∷_, _++_}
-use Prim.Native.Nat.{ℕ, _+_, _≤_, _<_}
+use Prim.Native.Nat.{ℕ, _+_, _≤_}
 use lib.ListN.{length, take}
 use Rattle.statement.specs.Refusal.{Fits}
 use Rattle.statement.specs.declared.day.Written.{Written}
@@ -34,21 +34,3 @@ pub record Settles (s lent left : List ℕ) (w : Written) : Type 0 where
   pub most : length (outputOf s) ≤ 145200
   -- so that of so many bytes those that were written are the output
   pub whole : 145200 ≤ length lent → take (w .len) left ≡ outputOf s
-
--- ---- what is known of a program whose reads may bring any bytes
-
--- some pieces were read
-pub record RunTo (r : Reading) (log : List ℕ) : Type 0 where
-  pub pieces : List (List ℕ)
-  pub left : List ℕ
-  pub run : Run pieces r log left
-
--- and in the input's bytes stands what is held
-pub record Reached (r : Reading) (log input : List ℕ) : Type 0 where
-  pub to : RunTo r log
-  pub held : take (r .held) input ≡ take (r .held) (to .left)
-
--- the first bytes are all that is printed for an input: the one that was read, of which no contract can say more
-pub record Printed (left : List ℕ) (len : ℕ) : Type 0 where
-  pub input : List ℕ
-  pub output : length input < 18446744073709551616 → take len left ≡ outputOf input
