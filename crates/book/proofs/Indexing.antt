@@ -10,7 +10,8 @@ use lib.ListN.{length, drop, getD, set, drop-of-length-le}
 use lib.Seq.{drop-cons, getD-set-same, getD-set-other}
 use lib.Dec.{eqb}
 use borrow.Author.Tests.{eq-eqb, ne-eqb, eqb-true}
-use Rattle.book.specs.Layer.{Key, View, Change, keyOf, kindOf, same, sameHour, Mark, Pr, Im, Ex, Gh, Fi, Fe, order, same-true, hour-parts, parts-hour}
+use Rattle.book.specs.Layer.{Key, View, Change, Good, keyOf, kindOf, same, sameHour, Mark, Pr, Im, Ex, Gh, Fi, Fe, order, Padded, good-padded, same-true, hour-parts, parts-hour}
+use Rattle.book.specs.Meaning.{Valid}
 use Rattle.book.specs.Tables.{Kept, survey, viewed}
 use Rattle.book.specs.Index.{hourSlot, weighed, slot, latestOf, toldBy}
 use Rattle.book.specs.RegisterLaws.{by-test, true≠false}
@@ -86,16 +87,17 @@ latest-few h (c ∷ l) = go (eqb (slot (keyOf c)) h) (latest-few h l)
     go true ih = omega arith
     go false ih = omega arith
 
--- another number is another key
-other-slot : (k : Key) (c : Change) → eqb (slot (keyOf c)) (slot k) ≡ false → same k (keyOf c) ≡ false
-other-slot k c h = by-test (same k (keyOf c)) (λ t. true≠false (eq-eqb (slot (keyOf c)) (slot k) (ap slot (sym (same-true k (keyOf c) t)))) h) (λ t. t)
+-- another number is another key: the number is made of all places of a name, which are as reading makes them
+other-slot : (k : Key) → Padded (k .name) → (c : Change) → Good c → eqb (slot (keyOf c)) (slot k) ≡ false → same k (keyOf c) ≡ false
+other-slot k p c g h =
+    by-test (same k (keyOf c)) (λ t. true≠false (eq-eqb (slot (keyOf c)) (slot k) (ap slot (sym (same-true k (keyOf c) p (good-padded c g) t)))) h) (λ t. t)
 
 -- what the survey of a key finds is told by that change, unless it has another key
-pub told-found : (views : List View) (k : Key) (l : List Change) → Kept views l → (d : View) (t : ℕ) → t ≡ toldBy (latestOf (slot k) l) (getD views (latestOf (slot k) l - 1) d) k
+pub told-found : (views : List View) (k : Key) → Padded (k .name) → (l : List Change) → Valid l → Kept views l → (d : View) (t : ℕ) → t ≡ toldBy (latestOf (slot k) l) (getD views (latestOf (slot k) l - 1) d) k
     → (t ≡ 2 → ⊥) → survey k l .found ≡ eqb t 1
-unfolding latestOf survey Kept
-told-found views k [] kept d t e z = ap (λ (x : ℕ). eqb x 1) (sym e)
-told-found views k (c ∷ l) kept d t e z = by-test (eqb (slot (keyOf c)) (slot k)) here (elsewhere (λ w. told-found views k l (kept .1) d t w z))
+unfolding latestOf survey Kept Valid
+told-found views k p [] valid kept d t e z = ap (λ (x : ℕ). eqb x 1) (sym e)
+told-found views k p (c ∷ l) valid kept d t e z = by-test (eqb (slot (keyOf c)) (slot k)) here (elsewhere (λ w. told-found views k p l (valid .2) (kept .1) d t w z))
   where
     near : ℕ
     near = latestOf (slot k) l
@@ -105,7 +107,7 @@ told-found views k (c ∷ l) kept d t e z = by-test (eqb (slot (keyOf c)) (slot 
 
     elsewhere : (t ≡ at near → survey k l .found ≡ eqb t 1) → eqb (slot (keyOf c)) (slot k) ≡ false → cond (same k (keyOf c)) (not (eqb (kindOf c) 3)) (survey k l .found) ≡ eqb t 1
     elsewhere ih q =
-        ap (λ (b : Bool). cond b (not (eqb (kindOf c) 3)) (survey k l .found)) (other-slot k c q)
+        ap (λ (b : Bool). cond b (not (eqb (kindOf c) 3)) (survey k l .found)) (other-slot k p c (valid .0) q)
         ∙ ih (e ∙ ap (λ (b : Bool). at (cond b (length l + 1) near)) q)
 
     said : Bool → Bool → ℕ

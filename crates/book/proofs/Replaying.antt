@@ -8,7 +8,7 @@ use lib.ListN.{length, drop, getD, set, replicate, length-replicate, length-appe
 use lib.Seq.{drop-drop}
 use lib.Dec.{eqb, ltb}
 use borrow.Author.Tests.{eq-eqb, ne-eqb}
-use Rattle.book.specs.Layer.{Key, View, Change, keyOf, write, blind, scan, limitOf, Found, scan-got, Read, good-hour}
+use Rattle.book.specs.Layer.{Key, View, Change, keyOf, write, blind, scan, limitOf, Found, scan-got, Read, good-hour, Padded, good-padded}
 use Rattle.book.specs.Register.{writeAll, refusal, room, stands, count, standing}
 use Rattle.book.specs.Meaning.{belongs, astray, onward, ended, replay, Valid}
 use Rattle.book.specs.Tables.{Kept, Tabled, Stored, together, survey, judge}
@@ -122,7 +122,8 @@ module _ (part : List ℕ) (n : ℕ) (views : List View) (latest counts : List �
         → eqb t 1 ≡ survey (v .key) (h .acc) .found
     head-told s es place ep d t e z =
         let near : getD latest s 0 ≡ latestOf (slot (v .key)) (h .acc) = h .latest-is s ∙ ap (λ (m : ℕ). latestOf m (h .acc)) es in
-        sym (told-found views (v .key) (h .acc) (h .kept) d t (e ∙ ap (λ (m : ℕ). toldBy (getD latest s 0) (getD views m d) (v .key)) ep ∙ ap (λ (m : ℕ). toldBy m (getD views (m - 1) d) (v .key)) near) z)
+        let pad : Padded (v .key .name) = subst (λ (k : Key). Padded (k .name)) c-is (good-padded (r .what) (good .good)) in
+        sym (told-found views (v .key) pad (h .acc) (h .valid) (h .kept) d t (e ∙ ap (λ (m : ℕ). toldBy (getD latest s 0) (getD views m d) (v .key)) ep ∙ ap (λ (m : ℕ). toldBy m (getD views (m - 1) d) (v .key)) near) z)
 
     module _ (hour : ℕ) (eh : hour ≡ hourSlot (v .key)) where
       pub head-count : getD counts hour 0 ≡ survey (v .key) (h .acc) .count

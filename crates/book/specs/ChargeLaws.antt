@@ -68,7 +68,7 @@ module _ {s : List ℕ} {views : List View} {n : ℕ} {l : List Change} (o : Ope
     charge-found b e f =
         let w = found-at o k e in
         let c = price-found o (k .hour) (found-at o (hourKey Pr (k .hour)) f) in
-        ap (λ (t : Ticks). charge (t .0)) (charge-at (pricesIn (drop (survey (hourKey Pr (k .hour)) l .start) s)) (c .fits) (k .mark) b (survey k l .start) (w .what) (w .at) (ap (λ (x : Key). x .mark) (w .key)))
+        ap (λ (t : Ticks). charge (t .0)) (charge-at (pricesIn (drop (survey (hourKey Pr (k .hour)) l .start) s)) (c .fits) (k .mark) b (survey k l .start) (w .what) (w .at) (w .mark))
         ∙ sym (ap₂ chargeAt (w .picked) (c .is-priced))
 
   -- ---- of a mark and hour

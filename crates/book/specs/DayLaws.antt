@@ -62,7 +62,7 @@ module _ {s : List ℕ} {views : List View} {n : ℕ} {l : List Change} (o : Ope
   unfolding priceOf
   price-found h f =
       let w = f .at in
-      let mk : f .what .key .mark ≡ Pr = ap (λ (k : Key). k .mark) (sym (f .key)) in
+      let mk : f .what .key .mark ≡ Pr = sym (f .mark) in
       let v : pricesIn (drop (survey (hourKey Pr h) l .start) s) ≡ pricesOf (f .what) = ap pricesIn (w .bytes) ∙ prices-view (f .what) (w .good) (w .rest) mk in
       record { is-priced = ap priceFrom (f .picked) ∙ ap priced (sym v); fits = subst PricesFit (sym v) (standing-prices (f .what) (w .good) mk) }
 
@@ -124,7 +124,7 @@ module _ {s : List ℕ} {views : List View} {n : ℕ} {l : List Change} (o : Ope
         let x = survey (hourKey Pr (1 + j)) l .start in
         let ps = pricesIn (drop x s) in
         let fr : f .what ≡ r = cc (sym (f .picked) ∙ e) in
-        let mk : f .what .key .mark ≡ Gh = ap (λ (a : Key). a .mark) (sym (f .key) ∙ at-hour k (1 + j)) ∙ marked in
+        let mk : f .what .key .mark ≡ Gh = sym (f .mark) ∙ ap (λ (a : Key). a .mark) (at-hour k (1 + j)) ∙ marked in
         let q : partAt s u p j ≡ record { ticks = record { 0 = unitTicks (f .what) ps }; start = unitHourOf (f .what) .startup } =
         ap (λ (b : Bool). cond b noPart (unitPartIn (drop (getD (u .start) j 0) s) (pricesIn (drop (getD (p .start) j 0) s)))) z
         ∙ ap₂ (λ (a b : ℕ). unitPartIn (drop a s) (pricesIn (drop b s))) (w .at z) (v .at y)

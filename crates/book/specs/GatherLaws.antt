@@ -7,7 +7,7 @@ use native.Mathlib.Omega.{arith}
 use lib.ListN.{length, length-append}
 use lib.Dec.{eqb}
 use borrow.Author.Tests.{eq-eqb, ne-eqb}
-use Rattle.book.specs.Layer.{Key, Name, Rec, Change, filed, corrected, withdrawn, keyOf, kindOf, write, same, sameHour, nameOf, nameBefore, same-true, same-refl, write-pos, write-co}
+use Rattle.book.specs.Layer.{Key, Name, Rec, Change, filed, corrected, withdrawn, keyOf, kindOf, write, same, sameHour, nameOf, nameBefore, same-refl, same-sym, write-pos, write-co}
 use Rattle.book.specs.Register.{writeAll, without, standing}
 use Rattle.book.specs.declared.places.Spot.{Spot}
 use Rattle.book.specs.ByName.{inOrder, byName, addName, sameMark, namesOf}
@@ -91,8 +91,7 @@ unfolding left without
 left-snoc newer c [] = refl
 left-snoc newer c (r ∷ rs) =
     by-test (same (keyOf c) (r .key))
-    (λ t. let e = same-true (keyOf c) (r .key) t in
-    let h : touched (r .key) (newer ++ (c ∷ [])) ≡ true = hit (r .key) newer c (ap (same (r .key)) e ∙ same-refl (r .key)) in
+    (λ t. let h : touched (r .key) (newer ++ (c ∷ [])) ≡ true = hit (r .key) newer c (same-sym (r .key) (keyOf c) ∙ t) in
     ap (λ (b : Bool). cond b (left (newer ++ (c ∷ [])) rs) (r ∷ left (newer ++ (c ∷ [])) rs)) h ∙ left-snoc newer c rs
     ∙ sym (ap (λ (b : Bool). left newer (cond b (without (keyOf c) rs) (r ∷ without (keyOf c) rs))) t))
     (λ t. let h : touched (r .key) (newer ++ (c ∷ [])) ≡ touched (r .key) newer = miss (r .key) newer c (same-turned (keyOf c) (r .key) t) in

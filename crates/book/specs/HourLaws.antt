@@ -4,21 +4,21 @@ use mathlib.Core.Path.{_≡_, refl, ap₂, _∙_}
 use mathlib.Core.List.{List}
 use mathlib.Core.Bool.{true, _&&_}
 use borrow.Author.Tests.{eq-eqb}
-use Rattle.book.specs.Layer.{Key, Change, sameName, atHour, same-true, same-at, good-hour}
-use Rattle.book.specs.Register.{standing, stands}
+use Rattle.book.specs.Layer.{Key, Rec, Change, filed, Good, same, sameName, atHour, same-at, good-hour}
+use Rattle.book.specs.Register.{standing}
 use Rattle.book.specs.Meaning.{Valid}
-use Rattle.book.specs.PlaceLaws.{standing-each}
+use Rattle.book.specs.StandLaws.{All, all-map, standing-good}
 
 pub record InDay (k j : Key) : Type 0 where
   pub low : 1 ≤ j .hour
   pub high : j .hour ≤ 24
-  pub key : atHour k (j .hour) ≡ j
+  pub key : same (atHour k (j .hour)) j ≡ true
 
-pub name-in-day : (k j : Key) (l : List Change) → Valid l → stands j (standing l) ≡ true → sameName k j ≡ true → InDay k j
-name-in-day k j l v h t =
-    let g = standing-each (λ x. (1 ≤ x .hour) × (x .hour ≤ 24)) good-hour j l v h in
-    record {
-      low = g .0;
-      high = g .1;
-      key = same-true (atHour k (j .hour)) j (same-at k j (j .hour) ∙ ap₂ _&&_ t (eq-eqb (j .hour) (j .hour) refl));
-    }
+pub name-in-day : (k : Key) (l : List Change) → Valid l → All (λ (r : Rec). sameName k (r .key) ≡ true → InDay k (r .key)) (standing l)
+name-in-day k l v = all-map in-day (standing-good l v)
+  where
+    in-day : (r : Rec) → Good (filed r) → sameName k (r .key) ≡ true → InDay k (r .key)
+    in-day r g t =
+        let j = r .key in
+        let h = good-hour (filed r) g in
+        record { low = h .0; high = h .1; key = same-at k j (j .hour) ∙ ap₂ _&&_ t (eq-eqb (j .hour) (j .hour) refl) }

@@ -5,12 +5,11 @@ use mathlib.Core.Logic.{_⊎_, inl, inr}
 use mathlib.Core.List.{List, [], _∷_}
 use mathlib.Core.Bool.{Bool, true, false, cond}
 use Rattle.laws.specs.Sums.{Σℤ-ext, every-ext}
-use Rattle.book.specs.Layer.{Key, Rec, filed, Good, Im, Ex, Pr, same, sameHour, same-true, same-refl, sameHour-same, nameOf, nameBefore, names-apart, name-trans, name-tri, name-self, reversal, atHour}
+use Rattle.book.specs.Layer.{Key, Rec, Im, Ex, Pr, same, sameHour, same-left, sameHour-same, nameOf, nameBefore, names-apart, name-trans, name-tri, name-self, reversal, atHour}
 use Rattle.book.specs.Register.{stands, refused, unitDay}
 use Rattle.book.specs.Amounts.{Pick, is, pick, Price, priceFrom, priceOf, hourKey, guaranteesAt, guaranteesOf, hourTicks, absent, payable, unitAt, dayTotal, unitDayOf, chargeAt, chargeOf, chargesAt, chargesOf}
 use Rattle.book.specs.ByName.{inOrder, byName}
 use Rattle.book.specs.RegisterLaws.{by-test, true≠false, same-turned, Once}
-use Rattle.book.specs.StandLaws.{All, also}
 
 -- the same records, listed otherwise
 pub data Reordered : List Rec → List Rec → Type 0 where
@@ -18,11 +17,6 @@ pub data Reordered : List Rec → List Rec → Type 0 where
   keep : {xs ys : List Rec} (r : Rec) → Reordered xs ys → Reordered (r ∷ xs) (r ∷ ys)
   swap : (a b : Rec) (xs : List Rec) → Reordered (a ∷ b ∷ xs) (b ∷ a ∷ xs)
   next : {xs ys zs : List Rec} → Reordered xs ys → Reordered ys zs → Reordered xs zs
-
--- what is said of standing records: no key twice, each can be written
-pub record Sound (rs : List Rec) : Type 0 where
-  pub once : Once rs
-  pub good : All (λ (r : Rec). Good (filed r)) rs
 
 stands-same : (k : Key) {xs ys : List Rec} → Reordered xs ys → stands k xs ≡ stands k ys
 unfolding stands
@@ -48,41 +42,26 @@ stands-but : (k : Key) (xs : List Rec) (b : Rec) → same k (b .key) ≡ false �
 unfolding stands
 stands-but k xs b t h = ap (λ (x : Bool). cond x true (stands k xs)) t ∙ h
 
-all-head : {P : Rec → Type 0} {r : Rec} {rs : List Rec} → All P (r ∷ rs) → P r
-all-head (also p a) = p
-
-all-tail : {P : Rec → Type 0} {r : Rec} {rs : List Rec} → All P (r ∷ rs) → All P rs
-all-tail (also p a) = a
-
-rest-sound : {r : Rec} {rs : List Rec} → Sound (r ∷ rs) → Sound rs
+pub once-same : {xs ys : List Rec} → Reordered xs ys → Once xs → Once ys
 unfolding Once
-rest-sound s = record { once = s .once .1; good = all-tail (s .good) }
+once-same none u = u
+once-same (keep r p) u = (sym (stands-same (r .key) p) ∙ u .0, once-same p (u .1))
+once-same (swap a b xs) u =
+    let w = apart-key (a .key) (b .key) xs b refl (u .0) in
+    (stands-but (b .key) xs a (same-turned (a .key) (b .key) (w .0)) (u .1 .0), (w .1, u .1 .1))
+once-same (next p q) u = once-same q (once-same p u)
 
-pub sound-same : {xs ys : List Rec} → Reordered xs ys → Sound xs → Sound ys
-unfolding Once
-sound-same none s = s
-sound-same (keep r p) s =
-    let w = sound-same p (rest-sound s) in
-    record { once = (sym (stands-same (r .key) p) ∙ s .once .0, w .once); good = also (all-head (s .good)) (w .good) }
-sound-same (swap a b xs) s =
-    let w = apart-key (a .key) (b .key) xs b refl (s .once .0) in
-    record {
-      once = (stands-but (b .key) xs a (same-turned (a .key) (b .key) (w .0)) (s .once .1 .0), (w .1, s .once .1 .1));
-      good = also (all-head (all-tail (s .good))) (also (all-head (s .good)) (all-tail (all-tail (s .good))));
-    }
-sound-same (next p q) s = sound-same q (sound-same p s)
-
-pub pick-same : (k : Key) {xs ys : List Rec} → Reordered xs ys → Sound xs → pick k xs ≡ pick k ys
+pub pick-same : (k : Key) {xs ys : List Rec} → Reordered xs ys → Once xs → pick k xs ≡ pick k ys
 unfolding pick Once
 pick-same k none s = refl
-pick-same k (keep r p) s = ap (cond (same k (r .key)) (is r)) (pick-same k p (rest-sound s))
+pick-same k (keep r p) s = ap (cond (same k (r .key)) (is r)) (pick-same k p (s .1))
 pick-same k (swap a b xs) s =
     by-test (same k (a .key))
     (λ t. by-test (same k (b .key))
-    (λ u. true≠false (ap (same (a .key)) (sym (same-true k (b .key) u) ∙ same-true k (a .key) t) ∙ same-refl (a .key)) (apart-key (a .key) (b .key) xs b refl (s .once .0) .0))
+    (λ u. true≠false (sym (same-left k (a .key) t (b .key)) ∙ u) (apart-key (a .key) (b .key) xs b refl (s .0) .0))
     (λ u. ap₂ (λ (x y : Bool). cond x (is a) (cond y (is b) (pick k xs))) t u ∙ sym (ap₂ (λ (x y : Bool). cond y (is b) (cond x (is a) (pick k xs))) t u)))
     (λ t. ap (λ (x : Bool). cond x (is a) (cond (same k (b .key)) (is b) (pick k xs))) t ∙ sym (ap (λ (x : Bool). cond (same k (b .key)) (is b) (cond x (is a) (pick k xs))) t))
-pick-same k (next p q) s = pick-same k p s ∙ pick-same k q (sound-same p s)
+pick-same k (next p q) s = pick-same k p s ∙ pick-same k q (once-same p s)
 
 -- ---- by name
 
@@ -121,25 +100,25 @@ any-two a b d xs = go (name-tri (nameOf (a .key .name)) (nameOf (b .key .name)))
     go (inr (inl e)) = absurd (d e)
     go (inr (inr h)) = sym (two-in-order b a h xs)
 
-pub by-name-same : (k : Key) {xs ys : List Rec} → Reordered xs ys → Sound xs → byName k xs ≡ byName k ys
+pub by-name-same : (k : Key) {xs ys : List Rec} → Reordered xs ys → Once xs → byName k xs ≡ byName k ys
 unfolding byName Once
 by-name-same k none s = refl
-by-name-same k (keep r p) s = ap (λ (y : List Rec). cond (sameHour k (r .key)) (inOrder r y) y) (by-name-same k p (rest-sound s))
+by-name-same k (keep r p) s = ap (λ (y : List Rec). cond (sameHour k (r .key)) (inOrder r y) y) (by-name-same k p (s .1))
 by-name-same k (swap a b xs) s = go (sameHour k (a .key)) refl (sameHour k (b .key)) refl
   where
     go : (u : Bool) → sameHour k (a .key) ≡ u → (v : Bool) → sameHour k (b .key) ≡ v
         → cond u (inOrder a (cond v (inOrder b (byName k xs)) (byName k xs))) (cond v (inOrder b (byName k xs)) (byName k xs))
         ≡ cond v (inOrder b (cond u (inOrder a (byName k xs)) (byName k xs))) (cond u (inOrder a (byName k xs)) (byName k xs))
     go true eu true ev =
-        any-two a b (names-apart a b (all-head (s .good)) (all-head (all-tail (s .good))) (sym (sameHour-same k (a .key) eu (b .key)) ∙ ev) (apart-key (a .key) (b .key) xs b refl (s .once .0) .0)) (byName k xs)
+        any-two a b (names-apart (a .key) (b .key) (sym (sameHour-same k (a .key) eu (b .key)) ∙ ev) (apart-key (a .key) (b .key) xs b refl (s .0) .0)) (byName k xs)
     go true eu false ev = refl
     go false eu true ev = refl
     go false eu false ev = refl
-by-name-same k (next p q) s = by-name-same k p s ∙ by-name-same k q (sound-same p s)
+by-name-same k (next p q) s = by-name-same k p s ∙ by-name-same k q (once-same p s)
 
 -- ---- the amounts
 
-module _ {xs ys : List Rec} (p : Reordered xs ys) (s : Sound xs) where
+module _ {xs ys : List Rec} (p : Reordered xs ys) (s : Once xs) where
   pub price-any-order : (h : ℕ) → priceOf xs h ≡ priceOf ys h
   unfolding priceOf
   price-any-order h = ap priceFrom (pick-same (hourKey Pr h) p s)

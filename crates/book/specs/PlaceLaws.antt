@@ -7,13 +7,12 @@ use native.Mathlib.Omega.{arith}
 use lib.ListN.{length, take, drop, length-append, length-drop}
 use lib.Seq.{take-length, drop-append-seam, drop-append-add, drop-append-le, take-append-le}
 use lib.Dec.{eqb}
-use Rattle.book.specs.Layer.{Key, Rec, Change, filed, corrected, withdrawn, keyOf, kindOf, write, Good, same, same-true, write-co, keyAsked, got, markBytes, askBytes, asked}
+use Rattle.book.specs.Layer.{Key, Rec, Change, filed, corrected, withdrawn, keyOf, kindOf, write, same, same-right, write-co}
 use Rattle.book.specs.Register.{writeAll, without, play, standing, stands, place, refused, written, placeOf}
 use Rattle.book.specs.Tables.{survey}
-use Rattle.book.specs.Meaning.{Valid}
 use Rattle.book.specs.Session.{Shows}
 use Rattle.book.specs.Amounts.{Pick, is, nil, pick}
-use Rattle.book.specs.RegisterLaws.{by-test, true≠false, survey-found, stands-without-other, stands-without-self}
+use Rattle.book.specs.RegisterLaws.{by-test, true≠false, survey-found}
 
 pick-without : (k j : Key) (xs : List Rec) → same k j ≡ false → pick k (without j xs) ≡ pick k xs
 unfolding pick without
@@ -21,7 +20,7 @@ pick-without k j [] h = refl
 pick-without k j (x ∷ xs) h =
     by-test (same j (x .key))
     (λ t. ap (λ (b : Bool). pick k (cond b (without j xs) (x ∷ without j xs))) t ∙ pick-without k j xs h
-    ∙ sym (ap (λ (b : Bool). cond b (is x) (pick k xs)) (ap (same k) (sym (same-true j (x .key) t)) ∙ h)))
+    ∙ sym (ap (λ (b : Bool). cond b (is x) (pick k xs)) (sym (same-right j (x .key) t k) ∙ h)))
     (λ t. ap (λ (b : Bool). pick k (cond b (without j xs) (x ∷ without j xs))) t ∙ ap (cond (same k (x .key)) (is x)) (pick-without k j xs h))
 
 pick-other : (k : Key) (c : Change) (xs : List Rec) → same k (keyOf c) ≡ false → pick k (play c xs) ≡ pick k xs
@@ -132,25 +131,3 @@ place-shows k l =
     }))
     (λ t. subst⁻¹ (λ (p : Pick). Shows p (writeAll l) (placeOf k l)) (pick-none k (standing l) (sym (survey-found k l) ∙ t))
     (survey-place k l ∙ ap (λ (b : Bool). cond b (place (survey k l .start) (survey k l .len)) (refused 11)) t))
-
--- what holds of the key of every change that can be written holds of every key that stands
-pub standing-each : (P : Key → Type 0) → ((c : Change) → Good c → P (keyOf c)) → (k : Key) (l : List Change) → Valid l → stands k (standing l) ≡ true → P k
-unfolding standing stands Valid
-standing-each P f k [] v h = true≠false h refl
-standing-each P f k (filed r ∷ l) v h =
-    by-test (same k (r .key))
-    (λ t. subst⁻¹ P (same-true k (r .key) t) (f (filed r) (v .0)))
-    (λ t. standing-each P f k l (v .2) (sym (ap (λ (b : Bool). cond b true (stands k (standing l))) t) ∙ h))
-standing-each P f k (corrected r ∷ l) v h =
-    by-test (same k (r .key))
-    (λ t. subst⁻¹ P (same-true k (r .key) t) (f (corrected r) (v .0)))
-    (λ t. standing-each P f k l (v .2)
-    (sym (stands-without-other k (r .key) (standing l) t) ∙ sym (ap (λ (b : Bool). cond b true (stands k (without (r .key) (standing l)))) t) ∙ h))
-standing-each P f k (withdrawn j ∷ l) v h =
-    by-test (same k j)
-    (λ t. true≠false h (ap (λ (y : Key). stands k (without y (standing l))) (sym (same-true k j t)) ∙ stands-without-self k (standing l)))
-    (λ t. standing-each P f k l (v .2) (sym (stands-without-other k j (standing l) t) ∙ h))
-
--- so every key that stands can be asked for
-pub standing-asked : (k : Key) (l : List Change) → Valid l → stands k (standing l) ≡ true → keyAsked (markBytes (k .mark)) (k .hour) (askBytes k) ≡ got k []
-standing-asked = standing-each (λ j. keyAsked (markBytes (j .mark)) (j .hour) (askBytes j) ≡ got j []) asked

@@ -7,7 +7,7 @@ use native.Mathlib.Omega.{arith}
 use lib.ListN.{length}
 use lib.Dec.{ltb, eqb}
 use borrow.Author.Tests.{ltb-true}
-use Rattle.book.specs.Layer.{Key, Rec, Change, filed, corrected, withdrawn, keyOf, kindOf, write, same, sameHour, limitOf, same-true, same-refl, sameHour-same, limit-same}
+use Rattle.book.specs.Layer.{Key, Rec, Change, filed, corrected, withdrawn, keyOf, kindOf, write, same, sameHour, limitOf, same-sym, same-left, same-right, hour-right, sameHour-same, limit-same}
 use Rattle.book.specs.Register.{writeAll, standing, stands, count, without, room, refusal}
 use Rattle.book.specs.Meaning.{Valid}
 use Rattle.book.specs.Tables.{survey, judge}
@@ -20,7 +20,12 @@ pub true≠false : {A : Type 0} {b : Bool} → b ≡ true → b ≡ false → A
 true≠false p q = let z : _≡_ {A = ℕ} 0 1 = cc in absurd (omega arith)
 
 pub same-turned : (j k : Key) → same j k ≡ false → same k j ≡ false
-same-turned j k h = by-test (same k j) (λ t. true≠false (ap (same j) (same-true k j t) ∙ same-refl j) h) (λ t. t)
+same-turned j k h = same-sym k j ∙ h
+
+stands-alike : (j k : Key) (xs : List Rec) → same j k ≡ true → stands j xs ≡ stands k xs
+unfolding stands
+stands-alike j k [] h = refl
+stands-alike j k (x ∷ xs) h = ap₂ (λ (b c : Bool). cond b true c) (same-left j k h (x .key)) (stands-alike j k xs h)
 
 pub stands-without-other : (k j : Key) (xs : List Rec) → same k j ≡ false → stands k (without j xs) ≡ stands k xs
 unfolding stands without
@@ -28,7 +33,7 @@ stands-without-other k j [] h = refl
 stands-without-other k j (x ∷ xs) h =
     by-test (same j (x .key))
     (λ t. ap (λ (b : Bool). stands k (cond b (without j xs) (x ∷ without j xs))) t ∙ stands-without-other k j xs h
-    ∙ sym (ap (λ (b : Bool). cond b true (stands k xs)) (ap (same k) (sym (same-true j (x .key) t)) ∙ h)))
+    ∙ sym (ap (λ (b : Bool). cond b true (stands k xs)) (sym (same-right j (x .key) t k) ∙ h)))
     (λ t. ap (λ (b : Bool). stands k (cond b (without j xs) (x ∷ without j xs))) t ∙ ap (λ (b : Bool). cond (same k (x .key)) true b) (stands-without-other k j xs h))
 
 pub stands-without-self : (k : Key) (xs : List Rec) → stands k (without k xs) ≡ false
@@ -66,7 +71,7 @@ unfolding stands count
 count-pos k j [] h e = true≠false h refl
 count-pos k j (x ∷ xs) h e =
     by-test (same j (x .key))
-    (λ t. let p : sameHour k (x .key) ≡ true = ap (sameHour k) (sym (same-true j (x .key) t)) ∙ e in subst (λ (b : Bool). 0 < cond b (count k xs + 1) (count k xs)) (sym p) (omega arith))
+    (λ t. let p : sameHour k (x .key) ≡ true = sym (hour-right j (x .key) t k) ∙ e in subst (λ (b : Bool). 0 < cond b (count k xs + 1) (count k xs)) (sym p) (omega arith))
     (λ t. let p = count-pos k j xs (sym (ap (λ (b : Bool). cond b true (stands j xs)) t) ∙ h) e in go (sameHour k (x .key)) p)
   where
     go : (b : Bool) → 0 < count k xs → 0 < cond b (count k xs + 1) (count k xs)
@@ -88,7 +93,9 @@ unfolding stands count without Once
 count-without k j [] u h = true≠false h refl
 count-without k j (x ∷ xs) u h =
     by-test (same j (x .key))
-    (λ t. ap (λ (b : Bool). count k (cond b (without j xs) (x ∷ without j xs))) t ∙ ap (count k) (without-none j xs (ap (λ (y : Key). stands y xs) (same-true j (x .key) t) ∙ u .0)) ∙ less-one (sameHour k (x .key)) (count k xs) ∙ ap (λ (y : Key). cond (sameHour k y) (cond (sameHour k (x .key)) (count k xs + 1) (count k xs) - 1) (cond (sameHour k (x .key)) (count k xs + 1) (count k xs))) (sym (same-true j (x .key) t)))
+    (λ t. let n = cond (sameHour k (x .key)) (count k xs + 1) (count k xs) in
+    ap (λ (b : Bool). count k (cond b (without j xs) (x ∷ without j xs))) t ∙ ap (count k) (without-none j xs (stands-alike j (x .key) xs t ∙ u .0))
+    ∙ less-one (sameHour k (x .key)) (count k xs) ∙ ap (λ (b : Bool). cond b (n - 1) n) (sym (hour-right j (x .key) t k)))
     (λ t. let h′ : stands j xs ≡ true = sym (ap (λ (b : Bool). cond b true (stands j xs)) t) ∙ h in
     ap (λ (b : Bool). count k (cond b (without j xs) (x ∷ without j xs))) t
     ∙ ap (λ (n : ℕ). cond (sameHour k (x .key)) (n + 1) n) (count-without k j xs (u .1) h′)
@@ -150,7 +157,7 @@ newer k j a f xs e =
 gone : (k j : Key) (xs : List Rec) → cond (same k j) false (stands k (without j xs)) ≡ stands k (without j xs)
 gone k j xs =
     by-test (same k j)
-    (λ t. ap (λ (b : Bool). cond b false (stands k (without j xs))) t ∙ sym (ap (λ (y : Key). stands k (without y xs)) (sym (same-true k j t)) ∙ stands-without-self k xs))
+    (λ t. ap (λ (b : Bool). cond b false (stands k (without j xs))) t ∙ sym (stands-alike k j (without j xs) t ∙ stands-without-self j xs))
     (λ t. ap (λ (b : Bool). cond b false (stands k (without j xs))) t)
 
 pub survey-found : (k : Key) (l : List Change) → survey k l .found ≡ stands k (standing l)

@@ -2,12 +2,12 @@
 use Prim.Native.Nat.{ℕ, suc, _+_, _≤_}
 use mathlib.Core.Path.{_≡_}
 use mathlib.Core.List.{List, [], _∷_, _++_}
-use mathlib.Core.Bool.{true, false}
+use mathlib.Core.Bool.{false}
 use lib.ListN.{length, take, drop, replicate}
 use Rattle.money.specs.Refusals.{noSuchKey}
 use Rattle.book.specs.declared.journal.Book.{Book}
 use Rattle.book.specs.Layer.{Key, Rec, filed, write, keyAsked, got, markBytes, askBytes, takeBackBytes}
-use Rattle.book.specs.Register.{Call, takeBack, ask, Question, answer, placeOf, standing, stands, writeAll, Reply, refused, accepted, place, Turn, run, told}
+use Rattle.book.specs.Register.{Call, takeBack, ask, Question, answer, placeOf, standing, writeAll, Reply, refused, accepted, place, Turn, run, told}
 use Rattle.book.specs.Meaning.{Meets, bookOf, Valid}
 use Rattle.book.specs.Amounts.{Pick, is, nil, pick}
 
@@ -52,7 +52,7 @@ pub record Agrees (ts : List Turn) (rs : List Reply) (b : Book) (held : List ℕ
   pub valid : Valid (run ts .list)
   -- "The book's standing records are what its key questions find": the answer for a key shows its standing record, and every standing record's key can be asked for
   pub finds : (k : Key) → Shows (pick k (standing (run ts .list))) held (placeOf k (run ts .list))
-  pub reached : (k : Key) → stands k (standing (run ts .list)) ≡ true → keyAsked (markBytes (k .mark)) (k .hour) (askBytes k) ≡ got k []
+  pub reached : (k : Key) (x : Rec) → pick k (standing (run ts .list)) ≡ is x → keyAsked (markBytes (x .key .mark)) (x .key .hour) (askBytes (x .key)) ≡ got (x .key) []
   -- "its free bytes and amounts what the question for free bytes and the last three answer, whenever all used bytes are lent": so every question
   pub questions : (q : Question) (s : List ℕ) → take (length held) s ≡ held → (b′ : Book) (r : Reply) (s′ : List ℕ) → Meets (ask q) b s b′ r s′ → r ≡ answer q (length s) (run ts)
 

@@ -16,7 +16,8 @@ use Rattle.book.specs.Amounts.{pick}
 use Rattle.book.specs.Session.{Session, start, next, Undo, undone, undo, Shows, Agrees, Restored, Holds, Throughout}
 use Rattle.book.specs.ReplayLaws.{called-valid, outcome-is}
 use Rattle.book.specs.CallLaws.{asked}
-use Rattle.book.specs.PlaceLaws.{place-shows, standing-asked}
+use Rattle.book.specs.PlaceLaws.{place-shows}
+use Rattle.book.specs.StandLaws.{standing-asked}
 
 -- the lent bytes and what was not lent make up what was left
 restored : (h s : List ℕ) → take (length h) s ≡ take (length s) h → take (length h) (s ++ drop (length s) h) ≡ h
@@ -145,7 +146,7 @@ agrees {ts} {rs} {b} {held} σ =
       used = f .used;
       valid = f .valid;
       finds = λ k. subst⁻¹ (λ (x : List ℕ). Shows (pick k (standing (run ts .list))) x (placeOf k (run ts .list))) (f .used) (place-shows k (run ts .list));
-      reached = λ k h. standing-asked k (run ts .list) (f .valid) h;
+      reached = λ k x e. standing-asked k (run ts .list) (f .valid) x e;
       questions = λ q s h b′ r s′ m.
           subst (λ (x : Book). Meets (ask q) x s b′ r s′) (f .book) m .answer ∙ asked (run ts) s (f .valid) (subst (λ (x : List ℕ). take (length x) s ≡ x) (f .used) h) q;
     }

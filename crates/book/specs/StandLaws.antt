@@ -7,7 +7,7 @@ use native.Mathlib.Omega.{arith}
 use native.Mathlib.Nat.{not-suc-le-zero, le-of-suc-le-suc}
 use lib.ListN.{length, drop, getD, take-append-drop}
 use lib.Seq.{drop-append-le}
-use Rattle.book.specs.Layer.{Key, Name, View, Rec, Change, filed, corrected, withdrawn, write, Good, good-co, same, sameHour, same-true, same-refl, nameOf, nameBefore, names-apart, sameHour-same}
+use Rattle.book.specs.Layer.{Key, Name, View, Rec, Change, filed, corrected, withdrawn, write, Good, good-co, same, sameHour, same-refl, same-alike, nameOf, nameBefore, names-apart, sameHour-same, keyAsked, got, markBytes, askBytes, asked}
 use Rattle.book.specs.Register.{writeAll, without, standing, stands, place, refused, startFrom, startIn}
 use Rattle.book.specs.Amounts.{is, nil, pick}
 use Rattle.book.specs.ByName.{inOrder, byName, addName, sameMark, namesOf}
@@ -62,13 +62,17 @@ all-pick {P} k r (also {r = x} {rs = xs} p a) e =
     (λ t. subst P (is-same (sym (ap (λ (b : Bool). cond b (is x) (pick k xs)) t) ∙ e)) p)
     (λ t. all-pick k r a (sym (ap (λ (b : Bool). cond b (is x) (pick k xs)) t) ∙ e))
 
-pub pick-key : (k : Key) (rs : List Rec) (r : Rec) → pick k rs ≡ is r → k ≡ r .key
+pub pick-key : (k : Key) (rs : List Rec) (r : Rec) → pick k rs ≡ is r → same k (r .key) ≡ true
 unfolding pick
 pick-key k [] r e = not-nil e
 pick-key k (x ∷ xs) r e =
     by-test (same k (x .key))
-    (λ t. same-true k (x .key) t ∙ ap (λ (y : Rec). y .key) (is-same (sym (ap (λ (b : Bool). cond b (is x) (pick k xs)) t) ∙ e)))
+    (λ t. subst (λ (y : Rec). same k (y .key) ≡ true) (is-same (sym (ap (λ (b : Bool). cond b (is x) (pick k xs)) t) ∙ e)) t)
     (λ t. pick-key k xs r (sym (ap (λ (b : Bool). cond b (is x) (pick k xs)) t) ∙ e))
+
+-- the key of a record that stands can be asked for
+pub standing-asked : (k : Key) (l : List Change) → Valid l → (r : Rec) → pick k (standing l) ≡ is r → keyAsked (markBytes (r .key .mark)) (r .key .hour) (askBytes (r .key)) ≡ got (r .key) []
+standing-asked k l v r e = asked (filed r) (all-pick k r (standing-good l v) e)
 
 -- ---- each record is the one that stands under its key
 
@@ -100,7 +104,7 @@ pub record At (s : List ℕ) (x : ℕ) (r : Rec) : Type 0 where
 pub record Found (s : List ℕ) (l : List Change) (k : Key) : Type 0 where
   pub what : Rec
   pub picked : pick k (standing l) ≡ is what
-  pub key : k ≡ what .key
+  pub mark : k .mark ≡ what .key .mark
   pub at : At s (survey k l .start) what
   pub start : startIn l k ≡ survey k l .start
 
@@ -120,7 +124,7 @@ module _ {s : List ℕ} {views : List View} {n : ℕ} {l : List Change} (o : Ope
       record {
         what = w .what;
         picked = w .stands-so;
-        key = pick-key k (standing l) (w .what) (w .stands-so);
+        mark = same-alike k (w .what .key) (pick-key k (standing l) (w .what) (w .stands-so)) .mark;
         at = record {
           inside = omega (arith, w .inside, o .within);
           rest = tail ++ v;
@@ -193,15 +197,15 @@ apart-in-order r (also {r = x} {rs = xs} n a) (apart b u) = go (apart-in-order r
     go w true = apart (also n a) (apart b u)
     go w false = apart (all-in-order r (λ e. n (sym e)) b) w
 
-pub apart-by-name : (k : Key) {rs : List Rec} → Once rs → All (λ (r : Rec). Good (filed r)) rs → Apart (byName k rs)
+pub apart-by-name : (k : Key) (rs : List Rec) → Once rs → Apart (byName k rs)
 unfolding byName Once
-apart-by-name k u done = lone
-apart-by-name k u (also {r = r} {rs = rs} g a) = go (apart-by-name k (u .1) a) (sameHour k (r .key)) refl
+apart-by-name k [] u = lone
+apart-by-name k (r ∷ rs) u = go (apart-by-name k rs (u .1)) (sameHour k (r .key)) refl
   where
     go : Apart (byName k rs) → (b : Bool) → sameHour k (r .key) ≡ b → Apart (cond b (inOrder r (byName k rs)) (byName k rs))
     go w true t = apart-in-order r
-        (all-map (λ (x : Rec) (h : ((same (r .key) (x .key) ≡ false) × Good (filed x)) × (sameHour k (x .key) ≡ true)). names-apart r x g (h .0 .1) (sym (sameHour-same k (r .key) t (x .key)) ∙ h .1) (h .0 .0))
-        (all-by-name k (all-both (other-keys (r .key) rs (u .0)) a))) w
+        (all-map (λ (x : Rec) (h : (same (r .key) (x .key) ≡ false) × (sameHour k (x .key) ≡ true)). names-apart (r .key) (x .key) (sym (sameHour-same k (r .key) t (x .key)) ∙ h .1) (h .0))
+        (all-by-name k (other-keys (r .key) rs (u .0)))) w
     go w false t = w
 
 -- the same by index

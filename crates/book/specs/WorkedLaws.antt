@@ -17,7 +17,7 @@ use Rattle.book.specs.ByName.{byName}
 use Rattle.book.specs.Places.{spotOf, spots}
 use Rattle.book.specs.Worked.{Opened, noSpot, Inside, entriesIn, entryCredit, totalsFrom, totalsIn, namedOf}
 use Rattle.book.specs.RegisterLaws.{by-test, valid-new, once-standing}
-use Rattle.book.specs.StandLaws.{All, also, all-at, Stands, all-stand, all-by-name, standing-good, apart-at, apart-by-name}
+use Rattle.book.specs.StandLaws.{All, also, all-at, Stands, all-stand, all-by-name, apart-at, apart-by-name}
 
 -- an element of what a list is mapped to
 pub getD-mapped : {A B : Type 0} (f : A → B) (l : List A) (i : ℕ) (d : A) (e : B) → i < length l → getD (map f l) i e ≡ f (getD l i d)
@@ -138,7 +138,7 @@ module _ {s : List ℕ} {views : List View} {n : ℕ} {l : List Change} (o : Ope
       apart i j lt lj =
           ap₂ (λ (a b : Import). sameName (a .name) (b .name)) (at i lt) (at j (omega arith))
           ∙ by-test (sameName (getD is i none .key .name) (getD is j none .key .name))
-          (λ t. absurd (apart-at (apart-by-name (hourKey Im h) (once-standing l (valid-new l (o .valid))) (standing-good l (o .valid))) none i j lt lj (sym (same-names (getD is i none .key .name) (getD is j none .key .name) t))))
+          (λ t. absurd (apart-at (apart-by-name (hourKey Im h) (standing l) (once-standing l (valid-new l (o .valid)))) none i j lt lj (sym (same-names (getD is i none .key .name) (getD is j none .key .name) t))))
           (λ t. t)
 
 -- a list of imports that is not empty is worked at its price

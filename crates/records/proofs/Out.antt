@@ -14,7 +14,8 @@ use Rattle.records.specs.Reading.{Res, bad, got, Reader, _>>=_, from}
 use Rattle.records.specs.Names.{spell, bytesOf}
 use Rattle.records.specs.Marks.{markBytes, hasName, order}
 use Rattle.records.specs.Changes.{changeView, put, putNumber, putBytes, Change, kind, keyOf, kindOf, bodyOf, number, made, leadBytes, noName, nameBytes, headBytes, bodyFor, change, write, Input, fine, fault, whole, parse, Scan, seen, blind, begins, written, scan, viewOf, parsedOf}
-use Rattle.records.specs.Keys.{eqList, same, sameHour}
+use Rattle.money.specs.Names.{sameName}
+use Rattle.records.specs.Keys.{same, sameHour}
 use Rattle.records.specs.Inner.{Wrote, HeadIs, told, Placed, Stands, ReadIs}
 use Rattle.records.specs.declared.fields.End.{End}
 use Rattle.records.specs.declared.fields.End.the-variants.{At, No}
@@ -72,19 +73,6 @@ module _ {bs s : List ℕ} {n i : ℕ} (h : Started bs s n i) where
   pub started-all : n ≤ i → true ≡ begins (take n bs) s
   started-all a = sym (h .so-far ∙ rw (drop-of-length-le (take n bs) {i = i} (simp length-take (omega arith))))
 
-pub record Agree (a b : List ℕ) (i : ℕ) : Type 0 where
-  pub so-far : eqList a b ≡ eqList (drop i a) (drop i b)
-
-module _ {a b : List ℕ} {i : ℕ} (h : Agree a b i) where
-  pub agree-more : i < length a → i < length b → getD a i 0 ≡ getD b i 0 → Agree a b (i + 1)
-  agree-more l m e = record { so-far = h .so-far ∙ rw (drop-cons a i 0 l, drop-cons b i 0 m, eq-eqb (getD a i 0) (getD b i 0) e, add-one i) }
-
-  pub agree-not : i < length a → i < length b → (getD a i 0 ≡ getD b i 0 → ⊥) → false ≡ eqList a b
-  agree-not l m e = sym (h .so-far ∙ rw (drop-cons a i 0 l, drop-cons b i 0 m, ne-eqb (getD a i 0) (getD b i 0) e))
-
-  pub agree-all : length a ≤ i → length b ≤ i → true ≡ eqList a b
-  agree-all l m = sym (h .so-far ∙ rw (drop-of-length-le a {i = i} l, drop-of-length-le b {i = i} m))
-
 module _ (a b : Key) where
   pub other-mark : (order (a .mark) ≡ order (b .mark) → ⊥) → false ≡ sameHour a b
   unfolding sameHour
@@ -98,13 +86,9 @@ module _ (a b : Key) where
   unfolding same
   other-hour e = simp e
 
-  pub other-len : sameHour a b ≡ true → (a .name .len ≡ b .name .len → ⊥) → false ≡ same a b
+  pub by-name : sameHour a b ≡ true → sameName (a .name) (b .name) ≡ same a b
   unfolding same
-  other-len e h = simp (e, ne-eqb (a .name .len) (b .name .len) h)
-
-  pub by-bytes : sameHour a b ≡ true → a .name .len ≡ b .name .len → eqList (a .name .bytes) (b .name .bytes) ≡ same a b
-  unfolding same
-  by-bytes e h = simp (e, eq-eqb (a .name .len) (b .name .len) h)
+  by-name e = simp e
 
 -- ---- the head
 

@@ -18,8 +18,12 @@ pub use Rattle.records.specs.FirmLaws.{entry-more, entry-alone, entry-fi
 pub use Rattle.records.specs.LengthLaws.{entry-early, unread-early, bare-early, whole-early}
 -- the records of one hour
 pub use Rattle.records.specs.HourRecordLaws.{OfHour, hour-record-got, hour-record-fault}
--- keys, and the key of a question
-pub use Rattle.records.specs.KeyLaws.{same-true, same-refl, sameHour-same, hour-parts, parts-hour, askBytes, asked, ask-fault, askFailure-fault, askHour-fault, name-fault}
+-- keys that are the same: mark, hour and decoded name; one stands for the other in every test
+pub use Rattle.records.specs.KeyLaws.{Alike, same-alike, same-refl, same-sym, same-left, same-right, same-hour, hour-right}
+-- keys whose names have zeros behind their bytes, as those of changes that may stand, are equal then
+pub use Rattle.records.specs.KeyLaws.{Padded, good-padded, same-true}
+-- keys of one mark and hour, and the key of a question
+pub use Rattle.records.specs.KeyLaws.{sameHour-same, hour-parts, parts-hour, askBytes, asked, ask-fault, askFailure-fault, askHour-fault, name-fault}
 -- the key of a mark and hour, and of a unit: no fault is 0
 pub use Rattle.records.specs.KeyLaws.{askHourOf-fault, askUnit-fault}
 -- what such a key is; a failure's key has a failure's mark

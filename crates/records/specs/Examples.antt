@@ -8,13 +8,13 @@ use lib.ListN.{length}
 use Rattle.laws.specs.Sums.{every}
 use Rattle.money.specs.Units.{withinOk}
 use Rattle.money.specs.Offers.{offerFault, numbersOk, orderOk}
+use Rattle.money.specs.Names.{sameBytes}
 use Rattle.records.specs.Reading.{Res, bad, got, byte, some, many}
 use Rattle.records.specs.Numbers.{pad, word, price, quantity, amount, hour, pair, pairs, listFrom}
 use Rattle.records.specs.Names.{visible, hexVal, escaped, one, upTo, decodeName, nameField, unreserved, digit, spellByte, spell}
 use Rattle.records.specs.Marks.{mark}
 use Rattle.records.specs.Layouts.{hourPrices, import, export, schedules, reserveRows, lists, unit, failure, layout, taken}
 use Rattle.records.specs.Changes.{Change, Entry, Input, fine, fault, parse, parseAny, change, entry, head, rest, nameFor, bodyFor, write, headBytes, nameBytes, putNumber}
-use Rattle.records.specs.Keys.{eqList}
 
 -- ---- bytes
 
@@ -71,14 +71,14 @@ numberOf (fault n) = n
 
 abbrev bytesAre : Res (List ℕ) → List ℕ → Bool
 bytesAre (bad k) n = false
-bytesAre (got v t) n = eqList v n
+bytesAre (got v t) n = sameBytes v n
 
 abbrev pub holds : Case → Bool
 holds (gives want s n) = eqb (numberOf (parse want s)) n
 holds (gives-any s n) = eqb (numberOf (parseAny s)) n
 holds (filing s free n) = eqb (putNumber (parse 1 s) 0 (pad 0 free [])) n
 holds (decodes s v) = bytesAre (decodeName s) v
-holds (spells v s) = eqList (spell v) s
+holds (spells v s) = sameBytes (spell v) s
 
 abbrev allHold : List Case → Bool
 allHold [] = true
@@ -136,5 +136,5 @@ cases =
     ∷ []
 
 all-hold : allHold cases ≡ true
-unfolding parse parseAny change entry head mark rest hour byte nameFor bodyFor nameField some decodeName upTo one escaped hexVal visible taken layout hourPrices import export schedules reserveRows lists unit failure many pair pairs listFrom price quantity amount word spell spellByte unreserved digit write headBytes nameBytes offerFault numbersOk orderOk withinOk every
+unfolding parse parseAny change entry head mark rest hour byte nameFor bodyFor nameField some decodeName upTo one escaped hexVal visible taken layout hourPrices import export schedules reserveRows lists unit failure many pair pairs listFrom price quantity amount word spell spellByte unreserved digit write headBytes nameBytes offerFault numbersOk orderOk withinOk every sameBytes
 all-hold = refl

@@ -6,15 +6,16 @@ use Prim.Native.Nat.{ℕ, _≤_}
 use native.Mathlib.Omega.{arith}
 use lib.Dec.{leb, eqb}
 use borrow.Author.Tests.{eq-eqb, leb-true}
+use Rattle.money.specs.Names as names
 use Rattle.records.specs.Reading.{Res, got, _>>=_}
 use Rattle.records.specs.Numbers.{between}
-use Rattle.records.specs.Names.{spell, bytesOf, noOne}
+use Rattle.records.specs.Names.{spell, bytesOf}
 use Rattle.records.specs.Marks.{hasName, order, limit}
 use Rattle.records.specs.Changes.{Rec, Change, filed, keyOf, Good}
-use Rattle.records.specs.Keys.{eqList, sameHour, same, askUnit}
+use Rattle.records.specs.Keys.{sameHour, same, askUnit}
 use Rattle.records.specs.Hours.{limitOf, atHour, sameName}
 use Rattle.records.specs.ChangeLaws.{and-left, and-right, Kept, good-kept, hour-range}
-use Rattle.records.specs.KeyLaws.{same-true, own-name}
+use Rattle.records.specs.KeyLaws.{hour-parts, own-name}
 use Rattle.records.specs.declared.marks.Mark.{Mark}
 use Rattle.records.specs.declared.marks.Mark.the-variants.{Pr, Im, Ex, Gh, Fi, Fe}
 use Rattle.records.specs.declared.keys.Key.{Key}
@@ -31,13 +32,9 @@ limit-most k = go (k .mark)
     go Fi = omega arith
     go Fe = omega arith
 
--- a key without its name
-unnamed : Key → Key
-unnamed k = record { mark = k .mark; hour = k .hour; name = noOne }
-
 pub limit-same : (a b : Key) → sameHour a b ≡ true → limitOf a ≡ limitOf b
-unfolding limitOf unnamed same sameHour
-limit-same a b h = ap (λ (k : Key). limit (k .mark)) (same-true (unnamed a) (unnamed b) (ap (λ (t : Bool). t && true) h))
+unfolding limitOf
+limit-same a b h = ap limit (hour-parts a b h .0)
 
 -- a change's hour is one of the day's
 pub good-hour : (c : Change) → Good c → (1 ≤ keyOf c .hour) × (keyOf c .hour ≤ 24)
@@ -49,7 +46,7 @@ good-hour c g =
 pub same-at : (k j : Key) (h : ℕ) → same (atHour k h) j ≡ (sameName k j && eqb h (j .hour))
 unfolding same sameHour sameName atHour
 same-at k j h =
-    go (eqb (order (k .mark)) (order (j .mark))) (eqb h (j .hour)) (eqb (k .name .len) (j .name .len) && eqList (k .name .bytes) (j .name .bytes)) (eqb (k .hour) (k .hour)) (eq-eqb (k .hour) (k .hour) refl)
+    go (eqb (order (k .mark)) (order (j .mark))) (eqb h (j .hour)) (names.sameName (k .name) (j .name)) (eqb (k .hour) (k .hour)) (eq-eqb (k .hour) (k .hour) refl)
   where
     go : (a b c d : Bool) → d ≡ true → ((a && b) && c) ≡ (((a && d) && c) && b)
     go true true true true e = refl

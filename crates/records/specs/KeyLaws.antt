@@ -1,5 +1,5 @@
 -- Keys: equality as a test, and the key of a question.
-use mathlib.Core.Path.{_≡_, refl, sym, ap, ap₂, _∙_}
+use mathlib.Core.Path.{_≡_, refl, sym, ap, ap₂, _∙_, subst}
 use mathlib.Core.List.{List, [], _∷_, _++_}
 use mathlib.Core.Bool.{Bool, true, false, cond, true≢false, _&&_}
 use Prim.Native.Nat.{ℕ, _≤_, _<_}
@@ -8,12 +8,13 @@ use lib.Dec.{eqb}
 use lib.ListN.{length}
 use borrow.Author.Tests.{eq-eqb, eqb-true, le-leb}
 use Rattle.money.specs.declared.names.Name.{Name}
+use Rattle.money.specs.NameLaws.{same-of, same-names}
 use Rattle.records.specs.Reading.{Res, bad, got, _>>=_, check, byte}
 use Rattle.records.specs.Numbers.{between, hour}
 use Rattle.records.specs.Names.{decodeName, nameField, spell, nameOf, noOne, bytesOf, held}
 use Rattle.records.specs.Marks.{markBytes, mark, hasName, isFailure, order}
 use Rattle.records.specs.Changes.{Rec, Change, filed, keyOf, kind, Good, nameless, nameFor, noName, nameBytes}
-use Rattle.records.specs.Keys.{eqList, sameHour, same, askMark, askName, askFailureMark, askFrom, ask, askFailure, askHourOf, askHour, askUnit}
+use Rattle.records.specs.Keys.{sameHour, same, askMark, askName, askFailureMark, askFrom, ask, askFailure, askHourOf, askHour, askUnit}
 use Rattle.records.specs.ReaderLaws.{bad-got, check-got, bind-got}
 use Rattle.records.specs.NameLaws.{take-pad, field-spelled, Valid, decoded-valid}
 use Rattle.records.specs.ChangeLaws.{and-left, and-right, good-kept, hour-range, counted-mark, counted-decode}
@@ -22,16 +23,6 @@ use Rattle.records.specs.declared.marks.Mark.the-variants.{Pr, Im, Ex, G
 use Rattle.records.specs.declared.marks.Kind.{Kind}
 use Rattle.records.specs.declared.marks.Kind.the-variants.{File, Correct, Withdraw}
 use Rattle.records.specs.declared.keys.Key.{Key}
-
-eqList-true : (xs ys : List ℕ) → eqList xs ys ≡ true → xs ≡ ys
-eqList-true [] [] h = refl
-eqList-true [] (y ∷ ys) h = absurd (let z : _≡_ {A = ℕ} 0 1 = cc in omega arith)
-eqList-true (x ∷ xs) [] h = absurd (let z : _≡_ {A = ℕ} 0 1 = cc in omega arith)
-eqList-true (x ∷ xs) (y ∷ ys) h = ap₂ (λ a l. a ∷ l) (eqb-true x y (and-left (eqb x y) _ h)) (eqList-true xs ys (and-right (eqb x y) _ h))
-
-eqList-refl : (xs : List ℕ) → eqList xs xs ≡ true
-eqList-refl [] = refl
-eqList-refl (x ∷ xs) = rw (eq-eqb x x refl) (eqList-refl xs)
 
 -- the mark of a place in the order
 abbrev atOrder : ℕ → Mark
@@ -48,22 +39,6 @@ order-back Fe = refl
 order-same : (a b : Mark) → order a ≡ order b → a ≡ b
 order-same a b e = sym (order-back a) ∙ ap atOrder e ∙ order-back b
 
-pub same-true : (a b : Key) → same a b ≡ true → a ≡ b
-unfolding same sameHour
-same-true a b h =
-    let p = and-left (eqb (order (a .mark)) (order (b .mark)) && eqb (a .hour) (b .hour)) _ h in
-    let q = and-right (eqb (order (a .mark)) (order (b .mark)) && eqb (a .hour) (b .hour)) (eqb (a .name .len) (b .name .len) && eqList (a .name .bytes) (b .name .bytes)) h in
-    let m = order-same (a .mark) (b .mark) (eqb-true (order (a .mark)) (order (b .mark)) (and-left _ _ p)) in
-    let o = eqb-true (a .hour) (b .hour) (and-right (eqb (order (a .mark)) (order (b .mark))) _ p) in
-    let l = eqb-true (a .name .len) (b .name .len) (and-left _ _ q) in
-    let n = eqList-true (a .name .bytes) (b .name .bytes) (and-right (eqb (a .name .len) (b .name .len)) _ q) in
-    λ i. record { mark = m i; hour = o i; name = record { len = l i; bytes = n i } }
-
-pub same-refl : (a : Key) → same a a ≡ true
-unfolding same sameHour
-same-refl a =
-    simp (eq-eqb (order (a .mark)) (order (a .mark)) refl, eq-eqb (a .hour) (a .hour) refl, eq-eqb (a .name .len) (a .name .len) refl, eqList-refl (a .name .bytes))
-
 pub hour-parts : (a b : Key) → sameHour a b ≡ true → (a .mark ≡ b .mark) × (a .hour ≡ b .hour)
 unfolding sameHour
 hour-parts a b h = (
@@ -79,6 +54,58 @@ pub sameHour-same : (a b : Key) → sameHour a b ≡ true → (x : Key) → same
 unfolding sameHour
 sameHour-same a b h x =
     ap₂ (λ (m n : ℕ). eqb m (order (x .mark)) && eqb n (x .hour)) (eqb-true (order (a .mark)) (order (b .mark)) (and-left _ _ h)) (eqb-true (a .hour) (b .hour) (and-right (eqb (order (a .mark)) (order (b .mark))) _ h))
+
+-- ---- keys are the same exactly when mark, hour and decoded name are: whatever stands behind the name's bytes
+pub record Alike (a b : Key) : Type 0 where
+  pub mark : a .mark ≡ b .mark
+  pub hour : a .hour ≡ b .hour
+  pub name : bytesOf (a .name) ≡ bytesOf (b .name)
+
+pub same-hour : (a b : Key) → same a b ≡ true → sameHour a b ≡ true
+unfolding same
+same-hour a b h = and-left (sameHour a b) _ h
+
+pub same-alike : (a b : Key) → same a b ≡ true → Alike a b
+unfolding same
+same-alike a b h =
+    let p = hour-parts a b (same-hour a b h) in
+    record { mark = p .0; hour = p .1; name = same-names (a .name) (b .name) (and-right (sameHour a b) _ h) }
+
+pub alike-same : (a b : Key) → Alike a b → same a b ≡ true
+unfolding same
+alike-same a b w = simp (parts-hour a b (ap order (w .mark)) (w .hour), same-of (a .name) (b .name) (w .name))
+
+pub same-refl : (a : Key) → same a a ≡ true
+same-refl a = alike-same a a (record { mark = refl; hour = refl; name = refl })
+
+pub same-turn : (a b : Key) → same a b ≡ true → same b a ≡ true
+same-turn a b h = let w = same-alike a b h in alike-same b a (record { mark = sym (w .mark); hour = sym (w .hour); name = sym (w .name) })
+
+pub same-trans : (a b c : Key) → same a b ≡ true → same b c ≡ true → same a c ≡ true
+same-trans a b c h k =
+    let v = same-alike a b h in
+    let w = same-alike b c k in
+    alike-same a c (record { mark = v .mark ∙ w .mark; hour = v .hour ∙ w .hour; name = v .name ∙ w .name })
+
+-- two tests that hold together
+both : (s t : Bool) → (s ≡ true → t ≡ true) → (t ≡ true → s ≡ true) → s ≡ t
+both true t f g = sym (f refl)
+both false true f g = g refl
+both false false f g = refl
+
+pub same-sym : (a b : Key) → same a b ≡ same b a
+same-sym a b = both (same a b) (same b a) (same-turn a b) (same-turn b a)
+
+-- so one may stand for the other in every test of keys
+pub same-left : (a b : Key) → same a b ≡ true → (x : Key) → same a x ≡ same b x
+same-left a b h x = both (same a x) (same b x) (same-trans b a x (same-turn a b h)) (same-trans a b x h)
+
+pub same-right : (a b : Key) → same a b ≡ true → (x : Key) → same x a ≡ same x b
+same-right a b h x = same-sym x a ∙ same-left a b h x ∙ same-sym b x
+
+pub hour-right : (a b : Key) → same a b ≡ true → (x : Key) → sameHour x a ≡ sameHour x b
+unfolding sameHour
+hour-right a b h x = let w = same-alike a b h in λ i. eqb (order (x .mark)) (order (w .mark i)) && eqb (x .hour) (w .hour i)
 
 -- ---- the key of a question
 
@@ -209,6 +236,9 @@ askUnit-fault ns k = go (held (decodeName ns)) refl
     go (bad j) q e = name-fault ns k (q ∙ (let p : j ≡ k = cc in ap bad p))
     go (got n u) q e = absurd (bad-got (sym e))
 
+got-value : {A : Type 0} {a b : A} {s t : List ℕ} → _≡_ {A = Res A} (got a s) (got b t) → a ≡ b
+got-value e = cc
+
 -- ---- the names of records that stand
 
 name-own : (r : Rec) → Good (filed r) → askName (r .key .mark) (askBytes (r .key)) ≡ got (r .key .name) []
@@ -231,21 +261,35 @@ name-decoded r g h =
     let x = bind-got (decodeName s) (λ v t. got (nameOf v) t) (r .key .name) [] (own-name r g h) in
     record { bytes = x .0; valid = decoded-valid s (x .0) (x .1) (x .2); is = cc (x .3) }
 
--- two records of one mark and hour have names of other bytes, unless their keys are the same
-pub names-apart : (a b : Rec) → Good (filed a) → Good (filed b) → sameHour (a .key) (b .key) ≡ true → same (a .key) (b .key) ≡ false → bytesOf (a .key .name) ≡ bytesOf (b .key .name) → ⊥
-unfolding sameHour
-names-apart a b g h s d e =
-    let m = order-same (a .key .mark) (b .key .mark) (eqb-true (order (a .key .mark)) (order (b .key .mark)) (and-left _ _ s)) in
-    let o = eqb-true (a .key .hour) (b .key .hour) (and-right (eqb (order (a .key .mark)) (order (b .key .mark))) _ s) in
-    let q : got (a .key .name) [] ≡ got (b .key .name) [] = sym (name-own a g) ∙ (λ i. askName (m i) (cond (hasName (m i)) (spell (e i)) [])) ∙ name-own b h in
-    let n : a .key .name ≡ b .key .name = cc in
-    let k : a .key ≡ b .key = λ i. record { mark = m i; hour = o i; name = n i } in
-    true≢false (sym (same-refl (a .key)) ∙ ap (same (a .key)) k ∙ d)
+-- ---- names as reading makes them have zeros behind their bytes: of these, names of the same bytes are one name
+abbrev pub Padded : Name → Type 0
+Padded n = nameOf (bytesOf n) ≡ n
+
+asked-padded : (m : Mark) (s : List ℕ) (n : Name) (t : List ℕ) → askName m s ≡ got n t → Padded n
+unfolding askName
+asked-padded m s n t = go (hasName m)
+  where
+    go : (b : Bool) → cond b (held (decodeName s)) (check (eqb (length s) 0) 4 (got noOne [])) ≡ got n t → Padded n
+    go true e =
+        let x = bind-got (decodeName s) (λ v u. got (nameOf v) u) n t e in
+        let p : nameOf (x .0) ≡ n = got-value (x .3) in
+        subst Padded p (ap nameOf (take-pad 0 12 (x .0) (decoded-valid s (x .0) (x .1) (x .2) .few)))
+    go false e = let y = check-got (eqb (length s) 0) 4 (got noOne []) n t e in subst Padded (got-value (y .1)) refl
+
+pub good-padded : (c : Change) → Good c → Padded (keyOf c .name)
+good-padded c g = asked-padded (keyOf c .mark) _ (keyOf c .name) [] (name-asked (kind c) (keyOf c .mark) (keyOf c .name) (good-kept c g .name-back []))
+
+pub same-true : (a b : Key) → Padded (a .name) → Padded (b .name) → same a b ≡ true → a ≡ b
+same-true a b p q h =
+    let w = same-alike a b h in
+    let n : a .name ≡ b .name = sym p ∙ ap nameOf (w .name) ∙ q in
+    λ i. record { mark = w .mark i; hour = w .hour i; name = n i }
+
+-- two keys of one mark and hour have names of other bytes, unless they are the same
+pub names-apart : (a b : Key) → sameHour a b ≡ true → same a b ≡ false → bytesOf (a .name) ≡ bytesOf (b .name) → ⊥
+names-apart a b s d e = let p = hour-parts a b s in true≢false (sym (alike-same a b (record { mark = p .0; hour = p .1; name = e })) ∙ d)
 
 -- ---- what the key of a question is
-
-got-value : {A : Type 0} {a b : A} {s t : List ℕ} → _≡_ {A = Res A} (got a s) (got b t) → a ≡ b
-got-value e = cc
 
 pub hour-key : (m : Mark) (h : ℕ) → 1 ≤ h → h ≤ 24 → askHourOf m h ≡ got (record { mark = m; hour = h; name = noOne }) []
 unfolding askHourOf

@@ -1,10 +1,11 @@
 -- 01, "Records" and "Numbers a call can bring back": keys, and the key that a question asks for. Assumes nothing.
 use mathlib.Core.List.{List, [], _∷_}
-use mathlib.Core.Bool.{Bool, true, false, cond, _&&_}
+use mathlib.Core.Bool.{Bool, cond, _&&_}
 use Prim.Native.Nat.{ℕ}
 use lib.Dec.{eqb}
 use lib.ListN.{length}
 use Rattle.money.specs.Refusals.{unknownMark, badHour, badName}
+use Rattle.money.specs.Names.{sameName}
 use Rattle.money.specs.declared.names.Name.{Name}
 use Rattle.records.specs.Reading.{Res, bad, got, _>>=_, check}
 use Rattle.records.specs.Numbers.{between}
@@ -17,19 +18,13 @@ use Rattle.records.specs.declared.keys.Key.{Key}
 use Rattle.records.specs.declared.keys.KeyAnswer.{KeyAnswer}
 use Rattle.records.specs.declared.keys.NameAnswer.{NameAnswer}
 
-abbrev pub eqList : List ℕ → List ℕ → Bool
-eqList [] [] = true
-eqList [] (y ∷ ys) = false
-eqList (x ∷ xs) [] = false
-eqList (x ∷ xs) (y ∷ ys) = eqb x y && eqList xs ys
-
 -- the same mark and hour
 unfoldable pub sameHour : Key → Key → Bool
 sameHour a b = eqb (order (a .mark)) (order (b .mark)) && eqb (a .hour) (b .hour)
 
 -- "Key: mark, hour, decoded name"
 unfoldable pub same : Key → Key → Bool
-same a b = sameHour a b && (eqb (a .name .len) (b .name .len) && eqList (a .name .bytes) (b .name .bytes))
+same a b = sameHour a b && sameName (a .name) (b .name)
 
 -- ---- "Questions check 2, 3, 4, 11, 15, as far as they have a mark, hour, name, key or price."
 

@@ -12,6 +12,7 @@ use crate::names::decode;
 use crate::names::no_name;
 use crate::names::unnamed;
 use money::names::Name;
+use money::names::same_name;
 use money::refusals::BAD_HOUR;
 use money::refusals::BAD_NAME;
 use money::refusals::UNKNOWN_MARK;
@@ -22,7 +23,7 @@ ghost use mathlib.Core.Bool.{Bool, true, false, _&&_};
 ghost use Rattle.records.specs.Numbers.{between};
 ghost use Rattle.records.specs.Names.{decodeName, noOne, held};
 ghost use Rattle.records.specs.Changes.{noKey};
-ghost use Rattle.records.specs.Keys.{eqList, sameHour, same, askMark, askName, askFailureMark, askFrom, ask, askFailure, askHourOf, askHour, askUnit, keyAnswer, nameAnswer};
+ghost use Rattle.records.specs.Keys.{sameHour, same, askMark, askName, askFailureMark, askFrom, ask, askFailure, askHourOf, askHour, askUnit, keyAnswer, nameAnswer};
 ghost use Rattle.records.specs.Inner.{shown, EndIn, Named};
 
 pub struct Key {
@@ -54,31 +55,14 @@ pub fn same_hour(a: Key, b: Key) -> bool
     a.hour == b.hour
 }
 
-fn same_bytes(a: [u8; 12], b: [u8; 12]) -> bool
-    ensures { λ r. ⌜ r ≡ eqList a b ⌝ }
-{
-    let mut i: usize = 0;
-    while i < 12 {
-        if a[i] != b[i] {
-            return false;
-        }
-        i += 1;
-    }
-    true
-}
-
+// The same mark, hour and decoded name.
 pub fn same_key(a: Key, b: Key) -> bool
     ensures { λ r. ⌜ r ≡ same a b ⌝ }
 {
-    let x = a.name;
-    let y = b.name;
     if same_hour(a, b) {
-        if x.len != y.len {
-            return false;
-        }
-        let p = x.bytes;
-        let q = y.bytes;
-        return same_bytes(p, q);
+        let x = a.name;
+        let y = b.name;
+        return same_name(x, y);
     }
     false
 }

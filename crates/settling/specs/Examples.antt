@@ -24,7 +24,7 @@ use Rattle.records.specs.Names.{visible, hexVal, escaped, one, upTo as nameUpTo
 use Rattle.records.specs.Marks.{mark}
 use Rattle.records.specs.Layouts.{hourPrices, import, export, schedules, reserveRows, lists, unit, failure, layout, taken}
 use Rattle.records.specs.Changes.{head, nameFor, bodyFor, rest, change, entry, parse, parseAny, bare, nameBytes, headBytes, write}
-use Rattle.records.specs.Keys.{eqList, sameHour, same}
+use Rattle.records.specs.Keys.{sameHour, same}
 use Rattle.records.specs.Hours.{limitOf, atHour}
 use Rattle.records.specs.Amounts.{creditTicks, unitTicks, chargeTicks}
 use Rattle.records.specs.Examples as records
@@ -94,7 +94,7 @@ holds (amounts c) = money.holds c
 holds (reads c) = records.holds c
 holds (tells c) = sameReply (register.newest (c .calls)) (c .says)
 holds (shows c) = statement.holds c
-holds (prints s t) = eqList (outputOf s) (bytes t)
+holds (prints s t) = sameBytes (outputOf s) (bytes t)
 
 abbrev pub all : List Case → Bool
 all [] = true

@@ -9,8 +9,8 @@ use lib.Dec.{eqb}
 use lib.IntN.{ℤ, pos, negsuc}
 use lib.ListN.{length}
 use Rattle.money.specs.Units.{centsOf}
+use Rattle.money.specs.Names.{sameBytes}
 use Rattle.records.specs.Names.{nameOf, spell, spellByte, unreserved, digit}
-use Rattle.records.specs.Keys.{eqList}
 use Rattle.book.specs.declared.answers.NamedAmount.{NamedAmount}
 use Rattle.book.specs.Replies.{Reply, refused, guarantees, unitDay}
 use Rattle.book.specs.Amounts.{Charges, charged, no}
@@ -49,10 +49,10 @@ pub data Case : Type 0 where
   unit : String → Reply → String → Case
 
 abbrev pub holds : Case → Bool
-holds (shows ls s) = eqList (textOf ls) (bytes s)
+holds (shows ls s) = sameBytes (textOf ls) (bytes s)
 holds (takes l n) = eqb (length (lineBytes l)) n
-holds (hour h g fs es s) = eqList (textOf (hourLines h g fs es)) (bytes s)
-holds (unit n r s) = eqList (textOf (unitLines (nameOf (bytes n)) r)) (bytes s)
+holds (hour h g fs es s) = sameBytes (textOf (hourLines h g fs es)) (bytes s)
+holds (unit n r s) = sameBytes (textOf (unitLines (nameOf (bytes n)) r)) (bytes s)
 
 abbrev pub all : List Case → Bool
 all [] = true
@@ -94,5 +94,5 @@ cases =
     ∷ []
 
 pub examples : all cases ≡ true
-unfolding textOf lineBytes whenBytes twoDigits kindBytes nameBytes spell spellByte unreserved digit figure sign dollars number decimal digits centsOf
+unfolding textOf lineBytes whenBytes twoDigits kindBytes nameBytes spell spellByte unreserved digit figure sign dollars number decimal digits centsOf sameBytes
 examples = refl
