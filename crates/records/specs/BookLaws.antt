@@ -19,7 +19,7 @@ pub use Rattle.records.specs.LengthLaws.{entry-early, unread-early, bare
 -- the records of one hour
 pub use Rattle.records.specs.HourRecordLaws.{OfHour, hour-record-got, hour-record-fault}
 -- keys that are the same: mark, hour and decoded name; one stands for the other in every test
-pub use Rattle.records.specs.KeyLaws.{Alike, same-alike, same-refl, same-sym, same-left, same-right, same-hour, hour-right}
+pub use Rattle.records.specs.KeyLaws.{same-alike, same-refl, same-sym, same-left, same-right, hour-right}
 -- keys whose names have zeros behind their bytes, as those of changes that may stand, are equal then
 pub use Rattle.records.specs.KeyLaws.{Padded, good-padded, same-true}
 -- keys of one mark and hour, and the key of a question
