@@ -4,7 +4,7 @@ use mathlib.Core.Logic.{_⊎_}
 use mathlib.Core.Bool.{Bool, true, false}
 use mathlib.Core.List.{List, [], _++_}
 use Prim.Native.Nat.{ℕ, _+_, _*_, _≤_, _<_}
-use lib.ListN.{length, take}
+use lib.ListN.{length, take, drop}
 use Rattle.records.specs.Names.{spell, bytesOf}
 use Rattle.book.specs.Layer.{Name, Change, askUnit, got}
 use Rattle.book.specs.declared.journal.Book.{Book}
@@ -25,10 +25,11 @@ use Rattle.statement.specs.declared.sheets.Sheet.{Sheet}
 abbrev pub shown : Text → List ℕ
 shown t = take (t .len) (t .bytes)
 
--- xs were added behind a text
+-- xs were added behind a text, and the places behind them are as they were
 pub record Added (t r : Text) (xs : List ℕ) : Type 0 where
   pub bytes : shown r ≡ shown t ++ xs
   pub len : r .len ≡ t .len + length xs
+  pub behind : drop (r .len) (r .bytes) ≡ drop (r .len) (t .bytes)
 
 -- ---- sheets
 

@@ -13,7 +13,7 @@ ghost use mathlib.Core.Path.{_≡_};
 ghost use Prim.Native.Nat.{_≤_};
 ghost use lib.IntN.{natAbs};
 ghost use lib.ListN.{length, take};
-ghost use Rattle.statement.specs.Lines.{whenBytes, kindBytes, isNumber, nameBytes, sign, figure, lineBytes};
+ghost use Rattle.statement.specs.Lines.{whenBytes, kindBytes, isNumber, nameBytes, sign, figure, lineBytes, textFor};
 ghost use Rattle.statement.specs.Inner.{Added};
 
 pub enum Kind {
@@ -126,7 +126,7 @@ fn with_figure(t: Text, kind: Kind, cents: Cents) -> Text
 }
 
 pub fn line_text(line: Line) -> Text
-    ensures { λ r. ⌜ (take (r .len) (r .bytes) ≡ lineBytes line) × (r .len ≡ length (lineBytes line)) × (r .len ≤ 66) ⌝ }
+    ensures { λ r. ⌜ (take (r .len) (r .bytes) ≡ lineBytes line) × (r .len ≡ length (lineBytes line)) × (r .len ≤ 66) × (r ≡ textFor (lineBytes line)) ⌝ }
 {
     let kind = line.kind;
     let name = line.name;

@@ -10,10 +10,11 @@ use money::refusals::NO_SPACE;
 ghost use mathlib.Core.Path.{_≡_};
 ghost use Prim.Native.Nat.{_≤_};
 ghost use lib.ListN.{length, take};
+ghost use Rattle.statement.specs.Lines.{textFor};
 ghost use Rattle.statement.specs.Refusal.{refusalLine, Fits};
 
 fn refusal_text(ordinal: u64, number: u8) -> Text
-    ensures { λ r. ⌜ (take (r .len) (r .bytes) ≡ refusalLine ordinal number) × (r .len ≡ length (refusalLine ordinal number)) × (r .len ≤ 66) ⌝ }
+    ensures { λ r. ⌜ (take (r .len) (r .bytes) ≡ refusalLine ordinal number) × (r .len ≡ length (refusalLine ordinal number)) × (r .len ≤ 66) × (r ≡ textFor (refusalLine ordinal number)) ⌝ }
 {
     let kind = with_byte(with_three(no_text(), b'R', b'E', b'F'), b' ');
     let counted = with_byte(with_decimal(kind, ordinal), b' ');

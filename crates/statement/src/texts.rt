@@ -4,6 +4,7 @@ ghost use mathlib.Core.List.{[], _∷_};
 ghost use Prim.Native.Nat.{_+_, _≤_, _<_};
 ghost use lib.ListN.{length};
 ghost use Rattle.statement.specs.Decimal.{decimal, twoDigits};
+ghost use Rattle.statement.specs.Lines.{textFor};
 ghost use Rattle.statement.specs.Inner.{Added};
 
 // The bytes of the longest line.
@@ -16,7 +17,7 @@ pub struct Text {
 }
 
 pub(crate) fn no_text() -> Text
-    ensures { λ r. ⌜ r .len ≡ 0 ⌝ }
+    ensures { λ r. ⌜ (r .len ≡ 0) × (r ≡ textFor []) ⌝ }
 {
     Text {
         len: 0,

@@ -36,8 +36,8 @@ with-byte-requires-4 c κs = omega (arith, (c .with-figure) .ensures .1)
 returns : tie.Need-returns
 unfolding lineBytes
 returns c =
-    let a = added-first ((c .before .before .before .before .before .before .before .before .no-text) .ensures) (added-then (added-then (added-then (added-then (added-then (added-then (added-then ((c .before .before .before .before .before .before .before .with-when) .ensures) ((c .before .before .before .before .before .before .with-byte) .ensures)) ((c .before .before .before .before .before .with-kind) .ensures)) ((c .before .before .before .before .with-byte2) .ensures)) ((c .before .before .before .with-name) .ensures)) ((c .before .before .with-byte3) .ensures)) ((c .before .with-figure) .ensures .0)) ((c .with-byte4) .ensures)) in
-    (a .0, a .1, omega (arith, (c .before .with-figure) .ensures .1, (c .with-byte4) .ensures .len))
+    let a = added-first ((c .before .before .before .before .before .before .before .before .no-text) .ensures .1) (added-then (added-then (added-then (added-then (added-then (added-then (added-then ((c .before .before .before .before .before .before .before .with-when) .ensures) ((c .before .before .before .before .before .before .with-byte) .ensures)) ((c .before .before .before .before .before .with-kind) .ensures)) ((c .before .before .before .before .with-byte2) .ensures)) ((c .before .before .before .with-name) .ensures)) ((c .before .before .with-byte3) .ensures)) ((c .before .with-figure) .ensures .0)) ((c .with-byte4) .ensures)) (search needs) in
+    (a .0, a .1, omega (arith, (c .before .with-figure) .ensures .1, (c .with-byte4) .ensures .len), a .2)
 
 pub line-text-spec : {M : Type 1} → statement M
 line-text-spec =

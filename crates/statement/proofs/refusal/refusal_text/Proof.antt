@@ -36,8 +36,8 @@ with-byte-requires-3 c κs = let f = (c .before .before .before .before .before 
 returns : tie.Need-returns
 unfolding refusalLine
 returns c = let f = (c .before .before .before .before .before .before .before .fits) .ordinal in let g = (c .before .before .before .before .before .before .before .fits) .number in
-    let a = added-first ((c .before .before .before .before .before .before .no-text) .ensures) (added-then (added-then (added-then (added-then (added-then ((c .before .before .before .before .before .with-three) .ensures) ((c .before .before .before .before .with-byte) .ensures)) ((c .before .before .before .with-decimal) .ensures)) ((c .before .before .with-byte2) .ensures)) ((c .before .with-decimal2) .ensures)) ((c .with-byte3) .ensures)) in
-    (a .0, a .1, omega (arith, ordinal-digits ((c .before .before .before .before .before .before .before .args) .ordinal) (omega arith), number-digits ((c .before .before .before .before .before .before .before .args) .number) (omega arith), (c .before .before .before .before .with-byte) .ensures .len, (c .before .before .before .before .before .with-three) .ensures .len, (c .before .before .before .with-decimal) .ensures .len, (c .before .before .with-byte2) .ensures .len, (c .before .with-decimal2) .ensures .len, (c .with-byte3) .ensures .len))
+    let a = added-first ((c .before .before .before .before .before .before .no-text) .ensures .1) (added-then (added-then (added-then (added-then (added-then ((c .before .before .before .before .before .with-three) .ensures) ((c .before .before .before .before .with-byte) .ensures)) ((c .before .before .before .with-decimal) .ensures)) ((c .before .before .with-byte2) .ensures)) ((c .before .with-decimal2) .ensures)) ((c .with-byte3) .ensures)) (search needs) in
+    (a .0, a .1, omega (arith, ordinal-digits ((c .before .before .before .before .before .before .before .args) .ordinal) (omega arith), number-digits ((c .before .before .before .before .before .before .before .args) .number) (omega arith), (c .before .before .before .before .with-byte) .ensures .len, (c .before .before .before .before .before .with-three) .ensures .len, (c .before .before .before .with-decimal) .ensures .len, (c .before .before .with-byte2) .ensures .len, (c .before .with-decimal2) .ensures .len, (c .with-byte3) .ensures .len), a .2)
 
 pub refusal-text-spec : {M : Type 1} → statement M
 refusal-text-spec =
