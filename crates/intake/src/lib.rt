@@ -1,85 +1,89 @@
 // Standard input, read to its end into a book.
 use settling::reading::Reading;
 ghost use mathlib.Core.Path.{_≡_};
-ghost use mathlib.Core.Bool.{true, false};
+ghost use mathlib.Core.Bool.{not, _&&_};
 ghost use Prim.Native.Nat.{_≤_};
-ghost use lib.ListN.{length};
-ghost use Rattle.settling.specs.Reading.{isOver};
-ghost use Rattle.settling.specs.Program.{RunTo, Reached};
-ghost use Rattle.intake.specs.Behind.{Behind};
+ghost use lib.Dec.{eqb};
+ghost use lib.ListN.{length, take};
+ghost use Rattle.intake.specs.Rounds.{TakesIn, unread, ReadAll, failed};
 
-// How many bytes a read brought, 0 at the input's end and where it failed.
-struct Got {
-    n: usize,
-    failed: bool,
-}
+// So many reads of 65,536 bytes bring less than 2^64.
+const READS_MAX: u64 = 281474976710655;
 
-// The reading after a read, and whether there may be more to read.
-struct Round {
-    reading: Reading,
-    more: bool,
-    failed: bool,
-}
-
-// The reading of all that was read, up to the input's end or to a refusal that no more bytes can change; it failed where the input could not be read
-// so far.
+// The reading of all that was read; whether there may be more to read, and whether the last read broke off.
 pub struct Input {
     pub reading: Reading,
-    pub failed: bool,
+    pub more: bool,
+    pub broke: bool,
 }
 
-// Reads standard input into the bytes behind the first ones.
-fn read_behind(input: &mut [u8], held: usize) -> Got
-    requires { ⌜ held ≤ length (now input) ⌝ }
-    ensures { λ r. ⌜ Behind held (r .n) (now (input .entry)) (now (input .exit)) ⌝ }
+// Whether there may be more to read, after a read of n bytes.
+fn goes_on(n: usize, over: bool) -> bool
+    ensures { λ r. ⌜ r ≡ (not (eqb n 0) && not over) ⌝ }
 {
-    let got = libc::read(0, &mut input[held..]);
-    let n = io::count(got, &input[held..]);
-    Got { n, failed: got < 0 }
+    if n == 0 {
+        return false;
+    }
+    !over
 }
 
-// A read, and the records that are whole with it.
-fn read_some(r: Reading, log: &mut [u8], input: &mut [u8]) -> Round
-    requires { ⌜ Reached r (now log) (now input) ⌝ ∗ ⌜ isOver r ≡ false ⌝ ∗ ⌜ length (now input) ≡ 65536 ⌝ }
-    ensures { λ x. ⌜ Reached (x .reading) (now (log .exit)) (now (input .exit)) × (x .more ≡ true → isOver (x .reading) ≡ false) ⌝ }
+impl Input {
+    // Nothing is read.
+    fn unread() -> Input
+        ensures { λ r. ⌜ r ≡ unread ⌝ }
+    {
+        Input {
+            reading: Reading::fresh(),
+            more: true,
+            broke: false,
+        }
+    }
+
+    // Takes in what a read left in the bytes behind those that are held, and what it answered.
+    fn take_in(self, got: isize, log: &mut [u8], bytes: &mut [u8]) -> Input
+        requires { ⌜ self .reading .held ≤ length (now bytes) ⌝ }
+        ensures { λ r. ⌜ TakesIn self got (now (log .entry)) (now (bytes .entry)) r (now (log .exit)) (now (bytes .exit)) ⌝ }
+    {
+        let reading = self.reading;
+        let held = reading.held;
+        let n = io::count(got, &bytes[held..]);
+        let next = reading.read_on(log, bytes, n);
+        let more = goes_on(n, next.is_over());
+        Input {
+            reading: next,
+            more,
+            broke: got < 0,
+        }
+    }
+
+    // Whether the input was not read to its end.
+    pub fn failed(self) -> bool
+        ensures { λ r. ⌜ r ≡ failed self ⌝ }
+    {
+        self.broke || self.more
+    }
+}
+
+// One read of standard input into the bytes behind those that are held. What it answers is handed on as it is; no contract can say what it brings.
+fn read_behind(bytes: &mut [u8], held: usize) -> isize
+    requires { ⌜ held ≤ length (now bytes) ⌝ }
+    ensures { λ r. ⌜ (length (now (bytes .exit)) ≡ length (now (bytes .entry))) × (take held (now (bytes .exit)) ≡ take held (now (bytes .entry))) ⌝ }
 {
-    let got = read_behind(input, r.held);
-    let n = got.n;
-    let reading = r.read_on(log, input, n);
-    if n == 0 || reading.is_over() {
-        return Round {
-            reading,
-            more: false,
-            failed: got.failed,
-        };
-    }
-    Round {
-        reading,
-        more: true,
-        failed: false,
-    }
+    libc::read(0, &mut bytes[held..])
 }
 
 // Reads standard input to its end, over the lent log.
 pub fn read_input(log: &mut [u8]) -> Input
-    ensures { λ r. ⌜ RunTo (r .reading) (now (log .exit)) × (length (now (log .exit)) ≡ length (now (log .entry))) ⌝ }
+    ensures { λ r. ⌜ ReadAll r (now (log .exit)) × (length (now (log .exit)) ≡ length (now (log .entry))) ⌝ }
 {
-    let mut input = io::large_buffer();
-    let mut r = Round {
-        reading: Reading::fresh(),
-        more: true,
-        failed: false,
-    };
-    // So many rounds that no input is too long.
-    let mut left: u64 = 18446744073709551615;
-    while 0 < left && r.more {
-        let reading = r.reading;
-        r = read_some(reading, log, &mut input);
+    let mut bytes = io::large_buffer();
+    let mut input = Input::unread();
+    let mut left = READS_MAX;
+    while 0 < left && input.more {
+        let reading = input.reading;
+        let got = read_behind(&mut bytes, reading.held);
+        input = input.take_in(got, log, &mut bytes);
         left = left - 1;
     }
-    let reading = r.reading;
-    Input {
-        reading,
-        failed: r.failed || r.more,
-    }
+    input
 }

@@ -1,9 +1,6 @@
 use borrow.Author.Needs.{needs}
 use Rattle.settling.proofs.reading.Reading.ordinal.Statement.{statement}
 use Rattle.settling.proofs.reading.Reading.ordinal.Tie as tie
-use Rattle.settling.proofs.reading.Reading.ordinal.Reads as reads
-use Rattle.settling.proofs.reading.Reading.ordinal.Lts as lts
-use Rattle.settling.proofs.reading.plus.Reads as plus-reads
 
 plus-requires : tie.Need-plus-requires
 plus-requires c κs = search needs

@@ -1,0 +1,24 @@
+use Rattle.settle.proofs.Showing.{shows-none, shows-output}
+use native.Mathlib.Omega.{arith}
+use borrow.Author.Needs.{needs}
+use Rattle.settle.proofs.print_input.Statement.{statement}
+use Rattle.settle.proofs.print_input.Tie as tie
+
+failed-requires : tie.Need-failed-requires
+failed-requires c κs = search needs
+
+returns : tie.Need-returns
+returns c = shows-none ((c .before .failed) .ensures) ((c .if1) .taken)
+
+output-requires : tie.Need-output-requires
+output-requires c κs = search needs
+
+same-length : tie.Need-same-length
+same-length c = search needs
+
+returns-2 : tie.Need-returns-2
+returns-2 c = shows-output ((c .before .before .before .before .before .before .failed) .ensures) ((c .before .before .before .before .before .if1) .left) ((c .before .before .output) .ensures)
+
+pub print-input-spec : {M : Type 1} → statement M
+print-input-spec =
+    tie.close (tie.spec failed-requires returns output-requires same-length returns-2)
