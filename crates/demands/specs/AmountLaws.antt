@@ -4,6 +4,7 @@ use mathlib.Core.Path.{_≡_, refl, sym, ap, _∙_}
 use mathlib.Core.List.{List, [], _∷_, _++_, map}
 use mathlib.Core.Bool.{Bool, true, false, cond, not}
 use native.Mathlib.Omega.{arith}
+use lib.IntN.{ℤ}
 use lib.ListN.{length, take, drop}
 use lib.Seq.{take-append-seam}
 use Rattle.laws.specs.Sums.{Σℤ, every}
@@ -18,7 +19,7 @@ use Rattle.book.specs.Amounts.{Pick, is, Price, priced, priceOf, hourKey, credi
 use Rattle.book.specs.Register.{Reg, standing, startIn, writeAll, keyed, asking, ask, Question, hourGuarantees, dayOf, failureCharge, answer, Reply, refused, guarantees, unitDay}
 use Rattle.book.specs.Meaning.{Load, belongs, load, leaving, stepped, outcome, Meets}
 use Rattle.book.specs.LoadLaws.{loaded-from}
-use Rattle.demands.specs.Checks.{first, checksOver, keyFirst, _gives_}
+use Rattle.demands.specs.Checks.{first, checksOver, keyFirst, dayChecks, _gives_}
 use Rattle.demands.specs.Demands.{Amounts, Demand2}
 use Rattle.demands.specs.FormulaLaws.{formulas}
 
@@ -30,19 +31,21 @@ module _ (b : Book) (s : List ℕ) (l : List Change) (e : load b s ≡ belongs l
   unfolding outcome
   told-is q b′ r s′ m = m .answer ∙ ap (λ (x : Load). leaving b s (stepped (asking q) b s x) .answer) e
 
-  hour-is : (p : HourPrices) (im es : List Rec) → guaranteesAt (startIn l) (priced p) im es ≡ guarantees (map (creditAt (startIn l) p) im) (offset (length im) (map (offsetEntry p) im) (p .emp) (totalsOf es))
+  hour-is : (p : HourPrices) (im es : List Rec)
+      → guaranteesAt (startIn l) (priced p) im es ≡ guarantees (map (creditAt (startIn l) p) im) (offset (length im) (map (offsetEntry p) im) (p .emp) (totalsOf es))
   unfolding offset Σℤ
   hour-is p [] es = refl
   hour-is p (i ∷ im) es = refl
 
-  day-is : (k : Key) → first ((every 24 (λ (j : ℕ). absent (unitAt k (standing l) j)) gives 11) ∷ (not (every 24 (λ (j : ℕ). payable (unitAt k (standing l) j) (priceOf (standing l) (1 + j)))) gives 15) ∷ []) ≡ 0
-      → unitDayOf k (standing l) (priceOf (standing l)) ≡ unitDay (dayTotal k (standing l) (priceOf (standing l))) (reversal (dayTotal k (standing l) (priceOf (standing l))))
+  abbrev total : Key → ℤ
+  total k = dayTotal k (standing l) (priceOf (standing l))
+
+  day-is : (k : Key) → first (dayChecks (standing l) k) ≡ 0 → unitDayOf k (standing l) (priceOf (standing l)) ≡ unitDay (total k) (reversal (total k))
   unfolding unitDayOf
   day-is k = go (every 24 (λ (j : ℕ). absent (unitAt k (standing l) j))) (every 24 (λ (j : ℕ). payable (unitAt k (standing l) j) (priceOf (standing l) (1 + j))))
     where
       go : (x y : Bool) → first ((x gives 11) ∷ (not y gives 15) ∷ []) ≡ 0
-          → cond x (refused 11) (cond y (unitDay (dayTotal k (standing l) (priceOf (standing l))) (reversal (dayTotal k (standing l) (priceOf (standing l))))) (refused 15))
-          ≡ unitDay (dayTotal k (standing l) (priceOf (standing l))) (reversal (dayTotal k (standing l) (priceOf (standing l))))
+          → cond x (refused 11) (cond y (unitDay (total k) (reversal (total k))) (refused 15)) ≡ unitDay (total k) (reversal (total k))
       go true y z = absurd (omega arith)
       go false true z = refl
       go false false z = absurd (omega arith)
@@ -62,7 +65,7 @@ module _ (b : Book) (s : List ℕ) (l : List Change) (e : load b s ≡ belongs l
     day = λ n k t f z b′ r s′ m.
         told-is (dayOf n) b′ r s′ m
         ∙ ap (λ (x : Asked). keyed x (λ (j : Key). unitDayOf j (standing l) (priceOf (standing l)))) f
-        ∙ day-is k (sym (ap (λ (x : Load). first (checksOver (ask (dayOf n)) (length s) (b .closed) x)) e ∙ ap (λ (x : Asked). first (keyFirst x (λ (j : Key). (every 24 (λ (i : ℕ). absent (unitAt j (standing l) i)) gives 11) ∷ (not (every 24 (λ (i : ℕ). payable (unitAt j (standing l) i) (priceOf (standing l) (1 + i)))) gives 15) ∷ []))) f) ∙ z);
+        ∙ day-is k (sym (ap (λ (x : Load). first (checksOver (ask (dayOf n)) (length s) (b .closed) x)) e ∙ ap (λ (x : Asked). first (keyFirst x (dayChecks (standing l)))) f) ∙ z);
     failure = λ m h n k t f x u p q b′ r s′ w.
         told-is (failureCharge m h n) b′ r s′ w
         ∙ ap (λ (y : Asked). keyed y (λ (j : Key). chargeOf j (standing l) (priceOf (standing l)))) f

@@ -9,7 +9,8 @@ use lib.Dec.{ltb}
 use Rattle.book.specs.Layer.{Change, Input, fine, fault, parse, begins, takeBackBytes, closeBytes, Asked}
 use Rattle.book.specs.declared.journal.Book.{Book}
 use Rattle.book.specs.Amounts.{pick}
-use Rattle.book.specs.Register.{Reg, standing, refusal, writeAll, Call, file, correct, withdraw, takeBack, close, change, ask, recordOf, freeBytes, placeOf, keyed, Reply, refused, accepted, answered, becomes, stepOf, called, listed, judged, takenBack, closing, shorter, unless-closed, bareTakeBack, bareClose, after, Turn, run}
+use Rattle.book.specs.Register.{Reg, standing, refusal, writeAll, Call, file, correct, withdraw, takeBack, close, change, ask, recordOf, freeBytes, placeOf, keyed, Reply}
+use Rattle.book.specs.Register.{refused, accepted, answered, becomes, stepOf, called, listed, judged, takenBack, closing, shorter, unless-closed, bareTakeBack, bareClose, after, Turn, run}
 use Rattle.book.specs.Session.{Session, start, next, Undo, Shows, Agrees, Holds, Throughout}
 use Rattle.book.specs.SessionLaws.{every-list}
 use Rattle.book.specs.Meaning.{belongs, load}
@@ -88,7 +89,8 @@ made-by (t ∷ ts) n h = go (λ m k. made-by ts m k) (run ts .list) (run (t ∷ 
 
     deeper : Before → (a : List Change) (c : Change) → run ts .list ≡ a → run (t ∷ ts) .list ≡ c ∷ a → (j : ℕ) → n ≡ j → Moment (t ∷ ts) n
     deeper ih a c e f zero z =
-        record { before = ts; by = t; earlier = now; made = ap (λ (x : ℕ). drop x (run (t ∷ ts) .list)) (sym z); list = e ∙ ap (drop 1) (sym f) ∙ ap (λ (x : ℕ). drop (suc x) (run (t ∷ ts) .list)) (sym z) }
+        let made = ap (λ (x : ℕ). drop x (run (t ∷ ts) .list)) (sym z) in
+        record { before = ts; by = t; earlier = now; made = made; list = e ∙ ap (drop 1) (sym f) ∙ ap (λ (x : ℕ). drop (suc x) (run (t ∷ ts) .list)) (sym z) }
     deeper ih a c e f (suc j) z =
         later j (ih j (omega (arith, ap length e, ap length f)))
         (ap (drop j) e ∙ ap (drop (suc j)) (sym f) ∙ ap (λ (x : ℕ). drop x (run (t ∷ ts) .list)) (sym z))

@@ -10,7 +10,8 @@ use lib.Dec.{ltb, leb}
 use borrow.Author.Tests.{ltb-true, ltb-false, leb-true}
 use Rattle.book.specs.Layer.{Change, filed, corrected, withdrawn, write, Input, fine, fault, parse, begins, takeBackBytes, closeBytes, limitOf}
 use Rattle.book.specs.declared.journal.Book.{Book}
-use Rattle.book.specs.Register.{Reg, Call, file, correct, withdraw, takeBack, close, change, ask, Reply, refused, reply, Step, answered, becomes, stepOf, called, listed, judged, takenBack, closing, shorter, unless-closed, bareTakeBack, bareClose, after, writeAll, refusal, room, roomFor, capped, stands, count, standing, Turn, run, told}
+use Rattle.book.specs.Register.{Reg, Call, file, correct, withdraw, takeBack, close, change, ask, Reply, refused, reply, Step, answered, becomes, stepOf, called, listed}
+use Rattle.book.specs.Register.{judged, takenBack, closing, shorter, unless-closed, bareTakeBack, bareClose, after, writeAll, refusal, room, roomFor, capped, stands, count, standing, Turn, run, told}
 use Rattle.book.specs.Meaning.{bookOf, After, leaving, outcome, Meets, Valid}
 use Rattle.book.specs.ReplayLaws.{called-valid, outcome-is}
 use Rattle.book.specs.Session.{Session, start, next}
@@ -151,7 +152,8 @@ module _ {ts : List Turn} {rs : List Reply} (g : Reg) (v : Valid (g .list)) (σ 
       let o : x ≡ leaving (bookOf g) s st = outcome-is call g s v h in
       let f : length (x .kept) ≤ length s = subst (λ (y : After). length (y .kept) ≤ length s) (sym o) (kept-fits g s st (called-fits call (length s) g)) in
       let s′ = leaves (x .kept) s in
-      let m : Meets call (bookOf g) s (x .book) (x .answer) s′ = record { book = refl; answer = refl; size = leaves-size (x .kept) s f; bytes = take-append-seam (x .kept) (drop (length (x .kept)) s) } in
+      let m : Meets call (bookOf g) s (x .book) (x .answer) s′ =
+      record { book = refl; answer = refl; size = leaves-size (x .kept) s f; bytes = take-append-seam (x .kept) (drop (length (x .kept)) s) } in
       let τ = next σ call s h (x .book) (x .answer) s′ m in
       let eb : x .book ≡ bookOf (after st g) = ap (λ (y : After). y .book) o ∙ book-is g s st in
       let er : x .answer ≡ reply st = ap (λ (y : After). y .answer) o ∙ answer-is g s st in
