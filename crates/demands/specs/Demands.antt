@@ -2,7 +2,7 @@
 use Prim.Native.Nat.{ℕ, zero, suc, _+_, _-_, _≤_}
 use mathlib.Core.Path.{_≡_}
 use mathlib.Core.List.{List, [], _∷_, _++_, map}
-use mathlib.Core.Bool.{true, false}
+use mathlib.Core.Bool.{false}
 use lib.IntN.{pos, negℤ}
 use lib.ListN.{length, take, drop, replicate}
 use Rattle.laws.specs.Ints.{maxℤ}
@@ -15,7 +15,7 @@ use Rattle.book.specs.Layer.{Key, Rec, Change, fine, parse, write, Scan, seen, 
 use Rattle.book.specs.ByName.{byName}
 use Rattle.book.specs.declared.journal.Book.{Book}
 use Rattle.book.specs.Amounts.{pick, is, priced, priceOf, hourKey, creditAt, totalsOf, unitAt, hourTicks}
-use Rattle.book.specs.Register.{Reg, standing, stands, capped, writeAll, startIn, Call, file, correct, withdraw, takeBack, close, change, ask, becomes, stepOf, Turn, run, told}
+use Rattle.book.specs.Register.{Reg, standing, capped, writeAll, startIn, Call, file, correct, withdraw, takeBack, close, change, ask, becomes, stepOf, Turn, run, told}
 use Rattle.book.specs.Register.{Question, recordOf, freeBytes, hourGuarantees, dayOf, failureCharge, answer, Reply, refused, accepted, place, number, guarantees, unitDay, charge}
 use Rattle.book.specs.Meaning.{belongs, load, bookOf, outcome, Meets}
 use Rattle.book.specs.Session.{Session, next, Undo, Shows}
@@ -121,7 +121,7 @@ pub record Afterwards (ts : List Turn) (b : Book) (held : List ℕ) : Type 0 whe
       → (s : List ℕ) → take (length held) s ≡ held → (b′ : Book) (r : Reply) (s′ : List ℕ) → Meets (ask (recordOf m h n)) b s b′ r s′
       → Shows (pick k (standing (run ts .list))) held r
   -- and the key of every standing record can be asked for
-  pub reached : (k : Key) → stands k (standing (run ts .list)) ≡ true → keyAsked (markBytes (k .mark)) (k .hour) (askBytes k) ≡ got k []
+  pub reached : (k : Key) (x : Rec) → pick k (standing (run ts .list)) ≡ is x → keyAsked (markBytes (x .key .mark)) (x .key .hour) (askBytes (x .key)) ≡ got (x .key) []
   -- free bytes: "the lent length of the call (above 65,535 counted as 65,535) less" the used bytes
   pub free : (s : List ℕ) → take (length held) s ≡ held → (b′ : Book) (r : Reply) (s′ : List ℕ) → Meets (ask freeBytes) b s b′ r s′
       → r ≡ number (capped (length s) - length (writeAll (run ts .list)))
