@@ -11,7 +11,7 @@ INSTALL = install
 
 SETTLE = target/bin/settle
 ARCHIVE = target/staticlib/libhour_offset.a
-RECORDTEXT = peer/target/release/recordtext
+RECORDTEXT = recordtext/target/release/recordtext
 
 bin = $(DESTDIR)$(PREFIX)/bin
 include = $(DESTDIR)$(PREFIX)/include
@@ -21,7 +21,7 @@ man = $(DESTDIR)$(PREFIX)/share/man
 installed = $(bin)/settle $(bin)/recordtext $(include)/pewatuno.h $(lib)/libpewatuno.a $(lib)/pkgconfig/pewatuno.pc \
 	$(man)/man1/settle.1 $(man)/man1/recordtext.1 $(man)/man3/pewatuno_hour_offset.3 $(man)/man5/pewatuno-records.5
 
-.PHONY: help build settle archive peer sample test bench install uninstall clean
+.PHONY: help build settle archive recordtext peer sample test bench install uninstall clean
 
 help:
 	@echo 'make build      prove and build the program settle and the archive for C, build recordtext'
@@ -32,7 +32,7 @@ help:
 	@echo 'make uninstall  remove what install put there'
 	@echo 'make clean      remove everything that was built'
 
-build: settle archive peer
+build: settle archive recordtext
 
 # What has not changed is not proved again.
 settle:
@@ -40,6 +40,9 @@ settle:
 
 archive:
 	$(RT) staticlib hour_offset
+
+recordtext:
+	$(CARGO) build --offline --release --manifest-path recordtext/Cargo.toml
 
 peer:
 	$(CARGO) build --offline --release --manifest-path peer/Cargo.toml
@@ -77,4 +80,4 @@ uninstall:
 	rm -f $(installed)
 
 clean:
-	rm -rf target peer/target bench/target
+	rm -rf target peer/target recordtext/target bench/target

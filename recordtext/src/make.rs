@@ -1,9 +1,9 @@
 //! From text to bytes.
 
-use super::layout::{self, Kind, NO_PAIRS};
-use super::words::{bad, records, Word, Words};
-use super::BadText;
-use crate::records::{parse_change_prefix, Mark};
+use crate::layout::{self, Kind, NO_PAIRS};
+use crate::words::{bad, records, Word, Words};
+use crate::{numbers, BadText};
+use peer::records::{parse_change_prefix, Mark};
 
 const STARTS: &str = "PR, IM, EX, GH, FI, FE, CO, WD, TB, CL, hex or broken";
 const MARKS: &str = "one of PR, IM, EX, GH, FI, FE";
@@ -31,7 +31,7 @@ fn make_record(words: Words) -> Result<Vec<u8>, BadText> {
     record.end()?;
     match (parse_change_prefix(&record.out), meant_broken) {
         (Err(refusal), false) => {
-            let told = refusal.told();
+            let told = numbers::told(refusal);
             let advice = "write 'broken' before a record that is meant to be refused";
             Err(bad(line, format!("refused with {told}; {advice}")))
         }
@@ -279,7 +279,7 @@ fn hex_bytes(text: &str) -> Option<Vec<u8>> {
 #[cfg(test)]
 mod tests {
     use super::*;
-    use crate::records::raw::{self, RawName};
+    use peer::records::raw::{self, RawName};
 
     fn fault(text: &str) -> String {
         make(text).expect_err("a fault").to_string()

@@ -1,7 +1,6 @@
 //! Turns records into text that people can read and compare, and back.
 
-use peer::refusal::Refusal;
-use peer::text::{make, show, Headings};
+use recordtext::{make, numbers, show, Headings};
 use std::io::{self, Read, Write};
 use std::process::ExitCode;
 
@@ -20,7 +19,7 @@ fn main() -> ExitCode {
         ["show"] => show_input(Headings::None),
         ["show", "-n"] => show_input(Headings::Places),
         ["make"] => make_input(),
-        ["numbers"] => list_numbers(),
+        ["numbers"] => output(numbers::list().as_bytes()).map(|()| ExitCode::SUCCESS),
         _ => {
             eprint!("{USAGE}");
             return ExitCode::from(TROUBLE);
@@ -54,13 +53,6 @@ fn make_input() -> io::Result<ExitCode> {
         Ok(bytes) => output(&bytes).map(|()| ExitCode::SUCCESS),
         Err(bad) => Ok(failed(&bad.to_string())),
     }
-}
-
-/// The numbers that a record or a call can be refused with.
-fn list_numbers() -> io::Result<ExitCode> {
-    let lines: String = Refusal::ALL.map(|refusal| refusal.told() + "\n").concat();
-    output(lines.as_bytes())?;
-    Ok(ExitCode::SUCCESS)
 }
 
 fn failed(message: &str) -> ExitCode {

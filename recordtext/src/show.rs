@@ -1,8 +1,8 @@
 //! From bytes to text.
 
-use super::layout::{self, Kind, NO_PAIRS};
-use super::Refused;
-use crate::records::{parse_change_prefix_at, Mark};
+use crate::layout::{self, Kind, NO_PAIRS};
+use crate::Refused;
+use peer::records::{parse_change_prefix_at, Mark};
 use std::fmt::{Display, Write};
 
 /// What stands above each record.
@@ -190,8 +190,8 @@ impl<'a> Fields<'a> {
 #[cfg(test)]
 mod tests {
     use super::*;
-    use crate::records::raw::{self, RawName, RawUnit};
-    use crate::refusal::Refusal;
+    use peer::records::raw::{self, RawName, RawUnit};
+    use peer::refusal::Refusal;
 
     fn shown(bytes: &[u8]) -> String {
         let shown = show(bytes, Headings::None);

@@ -20,17 +20,22 @@
 //! before a record that breaks a rule on purpose.
 //!
 //! - [`show()`] turns bytes into text, [`make()`] text into bytes.
+//! - [`numbers`] has the words of the numbers 1 to 16.
 //! - The words of each record stand in one table, in `layout`.
+
+#![forbid(unsafe_code)]
+#![warn(missing_docs)]
 
 mod layout;
 mod make;
+pub mod numbers;
 mod show;
 mod words;
 
 pub use make::make;
 pub use show::{show, Headings, Shown};
 
-use crate::refusal::Refusal;
+use peer::refusal::Refusal;
 use std::fmt;
 
 /// Where reading of records back to back stopped, and by which rule.
@@ -54,7 +59,7 @@ impl fmt::Display for Refused {
             read_to,
             refusal,
         } = self;
-        let told = refusal.told();
+        let told = numbers::told(*refusal);
         write!(
             out,
             "record {ordinal}, at byte {start}, is refused with {told} (read to byte {read_to})"

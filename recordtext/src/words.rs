@@ -1,6 +1,6 @@
 //! Text cut into records and words.
 
-use super::BadText;
+use crate::BadText;
 
 /// A word and the line it stands on.
 #[derive(Clone, Copy, Debug, PartialEq, Eq)]

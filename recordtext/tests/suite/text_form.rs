@@ -4,8 +4,7 @@ use crate::support::*;
 use peer::names;
 use peer::records::parse_change_prefix;
 use peer::records::raw::{self, RawPairs, RawUnit};
-use peer::refusal::Refusal;
-use peer::text::{make, show, Headings};
+use recordtext::{make, show, Headings};
 
 /// Draws records that break no rule.
 struct Drawn(Draw);
@@ -186,13 +185,4 @@ fn a_damaged_record_is_told_with_its_number_and_place() {
     }
     assert!(seen[1..=7].iter().all(|&times| times > 0), "{seen:?}");
     assert_eq!(seen[8..], [0; 9]);
-}
-
-#[test]
-fn each_number_has_words_of_its_own() {
-    for refusal in Refusal::ALL {
-        let same = |other: &&Refusal| other.words() == refusal.words();
-        assert_eq!(Refusal::ALL.iter().filter(same).count(), 1);
-    }
-    assert_eq!(Refusal::NameFault.told(), "4: the name breaks its rule");
 }

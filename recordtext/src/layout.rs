@@ -1,7 +1,7 @@
 //! Which words stand in the text of each record, in the order of its bytes.
 
-use crate::records::Mark;
-use crate::units::INTERVALS;
+use peer::records::Mark;
+use peer::units::INTERVALS;
 
 /// How a field's numbers stand in the bytes.
 #[derive(Clone, Copy, Debug, PartialEq, Eq)]
