@@ -19,21 +19,24 @@
 //! Two more words start a line: `hex` gives raw bytes, and `broken` stands
 //! before a record that breaks a rule on purpose.
 //!
-//! - [`show()`] turns bytes into text, [`make()`] text into bytes.
+//! - [`form_of()`] tells text from records.
+//! - [`show()`] turns records into text, [`make()`] text into records.
 //! - [`numbers`] has the words of the numbers 1 to 16.
 //! - The words of each record stand in one table, in `layout`.
 
 #![forbid(unsafe_code)]
 #![warn(missing_docs)]
 
+mod form;
 mod layout;
 mod make;
 pub mod numbers;
 mod show;
 mod words;
 
+pub use form::{form_of, Form};
 pub use make::make;
-pub use show::{show, Headings, Shown};
+pub use show::{show, Shown, Style};
 
 use peer::refusal::Refusal;
 use std::fmt;

@@ -1,5 +1,6 @@
 //! From text to bytes.
 
+use crate::form::text_of;
 use crate::layout::{self, Kind, NO_PAIRS};
 use crate::words::{bad, records, Word, Words};
 use crate::{numbers, BadText};
@@ -8,11 +9,11 @@ use peer::records::{parse_change_prefix, Mark};
 const STARTS: &str = "PR, IM, EX, GH, FI, FE, CO, WD, TB, CL, hex or broken";
 const MARKS: &str = "one of PR, IM, EX, GH, FI, FE";
 
-/// The bytes of a text. A record that reading would refuse (1 to 7) is a
+/// The records of a text. A record that reading would refuse (1 to 7) is a
 /// fault of its line, unless it is marked as `broken`.
-pub fn make(text: &str) -> Result<Vec<u8>, BadText> {
+pub fn make(text: impl AsRef<[u8]>) -> Result<Vec<u8>, BadText> {
     let mut bytes = Vec::new();
-    for words in records(text)? {
+    for words in records(text_of(text.as_ref())?)? {
         bytes.extend(make_record(words)?);
     }
     Ok(bytes)

@@ -5,13 +5,11 @@ use crate::Refused;
 use peer::records::{parse_change_prefix_at, Mark};
 use std::fmt::{Display, Write};
 
-/// What stands above each record.
-#[derive(Clone, Copy, Debug, PartialEq, Eq)]
-pub enum Headings {
-    /// Nothing.
-    None,
-    /// A comment with the record's ordinal and first byte.
-    Places,
+/// How records are shown.
+#[derive(Clone, Copy, Debug, Default, PartialEq, Eq)]
+pub struct Style {
+    /// A comment above each record has its ordinal and its first byte.
+    pub headings: bool,
 }
 
 /// The text of the records before the first that is refused, and that one.
@@ -25,7 +23,7 @@ pub struct Shown {
 
 /// The text of records back to back. Only reading is checked (1 to 7);
 /// whether a book would take the records is for `settle` to say.
-pub fn show(bytes: &[u8], headings: Headings) -> Shown {
+pub fn show(bytes: &[u8], style: Style) -> Shown {
     let mut text = String::new();
     let mut start = 0;
     let mut ordinal = 0;
@@ -33,7 +31,7 @@ pub fn show(bytes: &[u8], headings: Headings) -> Shown {
         ordinal += 1;
         match parse_change_prefix_at(&bytes[start..]) {
             Ok((_, length)) => {
-                if headings == Headings::Places {
+                if style.headings {
                     put(
                         &mut text,
                         format_args!("# record {ordinal}, byte {start}\n"),
@@ -194,7 +192,7 @@ mod tests {
     use peer::refusal::Refusal;
 
     fn shown(bytes: &[u8]) -> String {
-        let shown = show(bytes, Headings::None);
+        let shown = show(bytes, Style::default());
         assert_eq!(shown.refused, None);
         shown.text
     }
@@ -275,7 +273,7 @@ mod tests {
             raw::export(1, &RawName::of(b"A%2"), [0; 12]),
         ]
         .concat();
-        let shown = show(&bytes, Headings::Places);
+        let shown = show(&bytes, Style { headings: true });
         assert_eq!(shown.text, "# record 1, byte 0\nTB\n");
         let refused = shown.refused.unwrap();
         assert_eq!((refused.ordinal, refused.start, refused.read_to), (2, 2, 9));

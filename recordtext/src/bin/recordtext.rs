@@ -1,6 +1,6 @@
 //! Turns records into text that people can read and compare, and back.
 
-use recordtext::{make, numbers, show, Headings};
+use recordtext::{make, numbers, show, Style};
 use std::io::{self, Read, Write};
 use std::process::ExitCode;
 
@@ -16,8 +16,8 @@ fn main() -> ExitCode {
     let words: Vec<String> = std::env::args().skip(1).collect();
     let words: Vec<&str> = words.iter().map(String::as_str).collect();
     let done = match words[..] {
-        ["show"] => show_input(Headings::None),
-        ["show", "-n"] => show_input(Headings::Places),
+        ["show"] => show_input(Style::default()),
+        ["show", "-n"] => show_input(Style { headings: true }),
         ["make"] => make_input(),
         ["numbers"] => output(numbers::list().as_bytes()).map(|()| ExitCode::SUCCESS),
         _ => {
@@ -31,8 +31,8 @@ fn main() -> ExitCode {
     })
 }
 
-fn show_input(headings: Headings) -> io::Result<ExitCode> {
-    let shown = show(&input()?, headings);
+fn show_input(style: Style) -> io::Result<ExitCode> {
+    let shown = show(&input()?, style);
     output(shown.text.as_bytes())?;
     Ok(match shown.refused {
         None => ExitCode::SUCCESS,
@@ -41,15 +41,7 @@ fn show_input(headings: Headings) -> io::Result<ExitCode> {
 }
 
 fn make_input() -> io::Result<ExitCode> {
-    let text = match String::from_utf8(input()?) {
-        Ok(text) => text,
-        Err(fault) => {
-            let good = &fault.as_bytes()[..fault.utf8_error().valid_up_to()];
-            let line = 1 + good.iter().filter(|&&byte| byte == b'\n').count();
-            return Ok(failed(&format!("line {line}: expected text in UTF-8")));
-        }
-    };
-    match make(&text) {
+    match make(input()?) {
         Ok(bytes) => output(&bytes).map(|()| ExitCode::SUCCESS),
         Err(bad) => Ok(failed(&bad.to_string())),
     }

@@ -4,7 +4,7 @@ use crate::support::*;
 use peer::refusal::Refusal;
 use peer::statement::settle;
 use recordtext::numbers::{told, words};
-use recordtext::{make, show, Headings};
+use recordtext::{form_of, make, show, Form, Style};
 use std::fs;
 
 #[test]
@@ -15,12 +15,32 @@ fn records_are_those_of_their_text() {
     }
 }
 
+#[test]
+fn texts_and_records_are_told_apart() {
+    for (ending, form) in [("txt", Form::Text), ("rec", Form::Records)] {
+        for path in samples(ending) {
+            let bytes = fs::read(&path).expect("a file");
+            assert_eq!(form_of(&bytes), form, "{}", path.display());
+        }
+    }
+}
+
+/// A byte-order mark and line ends with CR, as Windows saves a text.
+#[test]
+fn texts_of_windows_make_the_same_records() {
+    for path in samples("txt") {
+        let text = text_of(&path);
+        let windows = format!("\u{feff}{}", text.replace('\n', "\r\n"));
+        assert_eq!(make(&windows), make(&text), "{}", path.display());
+    }
+}
+
 /// As far as they can be read; a number of reading is that of the statement.
 #[test]
 fn records_can_be_shown_and_made_again() {
     for path in samples("rec") {
         let records = fs::read(&path).expect("records");
-        let shown = show(&records, Headings::None);
+        let shown = show(&records, Style::default());
         let end = shown.refused.map_or(records.len(), |refused| refused.start);
         assert_eq!(make(&shown.text).as_deref(), Ok(&records[..end]));
         if let Some(refused) = shown.refused {

@@ -4,7 +4,7 @@ use crate::support::*;
 use peer::names;
 use peer::records::parse_change_prefix;
 use peer::records::raw::{self, RawPairs, RawUnit};
-use recordtext::{make, show, Headings};
+use recordtext::{make, show, Style};
 
 /// Draws records that break no rule.
 struct Drawn(Draw);
@@ -129,7 +129,7 @@ fn last_quantity(list: &[(i32, u32)]) -> u32 {
 
 /// The text of bytes that break no rule.
 fn shown(bytes: &[u8]) -> String {
-    let shown = show(bytes, Headings::None);
+    let shown = show(bytes, Style::default());
     assert_eq!(shown.refused, None);
     shown.text
 }
@@ -150,7 +150,7 @@ fn so_they_are_for_records_back_to_back_with_headings() {
     for _ in 0..100 {
         let bytes: Vec<u8> = (0..30).flat_map(|_| drawn.change()).collect();
         assert_eq!(make(&shown(&bytes)).as_ref(), Ok(&bytes));
-        let headed = show(&bytes, Headings::Places);
+        let headed = show(&bytes, Style { headings: true });
         assert_eq!(headed.text.matches("# record ").count(), 30);
         assert_eq!(make(&headed.text).as_ref(), Ok(&bytes));
         assert_eq!(shown(&make(&headed.text).unwrap()), shown(&bytes));
@@ -175,7 +175,7 @@ fn a_damaged_record_is_told_with_its_number_and_place() {
         let Err(refusal) = parse_change_prefix(&damaged) else {
             continue;
         };
-        let shown = show(&[&before[..], &damaged].concat(), Headings::None);
+        let shown = show(&[&before[..], &damaged].concat(), Style::default());
         let refused = shown.refused.expect("a refusal");
         assert_eq!(make(&shown.text).as_ref(), Ok(&before));
         assert_eq!((refused.ordinal, refused.start), (2, before.len()));
