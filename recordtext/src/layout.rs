@@ -1,15 +1,14 @@
 //! Which words stand in the text of each record, in the order of its bytes.
 
+use crate::units::Unit;
 use peer::records::Mark;
 use peer::units::INTERVALS;
 
 /// How a field's numbers stand in the bytes.
 #[derive(Clone, Copy, Debug, PartialEq, Eq)]
 pub enum Kind {
-    /// So many prices, i32 each.
-    Prices(usize),
-    /// So many quantities or amounts in cents, u32 each.
-    Amounts(usize),
+    /// So many numbers of a unit, four bytes each.
+    Numbers(Unit, usize),
     /// A count byte, then pairs of a price and a quantity.
     List,
 }
@@ -17,17 +16,18 @@ pub enum Kind {
 /// One field behind hour and name: its word and its kind.
 pub type Field = (&'static str, Kind);
 
-const TWELVE_PRICES: Kind = Kind::Prices(INTERVALS);
-const TWELVE: Kind = Kind::Amounts(INTERVALS);
-const PRICE: Kind = Kind::Prices(1);
-const AMOUNT: Kind = Kind::Amounts(1);
+const TWELVE_PRICES: Kind = Kind::Numbers(Unit::Price, INTERVALS);
+const TWELVE: Kind = Kind::Numbers(Unit::Quantity, INTERVALS);
+const PRICE: Kind = Kind::Numbers(Unit::Price, 1);
+const QUANTITY: Kind = Kind::Numbers(Unit::Quantity, 1);
+const AMOUNT: Kind = Kind::Numbers(Unit::Amount, 1);
 
 const PRICE_FIELDS: &[Field] = &[("emp", TWELVE_PRICES), ("pd", PRICE)];
 const IMPORT_FIELDS: &[Field] = &[("mqsi", TWELVE), ("offer", Kind::List)];
 const EXPORT_FIELDS: &[Field] = &[("mqsw", TWELVE)];
 const FAILURE_FIELDS: &[Field] = &[
-    ("da", AMOUNT),
-    ("pd", AMOUNT),
+    ("da", QUANTITY),
+    ("pd", QUANTITY),
     ("da-price", PRICE),
     ("pd-price", PRICE),
 ];
@@ -52,6 +52,31 @@ const UNIT_FIELDS: &[Field] = &[
     ("30r-offer", Kind::List),
 ];
 
+/// A schedule and a list that it must be within, by their words.
+pub type Bound = (&'static str, &'static str);
+
+const IMPORT_BOUNDS: &[Bound] = &[("mqsi", "offer")];
+const UNIT_BOUNDS: &[Bound] = &[
+    ("day-ahead", "day-ahead-offer"),
+    ("day-ahead", "real-time-offer"),
+    ("10s-schedule", "10s-offer"),
+    ("10ns-schedule", "10ns-offer"),
+    ("30r-schedule", "30r-offer"),
+];
+
+/// The words of a reserve's prices, schedules and list, by reserve. Its list
+/// may be empty.
+pub const RESERVES: [[&str; 3]; 3] = [
+    ["10s-price", "10s-schedule", "10s-offer"],
+    ["10ns-price", "10ns-schedule", "10ns-offer"],
+    ["30r-price", "30r-schedule", "30r-offer"],
+];
+
+/// The six marks of records.
+pub const SIX: &str = "PR, IM, EX, GH, FI, FE";
+/// The ten marks.
+pub const TEN: &str = "PR, IM, EX, GH, FI, FE, CO, WD, TB, CL";
+
 /// The word for a list without pairs.
 pub const NO_PAIRS: &str = "none";
 
@@ -64,6 +89,23 @@ pub fn fields(mark: Mark) -> &'static [Field] {
         Mark::Unit => UNIT_FIELDS,
         Mark::ImportFailure | Mark::ExportFailure => FAILURE_FIELDS,
     }
+}
+
+/// Which schedules must be within which lists.
+pub fn bounds(mark: Mark) -> &'static [Bound] {
+    match mark {
+        Mark::Import => IMPORT_BOUNDS,
+        Mark::Unit => UNIT_BOUNDS,
+        _ => &[],
+    }
+}
+
+/// The schedule of the reserve whose list this is.
+pub fn reserve_schedule(list: &str) -> Option<&'static str> {
+    let mut reserves = RESERVES.iter();
+    reserves
+        .find(|words| words[2] == list)
+        .map(|words| words[1])
 }
 
 /// Whether the record carries a name.
@@ -91,6 +133,24 @@ pub fn letters(mark: Mark) -> &'static str {
 #[cfg(test)]
 mod tests {
     use super::*;
+
+    #[test]
+    fn every_schedule_and_list_is_a_field() {
+        for mark in Mark::ALL {
+            let kind_of = |word: &str| {
+                let mut fields = fields(mark).iter();
+                fields.find(|field| field.0 == word).map(|field| field.1)
+            };
+            for &(schedule, list) in bounds(mark) {
+                assert_eq!(kind_of(schedule), Some(TWELVE));
+                assert_eq!(kind_of(list), Some(Kind::List));
+            }
+        }
+        for [price, schedule, list] in RESERVES {
+            assert!(fields(Mark::Unit).contains(&(price, TWELVE_PRICES)));
+            assert!(bounds(Mark::Unit).contains(&(schedule, list)));
+        }
+    }
 
     #[test]
     fn letters_are_the_marking_bytes() {

@@ -19,6 +19,8 @@
 //! Two more words start a line: `hex` gives raw bytes, and `broken` stands
 //! before a record that breaks a rule on purpose.
 //!
+//! - [`check()`] plays the day as `settle` does, and says why a record is
+//!   refused.
 //! - [`form_of()`] tells text from records.
 //! - [`show()`] turns records into text, [`make()`] text into records.
 //! - [`numbers`] has the words of the numbers 1 to 16.
@@ -27,48 +29,25 @@
 #![forbid(unsafe_code)]
 #![warn(missing_docs)]
 
+mod check;
+mod feed;
 mod form;
 mod layout;
 mod make;
 pub mod numbers;
+mod refused;
 mod show;
+mod units;
+mod why;
 mod words;
 
+pub use check::{check, Taken};
 pub use form::{form_of, Form};
 pub use make::make;
+pub use refused::Refused;
 pub use show::{show, Shown, Style};
 
-use peer::refusal::Refusal;
 use std::fmt;
-
-/// Where reading of records back to back stopped, and by which rule.
-#[derive(Clone, Copy, Debug, PartialEq, Eq)]
-pub struct Refused {
-    /// Which record, counted from 1.
-    pub ordinal: usize,
-    /// Its first byte, counted from 0.
-    pub start: usize,
-    /// The first byte that was not read any more.
-    pub read_to: usize,
-    /// The rule.
-    pub refusal: Refusal,
-}
-
-impl fmt::Display for Refused {
-    fn fmt(&self, out: &mut fmt::Formatter<'_>) -> fmt::Result {
-        let Refused {
-            ordinal,
-            start,
-            read_to,
-            refusal,
-        } = self;
-        let told = numbers::told(*refusal);
-        write!(
-            out,
-            "record {ordinal}, at byte {start}, is refused with {told} (read to byte {read_to})"
-        )
-    }
-}
 
 /// What is wrong with a text, and on which line.
 #[derive(Clone, Debug, PartialEq, Eq)]

@@ -2,12 +2,10 @@
 
 use crate::form::text_of;
 use crate::layout::{self, Kind, NO_PAIRS};
+use crate::units::Unit;
 use crate::words::{bad, records, Word, Words};
 use crate::{numbers, BadText};
 use peer::records::{parse_change_prefix, Mark};
-
-const STARTS: &str = "PR, IM, EX, GH, FI, FE, CO, WD, TB, CL, hex or broken";
-const MARKS: &str = "one of PR, IM, EX, GH, FI, FE";
 
 /// The records of a text. A record that reading would refuse (1 to 7) is a
 /// fault of its line, unless it is marked as `broken`.
@@ -60,7 +58,8 @@ impl<'a> Maker<'a> {
 
     /// A record of any of the ten marks.
     fn change(&mut self) -> Result<(), BadText> {
-        match self.word(STARTS)?.text {
+        let starts = format!("{}, hex or broken", layout::TEN);
+        match self.word(&starts)?.text {
             letters @ ("TB" | "CL") => self.put(letters.as_bytes()),
             "WD" => {
                 self.put(b"WD");
@@ -73,7 +72,7 @@ impl<'a> Maker<'a> {
             }
             letters => match Mark::of_bytes(letters.as_bytes()) {
                 Some(mark) => self.filed(mark)?,
-                None => return Err(self.found(STARTS, letters)),
+                None => return Err(self.found(&starts, letters)),
             },
         }
         Ok(())
@@ -81,8 +80,9 @@ impl<'a> Maker<'a> {
 
     /// A mark where only the six are allowed.
     fn mark(&mut self) -> Result<Mark, BadText> {
-        let letters = self.word(MARKS)?.text;
-        Mark::of_bytes(letters.as_bytes()).ok_or_else(|| self.found(MARKS, letters))
+        let marks = format!("one of {}", layout::SIX);
+        let letters = self.word(&marks)?.text;
+        Mark::of_bytes(letters.as_bytes()).ok_or_else(|| self.found(&marks, letters))
     }
 
     /// Mark, hour and name; for `PR` the name is left out.
@@ -107,8 +107,8 @@ impl<'a> Maker<'a> {
         for &(label, kind) in layout::fields(mark) {
             self.label(label)?;
             match kind {
-                Kind::Prices(count) => self.numbers(label, count, price_bytes)?,
-                Kind::Amounts(count) => self.numbers(label, count, amount_bytes)?,
+                Kind::Numbers(Unit::Price, count) => self.numbers(label, count, price_bytes)?,
+                Kind::Numbers(_, count) => self.numbers(label, count, amount_bytes)?,
                 Kind::List => self.list(label)?,
             }
         }

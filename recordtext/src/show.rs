@@ -1,9 +1,12 @@
 //! From bytes to text.
 
+use crate::feed::{placed, Placed};
 use crate::layout::{self, Kind, NO_PAIRS};
+use crate::units::Unit;
+use crate::why::quoted;
 use crate::Refused;
-use peer::records::{parse_change_prefix_at, Mark};
-use std::fmt::{Display, Write};
+use peer::records::Mark;
+use std::fmt::Write;
 
 /// How records are shown.
 #[derive(Clone, Copy, Debug, Default, PartialEq, Eq)]
@@ -22,40 +25,29 @@ pub struct Shown {
 }
 
 /// The text of records back to back. Only reading is checked (1 to 7);
-/// whether a book would take the records is for `settle` to say.
+/// whether a book would take the records is for [`crate::check()`] to say.
 pub fn show(bytes: &[u8], style: Style) -> Shown {
     let mut text = String::new();
-    let mut start = 0;
-    let mut ordinal = 0;
-    while start < bytes.len() {
-        ordinal += 1;
-        match parse_change_prefix_at(&bytes[start..]) {
-            Ok((_, length)) => {
-                if style.headings {
-                    put(
-                        &mut text,
-                        format_args!("# record {ordinal}, byte {start}\n"),
-                    );
-                }
-                show_record(&bytes[start..start + length], &mut text);
-                start += length;
-            }
-            Err((refusal, read)) => {
-                let read_to = start + read;
-                let refused = Some(Refused {
-                    ordinal,
-                    start,
-                    read_to,
-                    refusal,
-                });
+    for record in placed(bytes) {
+        match record {
+            Ok(record) => show_placed(&record, style, &mut text),
+            Err(refused) => {
+                let refused = Some(refused);
                 return Shown { text, refused };
             }
         }
     }
-    Shown {
-        text,
-        refused: None,
+    let refused = None;
+    Shown { text, refused }
+}
+
+/// A record below its heading.
+fn show_placed(record: &Placed, style: Style, text: &mut String) {
+    if style.headings {
+        let (ordinal, start) = (record.ordinal, record.start);
+        put(text, format_args!("# record {ordinal}, byte {start}\n"));
     }
+    show_record(record.bytes, text);
 }
 
 /// One record that has been read without a refusal.
@@ -109,8 +101,7 @@ fn show_filed(mark: &[u8], record: &mut Fields, text: &mut String) {
     for &(word, kind) in layout::fields(mark) {
         put(text, format_args!("{before}{word}"));
         match kind {
-            Kind::Prices(count) => show_runs(&record.numbers(count, i32::from_le_bytes), text),
-            Kind::Amounts(count) => show_runs(&record.numbers(count, u32::from_le_bytes), text),
+            Kind::Numbers(unit, count) => show_runs(&record.numbers(unit, count), text),
             Kind::List => show_list(record, text),
         }
     }
@@ -119,17 +110,12 @@ fn show_filed(mark: &[u8], record: &mut Fields, text: &mut String) {
 /// The name as it is spelled in the bytes.
 fn show_name(record: &mut Fields, text: &mut String) {
     let length = record.byte();
-    // Read without a refusal, so it is plain ASCII.
-    let spelled = String::from_utf8_lossy(record.take(usize::from(length)));
-    if spelled.starts_with(['#', '"']) {
-        put(text, format_args!(" \"{spelled}\""));
-    } else {
-        put(text, format_args!(" {spelled}"));
-    }
+    let spelled = record.take(usize::from(length));
+    put(text, format_args!(" {}", quoted(spelled)));
 }
 
 /// Numbers in turn, equal neighbours as `12x100`.
-fn show_runs<Number: Display + PartialEq>(numbers: &[Number], text: &mut String) {
+fn show_runs(numbers: &[i64], text: &mut String) {
     for run in numbers.chunk_by(|one, next| one == next) {
         match run.len() {
             1 => put(text, format_args!(" {}", run[0])),
@@ -145,8 +131,8 @@ fn show_list(record: &mut Fields, text: &mut String) {
         put(text, format_args!(" {NO_PAIRS}"));
     }
     for _ in 0..count {
-        let price = i32::from_le_bytes(record.four());
-        let quantity = u32::from_le_bytes(record.four());
+        let price = record.number(Unit::Price);
+        let quantity = record.number(Unit::Quantity);
         put(text, format_args!(" {price}@{quantity}"));
     }
 }
@@ -175,13 +161,13 @@ impl<'a> Fields<'a> {
         self.take(2)
     }
 
-    fn four(&mut self) -> [u8; 4] {
-        let taken = self.take(4);
-        [taken[0], taken[1], taken[2], taken[3]]
+    fn number(&mut self, unit: Unit) -> i64 {
+        let four = self.take(4);
+        unit.number([four[0], four[1], four[2], four[3]])
     }
 
-    fn numbers<Number>(&mut self, count: usize, of: fn([u8; 4]) -> Number) -> Vec<Number> {
-        (0..count).map(|_| of(self.four())).collect()
+    fn numbers(&mut self, unit: Unit, count: usize) -> Vec<i64> {
+        (0..count).map(|_| self.number(unit)).collect()
     }
 }
 
@@ -276,11 +262,15 @@ mod tests {
         let shown = show(&bytes, Style { headings: true });
         assert_eq!(shown.text, "# record 1, byte 0\nTB\n");
         let refused = shown.refused.unwrap();
-        assert_eq!((refused.ordinal, refused.start, refused.read_to), (2, 2, 9));
+        assert_eq!(
+            (refused.ordinal, refused.start, refused.at),
+            (2, 2, Some(7))
+        );
         assert_eq!(refused.refusal, Refusal::NameFault);
         assert_eq!(
             refused.to_string(),
-            "record 2, at byte 2, is refused with 4: the name breaks its rule (read to byte 9)"
+            "record 2, EX 1, at byte 2, is refused with 4: the name breaks its rule\n\
+             name 'A%2', byte 2 of 3: % without two hex digits behind it (byte 7)"
         );
     }
 }

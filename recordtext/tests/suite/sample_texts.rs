@@ -41,7 +41,8 @@ fn records_can_be_shown_and_made_again() {
     for path in samples("rec") {
         let records = fs::read(&path).expect("records");
         let shown = show(&records, Style::default());
-        let end = shown.refused.map_or(records.len(), |refused| refused.start);
+        let end = shown.refused.as_ref();
+        let end = end.map_or(records.len(), |refused| refused.start);
         assert_eq!(make(&shown.text).as_deref(), Ok(&records[..end]));
         if let Some(refused) = shown.refused {
             let line = format!("REF {} {}\n", refused.ordinal, refused.refusal);

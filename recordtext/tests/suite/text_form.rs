@@ -179,7 +179,8 @@ fn a_damaged_record_is_told_with_its_number_and_place() {
         let refused = shown.refused.expect("a refusal");
         assert_eq!(make(&shown.text).as_ref(), Ok(&before));
         assert_eq!((refused.ordinal, refused.start), (2, before.len()));
-        assert!((before.len()..=before.len() + damaged.len()).contains(&refused.read_to));
+        let at = refused.at.expect("a place");
+        assert!((before.len()..=before.len() + damaged.len()).contains(&at));
         assert_eq!(refused.refusal, refusal);
         seen[refusal.number() as usize] += 1;
     }
