@@ -4,8 +4,9 @@ use crate::form::text_of;
 use crate::layout::{self, Kind, NO_PAIRS};
 use crate::units::Unit;
 use crate::words::{bad, records, Word, Words};
-use crate::{numbers, BadText};
+use crate::{numbers, BadText, Refused};
 use peer::records::{parse_change_prefix, Mark};
+use peer::refusal::Refusal;
 
 /// The records of a text. A record that reading would refuse (1 to 7) is a
 /// fault of its line, unless it is marked as `broken`.
@@ -29,11 +30,7 @@ fn make_record(words: Words) -> Result<Vec<u8>, BadText> {
     record.change()?;
     record.end()?;
     match (parse_change_prefix(&record.out), meant_broken) {
-        (Err(refusal), false) => {
-            let told = numbers::told(refusal);
-            let advice = "write 'broken' before a record that is meant to be refused";
-            Err(bad(line, format!("refused with {told}; {advice}")))
-        }
+        (Err(refusal), false) => Err(record.refused(refusal)),
         (Ok(_), true) => Err(bad(line, "marked as broken, but it breaks no rule")),
         _ => Ok(record.out),
     }
@@ -42,17 +39,21 @@ fn make_record(words: Words) -> Result<Vec<u8>, BadText> {
 /// Goes through the words of a record and lays out its bytes.
 struct Maker<'a> {
     words: &'a [Word<'a>],
-    /// The line of the last word taken.
-    line: usize,
+    /// The last word taken.
+    word: Word<'a>,
     out: Vec<u8>,
+    /// Where the bytes of each word end.
+    laid: Vec<(usize, Word<'a>)>,
 }
 
 impl<'a> Maker<'a> {
+    /// The words of a record, of which there is at least one.
     fn new(words: &'a [Word<'a>]) -> Maker<'a> {
         Maker {
             words,
-            line: words.first().map_or(1, |word| word.line),
+            word: words[0],
             out: Vec::new(),
+            laid: Vec::new(),
         }
     }
 
@@ -107,8 +108,7 @@ impl<'a> Maker<'a> {
         for &(label, kind) in layout::fields(mark) {
             self.label(label)?;
             match kind {
-                Kind::Numbers(Unit::Price, count) => self.numbers(label, count, price_bytes)?,
-                Kind::Numbers(_, count) => self.numbers(label, count, amount_bytes)?,
+                Kind::Numbers(unit, count) => self.numbers(label, unit, count)?,
                 Kind::List => self.list(label)?,
             }
         }
@@ -152,23 +152,28 @@ impl<'a> Maker<'a> {
     }
 
     /// So many numbers, each alone or as `TIMESxNUMBER`.
-    fn numbers(&mut self, label: &str, count: usize, of: Layer) -> Result<(), BadText> {
+    fn numbers(&mut self, label: &str, unit: Unit, count: usize) -> Result<(), BadText> {
         let mut got = 0;
         while got < count {
-            let expected = format!("number {} of {count} for {label}", got + 1);
+            let which = match count {
+                1 => format!("a number for {label}"),
+                _ => format!("number {} of {count} for {label}", got + 1),
+            };
+            let expected = format!("{which} ({})", unit.typing());
             let text = self.word(&expected)?.text;
-            let (times, number) = match text.split_once('x') {
-                Some((times, number)) => (times.parse().ok(), of(number)),
-                None => (Some(1), of(text)),
-            };
-            let (Some(times), Some(number)) = (times, number) else {
-                return Err(self.found(&expected, text));
-            };
-            if times == 0 || times > count - got {
-                let left = count - got;
+            let (times, number) = text.split_once('x').unwrap_or(("1", text));
+            let bytes = unit
+                .typed(number)
+                .map_err(|fault| self.unfit(&expected, text, &format!("which {fault}")))?;
+            let left = count - got;
+            let times = times
+                .parse()
+                .ok()
+                .filter(|times| (1..=left).contains(times));
+            let Some(times) = times else {
                 return Err(self.found(&format!("{left} more of {count} for {label}"), text));
-            }
-            self.put(&number.repeat(times));
+            };
+            self.put(&bytes.repeat(times));
             got += times;
         }
         Ok(())
@@ -185,12 +190,12 @@ impl<'a> Maker<'a> {
         let mut count = 0;
         while count == 0 || self.words.first().is_some_and(is_pair) {
             let text = self.word(&expected)?.text;
-            let pair = pair_bytes(text).ok_or_else(|| self.found(&expected, text))?;
+            let pair = pair_bytes(text).map_err(|fault| self.unfit(&expected, text, &fault))?;
             self.put(&pair);
             count += 1;
         }
         self.out[count_at] = u8::try_from(count)
-            .map_err(|_| bad(self.line, format!("{label} has more than 255 pairs")))?;
+            .map_err(|_| bad(self.word.line, format!("{label} has more than 255 pairs")))?;
         Ok(())
     }
 
@@ -211,7 +216,7 @@ impl<'a> Maker<'a> {
         match self.words.first() {
             None => Ok(()),
             Some(word) => {
-                self.line = word.line;
+                self.word = *word;
                 Err(self.found("the end of the record", word.text))
             }
         }
@@ -219,54 +224,70 @@ impl<'a> Maker<'a> {
 
     fn put(&mut self, bytes: &[u8]) {
         self.out.extend(bytes);
+        self.laid.push((self.out.len(), self.word));
     }
 
     /// Takes the next word if it is this one.
     fn skip(&mut self, text: &str) -> bool {
-        let is_next = self.words.first().is_some_and(|word| word.text == text);
-        if is_next {
+        let next = self.words.first().filter(|word| word.text == text);
+        if let Some(word) = next {
+            self.word = *word;
             self.words = &self.words[1..];
         }
-        is_next
+        next.is_some()
     }
 
     fn peek(&self, expected: &str) -> Result<Word<'a>, BadText> {
         self.words.first().copied().ok_or_else(|| {
             let message = format!("expected {expected}, but the record ends here");
-            bad(self.line, message)
+            bad(self.word.line, message)
         })
     }
 
     fn word(&mut self, expected: &str) -> Result<Word<'a>, BadText> {
-        let word = self.peek(expected)?;
+        self.word = self.peek(expected)?;
         self.words = &self.words[1..];
-        self.line = word.line;
-        Ok(word)
+        Ok(self.word)
     }
 
     fn found(&self, expected: &str, text: &str) -> BadText {
-        bad(self.line, format!("expected {expected}, found '{text}'"))
+        bad(
+            self.word.line,
+            format!("expected {expected}, found '{text}'"),
+        )
     }
-}
 
-/// The four bytes of a number, none if it is none or doesn't fit.
-type Layer = fn(&str) -> Option<[u8; 4]>;
+    /// The same, and what is wrong with what was found.
+    fn unfit(&self, expected: &str, text: &str, fault: &str) -> BadText {
+        let found = self.found(expected, text);
+        bad(found.line, format!("{}, {fault}", found.message))
+    }
 
-fn price_bytes(text: &str) -> Option<[u8; 4]> {
-    text.parse().ok().map(i32::to_le_bytes)
-}
-
-fn amount_bytes(text: &str) -> Option<[u8; 4]> {
-    text.parse().ok().map(u32::to_le_bytes)
+    /// The word whose bytes break a rule of reading, and why.
+    fn refused(&self, refusal: Refusal) -> BadText {
+        let Refused { why, at, .. } = Refused::unread(1, 0, &self.out, refusal);
+        let is_at_fault = |(end, _): &&(usize, Word)| at.is_some_and(|at| *end > at);
+        let word = self.laid.iter().find(is_at_fault);
+        let word = word.map_or(self.word, |(_, word)| *word);
+        let told = numbers::told(refusal);
+        let advice = "write 'broken' before a record that is meant to be refused";
+        let message = format!("'{}': {why}; refused with {told}; {advice}", word.text);
+        bad(word.line, message)
+    }
 }
 
 fn is_pair(word: &Word) -> bool {
     word.text.contains('@')
 }
 
-fn pair_bytes(text: &str) -> Option<Vec<u8>> {
-    let (price, quantity) = text.split_once('@')?;
-    Some([price_bytes(price)?, amount_bytes(quantity)?].concat())
+/// The bytes of a pair, or what is wrong with it.
+fn pair_bytes(text: &str) -> Result<Vec<u8>, String> {
+    let (price, quantity) = text.split_once('@').ok_or("which has no @")?;
+    let price = Unit::Price.typed(price);
+    let price = price.map_err(|fault| format!("whose price {fault}"))?;
+    let quantity = Unit::Quantity.typed(quantity);
+    let quantity = quantity.map_err(|fault| format!("whose quantity {fault}"))?;
+    Ok([price, quantity].concat())
 }
 
 fn hex_bytes(text: &str) -> Option<Vec<u8>> {
@@ -327,7 +348,8 @@ mod tests {
     fn a_broken_rule_is_a_fault_of_its_line() {
         assert_eq!(
             fault("TB\n\nIM 1 N mqsi 12x0 offer 2000@10\n  1999@20"),
-            "line 3: refused with 6: a list breaks its rule; \
+            "line 4: '1999@20': offer, pair 2 of 2: price 1999 is below 2000 of the pair before; \
+             refused with 6: a list breaks its rule; \
              write 'broken' before a record that is meant to be refused"
         );
     }
@@ -357,11 +379,17 @@ mod tests {
         ("EX 1 A mqsi 12x0", "expected the word mqsw, found 'mqsi'"),
         (
             "EX 1 A mqsw 11x0",
-            "expected number 12 of 12 for mqsw, but the record ends here",
+            "expected number 12 of 12 for mqsw (tenths of a MW as 100, or 10.0MW), but the record ends here",
         ),
         (
             "EX 1 A mqsw 11x0 y",
-            "expected number 12 of 12 for mqsw, found 'y'",
+            "expected number 12 of 12 for mqsw (tenths of a MW as 100, or 10.0MW), found 'y', \
+             which is no number",
+        ),
+        (
+            "EX 1 A mqsw 2x10.05MW 10x0",
+            "expected number 1 of 12 for mqsw (tenths of a MW as 100, or 10.0MW), found '2x10.05MW', \
+             which is finer than a tenth of a MW",
         ),
         (
             "EX 1 A mqsw 10x0 3x1",
@@ -372,8 +400,13 @@ mod tests {
             "expected 12 more of 12 for mqsw, found '0x1'",
         ),
         (
+            "EX 1 A mqsw yx1",
+            "expected 12 more of 12 for mqsw, found 'yx1'",
+        ),
+        (
             "EX 1 A mqsw 12x-1",
-            "expected number 1 of 12 for mqsw, found '12x-1'",
+            "expected number 1 of 12 for mqsw (tenths of a MW as 100, or 10.0MW), found '12x-1', \
+             which is below 0",
         ),
         (
             "EX 1 A mqsw 12x0 0",
@@ -385,7 +418,16 @@ mod tests {
         ),
         (
             "IM 1 A mqsi 12x0 offer 5@",
-            "expected PRICE@QUANTITY for offer, or none, found '5@'",
+            "expected PRICE@QUANTITY for offer, or none, found '5@', whose quantity is no number",
+        ),
+        (
+            "IM 1 A mqsi 12x0 offer 30.00@10.0MW",
+            "expected PRICE@QUANTITY for offer, or none, found '30.00@10.0MW', \
+             whose price has decimals but no unit",
+        ),
+        (
+            "IM 1 A mqsi 12x0 offer 5",
+            "expected PRICE@QUANTITY for offer, or none, found '5', which has no @",
         ),
         ("hex 5", "expected pairs of hex digits, found '5'"),
         (
@@ -394,7 +436,13 @@ mod tests {
         ),
         (
             "PR 1 emp 12x3000000000 pd 0",
-            "expected number 1 of 12 for emp, found '12x3000000000'",
+            "expected number 1 of 12 for emp (cents as 3000, or $30.00), found '12x3000000000', \
+             which does not fit into four bytes",
+        ),
+        (
+            "PR 1 emp 12x0 pd 10.0MW",
+            "expected a number for pd (cents as 3000, or $30.00), found '10.0MW', \
+             which is in MW, where dollars or cents stand",
         ),
     ];
 
@@ -407,6 +455,40 @@ mod tests {
             fault("TB\nGH 1 G\n  start 1\n  noload 2"),
             "line 4: expected the word no-load, found 'noload'"
         );
+    }
+
+    /// The line and the word are those of the fault, not of the record.
+    #[test]
+    fn a_broken_rule_has_its_word_and_value() {
+        let broken = |text: &str| fault(text).split("; refused").next().unwrap().to_string();
+        assert_eq!(
+            broken("PR 1\n emp 11x0\n $2000.01\n pd 0"),
+            "line 3: '$2000.01': emp, number 12 of 12: 200001 is above 200,000"
+        );
+        assert_eq!(
+            broken("IM 1 N mqsi 2x100\n 3x101\n 7x100\n offer 5@100"),
+            "line 2: '3x101': mqsi, interval 3: 101 is beyond the offer's last quantity 100"
+        );
+        assert_eq!(
+            broken("WD IM 1 A%2"),
+            "line 1: 'A%2': name 'A%2', byte 2 of 3: % without two hex digits behind it"
+        );
+        assert_eq!(
+            broken("PR 25 emp 12x0 pd 0"),
+            "line 1: '25': hour: 25 is not 1 to 24"
+        );
+        assert_eq!(
+            broken("IM 1 N mqsi 12x0\n offer none"),
+            "line 2: 'offer': offer, count: 0 is not 1 to 20"
+        );
+    }
+
+    #[test]
+    fn units_beside_whole_numbers() {
+        let plain = "PR 5 emp 12x3000 pd -500\nIM 5 A mqsi 12x100 offer 4000@100 4100@101";
+        let typed = "PR 5 emp 6x$30.00 6x3000 pd -$5.00\n\
+                     IM 5 A mqsi 11x10.0MW 10MW offer $40.00@100 4100@10.1MW";
+        assert_eq!(make(typed), make(plain));
     }
 
     #[test]

@@ -13,6 +13,8 @@ use std::fmt::Write;
 pub struct Style {
     /// A comment above each record has its ordinal and its first byte.
     pub headings: bool,
+    /// Numbers have their units, as `$30.00` and `10.0MW`.
+    pub units: bool,
 }
 
 /// The text of the records before the first that is refused, and that one.
@@ -47,12 +49,12 @@ fn show_placed(record: &Placed, style: Style, text: &mut String) {
         let (ordinal, start) = (record.ordinal, record.start);
         put(text, format_args!("# record {ordinal}, byte {start}\n"));
     }
-    show_record(record.bytes, text);
+    show_record(record.bytes, style, text);
 }
 
 /// One record that has been read without a refusal.
-fn show_record(bytes: &[u8], text: &mut String) {
-    let mut record = Fields { rest: bytes };
+fn show_record(bytes: &[u8], style: Style, text: &mut String) {
+    let mut record = Fields { rest: bytes, style };
     match record.two() {
         b"TB" => text.push_str("TB"),
         b"CL" => text.push_str("CL"),
@@ -115,7 +117,7 @@ fn show_name(record: &mut Fields, text: &mut String) {
 }
 
 /// Numbers in turn, equal neighbours as `12x100`.
-fn show_runs(numbers: &[i64], text: &mut String) {
+fn show_runs(numbers: &[String], text: &mut String) {
     for run in numbers.chunk_by(|one, next| one == next) {
         match run.len() {
             1 => put(text, format_args!(" {}", run[0])),
@@ -144,6 +146,7 @@ fn put(text: &mut String, what: std::fmt::Arguments) {
 /// The fields of a record that is known to be whole.
 struct Fields<'a> {
     rest: &'a [u8],
+    style: Style,
 }
 
 impl<'a> Fields<'a> {
@@ -161,12 +164,18 @@ impl<'a> Fields<'a> {
         self.take(2)
     }
 
-    fn number(&mut self, unit: Unit) -> i64 {
+    /// A number as it is shown.
+    fn number(&mut self, unit: Unit) -> String {
         let four = self.take(4);
-        unit.number([four[0], four[1], four[2], four[3]])
+        let number = unit.number([four[0], four[1], four[2], four[3]]);
+        if self.style.units {
+            unit.with_unit(number)
+        } else {
+            number.to_string()
+        }
     }
 
-    fn numbers(&mut self, unit: Unit, count: usize) -> Vec<i64> {
+    fn numbers(&mut self, unit: Unit, count: usize) -> Vec<String> {
         (0..count).map(|_| self.number(unit)).collect()
     }
 }
@@ -220,6 +229,21 @@ mod tests {
     }
 
     #[test]
+    fn numbers_with_their_units() {
+        let style = Style {
+            units: true,
+            ..Style::default()
+        };
+        let import = raw::import(5, &RawName::of(b"A"), [100; 12], &[(-7, 101)]);
+        assert_eq!(
+            show(&import, style).text,
+            "IM 5 A mqsi 12x10.0MW offer -$0.07@10.1MW\n"
+        );
+        let unit = raw::unit(1, &RawName::of(b"G"), &RawUnit::idle());
+        assert!(show(&unit, style).text.contains("start $0.00\n"));
+    }
+
+    #[test]
     fn a_unit_is_spread_over_indented_lines() {
         let mut unit = RawUnit::idle();
         unit.start_up = 500_000;
@@ -259,7 +283,13 @@ mod tests {
             raw::export(1, &RawName::of(b"A%2"), [0; 12]),
         ]
         .concat();
-        let shown = show(&bytes, Style { headings: true });
+        let shown = show(
+            &bytes,
+            Style {
+                headings: true,
+                ..Style::default()
+            },
+        );
         assert_eq!(shown.text, "# record 1, byte 0\nTB\n");
         let refused = shown.refused.unwrap();
         assert_eq!(

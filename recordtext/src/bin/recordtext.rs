@@ -5,7 +5,7 @@ use recordtext::{check, form_of, make, numbers, show, Form, Style};
 use std::io::{self, Read, Write};
 use std::process::ExitCode;
 
-const USAGE: &str = "usage: recordtext show [-n] < records > text
+const USAGE: &str = "usage: recordtext show [-n] [-u] < records > text
        recordtext make < text > records
        recordtext check < records
        recordtext numbers
@@ -50,6 +50,7 @@ fn style_of(options: &[&str]) -> Option<Style> {
         {
             match letter {
                 'n' => style.headings = true,
+                'u' => style.units = true,
                 _ => return None,
             }
         }

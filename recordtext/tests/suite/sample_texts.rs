@@ -44,6 +44,12 @@ fn records_can_be_shown_and_made_again() {
         let end = shown.refused.as_ref();
         let end = end.map_or(records.len(), |refused| refused.start);
         assert_eq!(make(&shown.text).as_deref(), Ok(&records[..end]));
+        let units = Style {
+            units: true,
+            ..Style::default()
+        };
+        let with_units = show(&records, units).text;
+        assert_eq!(make(with_units).as_deref(), Ok(&records[..end]));
         if let Some(refused) = shown.refused {
             let line = format!("REF {} {}\n", refused.ordinal, refused.refusal);
             assert_eq!(settle(&records), line.as_bytes(), "{}", path.display());

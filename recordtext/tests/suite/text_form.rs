@@ -139,8 +139,14 @@ fn made_from_what_is_shown_the_bytes_are_the_same() {
     let mut drawn = Drawn(Draw::new(11));
     for _ in 0..4000 {
         let bytes = drawn.change();
-        let text = shown(&bytes);
-        assert_eq!(make(&text).as_ref(), Ok(&bytes), "{text}");
+        for units in [false, true] {
+            let style = Style {
+                units,
+                ..Style::default()
+            };
+            let text = show(&bytes, style).text;
+            assert_eq!(make(&text).as_ref(), Ok(&bytes), "{text}");
+        }
     }
 }
 
@@ -150,7 +156,13 @@ fn so_they_are_for_records_back_to_back_with_headings() {
     for _ in 0..100 {
         let bytes: Vec<u8> = (0..30).flat_map(|_| drawn.change()).collect();
         assert_eq!(make(&shown(&bytes)).as_ref(), Ok(&bytes));
-        let headed = show(&bytes, Style { headings: true });
+        let headed = show(
+            &bytes,
+            Style {
+                headings: true,
+                ..Style::default()
+            },
+        );
         assert_eq!(headed.text.matches("# record ").count(), 30);
         assert_eq!(make(&headed.text).as_ref(), Ok(&bytes));
         assert_eq!(shown(&make(&headed.text).unwrap()), shown(&bytes));
