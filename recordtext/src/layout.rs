@@ -13,8 +13,32 @@ pub enum Kind {
     List,
 }
 
-/// One field behind hour and name: its word and its kind.
-pub type Field = (&'static str, Kind);
+/// One field behind hour and name.
+#[derive(Clone, Copy, Debug, PartialEq, Eq)]
+pub struct Field {
+    /// Its word, which means the same in every record.
+    pub word: &'static str,
+    /// The word that it had before; a text may still have it.
+    pub former: Option<&'static str>,
+    /// Its kind.
+    pub kind: Kind,
+}
+
+const fn field(word: &'static str, kind: Kind) -> Field {
+    Field {
+        word,
+        former: None,
+        kind,
+    }
+}
+
+const fn renamed(former: &'static str, word: &'static str, kind: Kind) -> Field {
+    Field {
+        word,
+        former: Some(former),
+        kind,
+    }
+}
 
 const TWELVE_PRICES: Kind = Kind::Numbers(Unit::Price, INTERVALS);
 const TWELVE: Kind = Kind::Numbers(Unit::Quantity, INTERVALS);
@@ -22,34 +46,37 @@ const PRICE: Kind = Kind::Numbers(Unit::Price, 1);
 const QUANTITY: Kind = Kind::Numbers(Unit::Quantity, 1);
 const AMOUNT: Kind = Kind::Numbers(Unit::Amount, 1);
 
-const PRICE_FIELDS: &[Field] = &[("emp", TWELVE_PRICES), ("pd", PRICE)];
-const IMPORT_FIELDS: &[Field] = &[("mqsi", TWELVE), ("offer", Kind::List)];
-const EXPORT_FIELDS: &[Field] = &[("mqsw", TWELVE)];
+const PRICE_FIELDS: &[Field] = &[
+    field("emp", TWELVE_PRICES),
+    renamed("pd", "pd-price", PRICE),
+];
+const IMPORT_FIELDS: &[Field] = &[field("mqsi", TWELVE), field("offer", Kind::List)];
+const EXPORT_FIELDS: &[Field] = &[field("mqsw", TWELVE)];
 const FAILURE_FIELDS: &[Field] = &[
-    ("da", QUANTITY),
-    ("pd", QUANTITY),
-    ("da-price", PRICE),
-    ("pd-price", PRICE),
+    renamed("da", "da-quantity", QUANTITY),
+    renamed("pd", "pd-quantity", QUANTITY),
+    field("da-price", PRICE),
+    field("pd-price", PRICE),
 ];
 const UNIT_FIELDS: &[Field] = &[
-    ("start", AMOUNT),
-    ("no-load", AMOUNT),
-    ("day-ahead", TWELVE),
-    ("real-time", TWELVE),
-    ("unconstrained", TWELVE),
-    ("metered", TWELVE),
-    ("capacity", TWELVE),
-    ("10s-price", TWELVE_PRICES),
-    ("10s-schedule", TWELVE),
-    ("10ns-price", TWELVE_PRICES),
-    ("10ns-schedule", TWELVE),
-    ("30r-price", TWELVE_PRICES),
-    ("30r-schedule", TWELVE),
-    ("day-ahead-offer", Kind::List),
-    ("real-time-offer", Kind::List),
-    ("10s-offer", Kind::List),
-    ("10ns-offer", Kind::List),
-    ("30r-offer", Kind::List),
+    field("start", AMOUNT),
+    field("no-load", AMOUNT),
+    field("day-ahead", TWELVE),
+    field("real-time", TWELVE),
+    field("unconstrained", TWELVE),
+    field("metered", TWELVE),
+    field("capacity", TWELVE),
+    field("10s-price", TWELVE_PRICES),
+    field("10s-schedule", TWELVE),
+    field("10ns-price", TWELVE_PRICES),
+    field("10ns-schedule", TWELVE),
+    field("30r-price", TWELVE_PRICES),
+    field("30r-schedule", TWELVE),
+    field("day-ahead-offer", Kind::List),
+    field("real-time-offer", Kind::List),
+    field("10s-offer", Kind::List),
+    field("10ns-offer", Kind::List),
+    field("30r-offer", Kind::List),
 ];
 
 /// A schedule and a list that it must be within, by their words.
@@ -139,7 +166,9 @@ mod tests {
         for mark in Mark::ALL {
             let kind_of = |word: &str| {
                 let mut fields = fields(mark).iter();
-                fields.find(|field| field.0 == word).map(|field| field.1)
+                fields
+                    .find(|field| field.word == word)
+                    .map(|field| field.kind)
             };
             for &(schedule, list) in bounds(mark) {
                 assert_eq!(kind_of(schedule), Some(TWELVE));
@@ -147,8 +176,20 @@ mod tests {
             }
         }
         for [price, schedule, list] in RESERVES {
-            assert!(fields(Mark::Unit).contains(&(price, TWELVE_PRICES)));
+            assert!(fields(Mark::Unit).contains(&field(price, TWELVE_PRICES)));
             assert!(bounds(Mark::Unit).contains(&(schedule, list)));
+        }
+    }
+
+    /// A word stands for numbers of one kind, and no word is a former one.
+    #[test]
+    fn one_word_has_one_meaning() {
+        let all: Vec<&Field> = Mark::ALL.iter().flat_map(|&mark| fields(mark)).collect();
+        for one in &all {
+            for other in &all {
+                assert!(one.word != other.word || one.kind == other.kind);
+                assert_ne!(one.former, Some(other.word));
+            }
         }
     }
 

@@ -5,16 +5,19 @@
 //! word makes the rest of the line a comment; blank lines are skipped.
 //!
 //! ```text
-//! PR 5 emp 12x3000 pd 3000
-//! IM 5 A%2FB mqsi 12x100 offer 4000@100   # price@quantity
+//! PR 5 emp 12x3000 pd-price $30.00
+//! IM 5 A%2FB mqsi 12x10.0MW offer 4000@100   # price@quantity
 //! CO EX 5 D mqsw 6x250 200 5x100
 //! WD IM 5 A%2FB
 //! TB
 //! ```
 //!
-//! Prices are whole cents per MWh, quantities tenths of a MW, as in the bytes.
-//! `12x100` is twelve times 100. Names keep the spelling that they have in the
-//! bytes; one that starts with `#` or `"` stands between double quotes.
+//! Prices are whole cents per MWh, quantities tenths of a MW, as in the bytes;
+//! or they have a unit, as `$30.00` and `10.0MW`. `12x100` is twelve times 100.
+//! A reserve of `GH` of which no field is there is all 0 and offers none.
+//!
+//! Names keep the spelling that they have in the bytes; one that starts with
+//! `#` or `"` stands between double quotes.
 //!
 //! Two more words start a line: `hex` gives raw bytes, and `broken` stands
 //! before a record that breaks a rule on purpose.

@@ -1,7 +1,7 @@
 //! From text to bytes.
 
 use crate::form::text_of;
-use crate::layout::{self, Kind, NO_PAIRS};
+use crate::layout::{self, Field, Kind, NO_PAIRS};
 use crate::units::Unit;
 use crate::words::{bad, records, Word, Words};
 use crate::{numbers, BadText, Refused};
@@ -105,14 +105,35 @@ impl<'a> Maker<'a> {
         if layout::is_named(mark) {
             self.name()?;
         }
-        for &(label, kind) in layout::fields(mark) {
-            self.label(label)?;
-            match kind {
-                Kind::Numbers(unit, count) => self.numbers(label, unit, count)?,
-                Kind::List => self.list(label)?,
+        let absent = self.absent_reserves();
+        for field in layout::fields(mark) {
+            if absent.contains(&field.word) {
+                self.nothing(field.kind);
+                continue;
+            }
+            self.label(field)?;
+            match field.kind {
+                Kind::Numbers(unit, count) => self.numbers(field.word, unit, count)?,
+                Kind::List => self.list(field.word)?,
             }
         }
         Ok(())
+    }
+
+    /// The words of reserves of which none is there.
+    fn absent_reserves(&self) -> Vec<&'static str> {
+        let is_there = |label: &&str| self.words.iter().any(|word| word.text == *label);
+        let reserves = layout::RESERVES.into_iter();
+        let absent = reserves.filter(|labels| !labels.iter().any(|label| is_there(&label)));
+        absent.flatten().collect()
+    }
+
+    /// Zeros, or a list without pairs.
+    fn nothing(&mut self, kind: Kind) {
+        match kind {
+            Kind::Numbers(_, count) => self.put(&[0; 4].repeat(count)),
+            Kind::List => self.put(&[0]),
+        }
     }
 
     fn hour(&mut self) -> Result<(), BadText> {
@@ -141,10 +162,14 @@ impl<'a> Maker<'a> {
         Ok(())
     }
 
-    fn label(&mut self, label: &str) -> Result<(), BadText> {
-        let expected = format!("the word {label}");
+    /// The word of a field, or the one that it had before.
+    fn label(&mut self, field: &Field) -> Result<(), BadText> {
+        let mut expected = format!("the word {}", field.word);
+        if layout::RESERVES.as_flattened().contains(&field.word) {
+            expected += " (a reserve has price, schedule and offer, or none of them)";
+        }
         let text = self.word(&expected)?.text;
-        if text == label {
+        if text == field.word || Some(text) == field.former {
             Ok(())
         } else {
             Err(self.found(&expected, text))
@@ -301,7 +326,7 @@ fn hex_bytes(text: &str) -> Option<Vec<u8>> {
 #[cfg(test)]
 mod tests {
     use super::*;
-    use peer::records::raw::{self, RawName};
+    use peer::records::raw::{self, RawName, RawUnit};
 
     fn fault(text: &str) -> String {
         make(text).expect_err("a fault").to_string()
@@ -309,7 +334,7 @@ mod tests {
 
     #[test]
     fn the_papers_hour() {
-        let text = "PR 5 emp 12x3000 pd 3000 # prices\n\
+        let text = "PR 5 emp 12x3000 pd-price 3000 # prices\n\
                     IM 5 A%2FB mqsi 12x100\n  offer 4000@100\n\nEX 5 D mqsw 6x250 250 5x250\n";
         let bytes = [
             raw::price(5, [3000; 12], 3000),
@@ -435,13 +460,13 @@ mod tests {
             "expected pairs of hex digits, but the record ends here",
         ),
         (
-            "PR 1 emp 12x3000000000 pd 0",
+            "PR 1 emp 12x3000000000 pd-price 0",
             "expected number 1 of 12 for emp (cents as 3000, or $30.00), found '12x3000000000', \
              which does not fit into four bytes",
         ),
         (
-            "PR 1 emp 12x0 pd 10.0MW",
-            "expected a number for pd (cents as 3000, or $30.00), found '10.0MW', \
+            "PR 1 emp 12x0 pd-price 10.0MW",
+            "expected a number for pd-price (cents as 3000, or $30.00), found '10.0MW', \
              which is in MW, where dollars or cents stand",
         ),
     ];
@@ -462,7 +487,7 @@ mod tests {
     fn a_broken_rule_has_its_word_and_value() {
         let broken = |text: &str| fault(text).split("; refused").next().unwrap().to_string();
         assert_eq!(
-            broken("PR 1\n emp 11x0\n $2000.01\n pd 0"),
+            broken("PR 1\n emp 11x0\n $2000.01\n pd-price 0"),
             "line 3: '$2000.01': emp, number 12 of 12: 200001 is above 200,000"
         );
         assert_eq!(
@@ -474,7 +499,7 @@ mod tests {
             "line 1: 'A%2': name 'A%2', byte 2 of 3: % without two hex digits behind it"
         );
         assert_eq!(
-            broken("PR 25 emp 12x0 pd 0"),
+            broken("PR 25 emp 12x0 pd-price 0"),
             "line 1: '25': hour: 25 is not 1 to 24"
         );
         assert_eq!(
@@ -485,10 +510,61 @@ mod tests {
 
     #[test]
     fn units_beside_whole_numbers() {
-        let plain = "PR 5 emp 12x3000 pd -500\nIM 5 A mqsi 12x100 offer 4000@100 4100@101";
-        let typed = "PR 5 emp 6x$30.00 6x3000 pd -$5.00\n\
+        let plain = "PR 5 emp 12x3000 pd-price -500\nIM 5 A mqsi 12x100 offer 4000@100 4100@101";
+        let typed = "PR 5 emp 6x$30.00 6x3000 pd-price -$5.00\n\
                      IM 5 A mqsi 11x10.0MW 10MW offer $40.00@100 4100@10.1MW";
         assert_eq!(make(typed), make(plain));
+    }
+
+    #[test]
+    fn former_words_are_taken() {
+        let former = "PR 1 emp 12x0 pd 5\nFI 1 A da 20 pd 15 da-price 9 pd-price -8";
+        let words = "PR 1 emp 12x0 pd-price 5\n\
+                     FI 1 A da-quantity 20 pd-quantity 15 da-price 9 pd-price -8";
+        assert_eq!(make(former), make(words));
+        assert_eq!(
+            fault("PR 1 emp 12x0 pd-quantity 5"),
+            "line 1: expected the word pd-price, found 'pd-quantity'"
+        );
+    }
+
+    /// A unit whose reserves are given so, and some of them left out.
+    fn unit_text(prices: &str, lists: &str) -> String {
+        format!(
+            "GH 1 10s-price start 5 no-load 6 day-ahead 12x1 real-time 12x2 unconstrained 12x3 \
+             metered 12x4 capacity 12x5 {prices} day-ahead-offer 7@1 real-time-offer 8@1 {lists}"
+        )
+    }
+
+    #[test]
+    fn reserves_may_be_left_out() {
+        let mut unit = RawUnit::idle();
+        (unit.start_up, unit.no_load) = (5, 6);
+        unit.schedules = [[1; 12], [2; 12], [3; 12], [4; 12], [5; 12]];
+        unit.lists = [vec![(7, 1)], vec![(8, 1)], vec![], vec![], vec![]];
+        let bytes = |unit: &RawUnit| raw::unit(1, &RawName::of(b"10s-price"), unit);
+        assert_eq!(make(unit_text("", "")), Ok(bytes(&unit)));
+        unit.reserves[1] = ([9; 12], [10; 12]);
+        unit.lists[3] = vec![(1, 10)];
+        let one = unit_text("10ns-price 12x9 10ns-schedule 12x10", "10ns-offer 1@10");
+        assert_eq!(make(one), Ok(bytes(&unit)));
+    }
+
+    #[test]
+    fn a_reserve_is_given_whole() {
+        let expected = "(a reserve has price, schedule and offer, or none of them)";
+        assert_eq!(
+            fault(&unit_text("10s-price 12x0", "")),
+            format!("line 1: expected the word 10s-schedule {expected}, found 'day-ahead-offer'")
+        );
+        assert_eq!(
+            fault(&unit_text("30r-price 12x0 30r-schedule 12x0", "")),
+            format!("line 1: expected the word 30r-offer {expected}, but the record ends here")
+        );
+        assert_eq!(
+            fault(&unit_text("", "10s-offer none")),
+            format!("line 1: expected the word 10s-price {expected}, found 'day-ahead-offer'")
+        );
     }
 
     #[test]

@@ -100,9 +100,9 @@ fn show_filed(mark: &[u8], record: &mut Fields, text: &mut String) {
     } else {
         " "
     };
-    for &(word, kind) in layout::fields(mark) {
-        put(text, format_args!("{before}{word}"));
-        match kind {
+    for field in layout::fields(mark) {
+        put(text, format_args!("{before}{}", field.word));
+        match field.kind {
             Kind::Numbers(unit, count) => show_runs(&record.numbers(unit, count), text),
             Kind::List => show_list(record, text),
         }
@@ -207,12 +207,12 @@ mod tests {
         let price = raw::price(24, [-1, 0, 0, 5, 5, 5, 6, 7, 8, 9, 9, 10], -200_000);
         assert_eq!(
             shown(&price),
-            "PR 24 emp -1 2x0 3x5 6 7 8 2x9 10 pd -200000\n"
+            "PR 24 emp -1 2x0 3x5 6 7 8 2x9 10 pd-price -200000\n"
         );
         let failed = raw::failure(b"FE", 1, &RawName::of(b"a/b"), [2000, 1500], [90, -80]);
         assert_eq!(
             shown(&failed),
-            "FE 1 a/b da 2000 pd 1500 da-price 90 pd-price -80\n"
+            "FE 1 a/b da-quantity 2000 pd-quantity 1500 da-price 90 pd-price -80\n"
         );
         let export = raw::correct(&raw::export(2, &RawName::of(b"%44"), [0; 12]));
         assert_eq!(shown(&export), "CO EX 2 %44 mqsw 12x0\n");

@@ -119,10 +119,10 @@ impl<'a> Walk<'a> {
         if layout::is_named(mark) {
             self.name()?;
         }
-        for &(word, kind) in layout::fields(mark) {
-            match kind {
-                Kind::Numbers(unit, count) => self.numbers(word, unit, count)?,
-                Kind::List => self.list(word)?,
+        for field in layout::fields(mark) {
+            match field.kind {
+                Kind::Numbers(unit, count) => self.numbers(field.word, unit, count)?,
+                Kind::List => self.list(field.word)?,
             }
         }
         let mut bounds = layout::bounds(mark).iter();

@@ -59,7 +59,7 @@ fn what_was_read_when_the_bytes_ended() {
     }
     told(b"WD", 1, "mark behind WD: both bytes are missing", 2);
     let price = price(1, 0, 0);
-    told(&price[..54], 1, "pd: 1 of 4 bytes is missing", 54);
+    told(&price[..54], 1, "pd-price: 1 of 4 bytes is missing", 54);
 }
 
 #[test]
@@ -134,7 +134,7 @@ fn the_number_and_its_limit() {
         47,
     );
     let pd = price(1, 0, -200_001);
-    told(&pd, 5, "pd: -200001 is below -200,000", 51);
+    told(&pd, 5, "pd-price: -200001 is below -200,000", 51);
     let inside = correct(&export(1, b"A", 100_001));
     told(
         &inside,
