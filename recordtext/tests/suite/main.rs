@@ -1,5 +1,6 @@
 //! Records as text, the sample texts, and the command itself.
 
+mod command;
 mod reasons;
 mod sample_texts;
 // The peer's builders and generator serve here too, not all of them.
