@@ -5,6 +5,7 @@ use peer::refusal::Refusal;
 use peer::statement::settle;
 use recordtext::numbers::{told, words};
 use recordtext::{form_of, make, show, Form, Style};
+use std::collections::BTreeSet;
 use std::fs;
 
 #[test]
@@ -109,5 +110,24 @@ fn each_number_of_a_feed_has_its_sample() {
             can_occur,
             "{number}"
         );
+    }
+}
+
+/// Each word of a record that is shown stands in the manual. The names of this
+/// day have capitals, words have none.
+#[test]
+fn the_manual_has_every_word() {
+    let manual = text_of(&repository("man/recordtext.1")).replace("\\-", "-");
+    let records = fs::read(repository("samples/ordinary.rec")).expect("records");
+    let text = show(&records, Style::default()).text;
+    let is_word = |word: &&str| {
+        let has_capitals = word.contains(|letter: char| letter.is_ascii_uppercase());
+        !has_capitals && word.ends_with(|last: char| last.is_ascii_lowercase()) && *word != "none"
+    };
+    let words: BTreeSet<&str> = text.split_whitespace().filter(is_word).collect();
+    // Of PR, IM, EX and GH all, of FI and FE what PR has not.
+    assert_eq!(words.len(), 2 + 2 + 1 + 18 + 3);
+    for word in words {
+        assert!(manual.contains(&format!(" {word} ")), "{word}");
     }
 }
