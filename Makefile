@@ -1,6 +1,7 @@
 # What one does with the repository. `make help` lists it.
 
-VERSION = 0.1.0
+# The header has it.
+VERSION = $(shell sed -n 's/^.define PEWATUNO_VERSION "\(.*\)"$$/\1/p' include/pewatuno.h)
 PREFIX = /usr/local
 DESTDIR =
 SAMPLE = ordinary
