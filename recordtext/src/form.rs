@@ -2,6 +2,8 @@
 
 use crate::words::bad;
 use crate::BadText;
+use peer::records::parse_change_prefix;
+use peer::refusal::Refusal;
 
 /// What a file holds.
 #[derive(Clone, Copy, Debug, PartialEq, Eq)]
@@ -16,21 +18,33 @@ pub enum Form {
 const UTF_8_MARK: &[u8] = b"\xEF\xBB\xBF";
 const UTF_16_MARKS: [&[u8]; 2] = [b"\xFF\xFE", b"\xFE\xFF"];
 
-/// Whether bytes are text or records. Every filed record has a number whose
-/// highest byte is 0x00 or 0xFF, which text has not. Records without numbers
-/// (`TB`, `CL`, `WD`) have no blank or line end behind the mark. Bytes that
-/// may be either, such as none at all, are records.
+/// Whether bytes are text or records; right for every input whose first record
+/// can be read, and for every text that can be made into records.
+///
+/// Every filed record has a number whose highest byte is 0x00 or 0xFF, which
+/// text has not. Records without numbers (`TB`, `CL`, `WD`) have no blank
+/// behind the mark. Bytes that may be either, such as none at all, are records.
 pub fn form_of(bytes: &[u8]) -> Form {
     if starts_with_a_mark_of_text(bytes) {
         return Form::Text;
     }
     let is_raw = |&byte: &u8| is_control(byte) || byte == 0xFF;
-    let has_blanks = bytes.iter().any(u8::is_ascii_whitespace);
-    if bytes.iter().any(is_raw) || !has_blanks || starts_as_a_change(bytes) {
+    if bytes.iter().any(is_raw) || !has_words(bytes) || starts_as_a_change(bytes) {
         Form::Records
     } else {
         Form::Text
     }
+}
+
+/// Whether blanks part the bytes into words, or they are a comment.
+fn has_words(bytes: &[u8]) -> bool {
+    bytes.starts_with(b"#") || String::from_utf8_lossy(bytes).contains(char::is_whitespace)
+}
+
+/// Whether bytes begin with one of the marks of a change.
+pub fn starts_with_a_mark(bytes: &[u8]) -> bool {
+    let unknown = Err(Refusal::MarkUnknown);
+    bytes.len() >= 2 && parse_change_prefix(&bytes[..2]).map(|_| ()) != unknown
 }
 
 /// The text of bytes, without a byte-order mark.
@@ -76,7 +90,62 @@ fn line_at(bytes: &[u8], place: usize) -> usize {
 #[cfg(test)]
 mod tests {
     use super::*;
-    use peer::records::raw;
+    use peer::records::raw::{self, RawName, RawUnit};
+
+    /// One record of each mark, with the numbers that have the fewest bytes
+    /// 0x00 and 0xFF.
+    fn records(hour: u8, name: &[u8]) -> Vec<Vec<u8>> {
+        let name = RawName::of(name);
+        let mut unit = RawUnit::idle();
+        (unit.start_up, unit.no_load) = (0x0102_0304, 0x0102_0304);
+        let filed = [
+            raw::price(hour, [-2; 12], -2),
+            raw::price(hour, [0x1_0909; 12], 0x1_0909),
+            raw::import(hour, &name, [0x1_0909; 12], &[(0x1_0909, 0x1_0909)]),
+            raw::export(hour, &name, [0x1_0909; 12]),
+            raw::unit(hour, &name, &unit),
+            raw::failure(b"FI", hour, &name, [0x1_0909; 2], [-2; 2]),
+            raw::failure(b"FE", hour, &name, [0x1_0909; 2], [-2; 2]),
+        ];
+        let corrected = filed.clone().map(|record| raw::correct(&record));
+        let withdrawn = [
+            raw::withdraw(b"PR", hour, &RawName::of(b"")),
+            raw::withdraw(b"IM", hour, &name),
+        ];
+        [&filed[..], &corrected, &withdrawn].concat()
+    }
+
+    #[test]
+    fn records_of_every_mark_and_hour_are_records() {
+        for hour in 1..=24 {
+            for length in [1, 9, 10, 11, 12, 13, 32, 36] {
+                for record in records(hour, &b"A".repeat(length)) {
+                    assert_eq!(form_of(&record), Form::Records, "{record:?}");
+                    assert!(starts_with_a_mark(&record));
+                }
+            }
+        }
+        for other in [&b""[..], b"P", b"ZZ", b"\x89PNG", b"pr"] {
+            assert!(!starts_with_a_mark(other));
+        }
+    }
+
+    #[test]
+    fn texts_are_text_whatever_parts_their_words() {
+        for text in [
+            "PR\t9 emp",
+            "PR\n  9 emp",
+            "PR\r\n  9",
+            "PR\u{a0}5",
+            "#comment",
+            "\n",
+            " # indented",
+            "hex 5052",
+            "PR5 emp",
+        ] {
+            assert_eq!(form_of(text.as_bytes()), Form::Text, "{text:?}");
+        }
+    }
 
     #[test]
     fn text_is_told_from_records() {

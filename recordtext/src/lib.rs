@@ -45,7 +45,7 @@ mod why;
 mod words;
 
 pub use check::{check, Taken};
-pub use form::{form_of, Form};
+pub use form::{form_of, starts_with_a_mark, Form};
 pub use make::make;
 pub use refused::Refused;
 pub use show::{show, Shown, Style};
