@@ -31,10 +31,10 @@ fn settle_days(options: &Options) -> Status {
     };
     let mut worst = Status::Settled;
     for day in &options.days {
-        let status = match statement_of(day, options) {
+        let status = match settle_day(day, options) {
             Err(fault) => complain(&format!("{day}: {fault}")),
-            Ok(statement) => match write_statement(&mut output, day, options, &statement) {
-                Ok(()) => Status::of(&statement),
+            Ok(settled) => match write_statement(&mut output, day, options, &settled.statement) {
+                Ok(()) => settled.told_of(day),
                 // Nothing that follows could be written either.
                 Err(fault) => return complain(&format!("{day}: standard output: {fault}")),
             },
@@ -44,10 +44,42 @@ fn settle_days(options: &Options) -> Status {
     worst
 }
 
-/// The whole statement of a day.
-fn statement_of(day: &Day, options: &Options) -> Result<Vec<u8>, String> {
+/// A day that has its whole statement.
+struct Settled {
+    statement: Vec<u8>,
+    /// Why a record is refused, if one is.
+    why: String,
+}
+
+fn settle_day(day: &Day, options: &Options) -> Result<Settled, String> {
     let records = day.records(options.form)?;
-    program::settle(&program::find(), &records)
+    let statement = program::settle(&program::find(), &records)?;
+    let why = match Status::of(&statement) {
+        Status::Refused => reason(&records, &statement),
+        _ => String::new(),
+    };
+    Ok(Settled { statement, why })
+}
+
+/// Why a record is refused; nothing where that is another refusal than the
+/// statement's.
+fn reason(records: &[u8], statement: &[u8]) -> String {
+    match recordtext::check(records) {
+        Err(refused) if format!("{}\n", refused.line()).as_bytes() == statement => {
+            refused.to_string()
+        }
+        _ => String::new(),
+    }
+}
+
+impl Settled {
+    /// Says why a record is refused, and gives the status.
+    fn told_of(&self, day: &Day) -> Status {
+        for line in self.why.lines() {
+            say(&format!("{day}: {line}"));
+        }
+        Status::of(&self.statement)
+    }
 }
 
 /// Writes a statement, below the name of its day where there are several.
@@ -74,7 +106,11 @@ fn print(text: &str) -> Status {
 
 /// Says what went wrong.
 fn complain(message: &str) -> Status {
-    // Where standard error can't be written either, the status has to do.
-    let _ = writeln!(std::io::stderr(), "settle-day: {message}");
+    say(message);
     Status::Trouble
+}
+
+/// A line on standard error. Where it can't be written, the status has to do.
+fn say(message: &str) {
+    let _ = writeln!(std::io::stderr(), "settle-day: {message}");
 }
