@@ -96,32 +96,12 @@ static void add_export(struct feed *feed, unsigned hour, const char *name, uint3
     put_throughout(feed, quantity);
 }
 
-/* What the numbers of this call mean. */
-static const char *meaning(uint32_t number)
+/* Dollars with two decimals. Whole dollars alone would lose the sign of -0.50. */
+static void print_dollars(int64_t cents)
 {
-    switch (number) {
-    case PEWATUNO_ENDS_EARLY: return "the bytes end early";
-    case PEWATUNO_MARK_UNKNOWN: return "a record is neither PR nor IM nor EX";
-    case PEWATUNO_HOUR_OUTSIDE: return "an hour is not 1 to 24, or not that of the first record";
-    case PEWATUNO_NAME_FAULT: return "the name breaks its rule";
-    case PEWATUNO_NUMBER_OUTSIDE: return "a number is outside its range";
-    case PEWATUNO_LIST_FAULT: return "a list breaks its rule";
-    case PEWATUNO_BEYOND_LIST: return "a schedule lies beyond its list";
-    case PEWATUNO_KEY_STANDS: return "the prices or a name are there twice";
-    case PEWATUNO_HOUR_FULL: return "there are more than 16 imports or exports";
-    case PEWATUNO_PRICE_MISSING: return "there are imports, and no prices";
-    default: return "unknown";
-    }
-}
+    uint64_t size = cents < 0 ? -(uint64_t)cents : (uint64_t)cents;
 
-/* Dollars with two decimals, rounded half away from zero, zero without a sign. */
-static void print_dollars(int64_t ticks)
-{
-    uint64_t size = ticks < 0 ? -(uint64_t)ticks : (uint64_t)ticks;
-    uint64_t cents = (size + PEWATUNO_TICKS_PER_CENT / 2) / PEWATUNO_TICKS_PER_CENT;
-    const char *sign = ticks < 0 && cents != 0 ? "-" : "";
-
-    printf("%s%" PRIu64 ".%02" PRIu64 "\n", sign, cents / 100, cents % 100);
+    printf("%s%" PRIu64 ".%02" PRIu64 "\n", cents < 0 ? "-" : "", size / 100, size % 100);
 }
 
 int main(void)
@@ -138,10 +118,10 @@ int main(void)
 
     number = pewatuno_hour_offset(result, sizeof result, feed.bytes, feed.length);
     if (number != 0) {
-        fprintf(stderr, "hour_offset: refused with %" PRIu32 ": %s\n", number, meaning(number));
+        fprintf(stderr, "hour_offset: refused with %" PRIu32 ": %s\n", number, pewatuno_meaning(number));
         return 1;
     }
     printf("The wheel offset of hour 5 is $");
-    print_dollars(pewatuno_ticks(result));
+    print_dollars(pewatuno_cents(pewatuno_ticks(result)));
     return 0;
 }

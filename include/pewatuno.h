@@ -1,16 +1,16 @@
 /*
  * pewatuno.h - the wheel offset of one hour, from its records.
  *
- * Link with -lpewatuno.
+ * C99 or later, or C++. Link with -lpewatuno.
  *
- *     unsigned char bytes[8];
- *     uint32_t number = pewatuno_hour_offset(bytes, sizeof bytes, records, length);
+ *     uint8_t result[PEWATUNO_RESULT_LENGTH];
+ *     uint32_t number = pewatuno_hour_offset(result, sizeof result, records, length);
  *
  *     if (number == 0) {
- *         int64_t ticks = pewatuno_ticks(bytes);     // 1/120 cent each
+ *         int64_t cents = pewatuno_cents(pewatuno_ticks(result));
  *         ...
- *     } else if (number == PEWATUNO_PRICE_MISSING) {
- *         ...                                        // bytes is as it was
+ *     } else {
+ *         fprintf(stderr, "%s\n", pewatuno_meaning(number));   // result is as it was
  *     }
  */
 #ifndef PEWATUNO_H
@@ -22,6 +22,12 @@
 #ifdef __cplusplus
 extern "C" {
 #endif
+
+/* The version of this header and of its library. */
+#define PEWATUNO_VERSION "0.1.0"
+#define PEWATUNO_VERSION_MAJOR 0
+#define PEWATUNO_VERSION_MINOR 1
+#define PEWATUNO_VERSION_PATCH 0
 
 /* Bytes of the result. */
 #define PEWATUNO_RESULT_LENGTH 8
@@ -68,9 +74,10 @@ extern "C" {
  *
  * No records, or exports alone, have offset 0.
  *
- * Lengths are in bytes. Neither pointer may be null, not even for length 0, and
- * the two ranges must not overlap. Any alignment will do. The records are only
- * read, and nothing is kept from one call to the next.
+ * Lengths are in bytes. A pointer may be null where its length is 0: no records
+ * have offset 0, and no result is one that is not eight bytes long, so 5. The two
+ * ranges must not overlap. Any alignment will do. The records are only read, and
+ * nothing is kept from one call to the next.
  *
  * Threads may call at the same time, each with a result of its own; they may
  * read the same records. The library has no data that can be written and
@@ -89,6 +96,52 @@ static inline int64_t pewatuno_ticks(const uint8_t *result)
     for (place = PEWATUNO_RESULT_LENGTH - 1; place >= 0; place--)
         ticks = ticks << 8 | result[place];
     return (int64_t)ticks;
+}
+
+/*
+ * Ticks as whole cents, rounded half away from zero, as a statement prints them.
+ * For every number of ticks. Round an amount once, when it is shown: sums are
+ * taken of ticks.
+ */
+static inline int64_t pewatuno_cents(int64_t ticks)
+{
+    int64_t cents = ticks / PEWATUNO_TICKS_PER_CENT;
+    int64_t rest = ticks % PEWATUNO_TICKS_PER_CENT; /* has the sign of ticks */
+
+    if (rest >= PEWATUNO_TICKS_PER_CENT / 2)
+        return cents + 1;
+    if (rest <= -(PEWATUNO_TICKS_PER_CENT / 2))
+        return cents - 1;
+    return cents;
+}
+
+/*
+ * What a number that pewatuno_hour_offset returns means, in English, without a
+ * full stop; for the other numbers of the book and for any other number too.
+ * The text is constant and never null.
+ */
+static inline const char *pewatuno_meaning(uint32_t number)
+{
+    switch (number) {
+    case 0: return "the offset stands in the result";
+    case PEWATUNO_ENDS_EARLY: return "the bytes end early";
+    case PEWATUNO_MARK_UNKNOWN: return "a mark is not PR, IM or EX";
+    case PEWATUNO_HOUR_OUTSIDE: return "an hour is not 1 to 24, or not that of the first record";
+    case PEWATUNO_NAME_FAULT: return "a name breaks its rule";
+    case PEWATUNO_NUMBER_OUTSIDE: return "a number is outside its range, or the result is not eight bytes long";
+    case PEWATUNO_LIST_FAULT: return "a list breaks its rule";
+    case PEWATUNO_BEYOND_LIST: return "a schedule lies beyond its list";
+    case PEWATUNO_BYTES_LEFT_OVER: return "bytes are left over";
+    case PEWATUNO_CLOSED: return "the day is closed";
+    case PEWATUNO_KEY_STANDS: return "the prices, or a name under one mark, are there twice";
+    case PEWATUNO_NO_SUCH_KEY: return "there is no such key";
+    case PEWATUNO_HOUR_FULL: return "there are more than 16 imports or exports";
+    case PEWATUNO_NO_SPACE: return "free bytes are short, or 512 changes are listed";
+    case PEWATUNO_NOTHING_TO_TAKE_BACK: return "there is nothing to take back";
+    case PEWATUNO_PRICE_MISSING: return "there are imports, and no PR with their prices";
+    case PEWATUNO_NOT_TOGETHER: return "book and lent bytes do not belong together";
+    default: return "this is no number of the settlement book";
+    }
 }
 
 #ifdef __cplusplus

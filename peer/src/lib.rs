@@ -15,7 +15,6 @@
 //! - [`feed`]: records back to back.
 //! - [`hour_offset_call`]: one hour's offset over numbers and bytes.
 //! - [`statement`]: the text of the day's statement.
-//! - [`text`]: records as lines of text, for people.
 
 #![forbid(unsafe_code)]
 #![warn(missing_docs)]
@@ -30,5 +29,4 @@ pub mod records;
 pub mod refusal;
 pub mod register;
 pub mod statement;
-pub mod text;
 pub mod units;

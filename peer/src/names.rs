@@ -3,11 +3,14 @@
 use crate::refusal::Refusal;
 use std::cmp::Ordering;
 use std::fmt;
+use std::ops::RangeInclusive;
 
 /// Most bytes of a spelled name.
 pub const SPELLED_MOST: usize = 36;
 /// Most bytes of a decoded name.
 pub const DECODED_MOST: usize = 12;
+/// Bytes that a name may hold.
+pub const VISIBLE: RangeInclusive<u8> = 0x21..=0x7E;
 
 /// A decoded name: "1 to 12 bytes, each 0x21 to 0x7E".
 #[derive(Clone, Copy, PartialEq, Eq, Hash)]
@@ -21,7 +24,7 @@ impl Name {
     /// they break the rule.
     pub fn from_decoded(decoded: &[u8]) -> Result<Name, Refusal> {
         let lengths = 1..=DECODED_MOST;
-        if !lengths.contains(&decoded.len()) || !decoded.iter().all(|&byte| is_visible(byte)) {
+        if !lengths.contains(&decoded.len()) || !decoded.iter().all(|byte| VISIBLE.contains(byte)) {
             return Err(Refusal::NameFault);
         }
         let mut bytes = [0; DECODED_MOST];
@@ -115,20 +118,15 @@ pub fn decode(spelled: &[u8]) -> Result<Name, Refusal> {
 }
 
 /// The first decoded byte and how many spelled bytes it took.
-fn decode_byte(spelled: &[u8]) -> Result<(u8, usize), Refusal> {
+pub fn decode_byte(spelled: &[u8]) -> Result<(u8, usize), Refusal> {
     match *spelled {
         [b'%', high, low, ..] => match (hex_value(high), hex_value(low)) {
             (Some(high), Some(low)) => Ok((high << 4 | low, 3)),
             _ => Err(Refusal::NameFault),
         },
-        [byte, ..] if byte != b'%' && is_visible(byte) => Ok((byte, 1)),
+        [byte, ..] if byte != b'%' && VISIBLE.contains(&byte) => Ok((byte, 1)),
         _ => Err(Refusal::NameFault),
     }
-}
-
-/// Bytes that a name may hold.
-fn is_visible(byte: u8) -> bool {
-    (0x21..=0x7E).contains(&byte)
 }
 
 /// RFC 3986, section 2.3: letters, digits, `-`, `.`, `_` and `~`.

@@ -209,7 +209,7 @@ impl Register {
     /// "each joins the list".
     fn join(&mut self, change: Change) {
         let entry = self.list.len();
-        if let Some(key) = key_of(&change) {
+        if let Some(key) = change.key() {
             self.touched.entry(key).or_default().push(entry);
             match change {
                 Change::File(_) => *self.count_mut(&key) += 1,
@@ -230,7 +230,7 @@ impl Register {
     fn drop_last(&mut self) -> Result<(), Refusal> {
         let dropped = self.list.pop().ok_or(Refusal::NothingToTakeBack)?;
         self.used -= dropped.length as usize;
-        if let Some(key) = key_of(&dropped.change) {
+        if let Some(key) = dropped.change.key() {
             self.untouch(&key);
             match dropped.change {
                 Change::File(_) => *self.count_mut(&key) -= 1,
@@ -282,14 +282,5 @@ impl Standing for Register {
             .filter(|key| self.standing(key).is_some())
             .filter_map(|key| key.name)
             .collect()
-    }
-}
-
-/// The key that a listed change touches.
-fn key_of(change: &Change) -> Option<Key> {
-    match change {
-        Change::File(record) | Change::Correct(record) => Some(record.key()),
-        Change::Withdraw(key) => Some(*key),
-        Change::TakeBack | Change::Close => None,
     }
 }

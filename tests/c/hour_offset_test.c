@@ -179,6 +179,18 @@ static void test_alignment(const struct bytes *example)
     free(lent);
 }
 
+/* Null stands for nothing: for no records, and for no result. */
+static void test_null(const struct bytes *example)
+{
+    uint8_t result[PEWATUNO_RESULT_LENGTH];
+
+    memset(result, FILLED, sizeof result);
+    check(pewatuno_hour_offset(result, sizeof result, NULL, 0) == 0, "null for no records");
+    check(pewatuno_ticks(result) == 0, "null for no records has offset 0");
+    check(pewatuno_hour_offset(NULL, 0, example->at, example->length) == 5, "null for no result: 5");
+    check(pewatuno_hour_offset(NULL, 0, NULL, 0) == 5, "null for both: 5");
+}
+
 /* ---- Refusals ---- */
 
 static void test_result_lengths(const struct bytes *example)
@@ -369,6 +381,7 @@ int main(int count, char **words)
     test_nothing_to_offset(&example);
     test_order_of_records(&example);
     test_alignment(&example);
+    test_null(&example);
     test_result_lengths(&example);
     test_marks(&example);
     test_hours(&example);

@@ -11,8 +11,8 @@ use crate::names::Name;
 use crate::units::{Hour, Price, Quantity, INTERVALS};
 
 pub use read::{
-    parse_canonical_prefix, parse_change, parse_change_prefix, parse_change_prefix_at, parse_for,
-    parse_hour_record, parse_record_prefix,
+    parse_canonical_prefix, parse_change, parse_change_prefix, parse_for, parse_hour_record,
+    parse_record_prefix,
 };
 
 /// The mark of "one of the six", in the order of the listing.
@@ -209,6 +209,17 @@ pub enum Change {
     TakeBack,
     /// "`CL` closes and leaves the list."
     Close,
+}
+
+impl Change {
+    /// The key of the record that it files, corrects or withdraws.
+    pub fn key(&self) -> Option<Key> {
+        match self {
+            Change::File(record) | Change::Correct(record) => Some(record.key()),
+            Change::Withdraw(key) => Some(*key),
+            Change::TakeBack | Change::Close => None,
+        }
+    }
 }
 
 /// The five methods, each of which takes its own marks only.

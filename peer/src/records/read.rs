@@ -23,17 +23,10 @@ pub fn parse_change(bytes: &[u8]) -> Result<Change, Refusal> {
 
 /// Reads the change that the bytes start with and says where it ends.
 pub fn parse_change_prefix(bytes: &[u8]) -> Result<(Change, usize), Refusal> {
-    parse_change_prefix_at(bytes).map_err(|(refusal, _)| refusal)
-}
-
-/// The same; a refusal also says how many bytes had been read.
-pub fn parse_change_prefix_at(bytes: &[u8]) -> Result<(Change, usize), (Refusal, usize)> {
     let mut reader = Reader::new(bytes);
-    let change = reader.method().and_then(|found| reader.body(found));
-    match change {
-        Ok(change) => Ok((change, reader.at)),
-        Err(refusal) => Err((refusal, reader.at)),
-    }
+    let found = reader.method()?;
+    let change = reader.body(found)?;
+    Ok((change, reader.at))
 }
 
 /// Reads one change for a method; another method's mark gives 2 "at the place

@@ -14,5 +14,4 @@ mod sample_days;
 mod statements;
 mod support;
 mod table_of_numbers;
-mod text_form;
 mod worked_figures;

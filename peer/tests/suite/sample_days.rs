@@ -1,42 +1,8 @@
-//! The sample days, and the words that people read beside them.
+//! The sample days.
 
-use peer::refusal::Refusal;
+use crate::support::*;
 use peer::statement::settle;
-use peer::text::{make, show, Headings};
 use std::fs;
-use std::path::{Path, PathBuf};
-
-/// A file or folder of the repository.
-fn repository(path: &str) -> PathBuf {
-    Path::new(env!("CARGO_MANIFEST_DIR")).join("..").join(path)
-}
-
-fn text_of(path: &Path) -> String {
-    fs::read_to_string(path).unwrap_or_else(|fault| panic!("{}: {fault}", path.display()))
-}
-
-/// The sample files with this ending.
-fn samples(ending: &str) -> Vec<PathBuf> {
-    let mut found = Vec::new();
-    for folder in ["samples", "samples/refusals"] {
-        let files = fs::read_dir(repository(folder)).expect("a folder of samples");
-        found.extend(files.map(|file| file.expect("a file").path()));
-    }
-    found.retain(|path| {
-        path.extension()
-            .is_some_and(|extension| extension == ending)
-    });
-    assert!(found.len() > 20, "only {} with .{ending}", found.len());
-    found
-}
-
-#[test]
-fn records_are_those_of_their_text() {
-    for path in samples("txt") {
-        let records = fs::read(path.with_extension("rec")).ok();
-        assert_eq!(make(&text_of(&path)).ok(), records, "{}", path.display());
-    }
-}
 
 #[test]
 fn statements_are_those_of_their_records() {
@@ -45,75 +11,5 @@ fn statements_are_those_of_their_records() {
         let statement = text_of(&path.with_extension("out"));
         let settled = String::from_utf8(settle(&records)).expect("a statement");
         assert_eq!(settled, statement, "{}", path.display());
-    }
-}
-
-/// As far as they can be read; a number of reading is that of the statement.
-#[test]
-fn records_can_be_shown_and_made_again() {
-    for path in samples("rec") {
-        let records = fs::read(&path).expect("records");
-        let shown = show(&records, Headings::None);
-        let end = shown.refused.map_or(records.len(), |refused| refused.start);
-        assert_eq!(make(&shown.text).as_deref(), Ok(&records[..end]));
-        if let Some(refused) = shown.refused {
-            let line = format!("REF {} {}\n", refused.ordinal, refused.refusal);
-            assert_eq!(settle(&records), line.as_bytes(), "{}", path.display());
-        }
-    }
-}
-
-#[test]
-fn header_and_manuals_have_the_words_of_the_one_table() {
-    let header = text_of(&repository("include/pewatuno.h"));
-    let manual = text_of(&repository("man/settle.1"));
-    let records = text_of(&repository("man/pewatuno-records.5"));
-    for refusal in Refusal::ALL {
-        let (number, words) = (refusal.number(), refusal.words());
-        let comment = format!(" /* {words} */");
-        let mut defines = header.lines().filter(|line| line.ends_with(&comment));
-        let define = defines
-            .next()
-            .unwrap_or_else(|| panic!("no {number} in the header"));
-        let mut parts = define.split_whitespace();
-        assert_eq!(parts.next(), Some("#define"));
-        assert!(parts
-            .next()
-            .is_some_and(|name| name.starts_with("PEWATUNO_")));
-        assert_eq!(parts.next(), Some(number.to_string().as_str()));
-        assert!(
-            manual.contains(&format!("\n{number}\n{words}\n")),
-            "{number} in the manual"
-        );
-        assert!(
-            records.contains(&format!("\n.B {number}\n{words}.\n")),
-            "{number} in the page on records"
-        );
-    }
-}
-
-/// Each number that can occur in a feed has a sample of its own.
-#[test]
-fn each_number_of_a_feed_has_its_sample() {
-    let page = text_of(&repository("samples/README.md"));
-    for refusal in Refusal::ALL {
-        let number = refusal.number();
-        let ending = format!(" {number}\n");
-        let prefix = format!("ref-{number:02}");
-        let count = samples("out")
-            .iter()
-            .filter(|path| {
-                path.file_name()
-                    .is_some_and(|name| name.to_string_lossy().starts_with(&prefix))
-            })
-            .map(|path| assert!(text_of(path).ends_with(&ending), "{}", path.display()))
-            .count();
-        let can_occur = !matches!(number, 8 | 15 | 16);
-        assert_eq!(count > 0, can_occur, "{number}");
-        assert_eq!(
-            page.contains(&format!("| {} |", refusal.told())),
-            can_occur,
-            "{number}"
-        );
     }
 }

@@ -3,6 +3,8 @@
 use peer::book::Book;
 use peer::records::raw::{self, RawName, RawUnit};
 use peer::refusal::Refusal;
+use std::fs;
+use std::path::{Path, PathBuf};
 
 /// The most bytes that count.
 pub const FULL: usize = 65_535;
@@ -141,4 +143,28 @@ impl Draw {
     pub fn pick<T: Copy>(&mut self, from: &[T]) -> T {
         from[self.below(from.len() as u64) as usize]
     }
+}
+
+/// A file or folder of the repository.
+pub fn repository(path: &str) -> PathBuf {
+    Path::new(env!("CARGO_MANIFEST_DIR")).join("..").join(path)
+}
+
+pub fn text_of(path: &Path) -> String {
+    fs::read_to_string(path).unwrap_or_else(|fault| panic!("{}: {fault}", path.display()))
+}
+
+/// The sample files with this ending.
+pub fn samples(ending: &str) -> Vec<PathBuf> {
+    let mut found = Vec::new();
+    for folder in ["samples", "samples/refusals"] {
+        let files = fs::read_dir(repository(folder)).expect("a folder of samples");
+        found.extend(files.map(|file| file.expect("a file").path()));
+    }
+    found.retain(|path| {
+        path.extension()
+            .is_some_and(|extension| extension == ending)
+    });
+    assert!(found.len() > 20, "only {} with .{ending}", found.len());
+    found
 }

@@ -1,6 +1,6 @@
 //! Text cut into records and words.
 
-use super::BadText;
+use crate::BadText;
 
 /// A word and the line it stands on.
 #[derive(Clone, Copy, Debug, PartialEq, Eq)]
@@ -19,6 +19,7 @@ pub type Words<'a> = Vec<Word<'a>>;
 pub fn records(text: &str) -> Result<Vec<Words<'_>>, BadText> {
     let mut records: Vec<Words> = Vec::new();
     for (place, line) in text.lines().enumerate() {
+        check_line_end(line, place + 1)?;
         let words = words_of(line, place + 1);
         if words.is_empty() {
             continue;
@@ -33,6 +34,15 @@ pub fn records(text: &str) -> Result<Vec<Words<'_>>, BadText> {
         }
     }
     Ok(records)
+}
+
+/// Line ends are LF or CR LF. A CR alone would hide the lines behind a comment.
+fn check_line_end(line: &str, number: usize) -> Result<(), BadText> {
+    if line.trim_end_matches('\r').contains('\r') {
+        let message = "a carriage return stands alone; line ends are LF, or CR LF";
+        return Err(bad(number, message));
+    }
+    Ok(())
 }
 
 /// The words of a line before its comment.
@@ -87,6 +97,15 @@ mod tests {
             vec![vec![(1, "WD"), (1, "IM"), (1, "1"), (1, "A#1")]]
         );
         assert_eq!(cut("WD \"#B\""), vec![vec![(1, "WD"), (1, "\"#B\"")]]);
+    }
+
+    #[test]
+    fn line_ends_of_other_systems() {
+        let unix = "GH 1 G\n  start 5\n\nTB # now\nCL";
+        assert_eq!(cut(&unix.replace('\n', "\r\n")), cut(unix));
+        let message = "line 1: a carriage return stands alone; line ends are LF, or CR LF";
+        let alone = records("# comment\rTB\rCL\r").unwrap_err();
+        assert_eq!(alone.to_string(), message);
     }
 
     #[test]

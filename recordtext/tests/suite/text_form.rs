@@ -4,8 +4,7 @@ use crate::support::*;
 use peer::names;
 use peer::records::parse_change_prefix;
 use peer::records::raw::{self, RawPairs, RawUnit};
-use peer::refusal::Refusal;
-use peer::text::{make, show, Headings};
+use recordtext::{make, show, Style};
 
 /// Draws records that break no rule.
 struct Drawn(Draw);
@@ -130,7 +129,7 @@ fn last_quantity(list: &[(i32, u32)]) -> u32 {
 
 /// The text of bytes that break no rule.
 fn shown(bytes: &[u8]) -> String {
-    let shown = show(bytes, Headings::None);
+    let shown = show(bytes, Style::default());
     assert_eq!(shown.refused, None);
     shown.text
 }
@@ -140,8 +139,14 @@ fn made_from_what_is_shown_the_bytes_are_the_same() {
     let mut drawn = Drawn(Draw::new(11));
     for _ in 0..4000 {
         let bytes = drawn.change();
-        let text = shown(&bytes);
-        assert_eq!(make(&text).as_ref(), Ok(&bytes), "{text}");
+        for units in [false, true] {
+            let style = Style {
+                units,
+                ..Style::default()
+            };
+            let text = show(&bytes, style).text;
+            assert_eq!(make(&text).as_ref(), Ok(&bytes), "{text}");
+        }
     }
 }
 
@@ -151,7 +156,13 @@ fn so_they_are_for_records_back_to_back_with_headings() {
     for _ in 0..100 {
         let bytes: Vec<u8> = (0..30).flat_map(|_| drawn.change()).collect();
         assert_eq!(make(&shown(&bytes)).as_ref(), Ok(&bytes));
-        let headed = show(&bytes, Headings::Places);
+        let headed = show(
+            &bytes,
+            Style {
+                headings: true,
+                ..Style::default()
+            },
+        );
         assert_eq!(headed.text.matches("# record ").count(), 30);
         assert_eq!(make(&headed.text).as_ref(), Ok(&bytes));
         assert_eq!(shown(&make(&headed.text).unwrap()), shown(&bytes));
@@ -176,23 +187,15 @@ fn a_damaged_record_is_told_with_its_number_and_place() {
         let Err(refusal) = parse_change_prefix(&damaged) else {
             continue;
         };
-        let shown = show(&[&before[..], &damaged].concat(), Headings::None);
+        let shown = show(&[&before[..], &damaged].concat(), Style::default());
         let refused = shown.refused.expect("a refusal");
         assert_eq!(make(&shown.text).as_ref(), Ok(&before));
         assert_eq!((refused.ordinal, refused.start), (2, before.len()));
-        assert!((before.len()..=before.len() + damaged.len()).contains(&refused.read_to));
+        let at = refused.at.expect("a place");
+        assert!((before.len()..=before.len() + damaged.len()).contains(&at));
         assert_eq!(refused.refusal, refusal);
         seen[refusal.number() as usize] += 1;
     }
     assert!(seen[1..=7].iter().all(|&times| times > 0), "{seen:?}");
     assert_eq!(seen[8..], [0; 9]);
-}
-
-#[test]
-fn each_number_has_words_of_its_own() {
-    for refusal in Refusal::ALL {
-        let same = |other: &&Refusal| other.words() == refusal.words();
-        assert_eq!(Refusal::ALL.iter().filter(same).count(), 1);
-    }
-    assert_eq!(Refusal::NameFault.told(), "4: the name breaks its rule");
 }

@@ -1,17 +1,20 @@
 //! From bytes to text.
 
-use super::layout::{self, Kind, NO_PAIRS};
-use super::Refused;
-use crate::records::{parse_change_prefix_at, Mark};
-use std::fmt::{Display, Write};
+use crate::feed::{placed, Placed};
+use crate::layout::{self, Kind, NO_PAIRS};
+use crate::units::Unit;
+use crate::why::quoted;
+use crate::Refused;
+use peer::records::Mark;
+use std::fmt::Write;
 
-/// What stands above each record.
-#[derive(Clone, Copy, Debug, PartialEq, Eq)]
-pub enum Headings {
-    /// Nothing.
-    None,
-    /// A comment with the record's ordinal and first byte.
-    Places,
+/// How records are shown.
+#[derive(Clone, Copy, Debug, Default, PartialEq, Eq)]
+pub struct Style {
+    /// A comment above each record has its ordinal and its first byte.
+    pub headings: bool,
+    /// Numbers have their units, as `$30.00` and `10.0MW`.
+    pub units: bool,
 }
 
 /// The text of the records before the first that is refused, and that one.
@@ -24,45 +27,34 @@ pub struct Shown {
 }
 
 /// The text of records back to back. Only reading is checked (1 to 7);
-/// whether a book would take the records is for `settle` to say.
-pub fn show(bytes: &[u8], headings: Headings) -> Shown {
+/// whether a book would take the records is for [`crate::check()`] to say.
+pub fn show(bytes: &[u8], style: Style) -> Shown {
     let mut text = String::new();
-    let mut start = 0;
-    let mut ordinal = 0;
-    while start < bytes.len() {
-        ordinal += 1;
-        match parse_change_prefix_at(&bytes[start..]) {
-            Ok((_, length)) => {
-                if headings == Headings::Places {
-                    put(
-                        &mut text,
-                        format_args!("# record {ordinal}, byte {start}\n"),
-                    );
-                }
-                show_record(&bytes[start..start + length], &mut text);
-                start += length;
-            }
-            Err((refusal, read)) => {
-                let read_to = start + read;
-                let refused = Some(Refused {
-                    ordinal,
-                    start,
-                    read_to,
-                    refusal,
-                });
+    for record in placed(bytes) {
+        match record {
+            Ok(record) => show_placed(&record, style, &mut text),
+            Err(refused) => {
+                let refused = Some(refused);
                 return Shown { text, refused };
             }
         }
     }
-    Shown {
-        text,
-        refused: None,
+    let refused = None;
+    Shown { text, refused }
+}
+
+/// A record below its heading.
+fn show_placed(record: &Placed, style: Style, text: &mut String) {
+    if style.headings {
+        let (ordinal, start) = (record.ordinal, record.start);
+        put(text, format_args!("# record {ordinal}, byte {start}\n"));
     }
+    show_record(record.bytes, style, text);
 }
 
 /// One record that has been read without a refusal.
-fn show_record(bytes: &[u8], text: &mut String) {
-    let mut record = Fields { rest: bytes };
+fn show_record(bytes: &[u8], style: Style, text: &mut String) {
+    let mut record = Fields { rest: bytes, style };
     match record.two() {
         b"TB" => text.push_str("TB"),
         b"CL" => text.push_str("CL"),
@@ -108,11 +100,10 @@ fn show_filed(mark: &[u8], record: &mut Fields, text: &mut String) {
     } else {
         " "
     };
-    for &(word, kind) in layout::fields(mark) {
-        put(text, format_args!("{before}{word}"));
-        match kind {
-            Kind::Prices(count) => show_runs(&record.numbers(count, i32::from_le_bytes), text),
-            Kind::Amounts(count) => show_runs(&record.numbers(count, u32::from_le_bytes), text),
+    for field in layout::fields(mark) {
+        put(text, format_args!("{before}{}", field.word));
+        match field.kind {
+            Kind::Numbers(unit, count) => show_runs(&record.numbers(unit, count), text),
             Kind::List => show_list(record, text),
         }
     }
@@ -121,17 +112,12 @@ fn show_filed(mark: &[u8], record: &mut Fields, text: &mut String) {
 /// The name as it is spelled in the bytes.
 fn show_name(record: &mut Fields, text: &mut String) {
     let length = record.byte();
-    // Read without a refusal, so it is plain ASCII.
-    let spelled = String::from_utf8_lossy(record.take(usize::from(length)));
-    if spelled.starts_with(['#', '"']) {
-        put(text, format_args!(" \"{spelled}\""));
-    } else {
-        put(text, format_args!(" {spelled}"));
-    }
+    let spelled = record.take(usize::from(length));
+    put(text, format_args!(" {}", quoted(spelled)));
 }
 
 /// Numbers in turn, equal neighbours as `12x100`.
-fn show_runs<Number: Display + PartialEq>(numbers: &[Number], text: &mut String) {
+fn show_runs(numbers: &[String], text: &mut String) {
     for run in numbers.chunk_by(|one, next| one == next) {
         match run.len() {
             1 => put(text, format_args!(" {}", run[0])),
@@ -147,8 +133,8 @@ fn show_list(record: &mut Fields, text: &mut String) {
         put(text, format_args!(" {NO_PAIRS}"));
     }
     for _ in 0..count {
-        let price = i32::from_le_bytes(record.four());
-        let quantity = u32::from_le_bytes(record.four());
+        let price = record.number(Unit::Price);
+        let quantity = record.number(Unit::Quantity);
         put(text, format_args!(" {price}@{quantity}"));
     }
 }
@@ -160,6 +146,7 @@ fn put(text: &mut String, what: std::fmt::Arguments) {
 /// The fields of a record that is known to be whole.
 struct Fields<'a> {
     rest: &'a [u8],
+    style: Style,
 }
 
 impl<'a> Fields<'a> {
@@ -177,24 +164,30 @@ impl<'a> Fields<'a> {
         self.take(2)
     }
 
-    fn four(&mut self) -> [u8; 4] {
-        let taken = self.take(4);
-        [taken[0], taken[1], taken[2], taken[3]]
+    /// A number as it is shown.
+    fn number(&mut self, unit: Unit) -> String {
+        let four = self.take(4);
+        let number = unit.number([four[0], four[1], four[2], four[3]]);
+        if self.style.units {
+            unit.with_unit(number)
+        } else {
+            number.to_string()
+        }
     }
 
-    fn numbers<Number>(&mut self, count: usize, of: fn([u8; 4]) -> Number) -> Vec<Number> {
-        (0..count).map(|_| of(self.four())).collect()
+    fn numbers(&mut self, unit: Unit, count: usize) -> Vec<String> {
+        (0..count).map(|_| self.number(unit)).collect()
     }
 }
 
 #[cfg(test)]
 mod tests {
     use super::*;
-    use crate::records::raw::{self, RawName, RawUnit};
-    use crate::refusal::Refusal;
+    use peer::records::raw::{self, RawName, RawUnit};
+    use peer::refusal::Refusal;
 
     fn shown(bytes: &[u8]) -> String {
-        let shown = show(bytes, Headings::None);
+        let shown = show(bytes, Style::default());
         assert_eq!(shown.refused, None);
         shown.text
     }
@@ -214,12 +207,12 @@ mod tests {
         let price = raw::price(24, [-1, 0, 0, 5, 5, 5, 6, 7, 8, 9, 9, 10], -200_000);
         assert_eq!(
             shown(&price),
-            "PR 24 emp -1 2x0 3x5 6 7 8 2x9 10 pd -200000\n"
+            "PR 24 emp -1 2x0 3x5 6 7 8 2x9 10 pd-price -200000\n"
         );
         let failed = raw::failure(b"FE", 1, &RawName::of(b"a/b"), [2000, 1500], [90, -80]);
         assert_eq!(
             shown(&failed),
-            "FE 1 a/b da 2000 pd 1500 da-price 90 pd-price -80\n"
+            "FE 1 a/b da-quantity 2000 pd-quantity 1500 da-price 90 pd-price -80\n"
         );
         let export = raw::correct(&raw::export(2, &RawName::of(b"%44"), [0; 12]));
         assert_eq!(shown(&export), "CO EX 2 %44 mqsw 12x0\n");
@@ -233,6 +226,21 @@ mod tests {
         );
         assert_eq!(shown(b"TBCL"), "TB\nCL\n");
         assert_eq!(shown(b""), "");
+    }
+
+    #[test]
+    fn numbers_with_their_units() {
+        let style = Style {
+            units: true,
+            ..Style::default()
+        };
+        let import = raw::import(5, &RawName::of(b"A"), [100; 12], &[(-7, 101)]);
+        assert_eq!(
+            show(&import, style).text,
+            "IM 5 A mqsi 12x10.0MW offer -$0.07@10.1MW\n"
+        );
+        let unit = raw::unit(1, &RawName::of(b"G"), &RawUnit::idle());
+        assert!(show(&unit, style).text.contains("start $0.00\n"));
     }
 
     #[test]
@@ -275,14 +283,24 @@ mod tests {
             raw::export(1, &RawName::of(b"A%2"), [0; 12]),
         ]
         .concat();
-        let shown = show(&bytes, Headings::Places);
+        let shown = show(
+            &bytes,
+            Style {
+                headings: true,
+                ..Style::default()
+            },
+        );
         assert_eq!(shown.text, "# record 1, byte 0\nTB\n");
         let refused = shown.refused.unwrap();
-        assert_eq!((refused.ordinal, refused.start, refused.read_to), (2, 2, 9));
+        assert_eq!(
+            (refused.ordinal, refused.start, refused.at),
+            (2, 2, Some(7))
+        );
         assert_eq!(refused.refusal, Refusal::NameFault);
         assert_eq!(
             refused.to_string(),
-            "record 2, at byte 2, is refused with 4: the name breaks its rule (read to byte 9)"
+            "record 2, EX 1, at byte 2, is refused with 4: the name breaks its rule\n\
+             name 'A%2', byte 2 of 3: % without two hex digits behind it (byte 7)"
         );
     }
 }
