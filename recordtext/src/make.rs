@@ -124,7 +124,7 @@ impl<'a> Maker<'a> {
     fn absent_reserves(&self) -> Vec<&'static str> {
         let is_there = |label: &&str| self.words.iter().any(|word| word.text == *label);
         let reserves = layout::RESERVES.into_iter();
-        let absent = reserves.filter(|labels| !labels.iter().any(|label| is_there(&label)));
+        let absent = reserves.filter(|labels| !labels.iter().any(is_there));
         absent.flatten().collect()
     }
 

@@ -122,7 +122,7 @@ pub fn grouped(number: i64) -> String {
     let digits = number.unsigned_abs().to_string();
     let mut text = String::from(if number < 0 { "-" } else { "" });
     for (place, digit) in digits.chars().enumerate() {
-        if place > 0 && (digits.len() - place) % 3 == 0 {
+        if place > 0 && (digits.len() - place).is_multiple_of(3) {
             text.push(',');
         }
         text.push(digit);
@@ -168,48 +168,51 @@ mod tests {
         assert_eq!(typed(Unit::Price, "$2000.01"), Ok(200_001));
     }
 
+    /// Units and texts, and what is said of them.
+    const FAULTS: &[(Unit, &str, &str)] = &[
+        (Unit::Quantity, "10.05MW", "is finer than a tenth of a MW"),
+        (Unit::Quantity, "10.00MW", "is finer than a tenth of a MW"),
+        (Unit::Quantity, "10.0", "has decimals but no unit"),
+        (
+            Unit::Quantity,
+            "$5.00",
+            "is in dollars, where a quantity stands",
+        ),
+        (Unit::Quantity, "-5", "is below 0"),
+        (Unit::Quantity, "-0.1MW", "is below 0"),
+        (Unit::Quantity, "10mw", "is no number"),
+        (Unit::Quantity, "10.MW", "is no number"),
+        (Unit::Quantity, "MW", "is no number"),
+        (
+            Unit::Price,
+            "10.0MW",
+            "is in MW, where dollars or cents stand",
+        ),
+        (Unit::Price, "$30.005", "is finer than a cent"),
+        (
+            Unit::Price,
+            "$30.5",
+            "has one decimal, where cents have two",
+        ),
+        (Unit::Price, "30.00", "has decimals but no unit"),
+        (Unit::Price, "$-5.00", "has its sign behind the $"),
+        (Unit::Price, "--5", "is no number"),
+        (Unit::Price, "$1,000.00", "is no number"),
+        (Unit::Price, "$.50", "is no number"),
+        (Unit::Price, "30.00$", "is no number"),
+        (Unit::Price, "", "is no number"),
+        (Unit::Price, "3000000000", "does not fit into four bytes"),
+        (Unit::Amount, "-$1.00", "is below 0"),
+        (
+            Unit::Amount,
+            "99999999999999999999",
+            "does not fit into four bytes",
+        ),
+    ];
+
     #[test]
     fn what_is_wrong_with_a_typed_number() {
-        for (unit, text, fault) in [
-            (Unit::Quantity, "10.05MW", "is finer than a tenth of a MW"),
-            (Unit::Quantity, "10.00MW", "is finer than a tenth of a MW"),
-            (Unit::Quantity, "10.0", "has decimals but no unit"),
-            (
-                Unit::Quantity,
-                "$5.00",
-                "is in dollars, where a quantity stands",
-            ),
-            (Unit::Quantity, "-5", "is below 0"),
-            (Unit::Quantity, "-0.1MW", "is below 0"),
-            (Unit::Quantity, "10mw", "is no number"),
-            (Unit::Quantity, "10.MW", "is no number"),
-            (Unit::Quantity, "MW", "is no number"),
-            (
-                Unit::Price,
-                "10.0MW",
-                "is in MW, where dollars or cents stand",
-            ),
-            (Unit::Price, "$30.005", "is finer than a cent"),
-            (
-                Unit::Price,
-                "$30.5",
-                "has one decimal, where cents have two",
-            ),
-            (Unit::Price, "30.00", "has decimals but no unit"),
-            (Unit::Price, "$-5.00", "has its sign behind the $"),
-            (Unit::Price, "--5", "is no number"),
-            (Unit::Price, "$1,000.00", "is no number"),
-            (Unit::Price, "$.50", "is no number"),
-            (Unit::Price, "30.00$", "is no number"),
-            (Unit::Price, "", "is no number"),
-            (Unit::Price, "3000000000", "does not fit into four bytes"),
-            (Unit::Amount, "-$1.00", "is below 0"),
-            (
-                Unit::Amount,
-                "99999999999999999999",
-                "does not fit into four bytes",
-            ),
-        ] {
+        for &(unit, text, fault) in FAULTS {
             assert_eq!(typed(unit, text), Err(fault), "{text}");
         }
     }

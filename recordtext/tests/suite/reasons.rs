@@ -80,42 +80,45 @@ fn the_two_bytes_of_a_mark_and_the_value_of_an_hour() {
     told(b"WDIM\0", 3, "hour: 0 is not 1 to 24", 4);
 }
 
+/// Spelled names, what is wrong with them, and at which byte of the record.
+const NAMES: &[(&[u8], &str, usize)] = &[
+    (
+        b"A B",
+        "name 'A B', byte 2 of 3: 0x20 is outside 0x21 to 0x7E",
+        5,
+    ),
+    (
+        b"\xC3\xA9",
+        "name '\\xc3\\xa9', byte 1 of 2: 0xC3 is outside 0x21 to 0x7E",
+        4,
+    ),
+    (
+        b"A%2",
+        "name 'A%2', byte 2 of 3: % without two hex digits behind it",
+        5,
+    ),
+    (
+        b"%GG",
+        "name '%GG', byte 1 of 3: % without two hex digits behind it",
+        4,
+    ),
+    (
+        b"A%20",
+        "name 'A%20', byte 2 of 4: %20 spells 0x20, outside 0x21 to 0x7E",
+        5,
+    ),
+    (
+        b"thirteenbytes",
+        "name 'thirteenbytes': 13 bytes when decoded, above 12",
+        4,
+    ),
+];
+
 #[test]
 fn what_is_wrong_with_a_name() {
     told(&named(b""), 4, "name, length: 0 is not 1 to 36", 3);
     told(&named(&[b'A'; 37]), 4, "name, length: 37 is not 1 to 36", 3);
-    for (spelled, why, at) in [
-        (
-            &b"A B"[..],
-            "name 'A B', byte 2 of 3: 0x20 is outside 0x21 to 0x7E",
-            5,
-        ),
-        (
-            b"\xC3\xA9",
-            "name '\\xc3\\xa9', byte 1 of 2: 0xC3 is outside 0x21 to 0x7E",
-            4,
-        ),
-        (
-            b"A%2",
-            "name 'A%2', byte 2 of 3: % without two hex digits behind it",
-            5,
-        ),
-        (
-            b"%GG",
-            "name '%GG', byte 1 of 3: % without two hex digits behind it",
-            4,
-        ),
-        (
-            b"A%20",
-            "name 'A%20', byte 2 of 4: %20 spells 0x20, outside 0x21 to 0x7E",
-            5,
-        ),
-        (
-            b"thirteenbytes",
-            "name 'thirteenbytes': 13 bytes when decoded, above 12",
-            4,
-        ),
-    ] {
+    for &(spelled, why, at) in NAMES {
         told(&named(spelled), 4, why, at);
     }
     let why = "name, length: 1, but a withdrawal of PR has no name, so the length is 0";

@@ -12,7 +12,7 @@ use std::fs;
 fn records_are_those_of_their_text() {
     for path in samples("txt") {
         let records = fs::read(path.with_extension("rec")).ok();
-        assert_eq!(make(&text_of(&path)).ok(), records, "{}", path.display());
+        assert_eq!(make(text_of(&path)).ok(), records, "{}", path.display());
     }
 }
 

@@ -155,7 +155,7 @@ fn so_they_are_for_records_back_to_back_with_headings() {
     let mut drawn = Drawn(Draw::new(12));
     for _ in 0..100 {
         let bytes: Vec<u8> = (0..30).flat_map(|_| drawn.change()).collect();
-        assert_eq!(make(&shown(&bytes)).as_ref(), Ok(&bytes));
+        assert_eq!(make(shown(&bytes)).as_ref(), Ok(&bytes));
         let headed = show(
             &bytes,
             Style {
