@@ -118,7 +118,8 @@ int main(void)
 
     number = pewatuno_hour_offset(result, sizeof result, feed.bytes, feed.length);
     if (number != 0) {
-        fprintf(stderr, "hour_offset: refused with %" PRIu32 ": %s\n", number, pewatuno_meaning(number));
+        fprintf(stderr, "hour_offset: refused with %" PRIu32 ": %s\n", number,
+                pewatuno_meaning(number));
         return 1;
     }
     printf("The wheel offset of hour 5 is $");

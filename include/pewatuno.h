@@ -128,7 +128,7 @@ static inline const char *pewatuno_meaning(uint32_t number)
     case PEWATUNO_MARK_UNKNOWN: return "a mark is not PR, IM or EX";
     case PEWATUNO_HOUR_OUTSIDE: return "an hour is not 1 to 24, or not that of the first record";
     case PEWATUNO_NAME_FAULT: return "a name breaks its rule";
-    case PEWATUNO_NUMBER_OUTSIDE: return "a number is outside its range, or the result is not eight bytes long";
+    case PEWATUNO_NUMBER_OUTSIDE: return "a number is outside its range, or the result is not 8 bytes long";
     case PEWATUNO_LIST_FAULT: return "a list breaks its rule";
     case PEWATUNO_BEYOND_LIST: return "a schedule lies beyond its list";
     case PEWATUNO_BYTES_LEFT_OVER: return "bytes are left over";
