@@ -27,9 +27,10 @@
 //! - [`form_of()`] tells text from records.
 //! - [`show()`] turns records into text, [`make()`] text into records.
 //! - [`numbers`] has the words of the numbers 1 to 16.
+//! - [`standard`] has standard input and output, for commands that lose nothing.
 //! - The words of each record stand in one table, in `layout`.
 
-#![forbid(unsafe_code)]
+#![deny(unsafe_code)]
 #![warn(missing_docs)]
 
 mod check;
@@ -40,6 +41,7 @@ mod make;
 pub mod numbers;
 mod refused;
 mod show;
+pub mod standard;
 mod units;
 mod why;
 mod words;

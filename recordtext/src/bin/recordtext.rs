@@ -1,7 +1,7 @@
 //! Turns records into text that people can read and compare, and back, and
 //! says why a record is refused.
 
-use recordtext::{check, form_of, make, numbers, show, Form, Style};
+use recordtext::{check, form_of, make, numbers, show, standard, Form, Style};
 use std::io::{self, Read, Write};
 use std::process::ExitCode;
 
@@ -111,25 +111,20 @@ fn failed(message: &str) -> ExitCode {
 /// Standard input to its end.
 fn input() -> io::Result<Vec<u8>> {
     let mut bytes = Vec::new();
-    io::stdin()
-        .lock()
-        .read_to_end(&mut bytes)
-        .map_err(|fault| {
-            let told = format!("the input can't be read: {fault}");
-            io::Error::new(fault.kind(), told)
-        })?;
+    let read = standard::input().and_then(|mut input| input.read_to_end(&mut bytes));
+    read.map_err(|fault| told(&fault, "the input can't be read"))?;
     Ok(bytes)
 }
 
 /// Writes; a reader that wants no more, as `head`, is no trouble.
 fn output(bytes: &[u8]) -> io::Result<()> {
-    let mut out = io::stdout().lock();
-    match out.write_all(bytes).and_then(|()| out.flush()) {
+    match standard::output().and_then(|mut output| output.write_all(bytes)) {
         Err(fault) if fault.kind() == io::ErrorKind::BrokenPipe => Ok(()),
-        Err(fault) => {
-            let told = format!("the output can't be written: {fault}");
-            Err(io::Error::new(fault.kind(), told))
-        }
-        Ok(()) => Ok(()),
+        written => written.map_err(|fault| told(&fault, "the output can't be written")),
     }
+}
+
+/// A fault, and what couldn't be done.
+fn told(fault: &io::Error, what: &str) -> io::Error {
+    io::Error::new(fault.kind(), format!("{what}: {fault}"))
 }

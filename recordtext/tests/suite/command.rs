@@ -131,3 +131,22 @@ fn an_input_or_output_that_fails() {
         .stderr
         .starts_with(b"recordtext: the output can't be written: "));
 }
+
+/// Closed, or open for the other direction only.
+#[test]
+fn an_input_or_output_that_is_closed() {
+    for (redirection, said) in [
+        ("<&-", "the input can't be read"),
+        ("0>/dev/null", "the input can't be read"),
+        (">&-", "the output can't be written"),
+        ("1</dev/null", "the output can't be written"),
+    ] {
+        let script = format!("exec \"$0\" check {redirection}");
+        let mut command = Command::new("sh");
+        let done = command.args(["-c", &script, RECORDTEXT]).output();
+        let done = done.expect("its output");
+        assert_eq!(done.status.code(), Some(3), "{redirection}");
+        let message = format!("recordtext: {said}: ");
+        assert!(done.stderr.starts_with(message.as_bytes()), "{redirection}");
+    }
+}

@@ -1,7 +1,6 @@
 //! A day's input: where it is read, and its records.
 
-use crate::standard;
-use recordtext::{form_of, make, starts_with_a_mark, Form};
+use recordtext::{form_of, make, standard, starts_with_a_mark, Form};
 use std::fmt;
 use std::fs::File;
 use std::io::{self, Read};

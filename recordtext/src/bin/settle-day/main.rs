@@ -4,11 +4,11 @@
 mod day;
 mod options;
 mod program;
-mod standard;
 mod status;
 
 use day::Day;
 use options::{Options, Request};
+use recordtext::standard;
 use status::Status;
 use std::fs::File;
 use std::io::Write;

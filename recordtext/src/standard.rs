@@ -2,7 +2,7 @@
 //!
 //! Rust opens `/dev/null` in the place of a closed one before `main`, and takes
 //! one that can't be read for an empty one, and one that can't be written for
-//! a written one. Here such a day would look settled. So a look is taken before
+//! a written one: a day would be lost without a word. So a look is taken before
 //! Rust's own start, and both are used as plain files.
 
 use std::fs::{self, File};
@@ -14,6 +14,7 @@ static INPUT_IS_CLOSED: AtomicBool = AtomicBool::new(false);
 static OUTPUT_IS_CLOSED: AtomicBool = AtomicBool::new(false);
 
 /// The loader calls what stands in this section before it starts the program.
+#[allow(unsafe_code)]
 #[used]
 #[cfg_attr(target_os = "linux", link_section = ".init_array")]
 static BEFORE_START: extern "C" fn() = look;
