@@ -39,7 +39,8 @@ fn settle_input(out: &mut [u8]) -> Settled
     print_input(input, &log, out)
 }
 
-fn main() {
+// Prints what there is for standard input, or says what failed.
+fn run() {
     let mut out = [0u8; STATEMENT_MAX];
     let s = settle_input(&mut out);
     if s.failed {
@@ -51,4 +52,14 @@ fn main() {
     if !io::write_all(1, &out[..len]) {
         io::write_all(2, b"settle: the output can't be written\n");
     }
+}
+
+// It takes no argument: a file that is named here would not be read.
+fn main() {
+    if 1 < os::arg_count() {
+        io::write_all(2, b"usage: settle < records > statement\n");
+        io::write_all(2, b"settle-day takes files, and has an exit status\n");
+        return;
+    }
+    run();
 }

@@ -4,8 +4,8 @@ use lib.Seq.{length-take-le}
 use Rattle.settle.specs.SettleLaws.{printed-short}
 use native.Mathlib.Omega.{arith}
 use borrow.Author.Needs.{needs}
-use Rattle.settle.proofs.main.Statement.{statement}
-use Rattle.settle.proofs.main.Tie as tie
+use Rattle.settle.proofs.run.Statement.{statement}
+use Rattle.settle.proofs.run.Tie as tie
 
 slice-aggregate-settle-input : tie.Need-slice-aggregate-settle-input
 slice-aggregate-settle-input c = search needs
@@ -45,8 +45,8 @@ returns-2 c = search needs
 returns-3 : tie.Need-returns-3
 returns-3 c = search needs
 
-pub main-spec : {M : Type 1} → statement M
-main-spec =
+pub run-spec : {M : Type 1} → statement M
+run-spec =
     tie.close
     (tie.spec
     slice-aggregate-settle-input
