@@ -353,6 +353,16 @@ pub fn change(
     record: &[u8],
 ) -> u32 {
     *numbers = state.numbers();
+    change_of_numbers(method, numbers, lent, record)
+}
+
+/// A change of the book of some numbers, as many as there are.
+pub fn change_of_numbers(
+    method: u32,
+    numbers: &mut [u64],
+    lent: &mut [u8],
+    record: &[u8],
+) -> u32 {
     // SAFETY: each pointer comes with the count of its own slice.
     unsafe {
         symbols::pewatuno_change(
@@ -416,7 +426,11 @@ pub fn count(state: State, lent: &[u8], mark: &[u8], hour: u32, sizes: &mut [u64
 
 /// The free bytes.
 pub fn free(state: State, lent: &[u8], sizes: &mut [u64; 1]) -> u32 {
-    let numbers = state.numbers();
+    free_of_numbers(&state.numbers(), lent, sizes)
+}
+
+/// The free bytes of the book of some numbers, as many as there are.
+pub fn free_of_numbers(numbers: &[u64], lent: &[u8], sizes: &mut [u64; 1]) -> u32 {
     // SAFETY: each pointer comes with the count of its own slice.
     unsafe {
         symbols::pewatuno_free(
@@ -511,6 +525,16 @@ pub fn feed(
     sizes: &mut [u64; 2],
 ) -> u32 {
     *numbers = state.numbers();
+    feed_of_numbers(numbers, lent, input, sizes)
+}
+
+/// Takes records back to back into the book of some numbers, as many as there are.
+pub fn feed_of_numbers(
+    numbers: &mut [u64],
+    lent: &mut [u8],
+    input: &[u8],
+    sizes: &mut [u64; 2],
+) -> u32 {
     // SAFETY: each pointer comes with the count of its own slice.
     unsafe {
         symbols::pewatuno_feed(

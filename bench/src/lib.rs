@@ -4,6 +4,7 @@
 //! - [`call`]: calls, lists of calls and what they start from.
 //! - [`answer`]: what a call brings back, in one form for both sides.
 //! - [`proved_side`], [`peer_side`]: the calls carried out on each side.
+//! - [`beyond`]: states that no book can have.
 //! - [`compare`]: a list of calls run on both sides.
 //! - [`generate`]: systematic and random lists.
 //! - [`shrink`]: the shortest list that still shows a mismatch.
@@ -18,6 +19,7 @@
 #![warn(missing_docs)]
 
 pub mod answer;
+pub mod beyond;
 pub mod bridge;
 pub mod call;
 pub mod compare;

@@ -1,5 +1,6 @@
 //! The differential test: the proved side and the peer, call by call.
 
+use pewatuno_bench::beyond;
 use pewatuno_bench::bridge::{self, Layer, Layers};
 use pewatuno_bench::options::{Options, USAGE};
 use pewatuno_bench::run::{run, shortcomings};
@@ -38,6 +39,7 @@ fn compared(options: &Options, layers: Layers) -> ExitCode {
     if !lines.is_empty() && !is_lacking {
         println!("(shorter than the gate's run, so this is no failure)");
     }
+    let beyond = beyond_any_book(layers);
     let compared = outcome.tally.compared() + outcome.mismatches;
     println!(
         "{seconds:.1} s, {:.0} calls a second",
@@ -53,10 +55,27 @@ fn compared(options: &Options, layers: Layers) -> ExitCode {
             ""
         }
     );
-    match outcome.mismatches == 0 && !is_lacking {
+    match outcome.mismatches == 0 && beyond && !is_lacking {
         true => ExitCode::SUCCESS,
         false => ExitCode::FAILURE,
     }
+}
+
+/// Whether states that no book can have give 16; the mock takes none.
+fn beyond_any_book(layers: Layers) -> bool {
+    if cfg!(feature = "mock") || !layers.has(Layer::Book) {
+        return true;
+    }
+    let faults = beyond::faults();
+    for fault in &faults {
+        println!("{fault}");
+    }
+    println!(
+        "{} calls with a state that no book can have, {} faults",
+        beyond::CALLS,
+        faults.len()
+    );
+    faults.is_empty()
 }
 
 fn print_head(options: &Options, layers: Layers) {

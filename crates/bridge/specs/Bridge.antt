@@ -1,68 +1,178 @@
--- What the exported functions answer: 0, or the number of the refusal. Assumes nothing.
-use mathlib.Core.Bool.{Bool, false, cond, not, _||_}
+-- What the exported functions answer and what they leave in the places that are lent to them. Assumes nothing.
+use mathlib.Core.Path.{_≡_}
+use mathlib.Core.Bool.{Bool, true, false, cond, not, _||_}
 use mathlib.Core.List.{List, [], _∷_}
-use Prim.Native.Nat.{ℕ, _%_}
+use Prim.Native.Nat.{ℕ, _+_, _*_, _%_}
 use lib.Dec.{ltb, eqb}
-use lib.ListN.{length, getD}
+use lib.IntN.{ℤ}
+use lib.ListN.{length, getD, set, take, drop}
 use Rattle.laws.specs.Sums.{orElse}
 use Rattle.records.specs.Names.{decodeName, held}
 use Rattle.records.specs.Keys.{nameAnswer}
+use Rattle.money.specs.Names.{nameOf, nameBefore, sameName}
 use Rattle.money.specs.Refusals.{endsEarly, unknownMark, notTogether}
+use Rattle.money.specs.declared.names.Name.{Name}
 use Rattle.money.specs.declared.units.Answer.{Answer}
 use Rattle.money.specs.declared.units.Answer.the-variants.{Amount, Refused}
 use Rattle.records.specs.declared.marks.Mark.the-variants.{Fi, Fe}
 use Rattle.records.specs.Views.{pricesIn}
 use Rattle.records.specs.Amounts.{creditIn, unitAmountIn, chargeIn}
-use Rattle.records.specs.Changes.{begins, parsedOf, parse, parseAny, entryOf, putNumber, bare, takeBackBytes, closeBytes}
+use Rattle.records.specs.Changes.{begins, parsedOf, parse, parseAny, entryOf, putNumber, putBytes, bare, takeBackBytes, closeBytes, viewOf, scan}
 use Rattle.book.specs.declared.journal.Book.{Book}
-use Rattle.book.specs.Register.{Call, file, correct, withdraw, takeBack, close, change, ask, Question, number, stepOf}
-use Rattle.book.specs.Meaning.{outcome, Load, belongs, astray, load}
+use Rattle.book.specs.declared.answers.NamedAmount.{NamedAmount}
+use Rattle.book.specs.declared.feed.Fed.{Fed}
+use Rattle.book.specs.Register.{Call, ask, Question, Reply, refused, accepted, place, number, guarantees, unitDay, charge, stepOf, writeAll}
+use Rattle.book.specs.Meaning.{outcome, bookOf, Load, belongs, astray, load}
+use Rattle.book.specs.Layer.{Change}
 use Rattle.book.specs.Tables.{replied}
-use Rattle.book.specs.Feed.{feeding}
-use Rattle.statement.specs.Statement.{outcomeOf}
+use Rattle.book.specs.Feed as feeds
+use Rattle.statement.specs.Statement.{Outcome, outcomeOf}
+
+-- ---- lent places
+
+-- a lent row with x at place i; the row as it is where it has no such place
+abbrev pub stored : {A : Type 0} → List A → ℕ → A → List A
+stored row i x = set row i x
+
+-- x is told in the first place where the call's number is 0; at a refusal the row stays
+abbrev pub told : ℕ → ℕ → List ℕ → List ℕ
+told n x row = cond (eqb n 0) (stored row 0 x) row
 
 -- ---- records
 
 abbrev pub nameNumber : List ℕ → ℕ
 nameNumber s = nameAnswer (held (decodeName s)) .number
 
+abbrev pub nameIn : List ℕ → Name
+nameIn s = nameAnswer (held (decodeName s)) .name
+
 -- two spelled names: 4, of the first or of the second
 abbrev pub compareNumber : List ℕ → List ℕ → ℕ
 compareNumber a b = orElse (nameNumber a) (nameNumber b)
 
--- a change of any mark, written at the start of d
+-- by their decoded bytes: 0 before, 1 the same, 2 after
+abbrev pub orderOf : List ℕ → List ℕ → ℕ
+orderOf a b = cond (nameBefore (nameOf (nameIn a)) (nameOf (nameIn b))) 0 (cond (sameName (nameIn a) (nameIn b)) 1 2)
+
+-- whether a change that was read is `TB` or `CL`, which have no written form
+abbrev pub alone : List ℕ → Bool
+alone s = ltb 3 (entryOf (parseAny s) .view .kind)
+
+-- a change of any mark, written at the start of d: its number, what is then in d, and the length told
 abbrev pub anyNumber : List ℕ → List ℕ → ℕ
-anyNumber s d = orElse (entryOf (parseAny s) .number) (cond (ltb 3 (entryOf (parseAny s) .view .kind)) 0 (putNumber (parse 0 s) 0 d))
+anyNumber s d = orElse (entryOf (parseAny s) .number) (cond (alone s) 0 (putNumber (parse 0 s) 0 d))
+
+abbrev pub anyBytes : List ℕ → List ℕ → List ℕ
+anyBytes s d = cond (eqb (entryOf (parseAny s) .number) 0) (cond (alone s) d (putBytes (parse 0 s) 0 d)) d
+
+abbrev pub anySize : List ℕ → ℕ
+anySize s = cond (alone s) 0 (parsedOf (parse 0 s) .view .len)
 
 -- a change for a method
 abbrev pub writeNumber : ℕ → List ℕ → List ℕ → ℕ
 writeNumber m s d = cond (eqb m 0) (anyNumber s d) (cond (eqb m 4) (bare takeBackBytes s) (cond (eqb m 5) (bare closeBytes s) (putNumber (parse (m % 4) s) 0 d)))
 
+abbrev pub writeBytes : ℕ → List ℕ → List ℕ → List ℕ
+writeBytes m s d = cond (eqb m 0) (anyBytes s d) (cond (eqb m 4) d (cond (eqb m 5) d (putBytes (parse (m % 4) s) 0 d)))
+
+abbrev pub writeSize : ℕ → List ℕ → ℕ
+writeSize m s = cond (eqb m 0) (anySize s) (cond (eqb m 4) 0 (cond (eqb m 5) 0 (parsedOf (parse (m % 4) s) .view .len)))
+
 -- ---- the book
 
--- the book that three numbers carry; a fresh one where they do not fit
-abbrev pub freshBook : Book
-freshBook = record { changes = 0; used = 0; closed = false }
+-- a book that belongs to no bytes (`BridgeLaws.none-belong`), so that every call with it gives 16
+abbrev pub noBook : Book
+noBook = record { changes = 0; used = 1; closed = false }
 
+-- the book that three numbers carry: changes, used bytes, and 0 where it is open; none where they can't be a book's
 abbrev pub bookFrom : ℕ → ℕ → ℕ → Book
-bookFrom c u k = cond (ltb 65535 c) freshBook (cond (ltb 4294967295 u) freshBook (record { changes = c; used = u; closed = not (eqb k 0) }))
+bookFrom c u k = cond (ltb 65535 c) noBook (cond (ltb 4294967295 u) noBook (record { changes = c; used = u; closed = not (eqb k 0) }))
 
 unfoldable pub bookIn : List ℕ → Book
-bookIn s = cond (ltb (length s) 3) freshBook (bookFrom (getD s 0 0) (getD s 1 0) (getD s 2 0))
+bookIn s = cond (ltb (length s) 3) noBook (bookFrom (getD s 0 0) (getD s 1 0) (getD s 2 0))
+
+abbrev pub flagOf : Bool → ℕ
+flagOf b = cond b 1 0
+
+-- the numbers of a book in the caller's three places
+abbrev pub handedBack : Book → List ℕ → List ℕ
+handedBack b state = stored (stored (stored state 0 (b .changes)) 1 (b .used)) 2 (flagOf (b .closed))
 
 abbrev pub hourIn : ℕ → ℕ
 hourIn h = cond (ltb 255 h) 255 h
 
--- a question on the book that three numbers carry, over lent bytes
-unfoldable pub askedNumber : Question → List ℕ → List ℕ → ℕ
-askedNumber q state lent = replied (outcome (stepOf (ask q)) (bookIn state) lent .answer)
+-- 1 to 5, or any change
+abbrev pub methodIn : ℕ → ℕ
+methodIn m = cond (ltb 5 m) 0 m
 
--- one of the five changes, or any
-abbrev pub callOf : ℕ → List ℕ → Call
-callOf m s = cond (eqb m 1) (file s) (cond (eqb m 2) (correct s) (cond (eqb m 3) (withdraw s) (cond (eqb m 4) (takeBack s) (cond (eqb m 5) (close s) (change s)))))
+-- a change on the book that three numbers carry, over lent bytes: its number; the book is handed back where it is 0, and else the state stays; the bytes are those of the
+-- book's own promise (`Meaning.Leaves`)
+pub record Changed (call : Call) (state lent : List ℕ) (r : ℕ) (state′ lent′ : List ℕ) : Type 0 where
+  pub number : r ≡ replied (outcome (stepOf call) (bookIn state) lent .answer)
+  pub handed : state′ ≡ cond (eqb r 0) (handedBack (outcome (stepOf call) (bookIn state) lent .book) state) state
+  pub size : length lent′ ≡ length lent
+  pub bytes : take (length (outcome (stepOf call) (bookIn state) lent .kept)) lent′ ≡ outcome (stepOf call) (bookIn state) lent .kept
 
-unfoldable pub changeNumber : ℕ → List ℕ → List ℕ → List ℕ → ℕ
-changeNumber m state lent s = replied (outcome (stepOf (callOf m s)) (bookIn state) lent .answer)
+-- ---- questions
+
+-- the reply to a question on the book that three numbers carry
+unfoldable pub asked : Question → List ℕ → List ℕ → Reply
+asked q state lent = outcome (stepOf (ask q)) (bookIn state) lent .answer
+
+-- sizes: start and length of a record, or a number
+abbrev pub sizesTold : Reply → List ℕ → List ℕ
+sizesTold (refused n) row = row
+sizesTold accepted row = row
+sizesTold (place start len) row = stored (stored row 0 start) 1 len
+sizesTold (number n) row = stored row 0 n
+sizesTold (guarantees cs o) row = row
+sizesTold (unitDay t v) row = row
+sizesTold (charge t) row = row
+
+-- amounts: a unit's day total and its reversal, or a charge
+abbrev pub amountsTold : Reply → List ℤ → List ℤ
+amountsTold (refused n) row = row
+amountsTold accepted row = row
+amountsTold (place start len) row = row
+amountsTold (number n) row = row
+amountsTold (guarantees cs o) row = row
+amountsTold (unitDay t v) row = stored (stored row 0 t) 1 v
+amountsTold (charge t) row = stored row 0 t
+
+-- the length of the change that is written from a place on
+abbrev pub writtenLen : List ℕ → ℕ → ℕ
+writtenLen lent start = cond (ltb (length lent) start) 0 (viewOf (scan (drop start lent)) .len)
+
+-- an hour's guarantees: the number of imports, then start and length of each, import i counted from 0
+abbrev pub creditSizes : List ℕ → ℕ → NamedAmount → List ℕ → List ℕ
+creditSizes lent i c row = stored (stored row (2 * i + 1) (c .start)) (2 * i + 2) (writtenLen lent (c .start))
+
+unfoldable pub creditsSizes : List ℕ → ℕ → List NamedAmount → List ℕ → List ℕ
+creditsSizes lent i [] row = row
+creditsSizes lent i (c ∷ cs) row = creditsSizes lent (i + 1) cs (creditSizes lent i c row)
+
+-- and the offset, then each credit
+unfoldable pub creditsAmounts : ℕ → List NamedAmount → List ℤ → List ℤ
+creditsAmounts i [] row = row
+creditsAmounts i (c ∷ cs) row = creditsAmounts (i + 1) cs (stored row (i + 1) (c .ticks .0))
+
+abbrev pub hourSizes : List ℕ → Reply → List ℕ → List ℕ
+hourSizes lent (refused n) row = row
+hourSizes lent accepted row = row
+hourSizes lent (place start len) row = row
+hourSizes lent (number n) row = row
+hourSizes lent (guarantees cs o) row = creditsSizes lent 0 cs (stored row 0 (length cs))
+hourSizes lent (unitDay t v) row = row
+hourSizes lent (charge t) row = row
+
+abbrev pub hourAmounts : Reply → List ℤ → List ℤ
+hourAmounts (refused n) row = row
+hourAmounts accepted row = row
+hourAmounts (place start len) row = row
+hourAmounts (number n) row = row
+hourAmounts (guarantees cs o) row = creditsAmounts 0 cs (stored row 0 o)
+hourAmounts (unitDay t v) row = row
+hourAmounts (charge t) row = row
 
 -- ---- amounts of single records
 
@@ -84,16 +194,43 @@ answerNumber (Refused n) = n
 unfoldable pub amountNumber : List ℕ → List ℕ → ℕ
 amountNumber p s = orElse (filingNumber p (begins (80 ∷ 82 ∷ []) p)) (orElse (filingNumber s (hasAmount s)) (answerNumber (amountIn p s)))
 
+-- the amount is told; at a refusal the row stays
+abbrev pub ticksTold : Answer → List ℤ → List ℤ
+ticksTold (Amount t) row = stored row 0 (t .0)
+ticksTold (Refused n) row = row
+
+abbrev pub amountTold : List ℕ → List ℕ → List ℤ → List ℤ
+amountTold p s row = cond (eqb (amountNumber p s) 0) (ticksTold (amountIn p s) row) row
+
 -- ---- records back to back, and the statement
 
 -- an input for a book over n lent bytes; 16 is its first record's, where there is one
-abbrev pub readNumber : Load → Bool → ℕ → List ℕ → ℕ
-readNumber astray closed n input = cond (eqb (length input) 0) 0 notTogether
-readNumber (belongs l) closed n input = feeding n (record { list = l; closed = closed }) input .number
+abbrev pub feedOf : Load → Book → ℕ → List ℕ → Fed
+feedOf astray b n input = record { book = b; count = 0; taken = 0; number = cond (eqb (length input) 0) 0 notTogether }
+feedOf (belongs l) b n input =
+    let f = feeds.feeding n (record { list = l; closed = b .closed }) input in
+    record { book = bookOf (f .reg); count = f .count; taken = f .taken; number = f .number }
 
-unfoldable pub fedNumber : List ℕ → List ℕ → List ℕ → ℕ
-fedNumber state lent input = readNumber (load (bookIn state) lent) (bookIn state .closed) (length lent) input
+unfoldable pub feedIn : List ℕ → List ℕ → List ℕ → Fed
+feedIn state lent input = feedOf (load (bookIn state) lent) (bookIn state) (length lent) input
+
+-- the book is handed back where a record was taken
+abbrev pub feedState : Fed → List ℕ → List ℕ
+feedState f state = cond (eqb (f .count) 0) state (handedBack (f .book) state)
+
+-- how many records and bytes were taken, at a refusal too
+abbrev pub feedSizes : Fed → List ℕ → List ℕ
+feedSizes f row = stored (stored row 0 (f .count)) 1 (f .taken)
+
+abbrev pub StartsWith : List ℕ → List ℕ → Type 0
+StartsWith w s = take (length w) s ≡ w
+
+-- the lent bytes after it: as they were, or the used part is the register's list as written
+pub record FeedBytes (b : Book) (s input s′ : List ℕ) : Type 0 where
+  pub apart : load b s ≡ astray → s′ ≡ s
+  pub size : length s′ ≡ length s
+  pub used : (l : List Change) → load b s ≡ belongs l → StartsWith (writeAll (feeds.feeding (length s) (record { list = l; closed = b .closed }) input .reg .list)) s′
 
 -- the statement, written into lent bytes
-unfoldable pub statementNumber : List ℕ → List ℕ → List ℕ → ℕ
-statementNumber state lent out = outcomeOf (load (bookIn state) lent) out .number
+unfoldable pub statementIn : List ℕ → List ℕ → List ℕ → Outcome
+statementIn state lent out = outcomeOf (load (bookIn state) lent) out

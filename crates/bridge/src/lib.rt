@@ -1,13 +1,14 @@
 // The proved crates over numbers and slices, for a program in another language that holds them against its own. A slice is a
-// pointer and a count. Each function answers 0 or the number of the refusal, and leaves what it answers into alone at a refusal.
+// pointer and a count. Each function answers 0 or the number of the refusal, and promises what it leaves in every lent place: at a
+// refusal what stood there.
 use book::answers::Amounts;
 use book::answers::Answer as Said;
-use book::answers::Done;
 use book::answers::Guarantees;
 use book::answers::NamedAmount;
 use book::answers::refusal_in;
 use book::feed::feed;
 use book::journal::Book;
+use demands::make_change;
 use money::names::name_before;
 use money::names::same_name;
 use money::refusals::ENDS_EARLY;
@@ -32,12 +33,20 @@ use records::views::prices_of;
 use records::writing::put;
 use statement::day::statement;
 ghost use mathlib.Core.Path.{_≡_};
-ghost use Prim.Native.Nat.{_≤_};
-ghost use Rattle.book.specs.Register.{recordOf, countOf, freeBytes, hourGuarantees, dayOf, failureCharge, stepOf};
-ghost use Rattle.book.specs.Meaning.{replyOf, guaranteesReply, outcome};
+ghost use Prim.Native.Nat.{_+_, _≤_};
+ghost use mathlib.Core.Bool.{cond};
+ghost use lib.Dec.{eqb};
+ghost use lib.ListN.{take};
+ghost use Rattle.records.specs.Changes.{parse, parsedOf, putNumber, putBytes, entry, frontOf};
+ghost use Rattle.book.specs.Register.{recordOf, countOf, freeBytes, hourGuarantees, dayOf, failureCharge};
+ghost use Rattle.book.specs.Meaning.{replyOf, guaranteesReply};
 ghost use Rattle.book.specs.Tables.{replied};
-ghost use Rattle.bridge.specs.Bridge.{compareNumber, anyNumber, writeNumber, bookFrom, bookIn, hourIn, askedNumber, callOf, changeNumber, filingNumber, hasAmount, amountIn, answerNumber, amountNumber, fedNumber, statementNumber};
-ghost use Rattle.records.specs.Changes.{parse, putNumber, putBytes, entry, frontOf};
+ghost use Rattle.bridge.specs.Bridge.{stored, told, compareNumber, orderOf, anyNumber, anySize, anyBytes, writeNumber, writeSize, writeBytes};
+ghost use Rattle.bridge.specs.Bridge.{filingNumber, hasAmount, amountIn, answerNumber, amountNumber, ticksTold, amountTold};
+ghost use Rattle.bridge.specs.Bridge.{noBook, bookFrom, bookIn, flagOf, handedBack, methodIn, hourIn, Changed};
+ghost use Rattle.bridge.specs.Bridge.{asked, sizesTold, amountsTold, writtenLen, creditSizes, creditsSizes, creditsAmounts, hourSizes, hourAmounts};
+ghost use Rattle.bridge.specs.Bridge.{feedIn, feedState, feedSizes, FeedBytes, statementIn};
+ghost use Rattle.demands.specs.Script.{changeOf};
 
 #[no_mangle]
 pub extern "C" fn pewatuno_interface() -> u32
@@ -55,14 +64,18 @@ pub extern "C" fn pewatuno_layers() -> u32
     63
 }
 
-// Sets a number that is lent for an answer.
-fn set(numbers: &mut [u64], i: usize, n: u64) {
+// Sets a number that is lent for an answer, where there is a place for it.
+fn set(numbers: &mut [u64], i: usize, n: u64)
+    ensures { λ r. ⌜ now (numbers .exit) ≡ stored (now (numbers .entry)) i n ⌝ }
+{
     if i < numbers.len() {
         numbers[i] = n;
     }
 }
 
-fn set_amount(amounts: &mut [i64], i: usize, t: Ticks) {
+fn set_amount(amounts: &mut [i64], i: usize, t: Ticks)
+    ensures { λ r. ⌜ now (amounts .exit) ≡ stored (now (amounts .entry)) i (t .0) ⌝ }
+{
     if i < amounts.len() {
         let ticks = t.0;
         amounts[i] = ticks;
@@ -72,6 +85,7 @@ fn set_amount(amounts: &mut [i64], i: usize, t: Ticks) {
 fn write_change(want: u8, bytes: &[u8], out: &mut [u8], sizes: &mut [u64]) -> u32
     ensures { λ r. ⌜ r ≡ putNumber (parse want (now (bytes .entry))) 0 (now (out .entry)) ⌝ }
     ensures { λ r. ⌜ now (out .exit) ≡ putBytes (parse want (now (bytes .entry))) 0 (now (out .entry)) ⌝ }
+    ensures { λ r. ⌜ now (sizes .exit) ≡ told r (parsedOf (parse want (now (bytes .entry))) .view .len) (now (sizes .entry)) ⌝ }
 {
     let p = parse_change(bytes, want);
     let v = p.view;
@@ -86,6 +100,7 @@ fn write_change(want: u8, bytes: &[u8], out: &mut [u8], sizes: &mut [u64]) -> u3
 
 fn mark_alone(number: u8, sizes: &mut [u64]) -> u32
     ensures { λ r. ⌜ r ≡ number ⌝ }
+    ensures { λ r. ⌜ now (sizes .exit) ≡ told r 0 (now (sizes .entry)) ⌝ }
 {
     if number != 0 {
         return number as u32;
@@ -96,6 +111,8 @@ fn mark_alone(number: u8, sizes: &mut [u64]) -> u32
 
 fn write_any(bytes: &[u8], out: &mut [u8], sizes: &mut [u64]) -> u32
     ensures { λ r. ⌜ r ≡ anyNumber (now (bytes .entry)) (now (out .entry)) ⌝ }
+    ensures { λ r. ⌜ now (out .exit) ≡ anyBytes (now (bytes .entry)) (now (out .entry)) ⌝ }
+    ensures { λ r. ⌜ now (sizes .exit) ≡ told r (anySize (now (bytes .entry))) (now (sizes .entry)) ⌝ }
 {
     let p = parse_any(bytes);
     let n = p.number;
@@ -118,6 +135,8 @@ pub extern "C" fn pewatuno_write(
     sizes: &mut [u64],
 ) -> u32
     ensures { λ r. ⌜ r ≡ writeNumber method (now (bytes .entry)) (now (out .entry)) ⌝ }
+    ensures { λ r. ⌜ now (out .exit) ≡ writeBytes method (now (bytes .entry)) (now (out .entry)) ⌝ }
+    ensures { λ r. ⌜ now (sizes .exit) ≡ told r (writeSize method (now (bytes .entry))) (now (sizes .entry)) ⌝ }
 {
     if method == 0 {
         return write_any(bytes, out, sizes);
@@ -135,6 +154,7 @@ pub extern "C" fn pewatuno_write(
 #[no_mangle]
 pub extern "C" fn pewatuno_next(bytes: &[u8], sizes: &mut [u64]) -> u32
     ensures { λ r. ⌜ r ≡ frontOf (now (bytes .entry)) (entry (now (bytes .entry))) .number ⌝ }
+    ensures { λ r. ⌜ now (sizes .exit) ≡ told r (frontOf (now (bytes .entry)) (entry (now (bytes .entry))) .end) (now (sizes .entry)) ⌝ }
 {
     let f = first_change(bytes);
     let n = f.number;
@@ -147,7 +167,9 @@ pub extern "C" fn pewatuno_next(bytes: &[u8], sizes: &mut [u64]) -> u32
 }
 
 // 0 before, 1 same, 2 after.
-fn order_of(a: &[u8], b: &[u8]) -> u64 {
+fn order_of(a: &[u8], b: &[u8]) -> u64
+    ensures { λ r. ⌜ r ≡ orderOf (now (a .entry)) (now (b .entry)) ⌝ }
+{
     let x = ask_name(a).name;
     let y = ask_name(b).name;
     if name_before(x, y) {
@@ -163,6 +185,7 @@ fn order_of(a: &[u8], b: &[u8]) -> u64 {
 #[no_mangle]
 pub extern "C" fn pewatuno_compare(a: &[u8], b: &[u8], sizes: &mut [u64]) -> u32
     ensures { λ r. ⌜ r ≡ compareNumber (now (a .entry)) (now (b .entry)) ⌝ }
+    ensures { λ r. ⌜ now (sizes .exit) ≡ told r (orderOf (now (a .entry)) (now (b .entry))) (now (sizes .entry)) ⌝ }
 {
     let m = ask_name(a).number;
     if m != 0 {
@@ -224,6 +247,7 @@ fn amount_of(prices: &[u8], bytes: &[u8]) -> Answer
 
 fn tell_amount(amounts: &mut [i64], a: Answer) -> u32
     ensures { λ r. ⌜ r ≡ answerNumber a ⌝ }
+    ensures { λ r. ⌜ now (amounts .exit) ≡ ticksTold a (now (amounts .entry)) ⌝ }
 {
     match a {
         Answer::Refused(n) => n as u32,
@@ -238,6 +262,7 @@ fn tell_amount(amounts: &mut [i64], a: Answer) -> u32
 #[no_mangle]
 pub extern "C" fn pewatuno_amount(prices: &[u8], bytes: &[u8], amounts: &mut [i64]) -> u32
     ensures { λ r. ⌜ r ≡ amountNumber (now (prices .entry)) (now (bytes .entry)) ⌝ }
+    ensures { λ r. ⌜ now (amounts .exit) ≡ amountTold (now (prices .entry)) (now (bytes .entry)) (now (amounts .entry)) ⌝ }
 {
     let f = filing_fault(prices, bears(prices, b'P', b'R'));
     if f != 0 {
@@ -250,16 +275,27 @@ pub extern "C" fn pewatuno_amount(prices: &[u8], bytes: &[u8], amounts: &mut [i6
     tell_amount(amounts, amount_of(prices, bytes))
 }
 
-// ---- the book: its number of changes, its used bytes, and 1 where it is closed
+// ---- the book: its number of changes, its used bytes, and 0 where it is open
+
+// A book that no bytes belong to: every call with it gives 16.
+fn no_book() -> Book
+    ensures { λ r. ⌜ r ≡ noBook ⌝ }
+{
+    Book {
+        changes: 0,
+        used: 1,
+        closed: false,
+    }
+}
 
 fn book_of(changes: u64, used: u64, closed: u64) -> Book
     ensures { λ r. ⌜ r ≡ bookFrom changes used closed ⌝ }
 {
     if 65535 < changes {
-        return Book::fresh();
+        return no_book();
     }
     if 4294967295 < used {
-        return Book::fresh();
+        return no_book();
     }
     Book {
         changes: changes as u16,
@@ -272,16 +308,20 @@ fn book_in(state: &[u64]) -> Book
     ensures { λ r. ⌜ r ≡ bookIn (now (state .entry)) ⌝ }
 {
     if state.len() < 3 {
-        return Book::fresh();
+        return no_book();
     }
     book_of(state[0], state[1], state[2])
 }
 
-fn flag(b: bool) -> u64 {
+fn flag(b: bool) -> u64
+    ensures { λ r. ⌜ r ≡ flagOf b ⌝ }
+{
     if b { 1 } else { 0 }
 }
 
-fn hand_back(state: &mut [u64], b: Book) {
+fn hand_back(state: &mut [u64], b: Book)
+    ensures { λ r. ⌜ now (state .exit) ≡ handedBack b (now (state .entry)) ⌝ }
+{
     let changes = b.changes;
     let used = b.used;
     let closed = b.closed;
@@ -290,28 +330,16 @@ fn hand_back(state: &mut [u64], b: Book) {
     set(state, 2, flag(closed));
 }
 
-fn done(b: Book, method: u32, lent: &mut [u8], bytes: &[u8]) -> Done
-    ensures { λ r. ⌜ replyOf (r .answer) ≡ outcome (stepOf (callOf method (now (bytes .entry)))) b (now (lent .entry)) .answer ⌝ }
+fn method_of(method: u32) -> u8
+    ensures { λ r. ⌜ r ≡ methodIn method ⌝ }
 {
-    if method == 1 {
-        return b.file(lent, bytes);
+    if 5 < method {
+        return 0;
     }
-    if method == 2 {
-        return b.correct(lent, bytes);
-    }
-    if method == 3 {
-        return b.withdraw(lent, bytes);
-    }
-    if method == 4 {
-        return b.take_back(&lent[..], bytes);
-    }
-    if method == 5 {
-        return b.close(&lent[..], bytes);
-    }
-    b.change(lent, bytes)
+    method as u8
 }
 
-// One of the five changes (1 to 5), or any (0).
+// One of the five changes (1 to 5), or any.
 #[no_mangle]
 pub extern "C" fn pewatuno_change(
     method: u32,
@@ -319,14 +347,18 @@ pub extern "C" fn pewatuno_change(
     lent: &mut [u8],
     bytes: &[u8],
 ) -> u32
-    ensures { λ r. ⌜ r ≡ changeNumber method (now (state .entry)) (now (lent .entry)) (now (bytes .entry)) ⌝ }
+    ensures { λ r. ⌜ Changed (changeOf (methodIn method) (now (bytes .entry))) (now (state .entry)) (now (lent .entry)) r (now (state .exit)) (now (lent .exit)) ⌝ }
 {
     let b = book_in(&state[..]);
-    let d = done(b, method, lent, bytes);
-    let next = d.book;
+    let d = make_change(b, lent, method_of(method), bytes);
     let said = d.answer;
+    let n = refusal_in(said);
+    if n != 0 {
+        return n as u32;
+    }
+    let next = d.book;
     hand_back(state, next);
-    refusal_in(said) as u32
+    0
 }
 
 fn hour_of(hour: u32) -> u8
@@ -340,6 +372,7 @@ fn hour_of(hour: u32) -> u8
 
 fn tell_said(sizes: &mut [u64], a: Said) -> u32
     ensures { λ r. ⌜ r ≡ replied (replyOf a) ⌝ }
+    ensures { λ r. ⌜ now (sizes .exit) ≡ sizesTold (replyOf a) (now (sizes .entry)) ⌝ }
 {
     match a {
         Said::Refused(n) => n as u32,
@@ -368,7 +401,8 @@ pub extern "C" fn pewatuno_record(
     name: &[u8],
     sizes: &mut [u64],
 ) -> u32
-    ensures { λ r. ⌜ r ≡ askedNumber (recordOf (now (mark .entry)) (hourIn hour) (now (name .entry))) (now (state .entry)) (now (lent .entry)) ⌝ }
+    ensures { λ r. ⌜ r ≡ replied (asked (recordOf (now (mark .entry)) (hourIn hour) (now (name .entry))) (now (state .entry)) (now (lent .entry))) ⌝ }
+    ensures { λ r. ⌜ now (sizes .exit) ≡ sizesTold (asked (recordOf (now (mark .entry)) (hourIn hour) (now (name .entry))) (now (state .entry)) (now (lent .entry))) (now (sizes .entry)) ⌝ }
 {
     let b = book_in(state);
     tell_said(sizes, b.record_of(lent, mark, hour_of(hour), name))
@@ -382,7 +416,8 @@ pub extern "C" fn pewatuno_count(
     hour: u32,
     sizes: &mut [u64],
 ) -> u32
-    ensures { λ r. ⌜ r ≡ askedNumber (countOf (now (mark .entry)) (hourIn hour)) (now (state .entry)) (now (lent .entry)) ⌝ }
+    ensures { λ r. ⌜ r ≡ replied (asked (countOf (now (mark .entry)) (hourIn hour)) (now (state .entry)) (now (lent .entry))) ⌝ }
+    ensures { λ r. ⌜ now (sizes .exit) ≡ sizesTold (asked (countOf (now (mark .entry)) (hourIn hour)) (now (state .entry)) (now (lent .entry))) (now (sizes .entry)) ⌝ }
 {
     let b = book_in(state);
     tell_said(sizes, b.count_of(lent, mark, hour_of(hour)))
@@ -390,7 +425,8 @@ pub extern "C" fn pewatuno_count(
 
 #[no_mangle]
 pub extern "C" fn pewatuno_free(state: &[u64], lent: &[u8], sizes: &mut [u64]) -> u32
-    ensures { λ r. ⌜ r ≡ askedNumber freeBytes (now (state .entry)) (now (lent .entry)) ⌝ }
+    ensures { λ r. ⌜ r ≡ replied (asked freeBytes (now (state .entry)) (now (lent .entry))) ⌝ }
+    ensures { λ r. ⌜ now (sizes .exit) ≡ sizesTold (asked freeBytes (now (state .entry)) (now (lent .entry))) (now (sizes .entry)) ⌝ }
 {
     let b = book_in(state);
     tell_said(sizes, b.free_bytes(lent))
@@ -399,7 +435,9 @@ pub extern "C" fn pewatuno_free(state: &[u64], lent: &[u8], sizes: &mut [u64]) -
 // ---- the book's questions for amounts
 
 // The length of the change that is written from start on.
-fn written_len(lent: &[u8], start: usize) -> usize {
+fn written_len(lent: &[u8], start: usize) -> usize
+    ensures { λ r. ⌜ r ≡ writtenLen (now (lent .entry)) start ⌝ }
+{
     if lent.len() < start {
         return 0;
     }
@@ -409,6 +447,8 @@ fn written_len(lent: &[u8], start: usize) -> usize {
 // The place of an hour's import i, counted from 0, and its credit.
 fn tell_credit(lent: &[u8], i: usize, c: NamedAmount, sizes: &mut [u64], amounts: &mut [i64])
     requires { ⌜ i ≤ 16 ⌝ }
+    ensures { λ r. ⌜ now (sizes .exit) ≡ creditSizes (now (lent .entry)) i c (now (sizes .entry)) ⌝ }
+    ensures { λ r. ⌜ now (amounts .exit) ≡ stored (now (amounts .entry)) (i + 1) (c .ticks .0) ⌝ }
 {
     let start = c.start;
     let len = written_len(lent, start);
@@ -419,6 +459,8 @@ fn tell_credit(lent: &[u8], i: usize, c: NamedAmount, sizes: &mut [u64], amounts
 
 fn tell_credits(lent: &[u8], a: Amounts, sizes: &mut [u64], amounts: &mut [i64])
     requires { ⌜ a .n ≤ 16 ⌝ }
+    ensures { λ r. ⌜ now (sizes .exit) ≡ creditsSizes (now (lent .entry)) 0 (take (a .n) (a .list)) (stored (now (sizes .entry)) 0 (a .n)) ⌝ }
+    ensures { λ r. ⌜ now (amounts .exit) ≡ creditsAmounts 0 (take (a .n) (a .list)) (now (amounts .entry)) ⌝ }
 {
     let n = a.n;
     set(sizes, 0, n as u64);
@@ -433,6 +475,8 @@ fn tell_credits(lent: &[u8], a: Amounts, sizes: &mut [u64], amounts: &mut [i64])
 fn tell_guarantees(lent: &[u8], g: Guarantees, sizes: &mut [u64], amounts: &mut [i64]) -> u32
     requires { ⌜ g .credits .n ≤ 16 ⌝ }
     ensures { λ r. ⌜ r ≡ replied (guaranteesReply g) ⌝ }
+    ensures { λ r. ⌜ now (sizes .exit) ≡ hourSizes (now (lent .entry)) (guaranteesReply g) (now (sizes .entry)) ⌝ }
+    ensures { λ r. ⌜ now (amounts .exit) ≡ hourAmounts (guaranteesReply g) (now (amounts .entry)) ⌝ }
 {
     let n = g.number;
     if n != 0 {
@@ -452,7 +496,9 @@ pub extern "C" fn pewatuno_guarantees(
     sizes: &mut [u64],
     amounts: &mut [i64],
 ) -> u32
-    ensures { λ r. ⌜ r ≡ askedNumber (hourGuarantees (hourIn hour)) (now (state .entry)) (now (lent .entry)) ⌝ }
+    ensures { λ r. ⌜ r ≡ replied (asked (hourGuarantees (hourIn hour)) (now (state .entry)) (now (lent .entry))) ⌝ }
+    ensures { λ r. ⌜ now (sizes .exit) ≡ hourSizes (now (lent .entry)) (asked (hourGuarantees (hourIn hour)) (now (state .entry)) (now (lent .entry))) (now (sizes .entry)) ⌝ }
+    ensures { λ r. ⌜ now (amounts .exit) ≡ hourAmounts (asked (hourGuarantees (hourIn hour)) (now (state .entry)) (now (lent .entry))) (now (amounts .entry)) ⌝ }
 {
     let b = book_in(state);
     tell_guarantees(lent, b.guarantees(lent, hour_of(hour)), sizes, amounts)
@@ -460,6 +506,7 @@ pub extern "C" fn pewatuno_guarantees(
 
 fn tell_amounts(amounts: &mut [i64], a: Said) -> u32
     ensures { λ r. ⌜ r ≡ replied (replyOf a) ⌝ }
+    ensures { λ r. ⌜ now (amounts .exit) ≡ amountsTold (replyOf a) (now (amounts .entry)) ⌝ }
 {
     match a {
         Said::Refused(n) => n as u32,
@@ -486,7 +533,8 @@ pub extern "C" fn pewatuno_unit_day(
     name: &[u8],
     amounts: &mut [i64],
 ) -> u32
-    ensures { λ r. ⌜ r ≡ askedNumber (dayOf (now (name .entry))) (now (state .entry)) (now (lent .entry)) ⌝ }
+    ensures { λ r. ⌜ r ≡ replied (asked (dayOf (now (name .entry))) (now (state .entry)) (now (lent .entry))) ⌝ }
+    ensures { λ r. ⌜ now (amounts .exit) ≡ amountsTold (asked (dayOf (now (name .entry))) (now (state .entry)) (now (lent .entry))) (now (amounts .entry)) ⌝ }
 {
     let b = book_in(state);
     tell_amounts(amounts, b.unit_day(lent, name))
@@ -502,7 +550,8 @@ pub extern "C" fn pewatuno_failure_charge(
     name: &[u8],
     amounts: &mut [i64],
 ) -> u32
-    ensures { λ r. ⌜ r ≡ askedNumber (failureCharge (now (mark .entry)) (hourIn hour) (now (name .entry))) (now (state .entry)) (now (lent .entry)) ⌝ }
+    ensures { λ r. ⌜ r ≡ replied (asked (failureCharge (now (mark .entry)) (hourIn hour) (now (name .entry))) (now (state .entry)) (now (lent .entry))) ⌝ }
+    ensures { λ r. ⌜ now (amounts .exit) ≡ amountsTold (asked (failureCharge (now (mark .entry)) (hourIn hour) (now (name .entry))) (now (state .entry)) (now (lent .entry))) (now (amounts .entry)) ⌝ }
 {
     let b = book_in(state);
     tell_amounts(amounts, b.failure_charge(lent, mark, hour_of(hour), name))
@@ -510,8 +559,18 @@ pub extern "C" fn pewatuno_failure_charge(
 
 // ---- records back to back, and the statement
 
+// The book is handed back if a record was taken.
+fn hand_back_fed(state: &mut [u64], count: u64, b: Book)
+    ensures { λ r. ⌜ now (state .exit) ≡ cond (eqb count 0) (now (state .entry)) (handedBack b (now (state .entry))) ⌝ }
+{
+    if count == 0 {
+        return;
+    }
+    hand_back(state, b);
+}
+
 // Takes records back to back, up to the first that is refused. How many were taken, and how many bytes, are told at a refusal too, and
-// the book is handed back with them.
+// the book is handed back if one was taken.
 #[no_mangle]
 pub extern "C" fn pewatuno_feed(
     state: &mut [u64],
@@ -519,15 +578,18 @@ pub extern "C" fn pewatuno_feed(
     input: &[u8],
     sizes: &mut [u64],
 ) -> u32
-    ensures { λ r. ⌜ r ≡ fedNumber (now (state .entry)) (now (lent .entry)) (now (input .entry)) ⌝ }
+    ensures { λ r. ⌜ r ≡ feedIn (now (state .entry)) (now (lent .entry)) (now (input .entry)) .number ⌝ }
+    ensures { λ r. ⌜ now (state .exit) ≡ feedState (feedIn (now (state .entry)) (now (lent .entry)) (now (input .entry))) (now (state .entry)) ⌝ }
+    ensures { λ r. ⌜ FeedBytes (bookIn (now (state .entry))) (now (lent .entry)) (now (input .entry)) (now (lent .exit)) ⌝ }
+    ensures { λ r. ⌜ now (sizes .exit) ≡ feedSizes (feedIn (now (state .entry)) (now (lent .entry)) (now (input .entry))) (now (sizes .entry)) ⌝ }
 {
     let b = book_in(&state[..]);
     let f = feed(b, lent, input);
-    let next = f.book;
+    let count = f.count;
     let taken = f.taken;
-    hand_back(state, next);
-    set(sizes, 0, f.count);
+    set(sizes, 0, count);
     set(sizes, 1, taken as u64);
+    hand_back_fed(state, count, f.book);
     f.number as u32
 }
 
@@ -539,7 +601,9 @@ pub extern "C" fn pewatuno_statement(
     out: &mut [u8],
     sizes: &mut [u64],
 ) -> u32
-    ensures { λ r. ⌜ r ≡ statementNumber (now (state .entry)) (now (lent .entry)) (now (out .entry)) ⌝ }
+    ensures { λ r. ⌜ r ≡ statementIn (now (state .entry)) (now (lent .entry)) (now (out .entry)) .number ⌝ }
+    ensures { λ r. ⌜ now (out .exit) ≡ statementIn (now (state .entry)) (now (lent .entry)) (now (out .entry)) .bytes ⌝ }
+    ensures { λ r. ⌜ now (sizes .exit) ≡ told r (statementIn (now (state .entry)) (now (lent .entry)) (now (out .entry)) .len) (now (sizes .entry)) ⌝ }
 {
     let b = book_in(state);
     let w = statement(b, lent, out);

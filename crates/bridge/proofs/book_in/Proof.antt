@@ -3,17 +3,13 @@ use Rattle.bridge.specs.Bridge.{bookIn}
 use borrow.Author.Needs.{needs}
 use Rattle.bridge.proofs.book_in.Statement.{statement}
 use Rattle.bridge.proofs.book_in.Tie as tie
-use Rattle.bridge.proofs.book_in.Reads as reads
-use Rattle.bridge.proofs.book_in.Lts as lts
-use Rattle.book.proofs.journal.Book.fresh.Reads as fresh-reads
-use Rattle.bridge.proofs.book_of.Reads as book-of-reads
 
-fresh-requires : tie.Need-fresh-requires
-fresh-requires c κs = search needs
+no-book-requires : tie.Need-no-book-requires
+no-book-requires c κs = search needs
 
 returns : tie.Need-returns
 unfolding bookIn
-returns c = rw (lt-ltb _ _ ((c .before .if1) .taken)) ((c .fresh) .ensures)
+returns c = rw (lt-ltb _ _ ((c .before .if1) .taken)) ((c .no-book) .ensures)
 
 shared-slice-read-book-of : tie.Need-shared-slice-read-book-of
 shared-slice-read-book-of c = search needs
@@ -35,7 +31,7 @@ pub book-in-spec : {M : Type 1} → statement M
 book-in-spec =
     tie.close
     (tie.spec
-    fresh-requires
+    no-book-requires
     returns
     shared-slice-read-book-of
     shared-slice-read-book-of-2

@@ -2,8 +2,6 @@ use borrow.Author.Tests.{lt-ltb, le-ltb}
 use borrow.Author.Needs.{needs}
 use Rattle.bridge.proofs.hour_of.Statement.{statement}
 use Rattle.bridge.proofs.hour_of.Tie as tie
-use Rattle.bridge.proofs.hour_of.Reads as reads
-use Rattle.bridge.proofs.hour_of.Lts as lts
 
 returns : tie.Need-returns
 returns c = rw (lt-ltb _ _ ((c .if1) .taken))

@@ -4,17 +4,11 @@ use Prim.Native.Nat.{ℕ}
 use Rattle.laws.specs.Sums.{orElse}
 use Rattle.money.specs.UnitLaws.{kept}
 use Rattle.money.specs.declared.units.Answer.{Answer}
-use Rattle.bridge.specs.Bridge.{filingNumber, hasAmount, amountIn, answerNumber, amountNumber}
+use Rattle.bridge.specs.Bridge.{filingNumber, hasAmount, amountIn, answerNumber, amountNumber, ticksTold}
+use Rattle.bridge.proofs.Telling.{if-no, ticks-if}
 use borrow.Author.Needs.{needs}
 use Rattle.bridge.proofs.pewatuno_amount.Statement.{statement}
 use Rattle.bridge.proofs.pewatuno_amount.Tie as tie
-use Rattle.bridge.proofs.pewatuno_amount.Reads as reads
-use Rattle.bridge.proofs.pewatuno_amount.Lts as lts
-use Rattle.bridge.proofs.amount_of.Reads as amount-of-reads
-use Rattle.bridge.proofs.filing_fault.Reads as filing-fault-reads
-use Rattle.bridge.proofs.has_amount.Reads as has-amount-reads
-use Rattle.bridge.proofs.tell_amount.Reads as tell-amount-reads
-use Rattle.records.proofs.leads.bears.Reads as bears-reads
 
 bears-requires : tie.Need-bears-requires
 bears-requires c κs = search needs
@@ -26,7 +20,8 @@ returns : tie.Need-returns
 unfolding amountNumber
 returns c =
     let e = (c .before .filing-fault) .ensures ∙ ap (λ (b : Bool). filingNumber ((c .before .before .before .before .before .args) .prices .now) b) ((c .before .before .bears) .ensures) in
-    kept (orElse (filingNumber ((c .before .before .before .before .before .args) .bytes .now) (hasAmount ((c .before .before .before .before .before .args) .bytes .now))) (answerNumber (amountIn ((c .before .before .before .before .before .args) .prices .now) ((c .before .before .before .before .before .args) .bytes .now)))) e ((c .if1) .taken)
+    let k = kept (orElse (filingNumber ((c .before .before .before .before .before .args) .bytes .now) (hasAmount ((c .before .before .before .before .before .args) .bytes .now))) (answerNumber (amountIn ((c .before .before .before .before .before .args) .prices .now) ((c .before .before .before .before .before .args) .bytes .now)))) e ((c .if1) .taken) in
+    (k, if-no _ _ k ((c .if1) .taken))
 
 has-amount-requires : tie.Need-has-amount-requires
 has-amount-requires c κs = search needs
@@ -39,8 +34,10 @@ unfolding amountNumber
 returns-2 c =
     let e = (c .before .before .before .before .filing-fault) .ensures ∙ ap (λ (b : Bool). filingNumber ((c .before .before .before .before .before .before .before .before .args) .prices .now) b) ((c .before .before .before .before .before .bears) .ensures) in
     let f = (c .before .filing-fault2) .ensures ∙ ap (λ (b : Bool). filingNumber ((c .before .before .before .before .before .before .before .before .args) .bytes .now) b) ((c .before .before .has-amount) .ensures) in
+    let k =
     kept (answerNumber (amountIn ((c .before .before .before .before .before .before .before .before .args) .prices .now) ((c .before .before .before .before .before .before .before .before .args) .bytes .now))) f ((c .if2) .taken)
-    ∙ ap (λ (n : ℕ). orElse n (orElse (filingNumber ((c .before .before .before .before .before .before .before .before .args) .bytes .now) (hasAmount ((c .before .before .before .before .before .before .before .before .args) .bytes .now))) (answerNumber (amountIn ((c .before .before .before .before .before .before .before .before .args) .prices .now) ((c .before .before .before .before .before .before .before .before .args) .bytes .now))))) (sym ((c .before .before .before .if1) .left) ∙ e)
+    ∙ ap (λ (n : ℕ). orElse n (orElse (filingNumber ((c .before .before .before .before .before .before .before .before .args) .bytes .now) (hasAmount ((c .before .before .before .before .before .before .before .before .args) .bytes .now))) (answerNumber (amountIn ((c .before .before .before .before .before .before .before .before .args) .prices .now) ((c .before .before .before .before .before .before .before .before .args) .bytes .now))))) (sym ((c .before .before .before .if1) .left) ∙ e) in
+    (k, if-no _ _ k ((c .if2) .taken))
 
 amount-of-requires : tie.Need-amount-of-requires
 amount-of-requires c κs = search needs
@@ -56,9 +53,15 @@ unfolding amountNumber
 returns-3 c =
     let e = (c .before .before .before .before .before .before .before .before .filing-fault) .ensures ∙ ap (λ (b : Bool). filingNumber ((c .before .before .before .before .before .before .before .before .before .before .before .before .args) .prices .now) b) ((c .before .before .before .before .before .before .before .before .before .bears) .ensures) in
     let f = (c .before .before .before .before .before .filing-fault2) .ensures ∙ ap (λ (b : Bool). filingNumber ((c .before .before .before .before .before .before .before .before .before .before .before .before .args) .bytes .now) b) ((c .before .before .before .before .before .before .has-amount) .ensures) in
-    (c .before .tell-amount) .ensures ∙ ap (λ (a : Answer). answerNumber a) ((c .before .before .amount-of) .ensures)
+    let k =
+    (c .before .tell-amount) .ensures .0 ∙ ap (λ (a : Answer). answerNumber a) ((c .before .before .amount-of) .ensures)
     ∙ ap (λ (n : ℕ). orElse n (answerNumber (amountIn ((c .before .before .before .before .before .before .before .before .before .before .before .before .args) .prices .now) ((c .before .before .before .before .before .before .before .before .before .before .before .before .args) .bytes .now)))) (sym ((c .before .before .before .before .if2) .left) ∙ f)
-    ∙ ap (λ (n : ℕ). orElse n (orElse (filingNumber ((c .before .before .before .before .before .before .before .before .before .before .before .before .args) .bytes .now) (hasAmount ((c .before .before .before .before .before .before .before .before .before .before .before .before .args) .bytes .now))) (answerNumber (amountIn ((c .before .before .before .before .before .before .before .before .before .before .before .before .args) .prices .now) ((c .before .before .before .before .before .before .before .before .before .before .before .before .args) .bytes .now))))) (sym ((c .before .before .before .before .before .before .before .if1) .left) ∙ e)
+    ∙ ap (λ (n : ℕ). orElse n (orElse (filingNumber ((c .before .before .before .before .before .before .before .before .before .before .before .before .args) .bytes .now) (hasAmount ((c .before .before .before .before .before .before .before .before .before .before .before .before .args) .bytes .now))) (answerNumber (amountIn ((c .before .before .before .before .before .before .before .before .before .before .before .before .args) .prices .now) ((c .before .before .before .before .before .before .before .before .before .before .before .before .args) .bytes .now))))) (sym ((c .before .before .before .before .before .before .before .if1) .left) ∙ e) in
+    let a = (c .before .before .amount-of) .ensures in (
+      k,
+      (c .before .tell-amount) .ensures .1 ∙ ap (λ (x : Answer). ticksTold x ((c .before .before .before .before .before .before .before .before .before .before .before .before .args) .amounts .now)) a
+          ∙ ticks-if (amountIn ((c .before .before .before .before .before .before .before .before .before .before .before .before .args) .prices .now) ((c .before .before .before .before .before .before .before .before .before .before .before .before .args) .bytes .now)) ((c .before .before .before .before .before .before .before .before .before .before .before .before .args) .amounts .now) (sym k ∙ (c .before .tell-amount) .ensures .0 ∙ ap (λ (x : Answer). answerNumber x) a),
+    )
 
 pub pewatuno-amount-spec : {M : Type 1} → statement M
 pewatuno-amount-spec =

@@ -1,15 +1,12 @@
-use mathlib.Core.Path.{sym, ap, _∙_}
+use mathlib.Core.Path.{refl, sym, ap, _∙_}
+use Prim.Native.Nat.{ℕ}
 use Rattle.money.specs.UnitLaws.{kept}
 use Rattle.records.specs.declared.keys.NameAnswer.{NameAnswer}
-use Rattle.bridge.specs.Bridge.{nameNumber}
+use Rattle.bridge.specs.Bridge.{stored, nameNumber}
+use Rattle.bridge.proofs.Telling.{told-no}
 use borrow.Author.Needs.{needs}
 use Rattle.bridge.proofs.pewatuno_compare.Statement.{statement}
 use Rattle.bridge.proofs.pewatuno_compare.Tie as tie
-use Rattle.bridge.proofs.pewatuno_compare.Reads as reads
-use Rattle.bridge.proofs.pewatuno_compare.Lts as lts
-use Rattle.bridge.proofs.order_of.Reads as order-of-reads
-use Rattle.bridge.proofs.set.Reads as set-reads
-use Rattle.records.proofs.keys.ask_name.Reads as ask-name-reads
 
 ask-name-requires : tie.Need-ask-name-requires
 ask-name-requires c κs = search needs
@@ -18,7 +15,7 @@ cast-result : tie.Need-cast-result
 cast-result c = search needs
 
 returns : tie.Need-returns
-returns c = kept (nameNumber ((c .before .before .before .before .before .args) .b .now)) (ap (λ (x : NameAnswer). x .number) ((c .before .ask-name) .ensures)) ((c .if1) .taken)
+returns c = (kept (nameNumber ((c .before .before .before .before .before .args) .b .now)) (ap (λ (x : NameAnswer). x .number) ((c .before .ask-name) .ensures)) ((c .if1) .taken), told-no _ _ _ ((c .if1) .taken))
 
 ask-name-requires-2 : tie.Need-ask-name-requires-2
 ask-name-requires-2 c κs = search needs
@@ -27,7 +24,8 @@ cast-result-2 : tie.Need-cast-result-2
 cast-result-2 c = search needs
 
 returns-2 : tie.Need-returns-2
-returns-2 c = rw (sym (ap (λ (x : NameAnswer). x .number) ((c .before .before .before .ask-name) .ensures)) ∙ (c .before .before .if1) .left) (ap (λ (x : NameAnswer). x .number) ((c .before .ask-name2) .ensures))
+returns-2 c =
+    rw (sym (ap (λ (x : NameAnswer). x .number) ((c .before .before .before .ask-name) .ensures)) ∙ (c .before .before .if1) .left) (ap (λ (x : NameAnswer). x .number) ((c .before .ask-name2) .ensures), told-no _ _ _ ((c .if2) .taken))
 
 order-of-requires : tie.Need-order-of-requires
 order-of-requires c κs = search needs
@@ -39,7 +37,9 @@ same-length : tie.Need-same-length
 same-length c = search needs
 
 returns-3 : tie.Need-returns-3
-returns-3 c = rw (sym (ap (λ (x : NameAnswer). x .number) ((c .before .before .before .before .before .before .before .before .ask-name) .ensures)) ∙ (c .before .before .before .before .before .before .before .if1) .left, sym (ap (λ (x : NameAnswer). x .number) ((c .before .before .before .before .before .before .ask-name2) .ensures)) ∙ (c .before .before .before .before .before .if2) .left)
+returns-3 c =
+    rw (sym (ap (λ (x : NameAnswer). x .number) ((c .before .before .before .before .before .before .before .before .ask-name) .ensures)) ∙ (c .before .before .before .before .before .before .before .if1) .left, sym (ap (λ (x : NameAnswer). x .number) ((c .before .before .before .before .before .before .ask-name2) .ensures)) ∙ (c .before .before .before .before .before .if2) .left)
+    (refl, (c .before .before .set) .ensures ∙ ap (λ (n : ℕ). stored ((c .before .before .before .before .before .before .before .before .before .before .before .before .args) .sizes .now) 0 n) ((c .before .before .before .order-of) .ensures))
 
 pub pewatuno-compare-spec : {M : Type 1} → statement M
 pewatuno-compare-spec =

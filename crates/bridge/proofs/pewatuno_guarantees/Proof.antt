@@ -2,16 +2,10 @@ use mathlib.Core.Path.{ap, _∙_}
 use Rattle.book.specs.Register.{Reply, ask, hourGuarantees, stepOf}
 use Rattle.book.specs.Meaning.{outcome}
 use Rattle.book.specs.Tables.{replied}
-use Rattle.bridge.specs.Bridge.{askedNumber}
+use Rattle.bridge.specs.Bridge.{asked, hourSizes, hourAmounts}
 use borrow.Author.Needs.{needs}
 use Rattle.bridge.proofs.pewatuno_guarantees.Statement.{statement}
 use Rattle.bridge.proofs.pewatuno_guarantees.Tie as tie
-use Rattle.bridge.proofs.pewatuno_guarantees.Reads as reads
-use Rattle.bridge.proofs.pewatuno_guarantees.Lts as lts
-use Rattle.book.proofs.journal.Book.guarantees.Reads as guarantees-reads
-use Rattle.bridge.proofs.book_in.Reads as book-in-reads
-use Rattle.bridge.proofs.hour_of.Reads as hour-of-reads
-use Rattle.bridge.proofs.tell_guarantees.Reads as tell-guarantees-reads
 
 book-in-requires : tie.Need-book-in-requires
 book-in-requires c κs = search needs
@@ -32,8 +26,15 @@ same-length-2 : tie.Need-same-length-2
 same-length-2 c = search needs
 
 returns : tie.Need-returns
-unfolding askedNumber
-returns c = (c .before .before .before .tell-guarantees) .ensures ∙ ap (λ (r : Reply). replied r) ((c .before .before .before .before .before .before .guarantees) .ensures .0 .answer) ∙ (λ i. replied (outcome (stepOf (ask (hourGuarantees ((c .before .before .before .before .before .before .before .hour-of) .ensures i)))) ((c .before .before .before .before .before .before .before .before .book-in) .ensures i) ((c .before .before .before .before .before .before .before .before .before .before .before .before .args) .lent .now) .answer))
+unfolding asked
+returns c =
+    let p = (c .before .before .before .before .before .before .guarantees) .ensures .0 .answer ∙ (λ i. outcome (stepOf (ask (hourGuarantees ((c .before .before .before .before .before .before .before .hour-of) .ensures i)))) ((c .before .before .before .before .before .before .before .before .book-in) .ensures i) ((c .before .before .before .before .before .before .before .before .before .before .before .before .args) .lent .now) .answer) in (
+      (c .before .before .before .tell-guarantees) .ensures .0 ∙ ap (λ (r : Reply). replied r) p,
+      (
+        (c .before .before .before .tell-guarantees) .ensures .1 .0 ∙ ap (λ (r : Reply). hourSizes ((c .before .before .before .before .before .before .before .before .before .before .before .before .args) .lent .now) r ((c .before .before .before .before .before .before .before .before .before .before .before .before .args) .sizes .now)) p,
+        (c .before .before .before .tell-guarantees) .ensures .1 .1 ∙ ap (λ (r : Reply). hourAmounts r ((c .before .before .before .before .before .before .before .before .before .before .before .before .args) .amounts .now)) p,
+      ),
+    )
 
 pub pewatuno-guarantees-spec : {M : Type 1} → statement M
 pewatuno-guarantees-spec =

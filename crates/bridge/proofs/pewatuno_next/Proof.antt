@@ -1,12 +1,10 @@
 use mathlib.Core.Path.{sym, ap, _∙_}
 use Rattle.records.specs.declared.parse.Front.{Front}
+use Rattle.bridge.specs.Bridge.{stored}
+use Rattle.bridge.proofs.Telling.{told-no}
 use borrow.Author.Needs.{needs}
 use Rattle.bridge.proofs.pewatuno_next.Statement.{statement}
 use Rattle.bridge.proofs.pewatuno_next.Tie as tie
-use Rattle.bridge.proofs.pewatuno_next.Reads as reads
-use Rattle.bridge.proofs.pewatuno_next.Lts as lts
-use Rattle.bridge.proofs.set.Reads as set-reads
-use Rattle.records.proofs.parse.first_change.Reads as first-change-reads
 
 first-change-requires : tie.Need-first-change-requires
 first-change-requires c κs = search needs
@@ -15,7 +13,7 @@ cast-result : tie.Need-cast-result
 cast-result c = search needs
 
 returns : tie.Need-returns
-returns c = ap (λ (f : Front). f .number) ((c .before .first-change) .ensures)
+returns c = (ap (λ (f : Front). f .number) ((c .before .first-change) .ensures), told-no _ _ _ ((c .if1) .taken))
 
 set-requires : tie.Need-set-requires
 set-requires c κs = search needs
@@ -24,9 +22,16 @@ same-length : tie.Need-same-length
 same-length c = search needs
 
 returns-2 : tie.Need-returns-2
-returns-2 c = sym ((c .before .before .before .before .if1) .left) ∙ ap (λ (f : Front). f .number) ((c .before .before .before .before .before .first-change) .ensures)
+returns-2 c =
+    (sym ((c .before .before .before .before .if1) .left) ∙ ap (λ (f : Front). f .number) ((c .before .before .before .before .before .first-change) .ensures), (c .before .before .set) .ensures ∙ ap (λ (f : Front). stored ((c .before .before .before .before .before .before .before .before .args) .sizes .now) 0 (f .end)) ((c .before .before .before .before .before .first-change) .ensures))
 
 pub pewatuno-next-spec : {M : Type 1} → statement M
 pewatuno-next-spec =
     tie.close
-    (tie.spec first-change-requires cast-result returns set-requires same-length returns-2)
+    (tie.spec
+    first-change-requires
+    cast-result
+    returns
+    set-requires
+    same-length
+    returns-2)

@@ -2,16 +2,10 @@ use mathlib.Core.Path.{ap, _∙_}
 use Rattle.book.specs.Register.{Reply, ask, recordOf, stepOf}
 use Rattle.book.specs.Meaning.{outcome}
 use Rattle.book.specs.Tables.{replied}
-use Rattle.bridge.specs.Bridge.{askedNumber}
+use Rattle.bridge.specs.Bridge.{asked, sizesTold}
 use borrow.Author.Needs.{needs}
 use Rattle.bridge.proofs.pewatuno_record.Statement.{statement}
 use Rattle.bridge.proofs.pewatuno_record.Tie as tie
-use Rattle.bridge.proofs.pewatuno_record.Reads as reads
-use Rattle.bridge.proofs.pewatuno_record.Lts as lts
-use Rattle.book.proofs.journal.Book.record_of.Reads as record-of-reads
-use Rattle.bridge.proofs.book_in.Reads as book-in-reads
-use Rattle.bridge.proofs.hour_of.Reads as hour-of-reads
-use Rattle.bridge.proofs.tell_said.Reads as tell-said-reads
 
 book-in-requires : tie.Need-book-in-requires
 book-in-requires c κs = search needs
@@ -29,10 +23,10 @@ same-length : tie.Need-same-length
 same-length c = search needs
 
 returns : tie.Need-returns
-unfolding askedNumber
+unfolding asked
 returns c =
-    (c .before .before .tell-said) .ensures ∙ ap (λ (r : Reply). replied r) ((c .before .before .before .record-of) .ensures .answer)
-    ∙ (λ i. replied (outcome (stepOf (ask (recordOf ((c .before .before .before .before .before .before .before .before .before .before .before .before .args) .mark .now) ((c .before .before .before .before .hour-of) .ensures i) ((c .before .before .before .before .before .before .before .before .before .before .before .before .args) .name .now)))) ((c .before .before .before .before .before .before .book-in) .ensures i) ((c .before .before .before .before .before .before .before .before .before .before .before .before .args) .lent .now) .answer))
+    let p = (c .before .before .before .record-of) .ensures .answer ∙ (λ i. outcome (stepOf (ask (recordOf ((c .before .before .before .before .before .before .before .before .before .before .before .before .args) .mark .now) ((c .before .before .before .before .hour-of) .ensures i) ((c .before .before .before .before .before .before .before .before .before .before .before .before .args) .name .now)))) ((c .before .before .before .before .before .before .book-in) .ensures i) ((c .before .before .before .before .before .before .before .before .before .before .before .before .args) .lent .now) .answer) in
+    ((c .before .before .tell-said) .ensures .0 ∙ ap (λ (r : Reply). replied r) p, (c .before .before .tell-said) .ensures .1 ∙ ap (λ (r : Reply). sizesTold r ((c .before .before .before .before .before .before .before .before .before .before .before .before .args) .sizes .now)) p)
 
 pub pewatuno-record-spec : {M : Type 1} → statement M
 pewatuno-record-spec =

@@ -1,17 +1,13 @@
 use mathlib.Core.Path.{sym, ap, _∙_}
+use Prim.Native.Nat.{ℕ}
 use Rattle.book.specs.declared.journal.Book.{Book}
 use Rattle.book.specs.Meaning.{load}
-use Rattle.statement.specs.Statement.{outcomeOf}
-use Rattle.bridge.specs.Bridge.{statementNumber}
-use native.Mathlib.Omega.{arith}
+use Rattle.statement.specs.Statement.{Outcome, outcomeOf}
+use Rattle.bridge.specs.Bridge.{stored, statementIn}
+use Rattle.bridge.proofs.Telling.{told-no}
 use borrow.Author.Needs.{needs}
 use Rattle.bridge.proofs.pewatuno_statement.Statement.{statement}
 use Rattle.bridge.proofs.pewatuno_statement.Tie as tie
-use Rattle.bridge.proofs.pewatuno_statement.Reads as reads
-use Rattle.bridge.proofs.pewatuno_statement.Lts as lts
-use Rattle.bridge.proofs.book_in.Reads as book-in-reads
-use Rattle.bridge.proofs.set.Reads as set-reads
-use Rattle.statement.proofs.day.statement.Reads as statement-reads
 
 book-in-requires : tie.Need-book-in-requires
 book-in-requires c κs = search needs
@@ -26,8 +22,10 @@ same-length : tie.Need-same-length
 same-length c = search needs
 
 returns : tie.Need-returns
-unfolding statementNumber
-returns c = (c .before .before .before .statement) .ensures .number ∙ ap (λ (b : Book). outcomeOf (load b ((c .before .before .before .before .before .before .before .before .before .before .args) .lent .now)) ((c .before .before .before .before .before .before .before .before .before .before .args) .out .now) .number) ((c .before .before .before .before .before .book-in) .ensures)
+unfolding statementIn
+returns c =
+    let e = ap (λ (b : Book). outcomeOf (load b ((c .before .before .before .before .before .before .before .before .before .before .args) .lent .now)) ((c .before .before .before .before .before .before .before .before .before .before .args) .out .now)) ((c .before .before .before .before .before .book-in) .ensures) in
+    ((c .before .before .before .statement) .ensures .number ∙ ap (λ (o : Outcome). o .number) e, ((c .before .before .before .statement) .ensures .bytes ∙ ap (λ (o : Outcome). o .bytes) e, told-no _ _ _ ((c .if1) .taken)))
 
 set-requires : tie.Need-set-requires
 set-requires c κs = search needs
@@ -39,8 +37,15 @@ same-length-3 : tie.Need-same-length-3
 same-length-3 c = search needs
 
 returns-2 : tie.Need-returns-2
-unfolding statementNumber
-returns-2 c = sym ((c .before .before .before .before .if1) .left) ∙ (c .before .before .before .before .before .before .before .statement) .ensures .number ∙ ap (λ (b : Book). outcomeOf (load b ((c .before .before .before .before .before .before .before .before .before .before .before .before .before .before .args) .lent .now)) ((c .before .before .before .before .before .before .before .before .before .before .before .before .before .before .args) .out .now) .number) ((c .before .before .before .before .before .before .before .before .before .book-in) .ensures)
+unfolding statementIn
+returns-2 c =
+    let e = ap (λ (b : Book). outcomeOf (load b ((c .before .before .before .before .before .before .before .before .before .before .before .before .before .before .args) .lent .now)) ((c .before .before .before .before .before .before .before .before .before .before .before .before .before .before .args) .out .now)) ((c .before .before .before .before .before .before .before .before .before .book-in) .ensures) in (
+      sym ((c .before .before .before .before .if1) .left) ∙ (c .before .before .before .before .before .before .before .statement) .ensures .number ∙ ap (λ (o : Outcome). o .number) e,
+      (
+        (c .before .before .before .before .before .before .before .statement) .ensures .bytes ∙ ap (λ (o : Outcome). o .bytes) e,
+        (c .before .before .set) .ensures ∙ ap (λ (n : ℕ). stored ((c .before .before .before .before .before .before .before .before .before .before .before .before .before .before .args) .sizes .now) 0 n) ((c .before .before .before .before .before .before .before .statement) .ensures .len ∙ ap (λ (o : Outcome). o .len) e),
+      ),
+    )
 
 pub pewatuno-statement-spec : {M : Type 1} → statement M
 pewatuno-statement-spec =

@@ -1,15 +1,8 @@
-use mathlib.Core.Path.{_∙_}
+use mathlib.Core.Path.{refl, _∙_}
 use borrow.Author.Tests.{eq-eqb, ne-eqb}
 use borrow.Author.Needs.{needs}
 use Rattle.bridge.proofs.pewatuno_write.Statement.{statement}
 use Rattle.bridge.proofs.pewatuno_write.Tie as tie
-use Rattle.bridge.proofs.pewatuno_write.Reads as reads
-use Rattle.bridge.proofs.pewatuno_write.Lts as lts
-use Rattle.bridge.proofs.mark_alone.Reads as mark-alone-reads
-use Rattle.bridge.proofs.write_any.Reads as write-any-reads
-use Rattle.bridge.proofs.write_change.Reads as write-change-reads
-use Rattle.records.proofs.parse.parse_close.Reads as parse-close-reads
-use Rattle.records.proofs.parse.parse_take_back.Reads as parse-take-back-reads
 
 write-any-requires : tie.Need-write-any-requires
 write-any-requires c κs = search needs
@@ -33,7 +26,7 @@ same-length-3 : tie.Need-same-length-3
 same-length-3 c = search needs
 
 returns-2 : tie.Need-returns-2
-returns-2 c = rw (ne-eqb _ _ ((c .before .before .before .before .before .before .if1) .left), eq-eqb _ _ ((c .before .before .before .before .before .if2) .taken)) ((c .before .before .mark-alone) .ensures ∙ (c .before .before .before .before .parse-take-back) .ensures)
+returns-2 c = rw (ne-eqb _ _ ((c .before .before .before .before .before .before .if1) .left), eq-eqb _ _ ((c .before .before .before .before .before .if2) .taken)) ((c .before .before .mark-alone) .ensures .0 ∙ (c .before .before .before .before .parse-take-back) .ensures, (refl, (c .before .before .mark-alone) .ensures .1))
 
 parse-close-requires : tie.Need-parse-close-requires
 parse-close-requires c κs = search needs
@@ -45,7 +38,8 @@ same-length-4 : tie.Need-same-length-4
 same-length-4 c = search needs
 
 returns-3 : tie.Need-returns-3
-returns-3 c = rw (ne-eqb _ _ ((c .before .before .before .before .before .before .before .if1) .left), ne-eqb _ _ ((c .before .before .before .before .before .before .if2) .left), eq-eqb _ _ ((c .before .before .before .before .before .if3) .taken)) ((c .before .before .mark-alone2) .ensures ∙ (c .before .before .before .before .parse-close) .ensures)
+returns-3 c =
+    rw (ne-eqb _ _ ((c .before .before .before .before .before .before .before .if1) .left), ne-eqb _ _ ((c .before .before .before .before .before .before .if2) .left), eq-eqb _ _ ((c .before .before .before .before .before .if3) .taken)) ((c .before .before .mark-alone2) .ensures .0 ∙ (c .before .before .before .before .parse-close) .ensures, (refl, (c .before .before .mark-alone2) .ensures .1))
 
 cast-write-change : tie.Need-cast-write-change
 cast-write-change c = search needs
@@ -60,7 +54,7 @@ same-length-6 : tie.Need-same-length-6
 same-length-6 c = search needs
 
 returns-4 : tie.Need-returns-4
-returns-4 c = rw (ne-eqb _ _ ((c .before .before .before .before .before .before .before .before .before .if1) .left), ne-eqb _ _ ((c .before .before .before .before .before .before .before .before .if2) .left), ne-eqb _ _ ((c .before .before .before .before .before .before .before .if3) .left)) ((c .before .before .before .before .write-change) .ensures .0)
+returns-4 c = rw (ne-eqb _ _ ((c .before .before .before .before .before .before .before .before .before .if1) .left), ne-eqb _ _ ((c .before .before .before .before .before .before .before .before .if2) .left), ne-eqb _ _ ((c .before .before .before .before .before .before .before .if3) .left)) ((c .before .before .before .before .write-change) .ensures)
 
 pub pewatuno-write-spec : {M : Type 1} → statement M
 pewatuno-write-spec =

@@ -1,16 +1,16 @@
-use mathlib.Core.Path.{_≡_}
-use Prim.Native.Nat.{_-_, _≤_}
-use lib.ListN.{length}
+use mathlib.Core.Path.{_≡_, refl, ap, _∙_}
+use mathlib.Core.List.{List}
+use Prim.Native.Nat.{ℕ, _-_, _≤_}
+use lib.ListN.{length, take}
+use Rattle.bridge.specs.Bridge.{creditsSizes}
+use Rattle.bridge.proofs.Telling.{Telling, none-told, one-told, all-told, unmapped}
 use borrow.Author.Needs.{needs}
+use native.Mathlib.Omega.{arith}
 use Rattle.bridge.proofs.tell_credits.Statement.{statement}
 use Rattle.bridge.proofs.tell_credits.Tie as tie
-use Rattle.bridge.proofs.tell_credits.Reads as reads
-use Rattle.bridge.proofs.tell_credits.Lts as lts
-use Rattle.bridge.proofs.set.Reads as set-reads
-use Rattle.bridge.proofs.tell_credit.Reads as tell-credit-reads
 
 abbrev Inv-loop : tie.InvT-loop
-Inv-loop lent sizes₀ amounts₀ a n i₀ sizes amounts i = (n ≤ 16) × (i ≤ n) × (length sizes ≡ length sizes₀) × (length amounts ≡ length amounts₀)
+Inv-loop lent sizes₀ amounts₀ a n i₀ sizes amounts i = (n ≡ a .n) × (n ≤ 16) × (i ≤ n) × (length sizes ≡ length sizes₀) × (length amounts ≡ length amounts₀) × Telling lent n (a .list) sizes₀ amounts₀ i sizes amounts
 
 abbrev μ-loop : tie.MeasureT-loop
 μ-loop lent sizes₀ amounts₀ a n i₀ sizes amounts i = n - i
@@ -19,7 +19,7 @@ set-requires : tie.Need-set-requires Inv-loop μ-loop
 set-requires c κs = search needs
 
 loop-holds : tie.Need-loop-holds Inv-loop μ-loop
-loop-holds c = search needs
+loop-holds c = (refl, (c .before .before .before .before .before .before .pre), omega arith, refl, refl, none-told _ _ _ _ _)
 
 mul-c : tie.Need-mul-c Inv-loop μ-loop
 mul-c c = search needs
@@ -37,7 +37,10 @@ loop-less : tie.Need-loop-less Inv-loop μ-loop
 loop-less c = search needs
 
 loop-again : tie.Need-loop-again Inv-loop μ-loop
-loop-again c = search needs
+loop-again c =
+    let v = (c .before .before .before .before .before .before .before .before .loop) .inv in
+    let long : length ((c .before .before .before .before .before .before .before .before .before .before .before .before .before .before .before .args) .t2 .list) ≡ 16 = search (needs, unmapped) in
+    (v .0, v .1, omega arith, omega (arith, v .3), omega (arith, v .4), one-told _ _ _ _ _ (v .5) ((c .before .before .before .before .before .before .before .loop-test) .taken) (omega (arith, v .1)) ((c .before .before .before .tell-credit) .ensures .0) ((c .before .before .before .tell-credit) .ensures .1))
 
 same-length : tie.Need-same-length Inv-loop μ-loop
 same-length c = search needs
@@ -46,7 +49,11 @@ same-length-2 : tie.Need-same-length-2 Inv-loop μ-loop
 same-length-2 c = search needs
 
 returns : tie.Need-returns Inv-loop μ-loop
-returns c = search needs
+returns c =
+    let v = (c .before .loop) .inv in
+    let long : length ((c .before .before .before .before .before .before .before .before .args) .t2 .list) ≡ 16 = search (needs, unmapped) in
+    let t = all-told _ _ _ _ _ (v .5) ((c .loop-test) .left) (omega (arith, v .1)) in
+    (t .0 ∙ ap (λ (s : List ℕ). creditsSizes ((c .before .before .before .before .before .before .before .before .args) .lent .now) 0 (take ((c .before .before .before .before .before .before .before .before .args) .t2 .n) ((c .before .before .before .before .before .before .before .before .args) .t2 .list)) s) ((c .before .before .before .before .set) .ensures), t .1)
 
 pub tell-credits-spec : {M : Type 1} → statement M
 tell-credits-spec =

@@ -1,17 +1,22 @@
+use mathlib.Core.Path.{_≡_, refl, sym, ap, _∙_}
+use mathlib.Core.List.{List}
+use Prim.Native.Nat.{ℕ}
+use lib.IntN.{ℤ}
+use lib.ListN.{length, take}
+use lib.Seq.{length-take-le}
 use borrow.Author.Tests.{eq-eqb, ne-eqb}
+use Rattle.bridge.specs.Bridge.{stored, creditsSizes, creditsAmounts}
+use Rattle.bridge.proofs.Telling.{unmapped}
 use borrow.Author.Needs.{needs}
+use native.Mathlib.Omega.{arith}
 use Rattle.bridge.proofs.tell_guarantees.Statement.{statement}
 use Rattle.bridge.proofs.tell_guarantees.Tie as tie
-use Rattle.bridge.proofs.tell_guarantees.Reads as reads
-use Rattle.bridge.proofs.tell_guarantees.Lts as lts
-use Rattle.bridge.proofs.set_amount.Reads as set-amount-reads
-use Rattle.bridge.proofs.tell_credits.Reads as tell-credits-reads
 
 cast-result : tie.Need-cast-result
 cast-result c = search needs
 
 returns : tie.Need-returns
-returns c = rw (ne-eqb _ _ ((c .if1) .taken))
+returns c = rw (ne-eqb _ _ ((c .if1) .taken)) (refl, (refl, refl))
 
 set-amount-requires : tie.Need-set-amount-requires
 set-amount-requires c κs = search needs
@@ -26,7 +31,17 @@ same-length-2 : tie.Need-same-length-2
 same-length-2 c = search needs
 
 returns-2 : tie.Need-returns-2
-returns-2 c = rw (eq-eqb _ _ ((c .before .before .before .before .before .before .before .before .before .if1) .left))
+returns-2 c =
+    let a = (c .before .before .before .before .before .before .before .before .before .before .before .before .args) .g .credits in
+    let long : length (a .list) ≡ 16 = search (needs, unmapped) in
+    let n : length (take (a .n) (a .list)) ≡ a .n = length-take-le (a .n) (a .list) (omega (arith, (c .before .before .before .before .before .before .before .before .before .before .before .before .pre))) in
+    rw (eq-eqb _ _ ((c .before .before .before .before .before .before .before .before .before .if1) .left)) (
+      refl,
+      (
+        (c .before .before .before .tell-credits) .ensures .0 ∙ ap (λ (k : ℕ). creditsSizes ((c .before .before .before .before .before .before .before .before .before .before .before .before .args) .lent .now) 0 (take (a .n) (a .list)) (stored ((c .before .before .before .before .before .before .before .before .before .before .before .before .args) .sizes .now) 0 k)) (sym n),
+        (c .before .before .before .tell-credits) .ensures .1 ∙ ap (λ (s : List ℤ). creditsAmounts 0 (take (a .n) (a .list)) s) ((c .before .before .before .before .before .before .before .set-amount) .ensures),
+      ),
+    )
 
 pub tell-guarantees-spec : {M : Type 1} → statement M
 tell-guarantees-spec =

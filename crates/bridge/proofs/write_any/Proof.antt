@@ -1,18 +1,14 @@
-use mathlib.Core.Path.{sym, ap, _∙_}
-use borrow.Author.Tests.{lt-ltb, le-ltb}
-use lib.Dec.{ltb}
+use mathlib.Core.Path.{refl, sym, ap, _∙_}
 use mathlib.Core.Bool.{cond}
+use lib.Dec.{ltb}
+use borrow.Author.Tests.{lt-ltb, le-ltb}
 use Rattle.money.specs.UnitLaws.{kept}
 use Rattle.records.specs.Changes.{parse, parseAny, entryOf, putNumber}
 use Rattle.records.specs.declared.parse.Parsed.{Parsed}
+use Rattle.bridge.proofs.Telling.{told-no, if-no}
 use borrow.Author.Needs.{needs}
 use Rattle.bridge.proofs.write_any.Statement.{statement}
 use Rattle.bridge.proofs.write_any.Tie as tie
-use Rattle.bridge.proofs.write_any.Reads as reads
-use Rattle.bridge.proofs.write_any.Lts as lts
-use Rattle.bridge.proofs.mark_alone.Reads as mark-alone-reads
-use Rattle.bridge.proofs.write_change.Reads as write-change-reads
-use Rattle.records.proofs.parse.parse_any.Reads as parse-any-reads
 
 parse-any-requires : tie.Need-parse-any-requires
 parse-any-requires c κs = search needs
@@ -21,7 +17,10 @@ cast-result : tie.Need-cast-result
 cast-result c = search needs
 
 returns : tie.Need-returns
-returns c = kept (cond (ltb 3 (entryOf (parseAny ((c .before .before .before .before .before .args) .bytes .now)) .view .kind)) 0 (putNumber (parse 0 ((c .before .before .before .before .before .args) .bytes .now)) 0 ((c .before .before .before .before .before .args) .out .now))) (ap (λ (x : Parsed). x .number) ((c .before .parse-any) .ensures)) ((c .if1) .taken)
+returns c =
+    let s = (c .before .before .before .before .before .args) .bytes .now in
+    let e = ap (λ (x : Parsed). x .number) ((c .before .parse-any) .ensures) in
+    (kept (cond (ltb 3 (entryOf (parseAny s) .view .kind)) 0 (putNumber (parse 0 s) 0 ((c .before .before .before .before .before .args) .out .now))) e ((c .if1) .taken), (if-no _ _ e ((c .if1) .taken), told-no _ _ _ ((c .if1) .taken)))
 
 mark-alone-requires : tie.Need-mark-alone-requires
 mark-alone-requires c κs = search needs
@@ -33,7 +32,7 @@ returns-2 : tie.Need-returns-2
 returns-2 c =
     let z = sym (ap (λ (x : Parsed). x .number) ((c .before .before .before .before .before .before .before .before .parse-any) .ensures)) ∙ (c .before .before .before .before .before .before .before .if1) .left in
     let k = sym (ap (λ (x : Parsed). ltb 3 (x .view .kind)) ((c .before .before .before .before .before .before .before .before .parse-any) .ensures)) ∙ lt-ltb _ _ ((c .before .before .before .before .if2) .taken) in
-    rw (z, k) ((c .before .before .mark-alone) .ensures)
+    rw (z, k) ((c .before .before .mark-alone) .ensures .0, (refl, (c .before .before .mark-alone) .ensures .1))
 
 write-change-requires : tie.Need-write-change-requires
 write-change-requires c κs = search needs
@@ -48,7 +47,7 @@ returns-3 : tie.Need-returns-3
 returns-3 c =
     let z = sym (ap (λ (x : Parsed). x .number) ((c .before .before .before .before .before .before .before .before .before .before .before .parse-any) .ensures)) ∙ (c .before .before .before .before .before .before .before .before .before .before .if1) .left in
     let k = sym (ap (λ (x : Parsed). ltb 3 (x .view .kind)) ((c .before .before .before .before .before .before .before .before .before .before .before .parse-any) .ensures)) ∙ le-ltb _ _ ((c .before .before .before .before .before .before .before .if2) .left) in
-    rw (z, k) ((c .before .before .before .before .write-change) .ensures .0)
+    rw (z, k) ((c .before .before .before .before .write-change) .ensures)
 
 pub write-any-spec : {M : Type 1} → statement M
 write-any-spec =
