@@ -33,8 +33,8 @@ abbrev pub Outputs : Bool → List ℕ → List ℕ → List ℕ → Written →
 Outputs true s lent left w = Nothing lent left w
 Outputs false s lent left w = Settles s lent left w
 
--- the one claim: there are reads of which all was read, and unless they failed, the output of what they brought is written. Which bytes a read brings
--- and whether it breaks off, no contract can say
+-- the one claim: reads were made until there was no more to read, and the output of all that they brought is written, or nothing where they failed. Which
+-- bytes a read brings, and whether it breaks off, no contract can say
 pub record Printed (lent left : List ℕ) (r : Settled) : Type 0 where
   pub input : Input
   pub log : List ℕ

@@ -1,22 +1,21 @@
 -- 01's cases, all of those marked (P) among them, of the definitions of every layer and of the whole program, from an input's bytes to all that is
 -- printed: one list, one test. Assumes nothing.
 use mathlib.Core.Path.{_≡_, refl}
-use mathlib.Core.Bool.{Bool, true, false, _&&_}
+use mathlib.Core.Bool.{Bool, true, _&&_}
 use mathlib.Core.List.{List, [], _∷_, _++_, map}
 use Prim.Native.Nat.{ℕ}
 use Prim.Native.String.{String}
 use lib.Dec.{eqb}
-use lib.IntN.{ℤ, pos}
 use lib.ListN.{length, take}
 use Rattle.laws.specs.Ints.{minℤ, maxℤ}
 use Rattle.laws.specs.Sums.{Σℤ, Σℕ, every, firstOf}
-use Rattle.money.specs.Units.{rowOf, pricesOk, quantitiesOk, withinOk, sameℤ, centsOf}
+use Rattle.money.specs.Units.{rowOf, pricesOk, quantitiesOk, withinOk, centsOf}
 use Rattle.money.specs.Offers.{numbersOk, orderOk, offerFault, fullPairs, cost, costAnswer}
 use Rattle.money.specs.Guarantee.{profits, creditAnswer}
 use Rattle.money.specs.Names.{nameBefore, sameBytes, sameName, nameOk}
 use Rattle.money.specs.Offset.{precedes, upTo, counted, offset, entryFault, freshName, faultAt, listFault, ratesOk, offsetAnswer}
 use Rattle.money.specs.Production.{shortfall, arranged, congestion, component4, C1, C2, C3, C4, interval, hourAmount, reserveFault, reservesNumbersOk, numbersFine, withinFine, listsFault, unitFault, intervalFault}
-use Rattle.money.specs.Failure.{charge as failureCharge, failureOk}
+use Rattle.money.specs.Failure.{charge, failureOk}
 use Rattle.money.specs.Examples as money
 use Rattle.records.specs.Reading.{byte, some, many}
 use Rattle.records.specs.Numbers.{word, price, quantity, amount, hour, pair, pairs, listFrom}
@@ -32,52 +31,16 @@ use Rattle.records.specs.Examples.{times, w, list, pr, im}
 use Rattle.book.specs.ByName.{inOrder, byName, addName, namesOf}
 use Rattle.book.specs.Amounts.{pick, priceOf, exported, guaranteesOf, dayTotal, unitDayOf, chargesOf}
 use Rattle.book.specs.Register.{writeAll, without, standing, stands, count, refusal, placeOf, startIn, called, run}
-use Rattle.book.specs.Replies.{Reply, refused, accepted, place, number, guarantees, unitDay, charge}
-use Rattle.book.specs.declared.answers.NamedAmount.{NamedAmount}
 use Rattle.book.specs.Examples as register
 use Rattle.book.specs.Feed.{firstRecord, fed, settled}
 use Rattle.statement.specs.Decimal.{twoDigits, digits, decimal}
-use Rattle.statement.specs.Lines.{whenBytes, kindBytes, nameBytes as lineName, sign, dollars, number as lineNumber, figure, lineBytes, textOf}
+use Rattle.statement.specs.Lines.{whenBytes, kindBytes, nameBytes as lineName, sign, dollars, number, figure, lineBytes, textOf}
 use Rattle.statement.specs.Statement.{hourOf, unitOf, hoursTo, eachUnit, statementLines, statementOf}
 use Rattle.statement.specs.Refusal.{refusalLine}
 use Rattle.statement.specs.Examples as statement
 use Rattle.statement.specs.Examples.{bytes}
 use Rattle.settling.specs.Output.{outputOf}
-
--- ---- a whole reply
-
--- a reply taken apart: which case it is, its numbers, its named amounts
-record Parts : Type 0 where
-  kind : ℕ
-  numbers : List ℤ
-  named : List NamedAmount
-
-abbrev parts : Reply → Parts
-parts (refused n) = record { kind = 0; numbers = pos n ∷ []; named = [] }
-parts accepted = record { kind = 1; numbers = []; named = [] }
-parts (place a b) = record { kind = 2; numbers = pos a ∷ pos b ∷ []; named = [] }
-parts (number n) = record { kind = 3; numbers = pos n ∷ []; named = [] }
-parts (guarantees cs o) = record { kind = 4; numbers = o ∷ []; named = cs }
-parts (unitDay t v) = record { kind = 5; numbers = t ∷ v ∷ []; named = [] }
-parts (charge t) = record { kind = 6; numbers = t ∷ []; named = [] }
-
-abbrev sameNumbers : List ℤ → List ℤ → Bool
-sameNumbers [] [] = true
-sameNumbers [] (y ∷ ys) = false
-sameNumbers (x ∷ xs) [] = false
-sameNumbers (x ∷ xs) (y ∷ ys) = sameℤ x y && sameNumbers xs ys
-
-abbrev sameAmount : NamedAmount → NamedAmount → Bool
-sameAmount a b = (eqb (a .name .len) (b .name .len) && eqList (a .name .bytes) (b .name .bytes)) && (eqb (a .start) (b .start) && sameℤ (a .ticks .0) (b .ticks .0))
-
-abbrev sameNamed : List NamedAmount → List NamedAmount → Bool
-sameNamed [] [] = true
-sameNamed [] (y ∷ ys) = false
-sameNamed (x ∷ xs) [] = false
-sameNamed (x ∷ xs) (y ∷ ys) = sameAmount x y && sameNamed xs ys
-
-abbrev sameReply : Reply → Reply → Bool
-sameReply a b = eqb (parts a .kind) (parts b .kind) && (sameNumbers (parts a .numbers) (parts b .numbers) && sameNamed (parts a .named) (parts b .named))
+use Rattle.settling.specs.Replies.{sameReply}
 
 -- ---- cases
 pub data Case : Type 0 where
@@ -183,5 +146,5 @@ abbrev pub cases : List Case
 cases = whole ++ (map tells register.examples ++ (map reads records.cases ++ (map amounts money.cases ++ map shows statement.cases)))
 
 pub examples : all cases ≡ true
-unfolding outputOf refusalLine settled fed firstRecord called run refusal stands count standing writeAll without sameHour same limitOf parse parseAny bare write headBytes nameBytes entry change head mark rest hour byte nameFor bodyFor nameField some decodeName nameUpTo one escaped hexVal visible taken layout hourPrices import export schedules reserveRows lists unit failure many pair pairs listFrom price quantity amount word statementOf statementLines hoursTo hourOf eachUnit unitOf textOf lineBytes whenBytes twoDigits kindBytes lineName spell spellByte unreserved digit figure sign dollars lineNumber decimal digits centsOf startIn placeOf guaranteesOf byName inOrder priceOf pick chargesOf unitDayOf dayTotal atHour namesOf addName exported creditTicks unitTicks chargeTicks rowOf offset precedes upTo counted sameName sameBytes nameBefore profits cost fullPairs Σℤ Σℕ minℤ maxℤ every costAnswer offerFault numbersOk orderOk creditAnswer pricesOk quantitiesOk withinOk offsetAnswer ratesOk listFault faultAt freshName entryFault nameOk firstOf shortfall arranged congestion component4 C1 C2 C3 C4 interval hourAmount reserveFault reservesNumbersOk numbersFine withinFine listsFault unitFault intervalFault failureCharge failureOk
+unfolding outputOf refusalLine settled fed firstRecord called run refusal stands count standing writeAll without sameHour same limitOf parse parseAny bare write headBytes nameBytes entry change head mark rest hour byte nameFor bodyFor nameField some decodeName nameUpTo one escaped hexVal visible taken layout hourPrices import export schedules reserveRows lists unit failure many pair pairs listFrom price quantity amount word statementOf statementLines hoursTo hourOf eachUnit unitOf textOf lineBytes whenBytes twoDigits kindBytes lineName spell spellByte unreserved digit figure sign dollars number decimal digits centsOf startIn placeOf guaranteesOf byName inOrder priceOf pick chargesOf unitDayOf dayTotal atHour namesOf addName exported creditTicks unitTicks chargeTicks rowOf offset precedes upTo counted sameName sameBytes nameBefore profits cost fullPairs Σℤ Σℕ minℤ maxℤ every costAnswer offerFault numbersOk orderOk creditAnswer pricesOk quantitiesOk withinOk offsetAnswer ratesOk listFault faultAt freshName entryFault nameOk firstOf shortfall arranged congestion component4 C1 C2 C3 C4 interval hourAmount reserveFault reservesNumbersOk numbersFine withinFine listsFault unitFault intervalFault charge failureOk
 examples = refl
