@@ -51,12 +51,14 @@ beyond state (used h) = go (ltb (length state) 3) (ltb 65535 (getD state 0 0)) (
     go false false c e = ap (λ (x : Bool). cond x noBook (carried state)) e
 
 -- every change with such a state: 16, and state and bytes stay
-pub beyond-change : (call : Call) (state lent : List ℕ) (r : ℕ) (state′ lent′ : List ℕ) → Beyond state → Changed call state lent r state′ lent′ → (r ≡ 16) × (state′ ≡ state) × (lent′ ≡ lent)
+pub beyond-change : (call : Call) (state lent : List ℕ) (r : ℕ) (state′ lent′ : List ℕ) → Beyond state → Changed call state lent r state′ lent′
+    → (r ≡ 16) × (state′ ≡ state) × (lent′ ≡ lent)
 beyond-change call state lent r state′ lent′ b c =
     let o = ap (λ (x : Book). outcome (stepOf call) x lent) (beyond state b) ∙ sixteen call lent in
     let n : r ≡ 16 = c .number ∙ ap (λ (x : After). replied (x .answer)) o in
     let k : take (length lent) lent′ ≡ lent = subst (λ (x : After). take (length (x .kept)) lent′ ≡ x .kept) o (c .bytes) in
-    (n, c .handed ∙ ap (λ (x : ℕ). cond (eqb x 0) (handedBack (outcome (stepOf call) (bookIn state) lent .book) state) state) n, sym (take-all (length lent) lent′ (omega (arith, c .size))) ∙ k)
+    let h = ap (λ (x : ℕ). cond (eqb x 0) (handedBack (outcome (stepOf call) (bookIn state) lent .book) state) state) n in
+    (n, c .handed ∙ h, sym (take-all (length lent) lent′ (omega (arith, c .size))) ∙ k)
 
 -- every question: 16, so nothing is told
 pub beyond-asked : (q : Question) (state lent : List ℕ) → Beyond state → asked q state lent ≡ refused 16

@@ -10,3 +10,5 @@ pub mod RealLaws
 pub mod UndoLaws
 pub mod Script
 pub mod ScriptLaws
+pub mod Beside
+pub mod BesideLaws

@@ -123,6 +123,9 @@ unfolding Throughout
 holding start = every-list start
 holding (next before call s h b′ r s′ m) = every-list (next before call s h b′ r s′ m) .1
 
+pub agreed : {ts : List Turn} {rs : List Reply} {b : Book} {held : List ℕ} → Session ts rs b held → Agrees ts rs b held
+agreed σ = holding σ .agrees
+
 again : (ts us : List Turn) (n : ℕ) → n ≤ length (run ts .list) → run us .list ≡ drop n (run ts .list) → StandAgain ts us n
 again ts us zero h e = ap standing e
 again ts us (suc n) h e = let w = made-by ts n (omega arith) in record { moment = w; stand = ap standing (e ∙ sym (w .list)) }
@@ -136,4 +139,4 @@ backed {ts} σ {n} {us} op le u =
 
 -- the theorem: every list of calls, so also after each call of it
 pub demand3 : {ts : List Turn} {rs : List Reply} {b : Book} {held : List ℕ} (σ : Session ts rs b held) → Demand3 σ
-demand3 σ = let a = holding σ .agrees in record { answers = a .answers; after = afterwards a; back = λ op le u. backed σ op le u }
+demand3 σ = let a = agreed σ in record { answers = a .answers; after = afterwards a; back = λ op le u. backed σ op le u }

@@ -2,17 +2,22 @@
 // by the book's own method. It promises demands 1 and 3 of that call, so it is proved only while every method keeps its own promise whole.
 use book::answers::Amounts;
 use book::answers::Answer;
+use book::answers::Charges;
 use book::answers::Done;
 use book::answers::Guarantees;
 use book::answers::NamedAmount;
+use book::feed::Fed;
+use book::feed::feed;
 use book::journal::Book;
 use money::units::Ticks;
+use records::marks::Mark;
 use records::names::no_name;
 ghost use mathlib.Core.List.{[]};
 ghost use Rattle.book.specs.Register.{ask};
-ghost use Rattle.book.specs.Meaning.{replyOf};
+ghost use Rattle.book.specs.Meaning.{replyOf, chargesReply};
 ghost use Rattle.book.specs.Session.{Session};
 ghost use Rattle.demands.specs.Demands.{Demanded};
+ghost use Rattle.demands.specs.Beside.{ReadAsCalls, ChargesByKey};
 ghost use Rattle.demands.specs.Script.{changeOf, questionOf, callOf, saidOf};
 
 // What a call hands back: the book, and its answer, or an hour's guarantees where it asked for them.
@@ -123,4 +128,20 @@ pub fn step(b: Book, log: &mut [u8], method: u8, mark: &[u8], hour: u8, bytes: &
         answer,
         guarantees,
     }
+}
+
+// ---- the calls beside the register's
+
+// The records of an input: each is one call for a change of any mark.
+pub fn read_records(b: Book, log: &mut [u8], input: &[u8]) -> Fed
+    ensures { λ r. ⌜ ReadAsCalls b (now (log .entry)) (now (input .entry)) r (now (log .exit)) ⌝ }
+{
+    feed(b, log, input)
+}
+
+// The charges of an hour's failed imports or exports: each is what the question for its key answers.
+pub fn hour_charges(b: Book, log: &[u8], mark: Mark, hour: u8) -> Charges
+    ensures { λ r. ⌜ ChargesByKey b (now (log .entry)) mark hour (chargesReply r) ⌝ }
+{
+    b.charges(log, mark, hour)
 }
