@@ -1,16 +1,16 @@
 -- The comparison of two names, as a loop over their bytes makes it, and their order. Assumes nothing.
 use mathlib.Core.Path.{_≡_, refl, sym, ap, _∙_, subst}
 use mathlib.Core.Logic.{_⊎_, inl, inr, ⊎-elim}
-use mathlib.Core.Bool.{Bool, true, false, cond}
+use mathlib.Core.Bool.{Bool, true, false, cond, _&&_}
 use mathlib.Core.List.{List, [], _∷_}
 use Prim.Native.Nat.{ℕ, suc, _+_, _≤_, _<_, min}
 use native.Mathlib.Numerals.{add-one}
 use native.Mathlib.Omega.{arith}
-use borrow.Author.Tests.{lt-ltb, le-ltb, ltb-true, ltb-false, eq-eqb, ne-eqb, eqb-true, le-leb}
-use lib.Dec.{ltb, eqb}
+use borrow.Author.Tests.{lt-ltb, le-ltb, ltb-true, ltb-false, eq-eqb, ne-eqb, eqb-true, le-leb, leb-true}
+use lib.Dec.{ltb, leb, eqb}
 use lib.ListN.{getD, take, drop, length, length-take, drop-of-length-le}
 use lib.Seq.{drop-cons, getD-take, take-all}
-use Rattle.laws.specs.Sums.{never, on, below-or, and-true, every-yes}
+use Rattle.laws.specs.Sums.{never, on, below-or, and-true, every, every-yes}
 use Rattle.money.specs.declared.names.Name.{Name}
 use Rattle.money.specs.Names.{nameOf, nameBefore, sameBytes, sameName, nameByteOk, nameOk}
 
@@ -115,6 +115,13 @@ same-names a b e = bytes-is (nameOf a) (nameOf b) e
 pub name-fine : (a : Name) → 1 ≤ a .len → a .len ≤ 12 → ((i : ℕ) → i < a .len → nameByteOk (getD (a .bytes) i 0) ≡ true) → nameOk a ≡ true
 unfolding nameOk
 name-fine a h k v = rw (le-leb 1 (a .len) h, le-leb (a .len) 12 k, every-yes (a .len) (λ i. nameByteOk (getD (a .bytes) i 0)) v)
+
+pub name-most : (a : Name) → nameOk a ≡ true → a .len ≤ 12
+unfolding nameOk
+name-most a h =
+    let sized = leb 1 (a .len) && leb (a .len) 12 in
+    let seen = every (a .len) (λ i. nameByteOk (getD (a .bytes) i 0)) in
+    leb-true (a .len) 12 (and-true (leb 1 (a .len)) (leb (a .len) 12) (and-true sized seen h .0) .1)
 
 -- ---- what a loop over the places that are used finds, of the names
 module _ (a b : Name) (ha : length (a .bytes) ≡ 12) (hb : length (b .bytes) ≡ 12) {m n : ℕ} (em : m ≡ min (a .len) 12) (en : n ≡ min (b .len) 12) where
