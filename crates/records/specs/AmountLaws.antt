@@ -7,30 +7,35 @@ use native.Mathlib.Nat.{not-suc-le-zero, le-of-suc-le-suc}
 use lib.ListN.{length, getD}
 use Rattle.money.specs.Names.{nameByteOk, nameOk}
 use Rattle.money.specs.Offset.{entryFault}
-use Rattle.money.specs.Production.{amountOk, reserveFault, reserveNumbersOk, unitFault}
+use Rattle.money.specs.Production.{amountOk, reserveFault, reserveNumbersOk, unitFault, hourAnswer}
 use Rattle.money.specs.GuaranteeLaws.{credit-given}
 use Rattle.money.specs.NameLaws.{name-fine}
 use Rattle.money.specs.OffsetLaws.{entry-fine}
 use Rattle.money.specs.ProductionLaws.{reserve-full, reserve-empty, numbers-fine, lists-fine, within-fine, unit-fine, hour-given, hour-taken}
 use Rattle.money.specs.FailureLaws.{failure-fine, import-charged, export-charged}
+use Rattle.money.specs.declared.units.Answer.{Answer}
 use Rattle.money.specs.declared.units.Answer.the-variants.{Amount}
+use Rattle.money.specs.declared.units.Quantity.{Quantity}
 use Rattle.money.specs.declared.production.Reserve.{Reserve}
 use Rattle.money.specs.declared.production.UnitHour.{UnitHour}
 use Rattle.money.specs.declared.names.Name.{Name}
 use Rattle.records.specs.Numbers.{pad}
 use Rattle.records.specs.Names.{visible, nameOf}
 use Rattle.records.specs.Marks.{hasName, isFailure}
-use Rattle.records.specs.Changes.{Rec, filed, write, viewOf, Good}
-use Rattle.records.specs.Views.{importOf, unitHourOf, failureOf}
-use Rattle.records.specs.Amounts.{creditOf, unitAmountOf, chargeFor, chargeOf, creditTicks, unitTicks, chargeTicksFor, chargeTicks, ticksOf, offsetEntry, offsetEntryIn, unitPartIn, chargeIn}
+use Rattle.records.specs.Reading.{Res, got, _>>=_}
+use Rattle.records.specs.Layouts.{import}
+use Rattle.records.specs.Changes.{Rec, filed, write, Good}
+use Rattle.records.specs.Views.{importOf, exportOf, unitHourOf, failureOf, noImport}
+use Rattle.records.specs.Amounts.{creditFor, creditOf, unitAmountOf, chargeFor, chargeOf, creditTicks, unitTicks, chargeTicksFor, chargeTicks, given, entryFrom, entryRead, entryAnswer, partAnswer, totalsAnswer, totalsWith, offsetEntry, offsetEntryIn, unitPartIn, totalsWithIn, chargeIn}
 use Rattle.records.specs.NameLaws.{Visible}
-use Rattle.records.specs.ChangeLaws.{scan-write}
 use Rattle.records.specs.KeyLaws.{name-decoded}
-use Rattle.records.specs.ViewLaws.{import-view, credit-view, failed-import-charge, failed-export-charge, unit-amount-view, unit-view}
+use Rattle.records.specs.ViewLaws.{view-import, written-ahead, body-view, export-view, failed-import-charge, failed-export-charge, unit-view}
 use Rattle.records.specs.FitLaws.{PricesFit, Listed, full, empty, ReserveFits, UnitFits, standing-import, standing-unit, standing-failed-import, standing-failed-export}
 use Rattle.records.specs.declared.marks.Mark.{Mark}
 use Rattle.records.specs.declared.marks.Mark.the-variants.{Pr, Im, Ex, Gh, Fi, Fe}
 use Rattle.records.specs.declared.layouts.HourPrices.{HourPrices}
+use Rattle.records.specs.declared.layouts.Import.{Import}
+use Rattle.records.specs.declared.layouts.Export.{Export}
 
 -- ---- names
 
@@ -42,7 +47,7 @@ bytes-fine (suc k) (x ∷ v) h s zero l = s .0
 bytes-fine (suc k) (x ∷ v) h s (suc i) l = bytes-fine k v (le-of-suc-le-suc h) (s .1) i (le-of-suc-le-suc l)
 
 -- a name that stands keeps the money rules' rule
-name-sound : (r : Rec) → Good (filed r) → hasName (r .key .mark) ≡ true → nameOk (r .key .name) ≡ true
+pub name-sound : (r : Rec) → Good (filed r) → hasName (r .key .mark) ≡ true → nameOk (r .key .name) ≡ true
 name-sound r g h =
     let d = name-decoded r g h in
     let v = d .valid in
@@ -64,12 +69,18 @@ module _ (r : Rec) (p : HourPrices) (g : Good (filed r)) (e : r .key .mark ≡ I
       entry-fine (p .emp) (offsetEntry p r) (name-sound r g (ap hasName e)) (i .mqsi) (i .offer) (i .inside) refl
 
 -- bytes that begin with a filed import, whatever follows, give its entry
-pub entry-view : (r : Rec) (p : HourPrices) (u : List ℕ) → Good (filed r) → r .key .mark ≡ Im → PricesFit p → offsetEntryIn (write (filed r) ++ u) p ≡ offsetEntry p r
+pub entry-view : (r : Rec) (p : HourPrices) (u : List ℕ) → Good (filed r) → r .key .mark ≡ Im → PricesFit p
+    → offsetEntryIn (write (filed r) ++ u) p ≡ record { number = 0; entry = offsetEntry p r }
 entry-view r p u g e f =
-    let s = scan-write (filed r) u g in
-    let c = ap ticksOf (credit-view r g u e p ∙ credit-amount r p g e f) in
-    let i = import-view r g u e in
-    (λ x. record { name = viewOf (s x) .key .name; credit = c x; quantities = i x .mqsi; offer = i x .offer })
+    ap (λ (x : Res Name). entryAnswer (x >>= λ n t. import t >>= λ i v. given (creditFor i p) (entryFrom n i) v)) (written-ahead import Im view-import r e g u)
+    ∙ ap (λ (x : Res Import). entryAnswer (x >>= λ i v. given (creditFor i p) (entryFrom (r .key .name) i) v)) (body-view import Im view-import r e g u noImport)
+    ∙ ap (λ (a : Answer). entryAnswer (given a (entryFrom (r .key .name) (importOf r)) u)) (credit-amount r p g e f)
+
+-- ---- an export
+
+pub totals-written : (r : Rec) (ts : List Quantity) (u : List ℕ) → Good (filed r) → r .key .mark ≡ Ex
+    → totalsWithIn (write (filed r) ++ u) ts ≡ record { number = 0; totals = totalsWith ts (exportOf r .mqsw) }
+totals-written r ts u g e = ap (λ (x : Res Export). totalsAnswer (x >>= λ y t. got (totalsWith ts (y .mqsw)) t)) (export-view r g u e)
 
 -- ---- a unit's hour
 
@@ -132,8 +143,7 @@ charge-written r p u g h f = go (r .key .mark) refl h ∙ charge-amount r p g h 
     go Fe e b = failed-export-charge r g u e p
 
 pub unit-written : (r : Rec) (p : HourPrices) (u : List ℕ) → Good (filed r) → r .key .mark ≡ Gh → PricesFit p
-    → unitPartIn (write (filed r) ++ u) p ≡ record { ticks = record { 0 = unitTicks r p }; start = unitHourOf r .startup }
+    → unitPartIn (write (filed r) ++ u) p ≡ record { number = 0; part = record { ticks = record { 0 = unitTicks r p }; start = unitHourOf r .startup } }
 unit-written r p u g e f =
-    let a = ap ticksOf (unit-amount-view r g u e p ∙ unit-amount r p g e f) in
-    let b = ap (λ (h : UnitHour). h .startup) (unit-view r g u e) in
-    (λ i. record { ticks = a i; start = b i })
+    ap (λ (x : Res UnitHour). partAnswer (x >>= λ h t. given (hourAnswer h (p .emp)) (λ a. record { ticks = a; start = h .startup }) t)) (unit-view r g u e)
+    ∙ ap (λ (a : Answer). partAnswer (given a (λ y. record { ticks = y; start = unitHourOf r .startup }) u)) (unit-amount r p g e f)

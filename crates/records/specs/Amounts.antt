@@ -1,6 +1,6 @@
 -- 01, "Intertie guarantee and wheel offset", "Production cost guarantee", "Failure charges": the amounts of a record, given its hour's
 -- prices. Assumes nothing.
-use mathlib.Core.List.{List}
+use mathlib.Core.List.{List, []}
 use Prim.Native.Nat.{ℕ}
 use lib.IntN.{ℤ, pos}
 use Rattle.money.specs.Refusals.{unknownMark}
@@ -14,20 +14,33 @@ use Rattle.money.specs.Guarantee.{credit, creditAnswer}
 use Rattle.money.specs.Production.{hourAmount, hourAnswer}
 use Rattle.money.specs.Failure.{importCharge, exportCharge, importChargeAnswer, exportChargeAnswer}
 use Rattle.money.specs.declared.units.Ticks.{Ticks}
+use Rattle.money.specs.declared.units.Quantity.{Quantity}
+use Rattle.money.specs.declared.names.Name.{Name}
 use Rattle.money.specs.declared.units.Answer.{Answer}
 use Rattle.money.specs.declared.units.Answer.the-variants.{Amount, Refused}
 use Rattle.money.specs.declared.imports.Import.{Import}
 use Rattle.money.specs.declared.failure.Failure.{Failure}
-use Rattle.records.specs.Changes.{Rec, scan, viewOf}
-use Rattle.records.specs.Views.{importOf, importIn, unitHourOf, unitIn, failureOf, failureIn}
+use Rattle.records.specs.Reading.{Res, bad, got, Reader, _>>=_}
+use Rattle.records.specs.Numbers.{pad}
+use Rattle.records.specs.Names.{noOne}
+use Rattle.records.specs.Layouts.{import, export, unit}
+use Rattle.records.specs.Changes.{Rec}
+use Rattle.records.specs.Views.{importOf, unitHourOf, failureOf, noOffer, valueOr, faultOf, ahead, viewed, viewedFailure}
 use Rattle.records.specs.declared.marks.Mark.{Mark}
 use Rattle.records.specs.declared.marks.Mark.the-variants.{Pr, Im, Ex, Gh, Fi, Fe}
 use Rattle.records.specs.declared.layouts.HourPrices.{HourPrices}
+use Rattle.records.specs.declared.layouts.Import.{Import as ImportFields}
 use Rattle.records.specs.declared.amounts.UnitPart.{UnitPart}
+use Rattle.records.specs.declared.amounts.EntryAnswer.{EntryAnswer}
+use Rattle.records.specs.declared.amounts.PartAnswer.{PartAnswer}
+use Rattle.records.specs.declared.amounts.TotalsAnswer.{TotalsAnswer}
 
 -- "An import's credit for an hour"
+abbrev pub creditFor : ImportFields → HourPrices → Answer
+creditFor i p = creditAnswer (i .offer) (p .emp) (i .mqsi)
+
 abbrev pub creditOf : Rec → HourPrices → Answer
-creditOf r p = creditAnswer (importOf r .offer) (p .emp) (importOf r .mqsi)
+creditOf r p = creditFor (importOf r) p
 
 -- "C1 + C2 - C3 - C4" over the intervals of a unit's hour, without its start-up
 abbrev pub unitAmountOf : Rec → HourPrices → Answer
@@ -45,15 +58,21 @@ chargeFor Fe f p = exportChargeAnswer f (p .pd)
 abbrev pub chargeOf : Rec → HourPrices → Answer
 chargeOf r p = chargeFor (r .key .mark) (failureOf r) p
 
--- the same in bytes that begin with the record as it was filed
+-- ---- the same in bytes that begin with the record as it was filed
+
+-- the amount of what was read, or the reader's number: no amount of bytes that are no such record
+abbrev pub amountFrom : {A : Type 0} → Res A → (A → Answer) → Answer
+amountFrom (bad k) f = Refused k
+amountFrom (got a t) f = f a
+
 abbrev pub creditIn : List ℕ → HourPrices → Answer
-creditIn s p = creditAnswer (importIn s .offer) (p .emp) (importIn s .mqsi)
+creditIn s p = amountFrom (viewed Im import s) (λ i. creditFor i p)
 
 abbrev pub unitAmountIn : List ℕ → HourPrices → Answer
-unitAmountIn s p = hourAnswer (unitIn s) (p .emp)
+unitAmountIn s p = amountFrom (viewed Gh unit s) (λ u. hourAnswer u (p .emp))
 
 abbrev pub chargeIn : Mark → List ℕ → HourPrices → Answer
-chargeIn m s p = chargeFor m (failureIn m s) p
+chargeIn m s p = amountFrom (viewedFailure m s) (λ f. chargeFor m f p)
 
 -- ---- the amounts themselves, where no check refuses
 
@@ -85,15 +104,48 @@ chargeTicks r p = chargeTicksFor (r .key .mark) (failureOf r) p
 abbrev pub offsetEntry : HourPrices → Rec → Import
 offsetEntry p r = record { name = r .key .name; credit = record { 0 = creditTicks r p }; quantities = importOf r .mqsi; offer = importOf r .offer }
 
--- the ticks of an answer, 0 of a refusal
-abbrev pub ticksOf : Answer → Ticks
-ticksOf (Amount t) = t
-ticksOf (Refused n) = record { 0 = pos 0 }
+-- ---- what the offset and the day take of bytes that begin with the record as it was filed
 
--- the same in bytes that begin with the import as it was filed
-abbrev pub offsetEntryIn : List ℕ → HourPrices → Import
-offsetEntryIn s p = record { name = viewOf (scan s) .key .name; credit = ticksOf (creditIn s p); quantities = importIn s .mqsi; offer = importIn s .offer }
+-- what an amount makes of a value that was read; a refusal's number is the fault
+abbrev pub given : {A : Type 0} → Answer → (Ticks → A) → Reader A
+given (Amount t) f s = got (f t) s
+given (Refused n) f s = bad n
+
+abbrev pub entryFrom : Name → ImportFields → Ticks → Import
+entryFrom n i t = record { name = n; credit = t; quantities = i .mqsi; offer = i .offer }
+
+-- name and fields of one reading, and the credit
+abbrev pub entryRead : HourPrices → Reader Import
+entryRead p s = ahead Im s >>= λ n t. import t >>= λ i u. given (creditFor i p) (entryFrom n i) u
+
+abbrev pub noEntry : Import
+noEntry = record { name = noOne; credit = noTicks; quantities = pad noQuantity 12 []; offer = noOffer }
+
+abbrev pub entryAnswer : Res Import → EntryAnswer
+entryAnswer r = record { number = faultOf r; entry = valueOr noEntry r }
+
+abbrev pub offsetEntryIn : List ℕ → HourPrices → EntryAnswer
+offsetEntryIn s p = entryAnswer (entryRead p s)
 
 -- what a unit's hour adds to its day
-abbrev pub unitPartIn : List ℕ → HourPrices → UnitPart
-unitPartIn s p = record { ticks = ticksOf (unitAmountIn s p); start = unitIn s .startup }
+abbrev pub partRead : HourPrices → Reader UnitPart
+partRead p s = viewed Gh unit s >>= λ u t. given (hourAnswer u (p .emp)) (λ a. record { ticks = a; start = u .startup }) t
+
+abbrev pub noPart : UnitPart
+noPart = record { ticks = noTicks; start = noStart }
+
+abbrev pub partAnswer : Res UnitPart → PartAnswer
+partAnswer r = record { number = faultOf r; part = valueOr noPart r }
+
+abbrev pub unitPartIn : List ℕ → HourPrices → PartAnswer
+unitPartIn s p = partAnswer (partRead p s)
+
+-- an hour's export totals with the quantities of one more export
+abbrev pub totalsRead : List Quantity → Reader (List Quantity)
+totalsRead ts s = viewed Ex export s >>= λ x t. got (totalsWith ts (x .mqsw)) t
+
+abbrev pub totalsAnswer : Res (List Quantity) → TotalsAnswer
+totalsAnswer r = record { number = faultOf r; totals = valueOr (pad noQuantity 12 []) r }
+
+abbrev pub totalsWithIn : List ℕ → List Quantity → TotalsAnswer
+totalsWithIn s ts = totalsAnswer (totalsRead ts s)

@@ -39,8 +39,8 @@ pub use Rattle.records.specs.StoreLaws.{store-length, store-front}
 pub use Rattle.records.specs.HourLaws.{limit-most, limit-same, good-hour, same-at, at-hour}
 -- the name of a unit that stands can be asked for
 pub use Rattle.records.specs.HourLaws.{unit-asked}
--- typed views are what was read, and keep the money rules' ranges
-pub use Rattle.records.specs.ViewLaws.{prices-view, import-view, export-view, unit-view, failed-import-view, failed-export-view}
+-- typed views are what was read, and keep the money rules' ranges; no fault of theirs is 0
+pub use Rattle.records.specs.ViewLaws.{prices-view, prices-there, import-view, export-view, unit-view, failed-import-view, failed-export-view, counted-viewed, counted-failure}
 -- the amounts of a written record are those of its fields
 pub use Rattle.records.specs.ViewLaws.{credit-view, unit-amount-view, failed-import-charge, failed-export-charge}
 pub use Rattle.records.specs.FitLaws.{PricesFit, ImportFits, FailureFits, Listed, ReserveFits, UnitFits, standing-prices, standing-import, standing-export, standing-unit, standing-failed-import, standing-failed-export}
@@ -48,13 +48,16 @@ pub use Rattle.records.specs.FitLaws.{PricesFit, ImportFits, FailureFits
 pub use Rattle.records.specs.AmountLaws.{credit-amount, unit-amount, charge-amount, unit-written, charge-written}
 -- an import as the offset takes it: as its bytes give it, and without a fault
 pub use Rattle.records.specs.AmountLaws.{entry-view, entry-sound}
+-- an hour's export totals with those of one more
+pub use Rattle.records.specs.AmountLaws.{totals-written}
 -- a unit's hour as its day takes it
 pub use Rattle.records.specs.AmountLaws.{unit-ready}
--- names
-pub use Rattle.records.specs.NameLaws.{Visible, Valid, decoded-valid, spelled-back, spelled-short, one-name, spelling-full, take-pad}
+-- names: the name of a record that stands keeps its rule
+pub use Rattle.records.specs.AmountLaws.{name-sound}
+pub use Rattle.records.specs.NameLaws.{Visible, Valid, decoded-valid, spelled-back, spelled-short, one-name, spelling-full, spelling-none, take-pad}
 -- of the money rules: rows of totals, the offset and a day that are not refused, names
 pub use Rattle.money.specs.UnitLaws.{row-at, row-same, row-none, quantity-most}
 pub use Rattle.money.specs.OffsetLaws.{totals-more, rates-ok, offset-amount}
 pub use Rattle.money.specs.LentLaws.{answer-front}
 pub use Rattle.money.specs.ProductionLaws.{day-amount, day-sum, amount-ok}
-pub use Rattle.money.specs.NameLaws.{same-names, name-trans, name-tri, name-self}
+pub use Rattle.money.specs.NameLaws.{same-names, name-trans, name-tri, name-self, name-most}

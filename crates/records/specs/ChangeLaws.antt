@@ -332,7 +332,7 @@ counted-field =
     named : (bs u : List ℕ) (k : ℕ) → (decodeName bs >>= λ vs z. got vs u) ≡ bad k → 0 < k
     named bs u k e = counted-bind decodeName (λ vs z. got vs u) counted-decode (λ vs. record { above = λ z j f. absurd (bad-got (sym f)) }) .above bs k e
 
-counted-name : (k : Kind) (m : Mark) → Counted (nameFor k m)
+pub counted-name : (k : Kind) (m : Mark) → Counted (nameFor k m)
 unfolding nameFor
 counted-name k m = counted-cond (hasName m) _ (nameless k) (counted-bind nameField _ counted-field (λ n. counted-got (nameOf n))) (less k)
   where

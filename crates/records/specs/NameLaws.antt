@@ -10,6 +10,8 @@ use lib.Dec.{ltb, leb, eqb}
 use lib.ListN.{length, take, getD, length-append}
 use lib.Seq.{take-suc, take-append-seam, drop-append-seam}
 use borrow.Author.Tests.{lt-ltb, le-leb, lt-leb, ltb-true, ltb-false, ne-eqb, leb-true}
+use Rattle.money.specs.Refusals.{badName}
+use Rattle.money.specs.Names.{nameOk}
 use Rattle.money.specs.declared.names.Name.{Name}
 use Rattle.records.specs.Reading.{got, _>>=_, check, byte, some}
 use Rattle.records.specs.Numbers.{between, pad}
@@ -233,7 +235,12 @@ one-name s a t u b v e f =
     let q = decoded-valid u b v f in
     (λ h. sym (take-pad 0 12 a (p .few)) ∙ ap bytesOf h ∙ take-pad 0 12 b (q .few), λ h. ap nameOf h)
 
--- a name that stands is written in full
-pub spelling-full : (n : Name) → n .len ≤ 12 → spellingOf n ≡ spellingBytes (spell (bytesOf n))
+-- a name that keeps its rule is written in full
+pub spelling-full : (n : Name) → nameOk n ≡ true → spellingOf n ≡ spellingBytes 0 (spell (bytesOf n))
 unfolding spellingOf
-spelling-full n h = rw (le-leb (n .len) 12 h)
+spelling-full n h = rw h
+
+-- another has no spelling
+pub spelling-none : (n : Name) → nameOk n ≡ false → spellingOf n ≡ spellingBytes badName []
+unfolding spellingOf
+spelling-none n h = rw h

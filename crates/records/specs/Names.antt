@@ -5,6 +5,7 @@ use Prim.Native.Nat.{ℕ, zero, suc, _+_, _*_, _-_, _/_, _%_}
 use lib.Dec.{ltb, leb, eqb}
 use lib.ListN.{length, take}
 use Rattle.money.specs.Refusals.{badName}
+use Rattle.money.specs.Names.{nameOk}
 use Rattle.money.specs.declared.names.Name.{Name}
 use Rattle.records.specs.Reading.{Res, bad, got, Reader, _>>=_, check, byte, some}
 use Rattle.records.specs.Numbers.{between, pad}
@@ -79,10 +80,10 @@ noOne = nameOf []
 abbrev pub held : Res (List ℕ) → Res Name
 held r = r >>= λ n t. got (nameOf n) t
 
--- ---- a name as it is written, with zeros behind it; none of a name that is too long
+-- ---- a name as it is written, with zeros behind it: number 0, or "name breaks its rule" of one that is none, and no bytes
 
-abbrev pub spellingBytes : List ℕ → Spelling
-spellingBytes s = record { len = length s; bytes = pad 0 36 s }
+abbrev pub spellingBytes : ℕ → List ℕ → Spelling
+spellingBytes k s = record { number = k; len = length s; bytes = pad 0 36 s }
 
 unfoldable pub spellingOf : Name → Spelling
-spellingOf n = cond (leb (n .len) 12) (spellingBytes (spell (bytesOf n))) (spellingBytes [])
+spellingOf n = cond (nameOk n) (spellingBytes 0 (spell (bytesOf n))) (spellingBytes badName [])

@@ -1,14 +1,21 @@
+use crate::fields::End;
+use crate::layouts;
 use crate::layouts::HourPrices;
+use crate::layouts::import_then;
 use crate::marks::Mark;
-use crate::scan::peek;
+use crate::names::no_name;
 use crate::views::export_of;
 use crate::views::failure_of;
+use crate::views::fields_at;
 use crate::views::import_of;
+use crate::views::no_offer;
 use crate::views::unit_of_hour;
+use money::failure::Failure;
 use money::failure::export_charge;
 use money::failure::import_charge;
 use money::guarantee::hour_credit;
 use money::imports::Import;
+use money::names::Name;
 use money::offset::offset_core;
 use money::offset::totals_with;
 use money::production::DayAnswer;
@@ -20,34 +27,50 @@ use money::units::CentsPerStart;
 use money::units::Quantity;
 use money::units::Ticks;
 ghost use mathlib.Core.Path.{_≡_};
-ghost use Rattle.records.specs.Views.{exportIn};
-ghost use Rattle.records.specs.Amounts.{totalsWith, offsetAnswer, dayAnswer, creditIn, unitAmountIn, chargeIn, ticksOf, offsetEntryIn, unitPartIn};
+ghost use mathlib.Core.List.{[]};
+ghost use Rattle.records.specs.Amounts.{offsetAnswer, dayAnswer, creditFor, creditIn, unitAmountIn, chargeFor, chargeIn, given, entryFrom, noEntry, entryAnswer, offsetEntryIn, noPart, unitPartIn, totalsWithIn};
 
-// The credit of the import that bytes begin with, at its hour's prices.
-pub fn import_credit(s: &[u8], prices: HourPrices) -> Answer
-    ensures { λ r. ⌜ r ≡ creditIn (now (s .entry)) prices ⌝ }
+// ---- the amount of the record that bytes begin with, at its hour's prices; or the number that reading it gives
+
+fn credit_for(i: layouts::Import, prices: HourPrices) -> Answer
+    ensures { λ r. ⌜ r ≡ creditFor i prices ⌝ }
 {
-    let i = import_of(s);
     let offer = i.offer;
     let emp = prices.emp;
     let mqsi = i.mqsi;
     hour_credit(offer, emp, mqsi)
 }
 
-// The amount of the unit's hour that bytes begin with, without its start-up.
+// The credit of an import.
+pub fn import_credit(s: &[u8], prices: HourPrices) -> Answer
+    ensures { λ r. ⌜ r ≡ creditIn (now (s .entry)) prices ⌝ }
+{
+    let i = import_of(s);
+    let number = i.number;
+    if number != 0 {
+        return Answer::Refused(number);
+    }
+    let import = i.import;
+    credit_for(import, prices)
+}
+
+// The amount of a unit's hour, without its start-up.
 pub fn unit_amount(s: &[u8], prices: HourPrices) -> Answer
     ensures { λ r. ⌜ r ≡ unitAmountIn (now (s .entry)) prices ⌝ }
 {
     let u = unit_of_hour(s);
+    let number = u.number;
+    if number != 0 {
+        return Answer::Refused(number);
+    }
+    let unit = u.unit;
     let emp = prices.emp;
-    unit_hour(u, emp)
+    unit_hour(unit, emp)
 }
 
-// The charge of the failed import (FI) or export (FE) that bytes begin with.
-pub fn failure_charge(s: &[u8], mark: Mark, prices: HourPrices) -> Answer
-    ensures { λ r. ⌜ r ≡ chargeIn mark (now (s .entry)) prices ⌝ }
+fn charge_for(mark: Mark, f: Failure, prices: HourPrices) -> Answer
+    ensures { λ r. ⌜ r ≡ chargeFor mark f prices ⌝ }
 {
-    let f = failure_of(s, mark);
     match mark {
         Mark::Fi => import_charge(f, prices.pd),
         Mark::Fe => export_charge(f, prices.pd),
@@ -58,32 +81,78 @@ pub fn failure_charge(s: &[u8], mark: Mark, prices: HourPrices) -> Answer
     }
 }
 
-// The ticks of an answer, 0 of a refusal.
-fn ticks_of(a: Answer) -> Ticks
-    ensures { λ r. ⌜ r ≡ ticksOf a ⌝ }
+// The charge of a failed import (FI) or export (FE).
+pub fn failure_charge(s: &[u8], mark: Mark, prices: HourPrices) -> Answer
+    ensures { λ r. ⌜ r ≡ chargeIn mark (now (s .entry)) prices ⌝ }
 {
-    match a {
-        Answer::Amount(t) => t,
-        Answer::Refused(_n) => Ticks(0),
+    let f = failure_of(s, mark);
+    let number = f.number;
+    if number != 0 {
+        return Answer::Refused(number);
+    }
+    let failure = f.failure;
+    charge_for(mark, failure, prices)
+}
+
+// ---- what the offset and the day take of a record: number 0 and the value, or the number and zeros throughout
+
+pub struct EntryAnswer {
+    pub number: u8,
+    pub entry: Import,
+}
+
+fn no_entry(number: u8) -> EntryAnswer
+    ensures { λ r. ⌜ r ≡ record { number = number; entry = noEntry } ⌝ }
+{
+    let name = no_name();
+    let quantities = [Quantity(0); 12];
+    let offer = no_offer();
+    EntryAnswer {
+        number,
+        entry: Import {
+            name,
+            credit: Ticks(0),
+            quantities,
+            offer,
+        },
     }
 }
 
-// The import that bytes begin with, as the offset takes it, at its hour's prices.
-pub fn offset_entry(s: &[u8], prices: HourPrices) -> Import
+fn entry_for(name: Name, i: layouts::Import, prices: HourPrices) -> EntryAnswer
+    ensures { λ r. ⌜ r ≡ entryAnswer (given (creditFor i prices) (entryFrom name i) []) ⌝ }
+{
+    let quantities = i.mqsi;
+    let offer = i.offer;
+    let a = credit_for(i, prices);
+    match a {
+        Answer::Amount(credit) => EntryAnswer {
+            number: 0,
+            entry: Import {
+                name,
+                credit,
+                quantities,
+                offer,
+            },
+        },
+        Answer::Refused(number) => no_entry(number),
+    }
+}
+
+// An import as the offset takes it.
+pub fn offset_entry(s: &[u8], prices: HourPrices) -> EntryAnswer
     ensures { λ r. ⌜ r ≡ offsetEntryIn (now (s .entry)) prices ⌝ }
 {
-    let v = peek(s);
-    let name = v.key.name;
-    let i = import_of(s);
-    let offer = i.offer;
-    let emp = prices.emp;
-    let quantities = i.mqsi;
-    let credit = ticks_of(hour_credit(offer, emp, quantities));
-    Import {
-        name,
-        credit,
-        quantities,
-        offer,
+    let n = fields_at(s, Mark::Im);
+    let at = n.end;
+    let i = import_then(s, at);
+    let e = i.end;
+    match e {
+        End::At(_n) => {
+            let name = n.name;
+            let import = i.import;
+            entry_for(name, import, prices)
+        }
+        End::No(number) => no_entry(number),
     }
 }
 
@@ -93,34 +162,73 @@ pub struct UnitPart {
     pub start: CentsPerStart,
 }
 
-// Of the unit's hour that bytes begin with, at its hour's prices.
-pub fn unit_part(s: &[u8], prices: HourPrices) -> UnitPart
+pub struct PartAnswer {
+    pub number: u8,
+    pub part: UnitPart,
+}
+
+fn no_part(number: u8) -> PartAnswer
+    ensures { λ r. ⌜ r ≡ record { number = number; part = noPart } ⌝ }
+{
+    PartAnswer {
+        number,
+        part: UnitPart {
+            ticks: Ticks(0),
+            start: CentsPerStart(0),
+        },
+    }
+}
+
+// A unit's hour as its day takes it.
+pub fn unit_part(s: &[u8], prices: HourPrices) -> PartAnswer
     ensures { λ r. ⌜ r ≡ unitPartIn (now (s .entry)) prices ⌝ }
 {
     let u = unit_of_hour(s);
-    let start = u.startup;
+    let number = u.number;
+    if number != 0 {
+        return no_part(number);
+    }
+    let unit = u.unit;
+    let start = unit.startup;
     let emp = prices.emp;
-    let ticks = ticks_of(unit_hour(u, emp));
-    UnitPart { ticks, start }
+    let a = unit_hour(unit, emp);
+    match a {
+        Answer::Amount(ticks) => PartAnswer {
+            number: 0,
+            part: UnitPart { ticks, start },
+        },
+        Answer::Refused(k) => no_part(k),
+    }
 }
 
-// The charge of the failure that bytes begin with, 0 where it is refused.
-pub fn charge_ticks(s: &[u8], mark: Mark, prices: HourPrices) -> Ticks
-    ensures { λ r. ⌜ r ≡ ticksOf (chargeIn mark (now (s .entry)) prices) ⌝ }
+pub struct TotalsAnswer {
+    pub number: u8,
+    pub totals: [Quantity; 12],
+}
+
+// The export totals with those of one more export.
+pub fn totals_with_export(s: &[u8], totals: [Quantity; 12]) -> TotalsAnswer
+    ensures { λ r. ⌜ r ≡ totalsWithIn (now (s .entry)) totals ⌝ }
 {
-    ticks_of(failure_charge(s, mark, prices))
+    let x = export_of(s);
+    let number = x.number;
+    if number != 0 {
+        let none = [Quantity(0); 12];
+        return TotalsAnswer {
+            number,
+            totals: none,
+        };
+    }
+    let export = x.export;
+    let more = export.mqsw;
+    let sums = totals_with(totals, more);
+    TotalsAnswer {
+        number: 0,
+        totals: sums,
+    }
 }
 
 // ---- what an hour and a day come to, from what the functions above give
-
-// The export totals with those of the export that bytes begin with.
-pub fn totals_with_export(s: &[u8], totals: [Quantity; 12]) -> [Quantity; 12]
-    ensures { λ r. ⌜ r ≡ totalsWith totals (exportIn (now (s .entry)) .mqsw) ⌝ }
-{
-    let x = export_of(s);
-    let more = x.mqsw;
-    totals_with(totals, more)
-}
 
 // The offset of the first `count` entries, or the number of the refusal.
 pub fn hour_offset(

@@ -3,6 +3,7 @@ use crate::fields::Num;
 use crate::fields::read_byte;
 use money::names::Name;
 use money::names::name_before;
+use money::names::name_ok;
 use money::refusals::BAD_NAME;
 use money::refusals::ENDS_EARLY;
 ghost use mathlib.Core.Path.{_≡_};
@@ -18,8 +19,9 @@ pub struct NameRead {
     pub name: Name,
 }
 
-// The written spelling of a name: its length, and places for thirty-six bytes.
+// The written spelling of a name: its length, and places for thirty-six bytes; or the number 4 of a name that is none.
 pub struct Spelling {
+    pub number: u8,
     pub len: u8,
     pub bytes: [u8; 36],
 }
@@ -227,16 +229,21 @@ pub(crate) fn write_name(name: Name, out: &mut [u8], at: usize) -> usize
     next
 }
 
-// A name as it is written, for bytes that hold no record. One of more than twelve bytes is none.
+// A name as it is written, for bytes that hold no record. One that breaks its rule is none.
 pub fn spell_name(name: Name) -> Spelling
     ensures { λ r. ⌜ r ≡ spellingOf name ⌝ }
 {
     let mut bytes = [0u8; 36];
-    if 12 < name.len {
-        return Spelling { len: 0, bytes };
+    if !name_ok(name) {
+        return Spelling {
+            number: BAD_NAME,
+            len: 0,
+            bytes,
+        };
     }
     let n = write_name(name, &mut bytes, 0);
     Spelling {
+        number: 0,
         len: n as u8,
         bytes,
     }

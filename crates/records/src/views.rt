@@ -14,7 +14,9 @@ use crate::marks::FILED;
 use crate::marks::Kind;
 use crate::marks::Mark;
 use crate::marks::head_at;
+use crate::marks::is_failure;
 use crate::marks::same_mark;
+use crate::names::NameRead;
 use money::failure::Failure;
 use money::offers::Offer;
 use money::production::Reserve;
@@ -26,14 +28,41 @@ use money::units::Price;
 use money::units::Quantity;
 ghost use mathlib.Core.Path.{_≡_};
 ghost use mathlib.Core.Bool.{Bool, true, false};
-ghost use Rattle.records.specs.Views.{ahead, noOffer, noReserve, noUnit, pricesIn, importIn, exportIn, unitIn, failureIn};
+ghost use Rattle.records.specs.Layouts.{hourPrices, import, export, unit};
+ghost use Rattle.records.specs.Views.{ahead, noOffer, noImport, noReserve, noUnit, noFailure, viewed, viewedFailure, pricesAnswer, importAnswer, exportAnswer, unitAnswer, failureAnswer};
 ghost use Rattle.records.specs.Inner.{shown, EndIn};
 
 // What stands in bytes that begin with a record as it was filed: its fields as the money rules take them.
+// Each view answers number 0 and the fields, or the number of the first fault and zeros throughout.
 
-// The place behind a record's mark, hour and name.
-fn fields_at(s: &[u8], mark: Mark) -> End
-    ensures { λ r. ⌜ (shown (now (s .entry)) r tt ≡ ahead mark (now (s .entry))) × EndIn (now (s .entry)) r ⌝ }
+pub struct PricesAnswer {
+    pub number: u8,
+    pub prices: HourPrices,
+}
+
+pub struct ImportAnswer {
+    pub number: u8,
+    pub import: Import,
+}
+
+pub struct ExportAnswer {
+    pub number: u8,
+    pub export: Export,
+}
+
+pub struct UnitAnswer {
+    pub number: u8,
+    pub unit: UnitHour,
+}
+
+pub struct FailureAnswer {
+    pub number: u8,
+    pub failure: Failure,
+}
+
+// A record's name, and the place behind it, where its fields begin.
+pub(crate) fn fields_at(s: &[u8], mark: Mark) -> NameRead
+    ensures { λ r. ⌜ (shown (now (s .entry)) (r .end) (r .name) ≡ ahead mark (now (s .entry))) × EndIn (now (s .entry)) (r .end) ⌝ }
 {
     let h = head_at(s, FILED);
     let e = h.end;
@@ -41,11 +70,10 @@ fn fields_at(s: &[u8], mark: Mark) -> End
     let e1 = guard_end(e, same_mark(m, mark), UNKNOWN_MARK);
     let o = hour_then(s, e1);
     let e2 = o.end;
-    let n = name_then(s, e2, Kind::File, mark);
-    n.end
+    name_then(s, e2, Kind::File, mark)
 }
 
-fn no_offer() -> Offer
+pub(crate) fn no_offer() -> Offer
     ensures { λ r. ⌜ r ≡ noOffer ⌝ }
 {
     let prices = [Price(0); 20];
@@ -57,45 +85,69 @@ fn no_offer() -> Offer
     }
 }
 
-pub fn prices_of(s: &[u8]) -> HourPrices
-    ensures { λ r. ⌜ r ≡ pricesIn (now (s .entry)) ⌝ }
+pub fn prices_of(s: &[u8]) -> PricesAnswer
+    ensures { λ r. ⌜ r ≡ pricesAnswer (viewed Mark.Pr hourPrices (now (s .entry))) ⌝ }
 {
-    let p = hour_prices_then(s, fields_at(s, Mark::Pr));
+    let n = fields_at(s, Mark::Pr);
+    let at = n.end;
+    let p = hour_prices_then(s, at);
     let e = p.end;
     match e {
-        End::At(_n) => p.prices,
-        End::No(_k) => {
+        End::At(_n) => {
+            let prices = p.prices;
+            PricesAnswer { number: 0, prices }
+        }
+        End::No(number) => {
             let emp = [Price(0); 12];
-            HourPrices { emp, pd: Price(0) }
+            let prices = HourPrices { emp, pd: Price(0) };
+            PricesAnswer { number, prices }
         }
     }
 }
 
-pub fn import_of(s: &[u8]) -> Import
-    ensures { λ r. ⌜ r ≡ importIn (now (s .entry)) ⌝ }
+fn no_import() -> Import
+    ensures { λ r. ⌜ r ≡ noImport ⌝ }
 {
-    let i = import_then(s, fields_at(s, Mark::Im));
+    let mqsi = [Quantity(0); 12];
+    let offer = no_offer();
+    Import { mqsi, offer }
+}
+
+pub fn import_of(s: &[u8]) -> ImportAnswer
+    ensures { λ r. ⌜ r ≡ importAnswer (viewed Mark.Im import (now (s .entry))) ⌝ }
+{
+    let n = fields_at(s, Mark::Im);
+    let at = n.end;
+    let i = import_then(s, at);
     let e = i.end;
     match e {
-        End::At(_n) => i.import,
-        End::No(_k) => {
-            let mqsi = [Quantity(0); 12];
-            let offer = no_offer();
-            Import { mqsi, offer }
+        End::At(_n) => {
+            let import = i.import;
+            ImportAnswer { number: 0, import }
+        }
+        End::No(number) => {
+            let import = no_import();
+            ImportAnswer { number, import }
         }
     }
 }
 
-pub fn export_of(s: &[u8]) -> Export
-    ensures { λ r. ⌜ r ≡ exportIn (now (s .entry)) ⌝ }
+pub fn export_of(s: &[u8]) -> ExportAnswer
+    ensures { λ r. ⌜ r ≡ exportAnswer (viewed Mark.Ex export (now (s .entry))) ⌝ }
 {
-    let x = export_then(s, fields_at(s, Mark::Ex));
+    let n = fields_at(s, Mark::Ex);
+    let at = n.end;
+    let x = export_then(s, at);
     let e = x.end;
     match e {
-        End::At(_n) => x.export,
-        End::No(_k) => {
+        End::At(_n) => {
+            let export = x.export;
+            ExportAnswer { number: 0, export }
+        }
+        End::No(number) => {
             let mqsw = [Quantity(0); 12];
-            Export { mqsw }
+            let export = Export { mqsw };
+            ExportAnswer { number, export }
         }
     }
 }
@@ -135,30 +187,55 @@ fn no_unit() -> UnitHour
     }
 }
 
-pub fn unit_of_hour(s: &[u8]) -> UnitHour
-    ensures { λ r. ⌜ r ≡ unitIn (now (s .entry)) ⌝ }
+pub fn unit_of_hour(s: &[u8]) -> UnitAnswer
+    ensures { λ r. ⌜ r ≡ unitAnswer (viewed Mark.Gh unit (now (s .entry))) ⌝ }
 {
-    let u = unit_then(s, fields_at(s, Mark::Gh));
+    let n = fields_at(s, Mark::Gh);
+    let at = n.end;
+    let u = unit_then(s, at);
     let e = u.end;
     match e {
-        End::At(_n) => u.unit,
-        End::No(_k) => no_unit(),
+        End::At(_n) => {
+            let unit = u.unit;
+            UnitAnswer { number: 0, unit }
+        }
+        End::No(number) => {
+            let unit = no_unit();
+            UnitAnswer { number, unit }
+        }
     }
 }
 
-// The failure of an import (FI) or an export (FE).
-pub fn failure_of(s: &[u8], mark: Mark) -> Failure
-    ensures { λ r. ⌜ r ≡ failureIn mark (now (s .entry)) ⌝ }
+fn no_failure(number: u8) -> FailureAnswer
+    ensures { λ r. ⌜ r ≡ record { number = number; failure = noFailure } ⌝ }
 {
-    let f = failure_then(s, fields_at(s, mark));
-    let e = f.end;
-    match e {
-        End::At(_n) => f.failure,
-        End::No(_k) => Failure {
+    FailureAnswer {
+        number,
+        failure: Failure {
             scheduled: Quantity(0),
             predispatch: Quantity(0),
             ahead: Price(0),
             later: Price(0),
         },
+    }
+}
+
+// The failure of an import (FI) or an export (FE); another mark gives 2 before anything is read.
+pub fn failure_of(s: &[u8], mark: Mark) -> FailureAnswer
+    ensures { λ r. ⌜ r ≡ failureAnswer (viewedFailure mark (now (s .entry))) ⌝ }
+{
+    if !is_failure(mark) {
+        return no_failure(UNKNOWN_MARK);
+    }
+    let n = fields_at(s, mark);
+    let at = n.end;
+    let f = failure_then(s, at);
+    let e = f.end;
+    match e {
+        End::At(_n) => {
+            let failure = f.failure;
+            FailureAnswer { number: 0, failure }
+        }
+        End::No(number) => no_failure(number),
     }
 }

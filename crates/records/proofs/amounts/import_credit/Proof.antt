@@ -1,22 +1,39 @@
-use mathlib.Core.Path.{_≡_, ap, _∙_}
-use borrow.Author.Needs.{needs}
-use Rattle.money.specs.Guarantee.{creditAnswer}
+use mathlib.Core.Path.{sym, ap, _∙_}
+use Rattle.records.specs.Reading.{Res}
+use Rattle.records.specs.Layouts.{import}
+use Rattle.records.specs.Views.{viewed, noImport}
+use Rattle.records.specs.Amounts.{amountFrom, creditFor}
+use Rattle.records.specs.ReaderLaws.{lawful-import}
+use Rattle.records.specs.ViewLaws.{counted-viewed}
 use Rattle.records.specs.declared.layouts.Import.{Import}
+use Rattle.records.specs.declared.marks.Mark.the-variants.{Im}
+use Rattle.records.specs.declared.views.ImportAnswer.{ImportAnswer}
+use Rattle.records.proofs.Viewing.{faulty, had}
+use borrow.Author.Needs.{needs}
+use native.Mathlib.Omega.{arith}
 use Rattle.records.proofs.amounts.import_credit.Statement.{statement}
 use Rattle.records.proofs.amounts.import_credit.Tie as tie
-use Rattle.records.proofs.amounts.import_credit.Reads as reads
-use Rattle.records.proofs.amounts.import_credit.Lts as lts
-use Rattle.money.proofs.guarantee.hour_credit.Reads as hour-credit-reads
-use Rattle.records.proofs.views.import_of.Reads as import-of-reads
 
 import-of-requires : tie.Need-import-of-requires
 import-of-requires c κs = search needs
 
-hour-credit-requires : tie.Need-hour-credit-requires
-hour-credit-requires c κs = search needs
-
 returns : tie.Need-returns
-returns c = c .hour-credit .ensures ∙ ap (λ (i : Import). creditAnswer (i .offer) (c .before .before .before .before .before .before .args .prices .emp) (i .mqsi)) (c .before .before .before .before .import-of .ensures)
+returns c = sym (ap (λ (r : Res Import). amountFrom r (λ i. creditFor i ((c .before .before .before .args) .prices))) (faulty (viewed Im import ((c .before .before .before .args) .s .now)) _ (ap (λ (a : ImportAnswer). a .number) ((c .before .import-of) .ensures)) ((c .if1) .taken)))
+
+credit-for-requires : tie.Need-credit-for-requires
+credit-for-requires c κs = search needs
+
+returns-2 : tie.Need-returns-2
+returns-2 c =
+    let s = (c .before .before .before .before .before .args) .s .now in
+    let h = had (viewed Im import s) noImport ((c .before .before .before .import-of) .result .import) _ (counted-viewed Im import (lawful-import .counted) .above s) (ap (λ (a : ImportAnswer). a .number) ((c .before .before .before .import-of) .ensures)) (ap (λ (a : ImportAnswer). a .import) ((c .before .before .before .import-of) .ensures)) ((c .before .before .if1) .left) in
+    (c .credit-for) .ensures ∙ sym (ap (λ (r : Res Import). amountFrom r (λ i. creditFor i ((c .before .before .before .before .before .args) .prices))) (h .is))
 
 pub import-credit-spec : {M : Type 1} → statement M
-import-credit-spec = tie.close (tie.spec import-of-requires hour-credit-requires returns)
+import-credit-spec =
+    tie.close
+    (tie.spec
+    import-of-requires
+    returns
+    credit-for-requires
+    returns-2)

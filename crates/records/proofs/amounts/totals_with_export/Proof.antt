@@ -1,18 +1,40 @@
-use mathlib.Core.Path.{_≡_, ap, _∙_}
+use mathlib.Core.Path.{sym, ap, _∙_}
 use Rattle.money.specs.Offset.{totalsWith}
+use Rattle.records.specs.Reading.{Res, got, _>>=_}
+use Rattle.records.specs.Layouts.{export}
+use Rattle.records.specs.Views.{viewed, noExport}
+use Rattle.records.specs.Amounts.{totalsAnswer}
+use Rattle.records.specs.ReaderLaws.{lawful-export}
+use Rattle.records.specs.ViewLaws.{counted-viewed}
 use Rattle.records.specs.declared.layouts.Export.{Export}
+use Rattle.records.specs.declared.marks.Mark.the-variants.{Ex}
+use Rattle.records.specs.declared.views.ExportAnswer.{ExportAnswer}
+use Rattle.records.proofs.Viewing.{faulty, had}
 use borrow.Author.Needs.{needs}
+use native.Mathlib.Omega.{arith}
 use Rattle.records.proofs.amounts.totals_with_export.Statement.{statement}
 use Rattle.records.proofs.amounts.totals_with_export.Tie as tie
 
 export-of-requires : tie.Need-export-of-requires
 export-of-requires c κs = search needs
 
+returns : tie.Need-returns
+returns c = sym (ap (λ (r : Res Export). totalsAnswer (r >>= λ x t. got (totalsWith ((c .before .before .before .args) .totals) (x .mqsw)) t)) (faulty (viewed Ex export ((c .before .before .before .args) .s .now)) _ (ap (λ (a : ExportAnswer). a .number) ((c .before .export-of) .ensures)) ((c .if1) .taken)))
+
 totals-with-requires : tie.Need-totals-with-requires
 totals-with-requires c κs = search needs
 
-returns : tie.Need-returns
-returns c = (c .totals-with) .ensures ∙ ap (λ (x : Export). totalsWith ((c .before .before .before .before .args) .totals) (x .mqsw)) ((c .before .before .export-of) .ensures)
+returns-2 : tie.Need-returns-2
+returns-2 c =
+    let s = (c .before .before .before .before .before .before .args) .s .now in
+    let h = had (viewed Ex export s) noExport ((c .before .before .before .before .export-of) .result .export) _ (counted-viewed Ex export (lawful-export .counted) .above s) (ap (λ (a : ExportAnswer). a .number) ((c .before .before .before .before .export-of) .ensures)) (ap (λ (a : ExportAnswer). a .export) ((c .before .before .before .before .export-of) .ensures)) ((c .before .before .before .if1) .left) in
+    (λ i. record { number = 0; totals = (c .totals-with) .ensures i }) ∙ sym (ap (λ (r : Res Export). totalsAnswer (r >>= λ x t. got (totalsWith ((c .before .before .before .before .before .before .args) .totals) (x .mqsw)) t)) (h .is))
 
 pub totals-with-export-spec : {M : Type 1} → statement M
-totals-with-export-spec = tie.close (tie.spec export-of-requires totals-with-requires returns)
+totals-with-export-spec =
+    tie.close
+    (tie.spec
+    export-of-requires
+    returns
+    totals-with-requires
+    returns-2)

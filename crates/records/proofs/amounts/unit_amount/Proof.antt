@@ -1,23 +1,40 @@
-use mathlib.Core.Path.{_≡_, ap, _∙_}
+use mathlib.Core.Path.{sym, ap, _∙_}
 use Rattle.money.specs.Production.{hourAnswer}
 use Rattle.money.specs.declared.production.UnitHour.{UnitHour}
-use native.Mathlib.Omega.{arith}
+use Rattle.records.specs.Reading.{Res}
+use Rattle.records.specs.Layouts.{unit}
+use Rattle.records.specs.Views.{viewed, noUnit}
+use Rattle.records.specs.Amounts.{amountFrom}
+use Rattle.records.specs.ReaderLaws.{lawful-unit}
+use Rattle.records.specs.ViewLaws.{counted-viewed}
+use Rattle.records.specs.declared.marks.Mark.the-variants.{Gh}
+use Rattle.records.specs.declared.views.UnitAnswer.{UnitAnswer}
+use Rattle.records.proofs.Viewing.{faulty, had}
 use borrow.Author.Needs.{needs}
+use native.Mathlib.Omega.{arith}
 use Rattle.records.proofs.amounts.unit_amount.Statement.{statement}
 use Rattle.records.proofs.amounts.unit_amount.Tie as tie
-use Rattle.records.proofs.amounts.unit_amount.Reads as reads
-use Rattle.records.proofs.amounts.unit_amount.Lts as lts
-use Rattle.money.proofs.production.unit_hour.Reads as unit-hour-reads
-use Rattle.records.proofs.views.unit_of_hour.Reads as unit-of-hour-reads
 
 unit-of-hour-requires : tie.Need-unit-of-hour-requires
 unit-of-hour-requires c κs = search needs
 
+returns : tie.Need-returns
+returns c = sym (ap (λ (r : Res UnitHour). amountFrom r (λ u. hourAnswer u ((c .before .before .before .args) .prices .emp))) (faulty (viewed Gh unit ((c .before .before .before .args) .s .now)) _ (ap (λ (a : UnitAnswer). a .number) ((c .before .unit-of-hour) .ensures)) ((c .if1) .taken)))
+
 unit-hour-requires : tie.Need-unit-hour-requires
 unit-hour-requires c κs = search needs
 
-returns : tie.Need-returns
-returns c = (c .unit-hour) .ensures ∙ ap (λ (u : UnitHour). hourAnswer u ((c .before .before .before .before .args) .prices .emp)) ((c .before .before .unit-of-hour) .ensures)
+returns-2 : tie.Need-returns-2
+returns-2 c =
+    let s = (c .before .before .before .before .before .before .args) .s .now in
+    let h = had (viewed Gh unit s) noUnit ((c .before .before .before .before .unit-of-hour) .result .unit) _ (counted-viewed Gh unit (lawful-unit .counted) .above s) (ap (λ (a : UnitAnswer). a .number) ((c .before .before .before .before .unit-of-hour) .ensures)) (ap (λ (a : UnitAnswer). a .unit) ((c .before .before .before .before .unit-of-hour) .ensures)) ((c .before .before .before .if1) .left) in
+    (c .unit-hour) .ensures ∙ sym (ap (λ (r : Res UnitHour). amountFrom r (λ u. hourAnswer u ((c .before .before .before .before .before .before .args) .prices .emp))) (h .is))
 
 pub unit-amount-spec : {M : Type 1} → statement M
-unit-amount-spec = tie.close (tie.spec unit-of-hour-requires unit-hour-requires returns)
+unit-amount-spec =
+    tie.close
+    (tie.spec
+    unit-of-hour-requires
+    returns
+    unit-hour-requires
+    returns-2)

@@ -1,25 +1,71 @@
-use mathlib.Core.Path.{_≡_, ap, _∙_}
+use mathlib.Core.Path.{sym, ap, _∙_}
+use mathlib.Core.List.{List}
+use Prim.Native.Nat.{ℕ}
 use Rattle.money.specs.Production.{hourAnswer}
 use Rattle.money.specs.declared.production.UnitHour.{UnitHour}
-use Rattle.records.specs.Amounts.{ticksOf}
+use Rattle.money.specs.declared.units.Answer.{Answer}
+use Rattle.records.specs.Reading.{Res, _>>=_}
+use Rattle.records.specs.Layouts.{unit}
+use Rattle.records.specs.Views.{viewed, noUnit}
+use Rattle.records.specs.Amounts.{given, partAnswer}
+use Rattle.records.specs.ReaderLaws.{lawful-unit}
+use Rattle.records.specs.ViewLaws.{counted-viewed}
+use Rattle.records.specs.declared.marks.Mark.the-variants.{Gh}
+use Rattle.records.specs.declared.views.UnitAnswer.{UnitAnswer}
+use Rattle.records.proofs.Viewing.{faulty, had}
 use borrow.Author.Needs.{needs}
+use native.Mathlib.Omega.{arith}
 use Rattle.records.proofs.amounts.unit_part.Statement.{statement}
 use Rattle.records.proofs.amounts.unit_part.Tie as tie
 
 unit-of-hour-requires : tie.Need-unit-of-hour-requires
 unit-of-hour-requires c κs = search needs
 
+no-part-requires : tie.Need-no-part-requires
+no-part-requires c κs = search needs
+
+returns : tie.Need-returns
+returns c = (c .no-part) .ensures ∙ sym (ap (λ (r : Res UnitHour). partAnswer (r >>= λ u t. given (hourAnswer u ((c .before .before .before .before .args) .prices .emp)) (λ a. record { ticks = a; start = u .startup }) t)) (faulty (viewed Gh unit ((c .before .before .before .before .args) .s .now)) _ (ap (λ (a : UnitAnswer). a .number) ((c .before .before .unit-of-hour) .ensures)) ((c .before .if1) .taken)))
+
 unit-hour-requires : tie.Need-unit-hour-requires
 unit-hour-requires c κs = search needs
 
-ticks-of-requires : tie.Need-ticks-of-requires
-ticks-of-requires c κs = search needs
+enum-known-a : tie.Need-enum-known-a
+enum-known-a c = search needs
 
-returns : tie.Need-returns
-returns c =
-    let u = (c .before .before .before .before .unit-of-hour) .ensures in
-    let t = (c .ticks-of) .ensures ∙ ap ticksOf ((c .before .unit-hour) .ensures ∙ ap (λ (h : UnitHour). hourAnswer h ((c .before .before .before .before .before .before .args) .prices .emp)) u) in
-    (λ x. record { ticks = t x; start = u x .startup })
+enum-known-a-2 : tie.Need-enum-known-a-2
+enum-known-a-2 c = search needs
+
+no-part-requires-2 : tie.Need-no-part-requires-2
+no-part-requires-2 c κs = search needs
+
+returns-2 : tie.Need-returns-2
+returns-2 c =
+    let s = (c .before .before .before .before .before .before .before .before .before .before .args) .s .now in
+    let v = (c .before .before .before .before .before .before .before .before .unit-of-hour) .result .unit in
+    let h = had (viewed Gh unit s) noUnit v _ (counted-viewed Gh unit (lawful-unit .counted) .above s) (ap (λ (a : UnitAnswer). a .number) ((c .before .before .before .before .before .before .before .before .unit-of-hour) .ensures)) (ap (λ (a : UnitAnswer). a .unit) ((c .before .before .before .before .before .before .before .before .unit-of-hour) .ensures)) ((c .before .before .before .before .before .before .before .if1) .left) in
+    ap (λ (a : Answer). partAnswer (given a (λ y. record { ticks = y; start = v .startup }) (h .rest))) (sym ((c .before .a) .given .1) ∙ (c .before .before .before .unit-hour) .ensures)
+    ∙ sym (ap (λ (r : Res UnitHour). partAnswer (r >>= λ u t. given (hourAnswer u ((c .before .before .before .before .before .before .before .before .before .before .args) .prices .emp)) (λ a. record { ticks = a; start = u .startup }) t)) (h .is))
+
+returns-3 : tie.Need-returns-3
+returns-3 c =
+    let s = (c .before .before .before .before .before .before .before .before .before .before .before .args) .s .now in
+    let v = (c .before .before .before .before .before .before .before .before .before .unit-of-hour) .result .unit in
+    let h = had (viewed Gh unit s) noUnit v _ (counted-viewed Gh unit (lawful-unit .counted) .above s) (ap (λ (a : UnitAnswer). a .number) ((c .before .before .before .before .before .before .before .before .before .unit-of-hour) .ensures)) (ap (λ (a : UnitAnswer). a .unit) ((c .before .before .before .before .before .before .before .before .before .unit-of-hour) .ensures)) ((c .before .before .before .before .before .before .before .before .if1) .left) in
+    (c .no-part2) .ensures
+    ∙ ap (λ (a : Answer). partAnswer (given a (λ y. record { ticks = y; start = v .startup }) (h .rest))) (sym ((c .before .before .a2) .given .1) ∙ (c .before .before .before .before .unit-hour) .ensures)
+    ∙ sym (ap (λ (r : Res UnitHour). partAnswer (r >>= λ u t. given (hourAnswer u ((c .before .before .before .before .before .before .before .before .before .before .before .args) .prices .emp)) (λ a. record { ticks = a; start = u .startup }) t)) (h .is))
 
 pub unit-part-spec : {M : Type 1} → statement M
-unit-part-spec = tie.close (tie.spec unit-of-hour-requires unit-hour-requires ticks-of-requires returns)
+unit-part-spec =
+    tie.close
+    (tie.spec
+    unit-of-hour-requires
+    no-part-requires
+    returns
+    unit-hour-requires
+    enum-known-a
+    enum-known-a-2
+    no-part-requires-2
+    returns-2
+    returns-3)

@@ -1,27 +1,42 @@
+use mathlib.Core.Path.{sym, _∙_}
+use borrow.Author.Tests.{not-true, not-false}
+use Rattle.money.specs.NameLaws.{name-most}
+use Rattle.records.specs.NameLaws.{spelling-none}
+use Rattle.records.proofs.Spelling.{spell-most, spelled-in}
 use native.Mathlib.Omega.{arith}
 use borrow.Author.Needs.{needs}
-use Rattle.records.proofs.Spelling.{spell-most, too-long, spelled-in}
 use Rattle.records.proofs.names.spell_name.Statement.{statement}
 use Rattle.records.proofs.names.spell_name.Tie as tie
 use Rattle.records.proofs.names.spell_name.Reads as reads
 use Rattle.records.proofs.names.spell_name.Lts as lts
+use Rattle.money.proofs.names.name_ok.Reads as name-ok-reads
 use Rattle.records.proofs.names.write_name.Reads as write-name-reads
 
+name-ok-requires : tie.Need-name-ok-requires
+name-ok-requires c κs = search needs
+
 returns : tie.Need-returns
-returns c = too-long (c .before .before .args .name) (c .if1 .taken)
+returns c = sym (spelling-none ((c .before .before .args) .name) (sym ((c .before .name-ok) .ensures) ∙ not-true _ ((c .if1) .taken)))
 
 slice-aggregate-write-name : tie.Need-slice-aggregate-write-name
 slice-aggregate-write-name c = search needs
 
 write-name-requires : tie.Need-write-name-requires
-write-name-requires c κs = search needs
+write-name-requires c κs = (name-most ((c .before .before .before .args) .name) (sym ((c .before .before .name-ok) .ensures) ∙ not-false _ ((c .before .if1) .left)), omega arith)
 
-cast-t8 : tie.Need-cast-t8
-cast-t8 c = omega (arith, c .before .write-name .ensures .after, spell-most (c .before .before .before .before .before .args .name) (c .before .before .before .if1 .left))
+cast-t9 : tie.Need-cast-t9
+cast-t9 c = omega (arith, (c .before .write-name) .ensures .after, spell-most ((c .before .before .before .before .before .args) .name) (name-most ((c .before .before .before .before .before .args) .name) (sym ((c .before .before .before .before .name-ok) .ensures) ∙ not-false _ ((c .before .before .before .if1) .left))))
 
 returns-2 : tie.Need-returns-2
-returns-2 c = spelled-in (c .before .before .before .before .before .args .name) _ _ (c .before .before .before .if1 .left) (c .before .write-name .ensures)
+returns-2 c = spelled-in ((c .before .before .before .before .before .args) .name) _ _ (sym ((c .before .before .before .before .name-ok) .ensures) ∙ not-false _ ((c .before .before .before .if1) .left)) ((c .before .write-name) .ensures)
 
 pub spell-name-spec : {M : Type 1} → statement M
 spell-name-spec =
-    tie.close (tie.spec returns slice-aggregate-write-name write-name-requires cast-t8 returns-2)
+    tie.close
+    (tie.spec
+    name-ok-requires
+    returns
+    slice-aggregate-write-name
+    write-name-requires
+    cast-t9
+    returns-2)

@@ -1,13 +1,12 @@
 use mathlib.Core.Path.{_≡_, sym, ap, _∙_}
 use Rattle.records.specs.Numbers.{hour}
-use Rattle.records.specs.Changes.{head, nameFor}
+use Rattle.records.specs.Changes.{head}
 use Rattle.records.specs.Inner.{then, guarded}
 use Rattle.records.specs.Marks.{sameMark}
 use Rattle.records.specs.Views.{ahead}
-use Rattle.records.specs.declared.marks.Kind.the-variants.{File}
-use Rattle.records.proofs.Step.{first, next, test, last}
-use borrow.Author.Needs.{needs}
+use Rattle.records.proofs.Step.{first, next, test}
 use native.Mathlib.Omega.{arith}
+use borrow.Author.Needs.{needs}
 use Rattle.records.proofs.views.fields_at.Statement.{statement}
 use Rattle.records.proofs.views.fields_at.Tie as tie
 use Rattle.records.proofs.views.fields_at.Reads as reads
@@ -39,14 +38,12 @@ returns c =
     let s = (c .before .before .before .before .before .before .args) .s .now in
     let h = (c .before .before .before .before .head-at) .result in
     let o = (c .before .hour-then) .result in
-    let n = (c .name-then) .result in
     let ok = sameMark (h .mark) ((c .before .before .before .before .before .before .args) .mark) in
     let g = (c .before .before .guard-end) .ensures ∙ ap (λ b. guarded (h .end) b 2) ((c .before .before .before .same-mark) .ensures) in (
       sym (first s (h .end) (record { kind = h .kind; mark = h .mark }) (head 1 s) _ ((c .before .before .before .before .head-at) .ensures .0)
           ∙ test s (h .end) ok 2 _
           ∙ next s (guarded (h .end) ok 2) (o .end) (o .hour) hour _ ((c .before .hour-then) .ensures .0 ∙ ap (λ d. then s d hour) g)
-          ∙ next s (o .end) (n .end) (n .name) (nameFor File ((c .before .before .before .before .before .before .args) .mark)) _ ((c .name-then) .ensures .value)
-          ∙ last s (n .end) tt),
+          ∙ sym ((c .name-then) .ensures .value)),
       (c .name-then) .ensures .placed,
     )
 

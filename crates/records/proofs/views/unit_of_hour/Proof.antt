@@ -1,17 +1,12 @@
-use mathlib.Core.Path.{_≡_, _∙_}
+use mathlib.Core.Path.{ap, _∙_}
 use Rattle.records.specs.Layouts.{unit}
-use Rattle.records.specs.Views.{noUnit}
+use Rattle.records.specs.Views.{unitAnswer}
 use Rattle.records.specs.declared.marks.Mark.the-variants.{Gh}
 use Rattle.records.proofs.Viewing.{view-at, view-no}
 use borrow.Author.Needs.{needs}
 use native.Mathlib.Omega.{arith}
 use Rattle.records.proofs.views.unit_of_hour.Statement.{statement}
 use Rattle.records.proofs.views.unit_of_hour.Tie as tie
-use Rattle.records.proofs.views.unit_of_hour.Reads as reads
-use Rattle.records.proofs.views.unit_of_hour.Lts as lts
-use Rattle.records.proofs.layouts.unit_then.Reads as unit-then-reads
-use Rattle.records.proofs.views.fields_at.Reads as fields-at-reads
-use Rattle.records.proofs.views.no_unit.Reads as no-unit-reads
 
 fields-at-requires : tie.Need-fields-at-requires
 fields-at-requires c κs = search needs
@@ -29,10 +24,10 @@ no-unit-requires : tie.Need-no-unit-requires
 no-unit-requires c κs = search needs
 
 returns : tie.Need-returns
-returns c = view-at ((c .before .before .before .before .before .before .before .args) .s .now) Gh unit ((c .before .before .before .before .before .fields-at) .result) ((c .before .before .before .before .unit-then) .result .end) ((c .before .before .before .before .unit-then) .result .unit) noUnit ((c .before .before .before .before .before .fields-at) .ensures .0) ((c .before .before .before .before .unit-then) .ensures .0) ((c .before .before .e) .given .0 .0) ((c .before .before .e) .given .1)
+returns c = ap unitAnswer (view-at ((c .before .before .before .before .before .before .before .args) .s .now) Gh unit ((c .before .before .before .before .before .fields-at) .result .end) ((c .before .before .before .before .unit-then) .result .end) ((c .before .before .before .before .before .fields-at) .result .name) ((c .before .before .before .before .unit-then) .result .unit) ((c .before .before .before .before .before .fields-at) .ensures .0) ((c .before .before .before .before .unit-then) .ensures .0) _ ((c .before .before .e) .given .1))
 
 returns-2 : tie.Need-returns-2
-returns-2 c = (c .no-unit) .ensures ∙ view-no ((c .before .before .before .before .before .before .before .args) .s .now) Gh unit ((c .before .before .before .before .before .fields-at) .result) ((c .before .before .before .before .unit-then) .result .end) ((c .before .before .before .before .unit-then) .result .unit) noUnit ((c .before .before .before .before .before .fields-at) .ensures .0) ((c .before .before .before .before .unit-then) .ensures .0) ((c .before .before .e2) .given .0 .0) ((c .before .before .e2) .given .1)
+returns-2 c = (λ x. record { number = (c .before .before .e2) .given .0 .0; unit = (c .no-unit) .ensures x }) ∙ ap unitAnswer (view-no ((c .before .before .before .before .before .before .before .args) .s .now) Gh unit ((c .before .before .before .before .before .fields-at) .result .end) ((c .before .before .before .before .unit-then) .result .end) ((c .before .before .before .before .before .fields-at) .result .name) ((c .before .before .before .before .unit-then) .result .unit) ((c .before .before .before .before .before .fields-at) .ensures .0) ((c .before .before .before .before .unit-then) .ensures .0) _ ((c .before .before .e2) .given .1))
 
 pub unit-of-hour-spec : {M : Type 1} → statement M
 unit-of-hour-spec =

@@ -1,0 +1,35 @@
+use mathlib.Core.Path.{_≡_, sym, ap, _∙_}
+use mathlib.Core.List.{[]}
+use Rattle.money.specs.declared.units.Answer.{Answer}
+use Rattle.records.specs.Amounts.{given, entryFrom, entryAnswer}
+use native.Mathlib.Omega.{arith}
+use borrow.Author.Needs.{needs}
+use Rattle.records.proofs.amounts.entry_for.Statement.{statement}
+use Rattle.records.proofs.amounts.entry_for.Tie as tie
+use Rattle.records.proofs.amounts.entry_for.Reads as reads
+use Rattle.records.proofs.amounts.entry_for.Lts as lts
+use Rattle.records.proofs.amounts.credit_for.Reads as credit-for-reads
+use Rattle.records.proofs.amounts.no_entry.Reads as no-entry-reads
+
+credit-for-requires : tie.Need-credit-for-requires
+credit-for-requires c κs = search needs
+
+enum-known-a : tie.Need-enum-known-a
+enum-known-a c = search needs
+
+enum-known-a-2 : tie.Need-enum-known-a-2
+enum-known-a-2 c = search needs
+
+no-entry-requires : tie.Need-no-entry-requires
+no-entry-requires c κs = search needs
+
+returns : tie.Need-returns
+returns c = ap (λ (a : Answer). entryAnswer (given a (entryFrom ((c .before .before .before .before .before .before .args) .name) ((c .before .before .before .before .before .before .args) .i)) [])) (sym ((c .before .a) .given .1) ∙ (c .before .before .before .credit-for) .ensures)
+
+returns-2 : tie.Need-returns-2
+returns-2 c = (c .no-entry) .ensures ∙ ap (λ (a : Answer). entryAnswer (given a (entryFrom ((c .before .before .before .before .before .before .before .args) .name) ((c .before .before .before .before .before .before .before .args) .i)) [])) (sym ((c .before .before .a2) .given .1) ∙ (c .before .before .before .before .credit-for) .ensures)
+
+pub entry-for-spec : {M : Type 1} → statement M
+entry-for-spec =
+    tie.close
+    (tie.spec credit-for-requires enum-known-a enum-known-a-2 no-entry-requires returns returns-2)
