@@ -7,20 +7,20 @@ use native.Mathlib.Omega.{arith}
 use lib.ListN.{length, take, drop, getD, set, length-set, length-map}
 use lib.Seq.{length-take-le}
 use borrow.Author.Tests.{ne-eqb}
-use Rattle.book.specs.Layer.{Key, View, KeyAnswer, Change, Mark, Pr, HourPrices, Ticks, isFailure, noTicks, pricesIn, chargeIn, ticksOf, Asked, got, bad, askHourOf, askFailure, keyAnswer, askHourOf-fault, askFailure-fault, hour-asked, failure-marked}
+use Rattle.book.specs.Layer.{Key, View, KeyAnswer, Change, Mark, Pr, HourPrices, Ticks, Answer, isFailure, noTicks, pricesIn, chargeIn, Asked, got, bad, askHourOf, askFailure, keyAnswer, askHourOf-fault, askFailure-fault, hour-asked, failure-marked}
 use Rattle.book.specs.declared.journal.Book.{Book}
 use Rattle.book.specs.declared.survey.Survey.{Survey}
 use Rattle.book.specs.declared.replay.Table.{Table}
 use Rattle.book.specs.declared.places.Spot.{Spot}
 use Rattle.book.specs.declared.places.Places.{Places}
-use Rattle.book.specs.Register.{standing, startIn, ask, failureCharge, Reply, refused, charge, answered, stepOf}
+use Rattle.book.specs.Register.{standing, startIn, ask, failureCharge, Reply, refused, answered, stepOf}
 use Rattle.book.specs.Amounts.{hourKey, priceOf, chargeOf, Charges, charged, no, chargesOf}
 use Rattle.book.specs.ByName.{byName}
 use Rattle.book.specs.Meaning.{Load, belongs, astray, load, Meets, chargesKeyed, hourCharges}
 use Rattle.book.specs.Tables.{Kept, Tabled, survey}
 use Rattle.book.specs.Places.{spotOf}
 use Rattle.book.specs.Built.{Built, built-none, built-more, built-all}
-use Rattle.book.specs.Worked.{Opened, Open, noSpot, Inside, chargeAtSpot, chargesIn, namedOf, noCharges}
+use Rattle.book.specs.Worked.{Opened, Open, noSpot, Inside, chargeReply, chargeAtSpot, chargesIn, namedOf, noCharges}
 use Rattle.book.specs.StandLaws.{found-at}
 use Rattle.book.specs.WorkedLaws.{inside}
 use Rattle.book.specs.ChargeLaws.{getD-same, charge-absent, charge-unpriced, charge-found, charges-absent, charges-unpriced, charges-found}
@@ -92,13 +92,13 @@ module _ {s : List ℕ} {views : List View} {n : ℕ} where
       key-unpriced h l o =
           charge-unpriced o k (sym (ap (λ (x : Survey). x .found) (ef l (o .kept) (o .count))) ∙ hf) (sym (ap (λ (x : Survey). x .found) (price-seen l o)) ∙ h)
 
-      pub key-charged : q .found ≡ true → (p : HourPrices) → p ≡ pricesIn (drop (q .start) s) → (t : Ticks) → t ≡ ticksOf (chargeIn (k .mark) (drop (f .start) s) p)
-          → (l : List Change) → Opened s views n l → isFailure (k .mark) ≡ true → charge (t .0) ≡ chargeOf k (standing l) (priceOf (standing l))
+      pub key-charged : q .found ≡ true → (p : HourPrices) → p ≡ pricesIn (drop (q .start) s) → (t : Answer) → t ≡ chargeIn (k .mark) (drop (f .start) s) p
+          → (l : List Change) → Opened s views n l → isFailure (k .mark) ≡ true → chargeReply t ≡ chargeOf k (standing l) (priceOf (standing l))
       key-charged h p ep t et l o b =
           let a = ef l (o .kept) (o .count) in
           let c = price-seen l o in
-          ap (λ (x : Ticks). charge (x .0))
-          (et ∙ ap₂ (λ (x : Survey) (y : HourPrices). ticksOf (chargeIn (k .mark) (drop (x .start) s) y)) a (ep ∙ ap (λ (x : Survey). pricesIn (drop (x .start) s)) c))
+          ap chargeReply
+          (et ∙ ap₂ (λ (x : Survey) (y : HourPrices). chargeIn (k .mark) (drop (x .start) s) y) a (ep ∙ ap (λ (x : Survey). pricesIn (drop (x .start) s)) c))
           ∙ charge-found o k b (sym (ap (λ (x : Survey). x .found) a) ∙ hf) (sym (ap (λ (x : Survey). x .found) c) ∙ h)
 
   -- ---- of a mark and hour: p are the places of its failures, v is the survey of its price

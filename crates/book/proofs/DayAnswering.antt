@@ -9,7 +9,7 @@ use lib.Seq.{getD-set-same, getD-set-other}
 use lib.Dec.{eqb}
 use borrow.Author.Tests.{eq-eqb, ne-eqb}
 use Rattle.laws.specs.Sums.{every, every-ext, last-or}
-use Rattle.book.specs.Layer.{Key, View, KeyAnswer, Change, Gh, Pr, HourPrices, Ticks, CentsPerStart, UnitPart, DayAnswer, unitPartIn, pricesIn, dayAnswer, reversal, noTicks, noStart, Asked, got, bad, askUnit, keyAnswer, askUnit-fault, unit-marked}
+use Rattle.book.specs.Layer.{Key, View, KeyAnswer, Change, Gh, Pr, HourPrices, Ticks, CentsPerStart, UnitPart, PartAnswer, DayAnswer, noPart, unitPartIn, pricesIn, dayAnswer, reversal, noTicks, noStart, Asked, got, bad, askUnit, keyAnswer, askUnit-fault, unit-marked}
 use Rattle.book.specs.declared.journal.Book.{Book}
 use Rattle.book.specs.declared.replay.Table.{Table}
 use Rattle.book.specs.declared.hours.Day.{Day}
@@ -18,7 +18,7 @@ use Rattle.book.specs.Amounts.{hourKey, priceOf, absent, payable, unitAt
 use Rattle.book.specs.Meaning.{load, Meets}
 use Rattle.book.specs.Tables.{Tabled, Stored}
 use Rattle.book.specs.Hours.{DayIs}
-use Rattle.book.specs.Worked.{Open, Opened, InDay, noPart, partAt, Parts, dayReply}
+use Rattle.book.specs.Worked.{Open, Opened, InDay, partAt, Parts, dayReply}
 use Rattle.book.specs.DayLaws.{slots-in, payable-is, day-is}
 use Rattle.book.proofs.Surveying.{to-end}
 use Rattle.book.proofs.ChargeAnswering.{opened-by}
@@ -36,14 +36,14 @@ payable-some u p h = sym (ap (λ (b : Bool). b || not (eqb p 0)) (ne-eqb u 0 h))
 module _ (s : List ℕ) (u p : Day) (j : ℕ) where
   pub part-empty : getD (u .len) j 0 ≡ 0 → noPart ≡ partAt s u p j
   unfolding partAt
-  part-empty h = sym (ap (λ (b : Bool). cond b noPart (unitPartIn (drop (getD (u .start) j 0) s) (pricesIn (drop (getD (p .start) j 0) s)))) (eq-eqb (getD (u .len) j 0) 0 h))
+  part-empty h = sym (ap (λ (b : Bool). cond b noPart (unitPartIn (drop (getD (u .start) j 0) s) (pricesIn (drop (getD (p .start) j 0) s)) .part)) (eq-eqb (getD (u .len) j 0) 0 h))
 
-  pub part-there : (getD (u .len) j 0 ≡ 0 → ⊥) → (q : HourPrices) → q ≡ pricesIn (take (length s - getD (p .start) j 0) (drop (getD (p .start) j 0) s))
-      → (r : UnitPart) → r ≡ unitPartIn (take (length s - getD (u .start) j 0) (drop (getD (u .start) j 0) s)) q → r ≡ partAt s u p j
+  pub part-there : (getD (u .len) j 0 ≡ 0 → ⊥) → (q : HourPrices) → q ≡ pricesIn (drop (getD (p .start) j 0) s)
+      → (r : PartAnswer) → r ≡ unitPartIn (take (length s - getD (u .start) j 0) (drop (getD (u .start) j 0) s)) q → r .part ≡ partAt s u p j
   unfolding partAt
   part-there h q eq r er =
-      er ∙ ap₂ unitPartIn (to-end (getD (u .start) j 0) s) (eq ∙ ap pricesIn (to-end (getD (p .start) j 0) s))
-      ∙ sym (ap (λ (b : Bool). cond b noPart (unitPartIn (drop (getD (u .start) j 0) s) (pricesIn (drop (getD (p .start) j 0) s)))) (ne-eqb (getD (u .len) j 0) 0 h))
+      ap (λ (a : PartAnswer). a .part) (er ∙ ap₂ unitPartIn (to-end (getD (u .start) j 0) s) eq)
+      ∙ sym (ap (λ (b : Bool). cond b noPart (unitPartIn (drop (getD (u .start) j 0) s) (pricesIn (drop (getD (p .start) j 0) s)) .part)) (ne-eqb (getD (u .len) j 0) 0 h))
 
 -- ---- the loop over the hours
 

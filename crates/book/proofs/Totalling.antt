@@ -5,8 +5,7 @@ use mathlib.Core.List.{List, [], _∷_}
 use native.Mathlib.Omega.{arith}
 use lib.ListN.{length, take, drop, getD, replicate}
 use lib.Seq.{drop-cons, getD-take, length-take-le}
-use Rattle.book.specs.Layer.{Quantity, noQuantity, exportIn, totalsWith}
-use Rattle.records.specs.declared.layouts.Export.{Export}
+use Rattle.book.specs.Layer.{Quantity, noQuantity, totalsWithIn}
 use Rattle.book.specs.declared.places.Spot.{Spot}
 use Rattle.book.specs.Worked.{totalsFrom, totalsIn, noSpot}
 
@@ -18,16 +17,16 @@ pub record Totalling (s : List ℕ) (n : ℕ) (at : List Spot) (sums : List Quan
 pub totalling-start : (s : List ℕ) (n : ℕ) (at : List Spot) → Totalling s n at (replicate 12 noQuantity) 0
 totalling-start s n at = record { upto = omega arith; whole = refl }
 
-pub totalling-more : {s : List ℕ} {n : ℕ} {at : List Spot} {sums next : List Quantity} {i : ℕ} {x : Export} → Totalling s n at sums i → i < n → n ≤ length at
-    → x ≡ exportIn (drop (getD at i noSpot .start) s) → next ≡ totalsWith sums (x .mqsw) → Totalling s n at next (i + 1)
+pub totalling-more : {s : List ℕ} {n : ℕ} {at : List Spot} {sums next : List Quantity} {i : ℕ} → Totalling s n at sums i → i < n → n ≤ length at
+    → next ≡ totalsWithIn (drop (getD at i noSpot .start) s) sums .totals → Totalling s n at next (i + 1)
 unfolding totalsFrom
-totalling-more {s} {n} {at} {sums} {next} {i} {x} t h l ex en =
+totalling-more {s} {n} {at} {sums} {next} {i} t h l en =
     let one : suc i ≡ i + 1 = omega arith in
     let e : drop i (take n at) ≡ getD at i noSpot ∷ drop (i + 1) (take n at) =
     drop-cons (take n at) i noSpot (omega (arith, length-take-le n at l)) ∙ ap₂ (λ (y : Spot) (k : ℕ). y ∷ drop k (take n at)) (getD-take n at i noSpot h) one in
     record {
       upto = omega arith;
-      whole = t .whole ∙ ap (totalsFrom sums s) e ∙ ap (λ (y : List Quantity). totalsFrom y s (drop (i + 1) (take n at))) (ap (λ (y : Export). totalsWith sums (y .mqsw)) (sym ex) ∙ sym en);
+      whole = t .whole ∙ ap (totalsFrom sums s) e ∙ ap (λ (y : List Quantity). totalsFrom y s (drop (i + 1) (take n at))) (sym en);
     }
 
 pub totalling-all : {s : List ℕ} {n : ℕ} {at : List Spot} {sums : List Quantity} {i : ℕ} → Totalling s n at sums i → n ≤ i → sums ≡ totalsIn s (take n at)

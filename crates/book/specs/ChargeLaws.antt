@@ -7,13 +7,13 @@ use native.Mathlib.Omega.{arith}
 use native.Mathlib.Nat.{not-suc-le-zero, le-of-suc-le-suc}
 use lib.ListN.{length, drop, getD}
 use Rattle.money.specs.Refusals.{noSuchKey, priceMissing}
-use Rattle.book.specs.Layer.{Key, View, Rec, Change, Mark, Pr, HourPrices, PricesFit, Ticks, isFailure, hour-parts, pricesIn, chargeIn, chargeTicks, ticksOf, charge-written}
-use Rattle.book.specs.Register.{standing, startIn, refused, charge}
+use Rattle.book.specs.Layer.{Key, View, Rec, Change, Mark, Pr, HourPrices, PricesFit, Ticks, isFailure, hour-parts, pricesIn, chargeIn, chargeTicks, Amount, charge-written}
+use Rattle.book.specs.Register.{standing, startIn, refused}
 use Rattle.book.specs.Amounts.{Pick, Price, priced, unpriced, hourKey, priceFrom, priceOf, chargeAt, chargeOf, charged, no, chargeLine, chargesAt, chargesOf}
 use Rattle.book.specs.ByName.{byName}
 use Rattle.book.specs.Tables.{survey}
 use Rattle.book.specs.Places.{spotOf}
-use Rattle.book.specs.Worked.{Opened, chargesIn, namedOf}
+use Rattle.book.specs.Worked.{Opened, ticksOf, chargeReply, chargesIn, namedOf}
 use Rattle.book.specs.StandLaws.{All, also, At, found-at, none-at}
 use Rattle.book.specs.WorkedLaws.{Here, here}
 use Rattle.book.specs.DayLaws.{price-found}
@@ -28,9 +28,8 @@ abbrev pub ticksAt : HourPrices → Rec → Ticks
 ticksAt p r = record { 0 = chargeTicks r p }
 
 -- the charge of a failure that is written at a place
-charge-at : {s : List ℕ} (p : HourPrices) → PricesFit p → (m : Mark) → isFailure m ≡ true → (x : ℕ) (r : Rec) → At s x r → m ≡ r .key .mark → ticksOf (chargeIn m (drop x s) p) ≡ ticksAt p r
-charge-at p f m b x r w e =
-    ap₂ (λ (a : Mark) (u : List ℕ). ticksOf (chargeIn a u p)) e (w .bytes) ∙ ap ticksOf (charge-written r p (w .rest) (w .good) (sym (ap isFailure e) ∙ b) f)
+charge-at : {s : List ℕ} (p : HourPrices) → PricesFit p → (m : Mark) → isFailure m ≡ true → (x : ℕ) (r : Rec) → At s x r → m ≡ r .key .mark → chargeIn m (drop x s) p ≡ Amount (ticksAt p r)
+charge-at p f m b x r w e = ap₂ (λ (a : Mark) (u : List ℕ). chargeIn a u p) e (w .bytes) ∙ charge-written r p (w .rest) (w .good) (sym (ap isFailure e) ∙ b) f
 
 -- ---- a list of failures: no price is needed for none
 
@@ -63,12 +62,12 @@ module _ {s : List ℕ} {views : List View} {n : ℕ} {l : List Change} (o : Ope
     charge-unpriced e f = sym (ap₂ chargeAt (found-at o k e .picked) (unpriced-at (k .hour) f))
 
     pub charge-found : isFailure (k .mark) ≡ true → survey k l .found ≡ true → survey (hourKey Pr (k .hour)) l .found ≡ true
-        → charge (ticksOf (chargeIn (k .mark) (drop (survey k l .start) s) (pricesIn (drop (survey (hourKey Pr (k .hour)) l .start) s))) .0) ≡ chargeOf k (standing l) (priceOf (standing l))
+        → chargeReply (chargeIn (k .mark) (drop (survey k l .start) s) (pricesIn (drop (survey (hourKey Pr (k .hour)) l .start) s))) ≡ chargeOf k (standing l) (priceOf (standing l))
     unfolding chargeOf
     charge-found b e f =
         let w = found-at o k e in
         let c = price-found o (k .hour) (found-at o (hourKey Pr (k .hour)) f) in
-        ap (λ (t : Ticks). charge (t .0)) (charge-at (pricesIn (drop (survey (hourKey Pr (k .hour)) l .start) s)) (c .fits) (k .mark) b (survey k l .start) (w .what) (w .at) (w .mark))
+        ap chargeReply (charge-at (pricesIn (drop (survey (hourKey Pr (k .hour)) l .start) s)) (c .fits) (k .mark) b (survey k l .start) (w .what) (w .at) (w .mark))
         ∙ sym (ap₂ chargeAt (w .picked) (c .is-priced))
 
   -- ---- of a mark and hour
@@ -77,7 +76,7 @@ module _ {s : List ℕ} {views : List View} {n : ℕ} {l : List Change} (o : Ope
   unfolding chargesIn
   charges-are p f k b [] a = refl
   charges-are p f k b (r ∷ rs) (also c a) =
-      ap₂ _∷_ (charge-at p f (k .mark) b (survey (r .key) l .start) r (c .0 .at) (hour-parts k (r .key) (c .1) .0)) (charges-are p f k b rs a)
+      ap₂ _∷_ (ap ticksOf (charge-at p f (k .mark) b (survey (r .key) l .start) r (c .0 .at) (hour-parts k (r .key) (c .1) .0))) (charges-are p f k b rs a)
 
   named-are : (p : HourPrices) (k : Key) (rs : List Rec) → All (Here o k) rs → namedOf (map (spotOf l) rs) (map (ticksAt p) rs) ≡ map (chargeLine (startIn l) p) rs
   unfolding namedOf

@@ -8,13 +8,13 @@ use lib.ListN.{getD, drop}
 use lib.IntN.{ℤ, pos, _+ℤ_}
 use lib.Dec.{eqb}
 use Rattle.laws.specs.Sums.{Σℤ-ext, every, every-at, every-ext}
-use Rattle.book.specs.Layer.{Key, View, Rec, Change, Gh, Pr, PricesFit, Ticks, CentsPerStart, UnitPart, atHour, at-hour, pricesIn, pricesOf, prices-view, standing-prices, unitPartIn, unit-written, unit-ready, unitTicks, startCents, unitHourOf, dayAnswer, day-amount, amount-ok, amountOk, noTicks, noStart, hourPart, daySum, day-sum, reversal}
+use Rattle.book.specs.Layer.{Key, View, Rec, Change, Gh, Pr, PricesFit, Ticks, CentsPerStart, UnitPart, PartAnswer, noPart, atHour, at-hour, pricesIn, pricesOf, prices-there, standing-prices, unitPartIn, unit-written, unit-ready, unitTicks, startCents, unitHourOf, dayAnswer, day-amount, amount-ok, amountOk, noTicks, noStart, hourPart, daySum, day-sum, reversal}
 use Rattle.book.specs.declared.hours.Day.{Day}
 use Rattle.book.specs.Register.{standing, refused, place, placeOf, unitDay}
 use Rattle.book.specs.Amounts.{Pick, is, nil, pick, Price, priced, unpriced, hourKey, priceFrom, priceOf, hourTicks, absent, payable, unitAt, dayTotal}
 use Rattle.book.specs.Tables.{survey}
 use Rattle.book.specs.Hours.{slot, DayIs}
-use Rattle.book.specs.Worked.{Opened, noPart, partAt, Parts, dayReply}
+use Rattle.book.specs.Worked.{Opened, partAt, Parts, dayReply}
 use Rattle.book.specs.RegisterLaws.{by-test, true≠false}
 use Rattle.book.specs.PlaceLaws.{survey-place}
 use Rattle.book.specs.StandLaws.{Found, found-at, none-at}
@@ -63,7 +63,7 @@ module _ {s : List ℕ} {views : List View} {n : ℕ} {l : List Change} (o : Ope
   price-found h f =
       let w = f .at in
       let mk : f .what .key .mark ≡ Pr = sym (f .mark) in
-      let v : pricesIn (drop (survey (hourKey Pr h) l .start) s) ≡ pricesOf (f .what) = ap pricesIn (w .bytes) ∙ prices-view (f .what) (w .good) (w .rest) mk in
+      let v : pricesIn (drop (survey (hourKey Pr h) l .start) s) ≡ pricesOf (f .what) = ap pricesIn (w .bytes) ∙ prices-there (f .what) (w .good) (w .rest) mk in
       record { is-priced = ap priceFrom (f .picked) ∙ ap priced (sym v); fits = subst PricesFit (sym v) (standing-prices (f .what) (w .good) mk) }
 
   module _ (k : Key) (marked : k .mark ≡ Gh) (u p : Day) (du : DayIs k l u) (dp : DayIs (hourKey Pr 1) l p) where
@@ -106,7 +106,7 @@ module _ {s : List ℕ} {views : List View} {n : ℕ} {l : List Change} (o : Ope
     unfolding partAt
     part-none j lt e =
         let z = slots-in k u du j lt .none ∙ ap absent e in
-        let q : partAt s u p j ≡ noPart = ap (λ (b : Bool). cond b noPart (unitPartIn (drop (getD (u .start) j 0) s) (pricesIn (drop (getD (p .start) j 0) s)))) z in
+        let q : partAt s u p j ≡ noPart = ap (λ (b : Bool). cond b noPart (unitPartIn (drop (getD (u .start) j 0) s) (pricesIn (drop (getD (p .start) j 0) s)) .part)) z in
         record {
           adds = ap (λ (x : UnitPart). x .ticks .0 +ℤ pos (x .start .0 * 120)) q ∙ sym (ap (λ (x : Pick). hourTicks x (price (1 + j))) e);
           taken = ap (λ (x : UnitPart). amountOk (x .ticks) (x .start)) q ∙ amount-ok noTicks noStart (omega arith) (omega arith);
@@ -126,10 +126,10 @@ module _ {s : List ℕ} {views : List View} {n : ℕ} {l : List Change} (o : Ope
         let fr : f .what ≡ r = cc (sym (f .picked) ∙ e) in
         let mk : f .what .key .mark ≡ Gh = sym (f .mark) ∙ ap (λ (a : Key). a .mark) (at-hour k (1 + j)) ∙ marked in
         let q : partAt s u p j ≡ record { ticks = record { 0 = unitTicks (f .what) ps }; start = unitHourOf (f .what) .startup } =
-        ap (λ (b : Bool). cond b noPart (unitPartIn (drop (getD (u .start) j 0) s) (pricesIn (drop (getD (p .start) j 0) s)))) z
-        ∙ ap₂ (λ (a b : ℕ). unitPartIn (drop a s) (pricesIn (drop b s))) (w .at z) (v .at y)
-        ∙ ap (λ (a : List ℕ). unitPartIn a ps) (f .at .bytes)
-        ∙ unit-written (f .what) ps (f .at .rest) (f .at .good) mk (c .fits) in
+        ap (λ (b : Bool). cond b noPart (unitPartIn (drop (getD (u .start) j 0) s) (pricesIn (drop (getD (p .start) j 0) s)) .part)) z
+        ∙ ap₂ (λ (a b : ℕ). unitPartIn (drop a s) (pricesIn (drop b s)) .part) (w .at z) (v .at y)
+        ∙ ap (λ (a : List ℕ). unitPartIn a ps .part) (f .at .bytes)
+        ∙ ap (λ (a : PartAnswer). a .part) (unit-written (f .what) ps (f .at .rest) (f .at .good) mk (c .fits)) in
         record {
           adds = ap (λ (a : UnitPart). a .ticks .0 +ℤ pos (a .start .0 * 120)) q
               ∙ ap (λ (a : Rec). unitTicks a ps +ℤ pos (startCents a * 120)) fr

@@ -26,21 +26,25 @@ pub use Rattle.records.specs.Names.{noOne}
 pub use Rattle.records.specs.Numbers.{pad}
 -- amounts: what a record is to the money rules, and the rules themselves
 pub use Rattle.records.specs.declared.layouts.HourPrices.{HourPrices}
+pub use Rattle.records.specs.declared.views.PricesAnswer.{PricesAnswer}
 pub use Rattle.records.specs.declared.amounts.UnitPart.{UnitPart}
-pub use Rattle.records.specs.Views.{pricesOf, exportOf, unitHourOf, pricesIn, exportIn, unitIn}
+pub use Rattle.records.specs.declared.amounts.EntryAnswer.{EntryAnswer}
+pub use Rattle.records.specs.declared.amounts.PartAnswer.{PartAnswer}
+pub use Rattle.records.specs.declared.amounts.TotalsAnswer.{TotalsAnswer}
+pub use Rattle.records.specs.Views.{pricesOf, exportOf, unitHourOf, pricesIn}
 pub use Rattle.records.specs.Amounts.{quantityAt, noQuantity, rowOf, entry, entryFault, totalsWith, offset, offsetAnswer, amountOk, hourPart, daySum, dayAnswer, reversal, noTicks, noStart, nameOf, nameBefore}
-pub use Rattle.records.specs.Amounts.{creditTicks, unitTicks, startCents, chargeTicks, offsetEntry, offsetEntryIn, unitAmountIn, unitPartIn, chargeIn, ticksOf}
+pub use Rattle.records.specs.Amounts.{creditTicks, unitTicks, startCents, chargeTicks, offsetEntry, offsetEntryIn, noPart, unitPartIn, totalsWithIn, chargeIn}
 pub use Rattle.money.specs.declared.units.Quantity.{Quantity}
 pub use Rattle.money.specs.declared.units.Ticks.{Ticks}
 pub use Rattle.money.specs.declared.imports.Import.{Import}
 pub use Rattle.money.specs.declared.units.Answer.{Answer}
-pub use Rattle.money.specs.declared.units.Answer.the-variants.{Amount}
+pub use Rattle.money.specs.declared.units.Answer.the-variants.{Amount, Refused as NoAmount}
 pub use Rattle.money.specs.declared.production.DayAnswer.{DayAnswer}
 pub use Rattle.money.specs.declared.production.DayAnswer.the-variants.{Day, Refused}
 pub use Rattle.money.specs.declared.units.CentsPerStart.{CentsPerStart}
 -- laws
 pub use Rattle.records.specs.BookLaws.{scan-write, Found, scan-got, Taken, parse-fine, parse-fault, Unread, write-pos, write-co, good-co, same-refl, same-sym, same-left, same-right, hour-right, same-alike, Padded, good-padded, same-true, sameHour-same, hour-parts, parts-hour, bare-exact, Read, view-bad, view-got, askBytes, asked, ask-fault, askHour-fault, askHourOf-fault, askUnit-fault, askFailure-fault, hour-asked, unit-marked, failure-marked, names-apart, limit-most, limit-same, good-hour, same-at, at-hour, store-front, store-length}
-pub use Rattle.records.specs.BookLaws.{PricesFit, prices-view, standing-prices, export-view, standing-export, unit-written, charge-written, entry-view, entry-sound, unit-ready}
+pub use Rattle.records.specs.BookLaws.{PricesFit, prices-there, standing-prices, totals-written, standing-export, unit-written, charge-written, entry-view, entry-sound, unit-ready}
 pub use Rattle.records.specs.BookLaws.{row-at, row-same, row-none, quantity-most, totals-more, rates-ok, offset-amount, answer-front, day-amount, day-sum, amount-ok, same-names, name-trans, name-tri, name-self}
 pub use Rattle.records.specs.BookLaws.{Unread, bare-early}
 pub use Rattle.records.specs.PriceExample.{priceBytes, priceRecord, price-read, price-length, price-limit}

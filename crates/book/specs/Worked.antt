@@ -6,12 +6,12 @@ use mathlib.Core.Bool.{cond}
 use lib.ListN.{length, take, drop, getD, replicate}
 use lib.IntN.{pos}
 use lib.Dec.{eqb}
-use Rattle.book.specs.Layer.{View, Change, Mark, UnitPart, CentsPerStart, unitPartIn, HourPrices, Quantity, Ticks, Import, Amount, DayAnswer, Day, Refused, noQuantity, offsetEntryIn, exportIn, pricesIn, chargeIn, ticksOf, totalsWith, offset, offsetAnswer, noTicks, noStart}
+use Rattle.book.specs.Layer.{View, Change, Mark, UnitPart, CentsPerStart, noPart, unitPartIn, HourPrices, Quantity, Ticks, Import, Answer, Amount, NoAmount, DayAnswer, Day, Refused, noQuantity, offsetEntryIn, pricesIn, chargeIn, totalsWithIn, offset, offsetAnswer, noTicks, noStart}
 use Rattle.book.specs.declared.answers.NamedAmount.{NamedAmount}
 use Rattle.book.specs.declared.hours.Day as day
 use Rattle.book.specs.declared.places.Spot.{Spot}
 use Rattle.book.specs.declared.places.Places.{Places}
-use Rattle.book.specs.Register.{writeAll, Reply, refused, guarantees, unitDay}
+use Rattle.book.specs.Register.{writeAll, Reply, refused, guarantees, unitDay, charge}
 use Rattle.book.specs.Amounts.{Charges, charged, no}
 use Rattle.book.specs.Meaning.{Valid}
 use Rattle.book.specs.Tables.{Kept}
@@ -41,7 +41,7 @@ pub record Inside (s : List ℕ) (p : Places) : Type 0 where
   pub each : (i : ℕ) → i < p .n → getD (p .at) i noSpot .start ≤ length s
 
 abbrev pub entryAt : List ℕ → HourPrices → Spot → Import
-entryAt s p x = offsetEntryIn (drop (x .start) s) p
+entryAt s p x = offsetEntryIn (drop (x .start) s) p .entry
 
 unfoldable pub entriesIn : List ℕ → HourPrices → List Spot → List Import
 entriesIn s p xs = map (entryAt s p) xs
@@ -52,7 +52,7 @@ entryCredit e = e .credit
 -- the quantities of each export added, from the first on
 unfoldable pub totalsFrom : List Quantity → List ℕ → List Spot → List Quantity
 totalsFrom sums s [] = sums
-totalsFrom sums s (x ∷ xs) = totalsFrom (totalsWith sums (exportIn (drop (x .start) s) .mqsw)) s xs
+totalsFrom sums s (x ∷ xs) = totalsFrom (totalsWithIn (drop (x .start) s) sums .totals) s xs
 
 abbrev pub totalsIn : List ℕ → List Spot → List Quantity
 totalsIn s xs = totalsFrom (replicate 12 noQuantity) s xs
@@ -79,6 +79,15 @@ noGuarantees n = cond (eqb n 0) (guarantees [] (pos 0)) (refused n)
 abbrev pub noCharges : ℕ → Charges
 noCharges n = cond (eqb n 0) (charged []) (no n)
 
+-- the ticks of an amount: no charge of a standing record is refused, so that 0 is never taken
+abbrev pub ticksOf : Answer → Ticks
+ticksOf (Amount t) = t
+ticksOf (NoAmount n) = noTicks
+
+abbrev pub chargeReply : Answer → Reply
+chargeReply (Amount t) = charge (t .0)
+chargeReply (NoAmount n) = refused n
+
 abbrev pub chargeAtSpot : List ℕ → Mark → HourPrices → Spot → Ticks
 chargeAtSpot s m p x = ticksOf (chargeIn m (drop (x .start) s) p)
 
@@ -90,11 +99,8 @@ chargesIn s m p xs = map (chargeAtSpot s m p) xs
 abbrev pub InDay : List ℕ → day.Day → Type 0
 InDay s d = (j : ℕ) → j < 24 → getD (d .start) j 0 ≤ length s
 
-abbrev pub noPart : UnitPart
-noPart = record { ticks = noTicks; start = noStart }
-
 unfoldable pub partAt : List ℕ → day.Day → day.Day → ℕ → UnitPart
-partAt s u p j = cond (eqb (getD (u .len) j 0) 0) noPart (unitPartIn (drop (getD (u .start) j 0) s) (pricesIn (drop (getD (p .start) j 0) s)))
+partAt s u p j = cond (eqb (getD (u .len) j 0) 0) noPart (unitPartIn (drop (getD (u .start) j 0) s) (pricesIn (drop (getD (p .start) j 0) s)) .part)
 
 pub record Parts (s : List ℕ) (u p : day.Day) (ts : List Ticks) (ss : List CentsPerStart) (n : ℕ) : Type 0 where
   pub ticks : (j : ℕ) → j < n → getD ts j noTicks ≡ partAt s u p j .ticks

@@ -8,7 +8,7 @@ use native.Mathlib.Nat.{not-suc-le-zero, le-of-suc-le-suc}
 use lib.ListN.{length, drop, getD, length-map}
 use lib.Seq.{getD-take, length-take-le}
 use Rattle.records.specs.Amounts.{sameName}
-use Rattle.book.specs.Layer.{Key, View, Rec, Change, HourPrices, PricesFit, Quantity, Import, Amount, Im, Ex, quantityAt, rowOf, row-none, row-at, row-same, totalsWith, totals-more, quantity-most, rates-ok, entry, entryFault, offset, offsetAnswer, offset-amount, offsetEntry, offsetEntryIn, exportOf, exportIn, export-view, standing-export, entry-view, entry-sound, creditTicks, same-names, sameHour, hour-parts}
+use Rattle.book.specs.Layer.{Key, View, Rec, Change, HourPrices, PricesFit, Quantity, Import, Amount, Im, Ex, quantityAt, rowOf, row-none, row-at, row-same, totalsWith, totalsWithIn, totals-written, totals-more, quantity-most, rates-ok, entry, entryFault, offset, offsetAnswer, offset-amount, offsetEntry, offsetEntryIn, EntryAnswer, TotalsAnswer, exportOf, standing-export, entry-view, entry-sound, creditTicks, same-names, sameHour, hour-parts}
 use Rattle.book.specs.declared.places.Spot.{Spot}
 use Rattle.book.specs.declared.places.Places.{Places}
 use Rattle.book.specs.Register.{standing, startIn, guarantees}
@@ -64,7 +64,8 @@ module _ {s : List ℕ} {views : List View} {n : ℕ} {l : List Change} (o : Ope
   entries-are p f h (r ∷ rs) (also b a) =
       let w = b .0 .at in
       ap₂ _∷_
-      (ap (λ (x : List ℕ). offsetEntryIn x p) (w .bytes) ∙ entry-view r p (w .rest) (w .good) (sym (hour-parts (hourKey Im h) (r .key) (b .1) .0)) f)
+      (ap (λ (x : List ℕ). offsetEntryIn x p .entry) (w .bytes)
+      ∙ ap (λ (a : EntryAnswer). a .entry) (entry-view r p (w .rest) (w .good) (sym (hour-parts (hourKey Im h) (r .key) (b .1) .0)) f))
       (entries-are p f h rs a)
 
   pub named-are : (p : HourPrices) (k : Key) (rs : List Rec) → All (Here k) rs → namedOf (map (spotOf l) rs) (map entryCredit (map (offsetEntry p) rs)) ≡ map (creditAt (startIn l) p) rs
@@ -83,11 +84,12 @@ module _ {s : List ℕ} {views : List View} {n : ℕ} {l : List Change} (o : Ope
       let w = c .0 .at in
       let mk = sym (hour-parts (hourKey Ex h) (r .key) (c .1) .0) in
       let q = exportOf r .mqsw in
-      let ex : exportIn (drop (spotOf l r .start) s) ≡ exportOf r = ap exportIn (w .bytes) ∙ export-view r (w .good) (w .rest) mk in
+      let ts = rowOf 0 12 f in
+      let ex : totalsWithIn (drop (spotOf l r .start) s) ts .totals ≡ totalsWith ts q =
+      ap (λ (x : List ℕ). totalsWithIn x ts .totals) (w .bytes) ∙ ap (λ (a : TotalsAnswer). a .totals) (totals-written r ts (w .rest) (w .good) mk) in
       let most = quantity-most q (standing-export r (w .good) mk) in
       let g : ℕ → ℕ = λ k. f k + quantityAt q k in
-      ap (λ x. totalsFrom (totalsWith (rowOf 0 12 f) (x .mqsw)) s (map (spotOf l) rs)) ex
-      ∙ ap (λ x. totalsFrom x s (map (spotOf l) rs)) (totals-more (rowOf 0 12 f) q f (row-at 12 f) (λ k i. omega (arith, b k i, most k i)))
+      ap (λ x. totalsFrom x s (map (spotOf l) rs)) (ex ∙ totals-more (rowOf 0 12 f) q f (row-at 12 f) (λ k i. omega (arith, b k i, most k i)))
       ∙ totals-from h (m + 1) g rs a (λ k i. omega (arith, b k i, most k i)) (omega arith)
       ∙ row-same 12 (λ (k : ℕ). g k + exported rs k) (λ (k : ℕ). f k + (quantityAt q k + exported rs k)) (λ k i. omega arith)
 

@@ -3,6 +3,7 @@ use crate::answers::Answer;
 use crate::hours;
 use crate::hours::Day;
 use crate::journal::Book;
+use crate::prices::prices_at;
 use money::production::DayAnswer;
 use money::refusals::NO_SUCH_KEY;
 use money::refusals::NOT_TOGETHER;
@@ -17,7 +18,6 @@ use records::keys::key_of;
 use records::keys::unit_key;
 use records::marks::Mark;
 use records::scan::View;
-use records::views::prices_of;
 ghost use mathlib.Core.Path.{_≡_};
 ghost use mathlib.Core.Bool.{_||_, not};
 ghost use mathlib.Core.List.{List};
@@ -90,7 +90,8 @@ fn part_at(log: &[u8], units: Day, prices: Day, j: usize) -> UnitPart
     }
     let a = units.start[j];
     let b = prices.start[j];
-    unit_part(&log[a..], prices_of(&log[b..]))
+    let p = unit_part(&log[a..], prices_at(log, b));
+    p.part
 }
 
 fn parts_of(log: &[u8], units: Day, prices: Day) -> DayParts

@@ -6,13 +6,15 @@ use crate::guarantees::no_amounts;
 use crate::journal::Book;
 use crate::places;
 use crate::places::Places;
+use crate::prices::prices_at;
 use crate::survey;
 use money::refusals::NO_SUCH_KEY;
 use money::refusals::NOT_TOGETHER;
 use money::refusals::PRICE_MISSING;
 use money::refusals::UNKNOWN_MARK;
+use money::units::Answer as Charged;
 use money::units::Ticks;
-use records::amounts::charge_ticks;
+use records::amounts::failure_charge;
 use records::keys::Key;
 use records::keys::ask_failure;
 use records::keys::hour_key;
@@ -21,7 +23,6 @@ use records::layouts::HourPrices;
 use records::marks::Mark;
 use records::marks::is_failure;
 use records::scan::View;
-use records::views::prices_of;
 ghost use mathlib.Core.Path.{_≡_};
 ghost use mathlib.Core.Bool.{true};
 ghost use mathlib.Core.List.{List};
@@ -32,7 +33,16 @@ ghost use Rattle.book.specs.Register.{standing, startIn, ask, failureCha
 ghost use Rattle.book.specs.Meaning.{Meets, replyOf, load, chargesReply, hourCharges};
 ghost use Rattle.book.specs.Amounts.{hourKey, chargeOf, chargesOf, priceOf};
 ghost use Rattle.book.specs.Handed.{chargesFrom};
-ghost use Rattle.book.specs.Worked.{Inside, chargesIn, noCharges, Open, Opened};
+ghost use Rattle.book.specs.Worked.{Inside, ticksOf, chargeReply, chargesIn, noCharges, Open, Opened};
+
+fn answer_of(a: Charged) -> Answer
+    ensures { λ r. ⌜ replyOf r ≡ chargeReply a ⌝ }
+{
+    match a {
+        Charged::Amount(ticks) => Answer::Charge(ticks),
+        Charged::Refused(k) => Answer::Refused(k),
+    }
+}
 
 // By the kept views of n changes, for a key.
 fn of_key(log: &[u8], views: [View; 512], n: usize, key: Key) -> Answer
@@ -44,14 +54,24 @@ fn of_key(log: &[u8], views: [View; 512], n: usize, key: Key) -> Answer
         let p = survey::look_in(views, n, key_of(Mark::Pr, key.hour));
         if p.found {
             let at = p.start;
-            let prices = prices_of(&log[at..]);
+            let prices = prices_at(log, at);
             let mark = key.mark;
             let start = f.start;
-            return Answer::Charge(charge_ticks(&log[start..], mark, prices));
+            return answer_of(failure_charge(&log[start..], mark, prices));
         }
         return Answer::Refused(PRICE_MISSING);
     }
     Answer::Refused(NO_SUCH_KEY)
+}
+
+// The ticks of an amount. No charge of a standing record is refused.
+fn ticks_of(a: Charged) -> Ticks
+    ensures { λ r. ⌜ r ≡ ticksOf a ⌝ }
+{
+    match a {
+        Charged::Amount(t) => t,
+        Charged::Refused(_k) => Ticks(0),
+    }
 }
 
 // The charges of the failures at the places.
@@ -64,7 +84,7 @@ fn charges_at(log: &[u8], p: Places, mark: Mark, prices: HourPrices) -> [Ticks; 
     while i < p.n {
         let x = p.at[i];
         let start = x.start;
-        let c = charge_ticks(&log[start..], mark, prices);
+        let c = ticks_of(failure_charge(&log[start..], mark, prices));
         ticks[i] = c;
         i = i + 1;
     }
@@ -90,7 +110,7 @@ fn of_hour(log: &[u8], views: [View; 512], n: usize, mark: Mark, hour: u8) -> Ch
     let p = survey::look_in(views, n, key_of(Mark::Pr, hour));
     if p.found {
         let at = p.start;
-        let prices = prices_of(&log[at..]);
+        let prices = prices_at(log, at);
         let ticks = charges_at(log, failures, mark, prices);
         let charges = named(failures, ticks);
         return Charges { number: 0, charges };

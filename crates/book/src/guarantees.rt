@@ -5,6 +5,7 @@ use crate::answers::NamedAmount;
 use crate::journal::Book;
 use crate::places;
 use crate::places::Places;
+use crate::prices::prices_at;
 use crate::survey;
 use money::imports::Import;
 use money::refusals::NOT_TOGETHER;
@@ -21,7 +22,6 @@ use records::layouts::HourPrices;
 use records::marks::Mark;
 use records::names::no_name;
 use records::scan::View;
-use records::views::prices_of;
 ghost use mathlib.Core.Path.{_≡_};
 ghost use mathlib.Core.List.{List, [], map};
 ghost use lib.ListN.{take};
@@ -38,13 +38,15 @@ fn entries_at(log: &[u8], p: Places, prices: HourPrices) -> [Import; 16]
     requires { ⌜ Inside (now log) p ⌝ }
     ensures { λ r. ⌜ take (p .n) r ≡ entriesIn (now (log .entry)) prices (take (p .n) (p .at)) ⌝ }
 {
-    let none = offset_entry(&log[..0], prices);
+    let blank = offset_entry(&log[..0], prices);
+    let none = blank.entry;
     let mut entries = [none; 16];
     let mut i: usize = 0;
     while i < p.n {
         let x = p.at[i];
         let start = x.start;
-        let e = offset_entry(&log[start..], prices);
+        let a = offset_entry(&log[start..], prices);
+        let e = a.entry;
         entries[i] = e;
         i = i + 1;
     }
@@ -61,7 +63,8 @@ fn totals_at(log: &[u8], p: Places) -> [Quantity; 12]
     while i < p.n {
         let x = p.at[i];
         let start = x.start;
-        let next = totals_with_export(&log[start..], sums);
+        let a = totals_with_export(&log[start..], sums);
+        let next = a.totals;
         sums = next;
         i = i + 1;
     }
@@ -167,7 +170,7 @@ fn of_hour(log: &[u8], views: [View; 512], n: usize, hour: u8) -> Guarantees
     if p.found {
         let exports = places::gather_in(views, n, key_of(Mark::Ex, hour));
         let at = p.start;
-        let prices = prices_of(&log[at..]);
+        let prices = prices_at(log, at);
         return worked(log, imports, exports, prices);
     }
     no_guarantees(PRICE_MISSING)

@@ -10,6 +10,7 @@ pub mod hours;
 mod index;
 pub mod journal;
 pub mod places;
+mod prices;
 pub mod questions;
 mod refusal;
 mod replay;

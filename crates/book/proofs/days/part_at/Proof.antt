@@ -1,5 +1,6 @@
 use Rattle.book.proofs.DayAnswering.{part-empty, part-there}
 use borrow.Author.Needs.{needs}
+use native.Mathlib.Omega.{arith}
 use Rattle.book.proofs.days.part_at.Statement.{statement}
 use Rattle.book.proofs.days.part_at.Tie as tie
 
@@ -33,23 +34,14 @@ part-unit-part-start c = (c .before .before .before .before .before .pre) .0 ((c
 part-unit-part-end : tie.Need-part-unit-part-end
 part-unit-part-end c = search needs
 
-sub-prices-of : tie.Need-sub-prices-of
-sub-prices-of c = (c .before .before .before .before .before .before .pre) .1 .0 ((c .before .before .before .before .before .before .args) .j) ((c .before .before .before .before .before .before .pre) .1 .1)
-
-part-prices-of-start : tie.Need-part-prices-of-start
-part-prices-of-start c = (c .before .before .before .before .before .before .pre) .1 .0 ((c .before .before .before .before .before .before .args) .j) ((c .before .before .before .before .before .before .pre) .1 .1)
-
-part-prices-of-end : tie.Need-part-prices-of-end
-part-prices-of-end c = search needs
-
-prices-of-requires : tie.Need-prices-of-requires
-prices-of-requires c κs = search needs
+prices-at-requires : tie.Need-prices-at-requires
+prices-at-requires c κs = (c .before .before .before .before .before .before .pre) .1 .0 ((c .before .before .before .before .before .before .args) .j) ((c .before .before .before .before .before .before .pre) .1 .1)
 
 unit-part-requires : tie.Need-unit-part-requires
 unit-part-requires c κs = search needs
 
 returns-2 : tie.Need-returns-2
-returns-2 c = part-there ((c .before .before .before .before .before .before .before .before .before .args) .log .now) ((c .before .before .before .before .before .before .before .before .before .args) .t2) ((c .before .before .before .before .before .before .before .before .before .args) .t3) ((c .before .before .before .before .before .before .before .before .before .args) .j) ((c .before .before .before .before .before .before .if1) .left) ((c .before .prices-of) .result) ((c .before .prices-of) .ensures) ((c .unit-part) .result) ((c .unit-part) .ensures)
+returns-2 c = part-there ((c .before .before .before .before .before .before .before .before .before .args) .log .now) ((c .before .before .before .before .before .before .before .before .before .args) .t2) ((c .before .before .before .before .before .before .before .before .before .args) .t3) ((c .before .before .before .before .before .before .before .before .before .args) .j) ((c .before .before .before .before .before .before .if1) .left) ((c .before .before .prices-at) .result) ((c .before .before .prices-at) .ensures) ((c .before .unit-part) .result) ((c .before .unit-part) .ensures)
 
 pub part-at-spec : {M : Type 1} → statement M
 part-at-spec =
@@ -65,9 +57,6 @@ part-at-spec =
     sub-unit-part
     part-unit-part-start
     part-unit-part-end
-    sub-prices-of
-    part-prices-of-start
-    part-prices-of-end
-    prices-of-requires
+    prices-at-requires
     unit-part-requires
     returns-2)

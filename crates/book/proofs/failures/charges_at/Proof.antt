@@ -2,7 +2,8 @@ use Prim.Native.Nat.{ℕ, _-_, _≤_}
 use mathlib.Core.Path.{refl, ap, _∙_}
 use mathlib.Core.List.{List}
 use lib.ListN.{getD, length}
-use Rattle.book.specs.Layer.{chargeIn, ticksOf}
+use Rattle.book.specs.Layer.{chargeIn}
+use Rattle.book.specs.Worked.{ticksOf}
 use Rattle.book.proofs.Inserting.{unmapped}
 use Rattle.book.proofs.Surveying.{to-end}
 use Rattle.book.proofs.ChargeAnswering.{noPlace, spot-inside, Charging, charging-start, charging-more, charging-end}
@@ -26,35 +27,38 @@ mul-x c = omega (arith, (c .loop-test) .taken, (c .before .before .before .pre) 
 element-copy-out-x : tie.Need-element-copy-out-x Inv-loop μ-loop
 element-copy-out-x c = omega (arith, (c .loop-test) .taken, (c .before .before .before .pre) .few)
 
-sub-charge-ticks : tie.Need-sub-charge-ticks Inv-loop μ-loop
-sub-charge-ticks c = spot-inside ((c .before .before .before .before .pre)) (search (needs, unmapped)) ((c .before .before .loop) .i) ((c .before .loop-test) .taken) noPlace
+sub-failure-charge : tie.Need-sub-failure-charge Inv-loop μ-loop
+sub-failure-charge c = spot-inside (c .before .before .before .before .pre) (search (needs, unmapped)) ((c .before .before .loop) .i) ((c .before .loop-test) .taken) noPlace
 
-part-charge-ticks-start : tie.Need-part-charge-ticks-start Inv-loop μ-loop
-part-charge-ticks-start c = let w : getD ((c .before .before .before .before .args) .t2 .at) ((c .before .before .loop) .i) noPlace .start ≤ length ((c .before .before .before .before .args) .log .now) = spot-inside ((c .before .before .before .before .pre)) (search (needs, unmapped)) ((c .before .before .loop) .i) ((c .before .loop-test) .taken) noPlace in omega arith
+part-failure-charge-start : tie.Need-part-failure-charge-start Inv-loop μ-loop
+part-failure-charge-start c = let w : getD ((c .before .before .before .before .args) .t2 .at) ((c .before .before .loop) .i) noPlace .start ≤ length ((c .before .before .before .before .args) .log .now) = spot-inside (c .before .before .before .before .pre) (search (needs, unmapped)) ((c .before .before .loop) .i) ((c .before .loop-test) .taken) noPlace in omega arith
 
-part-charge-ticks-end : tie.Need-part-charge-ticks-end Inv-loop μ-loop
-part-charge-ticks-end c = search needs
+part-failure-charge-end : tie.Need-part-failure-charge-end Inv-loop μ-loop
+part-failure-charge-end c = search needs
 
-charge-ticks-requires : tie.Need-charge-ticks-requires Inv-loop μ-loop
-charge-ticks-requires c κs = search needs
+failure-charge-requires : tie.Need-failure-charge-requires Inv-loop μ-loop
+failure-charge-requires c κs = search needs
+
+ticks-of-requires : tie.Need-ticks-of-requires Inv-loop μ-loop
+ticks-of-requires c κs = search needs
 
 mul-ticks : tie.Need-mul-ticks Inv-loop μ-loop
-mul-ticks c = omega (arith, (c .before .before .before .loop-test) .taken, (c .before .before .before .before .before .before .pre) .few)
+mul-ticks c = omega (arith, (c .before .before .before .before .loop-test) .taken, (c .before .before .before .before .before .before .before .pre) .few)
 
 array-set-from-ticks : tie.Need-array-set-from-ticks Inv-loop μ-loop
-array-set-from-ticks c = omega (arith, (c .before .before .before .loop-test) .taken, (c .before .before .before .before .before .before .pre) .few, (c .before .before .before .before .loop) .inv .long)
+array-set-from-ticks c = omega (arith, (c .before .before .before .before .loop-test) .taken, (c .before .before .before .before .before .before .before .pre) .few, (c .before .before .before .before .before .loop) .inv .long)
 
 add-i : tie.Need-add-i Inv-loop μ-loop
-add-i c = omega (arith, (c .before .before .before .loop-test) .taken, (c .before .before .before .before .before .before .pre) .few)
+add-i c = omega (arith, (c .before .before .before .before .loop-test) .taken, (c .before .before .before .before .before .before .before .pre) .few)
 
 loop-less : tie.Need-loop-less Inv-loop μ-loop
-loop-less c = omega (arith, (c .before .before .before .loop-test) .taken)
+loop-less c = omega (arith, (c .before .before .before .before .loop-test) .taken)
 
 loop-again : tie.Need-loop-again Inv-loop μ-loop
-loop-again c = charging-more ((c .before .before .before .before .loop) .inv) ((c .before .before .before .before .before .before .pre)) (search (needs, unmapped)) ((c .before .before .before .loop-test) .taken) noPlace _ ((c .charge-ticks) .ensures ∙ ap (λ (u : List ℕ). ticksOf (chargeIn ((c .before .before .before .before .before .before .args) .mark) u ((c .before .before .before .before .before .before .args) .prices))) (to-end (getD ((c .before .before .before .before .before .before .args) .t2 .at) ((c .before .before .before .before .loop) .i) noPlace .start) ((c .before .before .before .before .before .before .args) .log .now)))
+loop-again c = charging-more ((c .before .before .before .before .before .loop) .inv) (c .before .before .before .before .before .before .before .pre) (search (needs, unmapped)) ((c .before .before .before .before .loop-test) .taken) noPlace _ ((c .ticks-of) .ensures ∙ ap ticksOf ((c .before .failure-charge) .ensures ∙ ap (λ (u : List ℕ). chargeIn ((c .before .before .before .before .before .before .before .args) .mark) u ((c .before .before .before .before .before .before .before .args) .prices)) (to-end (getD ((c .before .before .before .before .before .before .before .args) .t2 .at) ((c .before .before .before .before .before .loop) .i) noPlace .start) ((c .before .before .before .before .before .before .before .args) .log .now))))
 
 returns : tie.Need-returns Inv-loop μ-loop
-returns c = charging-end ((c .before .loop) .inv) ((c .before .before .before .pre)) ((c .loop-test) .left) (search (needs, unmapped))
+returns c = charging-end ((c .before .loop) .inv) (c .before .before .before .pre) ((c .loop-test) .left) (search (needs, unmapped))
 
 pub charges-at-spec : {M : Type 1} → statement M
 charges-at-spec =
@@ -65,10 +69,11 @@ charges-at-spec =
     loop-holds
     mul-x
     element-copy-out-x
-    sub-charge-ticks
-    part-charge-ticks-start
-    part-charge-ticks-end
-    charge-ticks-requires
+    sub-failure-charge
+    part-failure-charge-start
+    part-failure-charge-end
+    failure-charge-requires
+    ticks-of-requires
     mul-ticks
     array-set-from-ticks
     add-i

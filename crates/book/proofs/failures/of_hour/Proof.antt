@@ -1,12 +1,11 @@
 use mathlib.Core.Path.{ap, _∙_}
 use Rattle.book.specs.Amounts.{charged}
-use Rattle.book.specs.Layer.{pricesIn}
 use Rattle.book.proofs.Inserting.{unmapped}
 use Rattle.book.proofs.Surveying.{to-end}
 use Rattle.book.proofs.ChargeAnswering.{seen-inside, gathered-inside, hour-absent, hour-unpriced, hour-charged}
-use native.Mathlib.Omega.{arith}
 use Rattle.book.proofs.Handing.{with-charges}
 use borrow.Author.Needs.{needs}
+use native.Mathlib.Omega.{arith}
 use Rattle.book.proofs.failures.of_hour.Statement.{statement}
 use Rattle.book.proofs.failures.of_hour.Tie as tie
 
@@ -28,26 +27,17 @@ key-of-requires-2 c κs = search needs
 look-in-requires : tie.Need-look-in-requires
 look-in-requires c κs = search needs
 
-sub-prices-of : tie.Need-sub-prices-of
-sub-prices-of c = seen-inside ((c .before .before .before .before .before .before .before .before .pre)) ((c .before .before .key-of2) .result) ((c .before .look-in) .result) ((c .before .look-in) .ensures) ((c .if2) .taken)
-
-part-prices-of-start : tie.Need-part-prices-of-start
-part-prices-of-start c = omega (arith, seen-inside ((c .before .before .before .before .before .before .before .before .pre)) ((c .before .before .key-of2) .result) ((c .before .look-in) .result) ((c .before .look-in) .ensures) ((c .if2) .taken))
-
-part-prices-of-end : tie.Need-part-prices-of-end
-part-prices-of-end c = search needs
-
-prices-of-requires : tie.Need-prices-of-requires
-prices-of-requires c κs = search needs
+prices-at-requires : tie.Need-prices-at-requires
+prices-at-requires c κs = seen-inside (c .before .before .before .before .before .before .before .before .pre) ((c .before .before .key-of2) .result) ((c .before .look-in) .result) ((c .before .look-in) .ensures) ((c .if2) .taken)
 
 charges-at-requires : tie.Need-charges-at-requires
-charges-at-requires c κs = let k = (c .before .before .before .before .before .before .before .gather-in) .ok in gathered-inside ((c .before .before .before .before .before .before .before .before .before .before .pre)) ((c .before .before .before .before .before .before .before .before .key-of) .result) ((c .before .before .before .before .before .before .before .gather-in) .result) ((c .before .before .before .before .before .before .before .gather-in) .ensures .0) ((c .before .before .before .before .before .before .before .gather-in) .ensures .1) (search (needs, unmapped))
+charges-at-requires c κs = let k = (c .before .before .before .before .before .before .gather-in) .ok in gathered-inside (c .before .before .before .before .before .before .before .before .before .pre) ((c .before .before .before .before .before .before .before .key-of) .result) ((c .before .before .before .before .before .before .gather-in) .result) ((c .before .before .before .before .before .before .gather-in) .ensures .0) ((c .before .before .before .before .before .before .gather-in) .ensures .1) (search (needs, unmapped))
 
 named-requires : tie.Need-named-requires
 named-requires c κs = search needs
 
 returns-2 : tie.Need-returns-2
-returns-2 c = (λ l o b. let k = (c .before .before .before .before .before .before .before .before .before .gather-in) .ok in ap charged ((c .named) .ensures .0) ∙ hour-charged ((c .before .before .before .before .before .before .before .before .before .before .before .before .args) .mark) ((c .before .before .before .before .before .before .before .before .before .before .before .before .args) .hour) ((c .before .before .before .before .before .before .before .before .before .before .key-of) .result) ((c .before .before .before .before .before .before .before .before .before .before .key-of) .ensures) ((c .before .before .before .before .before .before .before .before .before .gather-in) .result) ((c .before .before .before .before .before .before .before .before .before .gather-in) .ensures .0) ((c .before .before .before .before .before .before .before .before .before .gather-in) .ensures .1) (search (needs, unmapped)) ((c .before .before .before .before .before .before .before .if1) .left) ((c .before .before .before .before .before .before .key-of2) .result) ((c .before .before .before .before .before .before .key-of2) .ensures) ((c .before .before .before .before .before .look-in) .result) ((c .before .before .before .before .before .look-in) .ensures) ((c .before .before .before .before .if2) .taken) ((c .before .before .prices-of) .result) ((c .before .before .prices-of) .ensures ∙ ap pricesIn (to-end ((c .before .before .before .before .before .look-in) .result .start) ((c .before .before .before .before .before .before .before .before .before .before .before .before .args) .log .now))) ((c .before .charges-at) .result) ((c .before .charges-at) .ensures) l o b, (c .named) .ensures .1, with-charges ((c .named) .result) ((c .named) .ensures .2))
+returns-2 c = (λ l o b. let k = (c .before .before .before .before .before .before .before .before .gather-in) .ok in ap charged ((c .named) .ensures .0) ∙ hour-charged ((c .before .before .before .before .before .before .before .before .before .before .before .args) .mark) ((c .before .before .before .before .before .before .before .before .before .before .before .args) .hour) ((c .before .before .before .before .before .before .before .before .before .key-of) .result) ((c .before .before .before .before .before .before .before .before .before .key-of) .ensures) ((c .before .before .before .before .before .before .before .before .gather-in) .result) ((c .before .before .before .before .before .before .before .before .gather-in) .ensures .0) ((c .before .before .before .before .before .before .before .before .gather-in) .ensures .1) (search (needs, unmapped)) ((c .before .before .before .before .before .before .if1) .left) ((c .before .before .before .before .before .key-of2) .result) ((c .before .before .before .before .before .key-of2) .ensures) ((c .before .before .before .before .look-in) .result) ((c .before .before .before .before .look-in) .ensures) ((c .before .before .before .if2) .taken) ((c .before .before .prices-at) .result) ((c .before .before .prices-at) .ensures) ((c .before .charges-at) .result) ((c .before .charges-at) .ensures) l o b, (c .named) .ensures .1, with-charges ((c .named) .result) ((c .named) .ensures .2))
 
 no-charges-requires-2 : tie.Need-no-charges-requires-2
 no-charges-requires-2 c κs = search needs
@@ -65,10 +55,7 @@ of-hour-spec =
     returns
     key-of-requires-2
     look-in-requires
-    sub-prices-of
-    part-prices-of-start
-    part-prices-of-end
-    prices-of-requires
+    prices-at-requires
     charges-at-requires
     named-requires
     returns-2

@@ -1,22 +1,13 @@
 use mathlib.Core.Path.{_≡_, ap, _∙_}
-use native.Mathlib.Omega.{arith}
 use lib.ListN.{length}
-use Rattle.book.specs.Layer.{pricesIn}
 use Rattle.book.proofs.Inserting.{unmapped}
 use Rattle.book.proofs.Surveying.{to-end}
 use Rattle.book.proofs.ChargeAnswering.{seen-inside}
 use Rattle.book.proofs.Guaranteeing.{passed, hour-none, lacks-price, has-workable, has-worked}
 use borrow.Author.Needs.{needs}
+use native.Mathlib.Omega.{arith}
 use Rattle.book.proofs.guarantees.of_hour.Statement.{statement}
 use Rattle.book.proofs.guarantees.of_hour.Tie as tie
-use Rattle.book.proofs.guarantees.of_hour.Reads as reads
-use Rattle.book.proofs.guarantees.of_hour.Lts as lts
-use Rattle.book.proofs.guarantees.no_guarantees.Reads as no-guarantees-reads
-use Rattle.book.proofs.guarantees.worked.Reads as worked-reads
-use Rattle.book.proofs.places.gather_in.Reads as gather-in-reads
-use Rattle.records.proofs.keys.key_of.Reads as key-of-reads
-use Rattle.book.proofs.survey.look_in.Reads as look-in-reads
-use Rattle.records.proofs.views.prices_of.Reads as prices-of-reads
 
 key-of-requires : tie.Need-key-of-requires
 key-of-requires c κs = search needs
@@ -43,30 +34,21 @@ key-of-requires-3 c κs = search needs
 gather-in-requires-2 : tie.Need-gather-in-requires-2
 gather-in-requires-2 c κs = search needs
 
-sub-prices-of : tie.Need-sub-prices-of
-sub-prices-of c = seen-inside ((c .before .before .before .before .before .before .before .before .before .before .pre)) ((c .before .before .before .before .key-of2) .result) ((c .before .before .before .look-in) .result) ((c .before .before .before .look-in) .ensures) ((c .before .before .if2) .taken)
-
-part-prices-of-start : tie.Need-part-prices-of-start
-part-prices-of-start c = omega (arith, seen-inside ((c .before .before .before .before .before .before .before .before .before .before .pre)) ((c .before .before .before .before .key-of2) .result) ((c .before .before .before .look-in) .result) ((c .before .before .before .look-in) .ensures) ((c .before .before .if2) .taken))
-
-part-prices-of-end : tie.Need-part-prices-of-end
-part-prices-of-end c = search needs
-
-prices-of-requires : tie.Need-prices-of-requires
-prices-of-requires c κs = search needs
+prices-at-requires : tie.Need-prices-at-requires
+prices-at-requires c κs = seen-inside (c .before .before .before .before .before .before .before .before .before .before .pre) ((c .before .before .before .before .key-of2) .result) ((c .before .before .before .look-in) .result) ((c .before .before .before .look-in) .ensures) ((c .before .before .if2) .taken)
 
 worked-requires : tie.Need-worked-requires
-worked-requires c κs = let k = (c .before .before .before .before .before .before .before .before .before .gather-in) .ok in let k2 = (c .before .before .gather-in2) .ok in let la : length ((c .before .before .before .before .before .before .before .before .before .gather-in) .result .at) ≡ 16 = search (needs, unmapped) in let lb : length ((c .before .before .gather-in2) .result .at) ≡ 16 = search (needs, unmapped) in
-    let o = (c .before .before .before .before .before .before .before .before .before .before .before .before .pre) .opened in
-    has-workable o ((c .before .before .before .before .before .before .before .before .before .before .before .before .args) .hour) ((c .before .before .before .before .before .before .key-of2) .result) ((c .before .before .before .before .before .before .key-of2) .ensures) ((c .before .before .before .before .before .look-in) .result) ((c .before .before .before .before .before .look-in) .ensures) ((c .before .before .before .before .if2) .taken) ((c .prices-of) .result) ((c .prices-of) .ensures ∙ ap pricesIn (to-end ((c .before .before .before .before .before .look-in) .result .start) ((c .before .before .before .before .before .before .before .before .before .before .before .before .args) .log .now)))
-    ((c .before .before .before .before .before .before .before .before .before .gather-in) .result) (passed o ((c .before .before .before .before .before .before .before .before .before .before .before .before .args) .hour) ((c .before .before .before .before .before .before .before .before .before .before .key-of) .ensures) ((c .before .before .before .before .before .before .before .before .before .gather-in) .ensures .0 ((c .before .before .before .before .before .before .before .before .before .before .before .before .pre) .list) (o .kept) (o .count)) ((c .before .before .before .before .before .before .before .before .before .gather-in) .ensures .1) la)
-    ((c .before .before .gather-in2) .result) (passed o ((c .before .before .before .before .before .before .before .before .before .before .before .before .args) .hour) ((c .before .before .before .key-of3) .ensures) ((c .before .before .gather-in2) .ensures .0 ((c .before .before .before .before .before .before .before .before .before .before .before .before .pre) .list) (o .kept) (o .count)) ((c .before .before .gather-in2) .ensures .1) lb)
+worked-requires c κs = let k = (c .before .before .before .before .before .before .before .before .gather-in) .ok in let k2 = (c .before .gather-in2) .ok in let la : length ((c .before .before .before .before .before .before .before .before .gather-in) .result .at) ≡ 16 = search (needs, unmapped) in let lb : length ((c .before .gather-in2) .result .at) ≡ 16 = search (needs, unmapped) in
+    let o = (c .before .before .before .before .before .before .before .before .before .before .before .pre) .opened in
+    has-workable o ((c .before .before .before .before .before .before .before .before .before .before .before .args) .hour) ((c .before .before .before .before .before .key-of2) .result) ((c .before .before .before .before .before .key-of2) .ensures) ((c .before .before .before .before .look-in) .result) ((c .before .before .before .before .look-in) .ensures) ((c .before .before .before .if2) .taken) ((c .prices-at) .result) ((c .prices-at) .ensures)
+    ((c .before .before .before .before .before .before .before .before .gather-in) .result) (passed o ((c .before .before .before .before .before .before .before .before .before .before .before .args) .hour) ((c .before .before .before .before .before .before .before .before .before .key-of) .ensures) ((c .before .before .before .before .before .before .before .before .gather-in) .ensures .0 ((c .before .before .before .before .before .before .before .before .before .before .before .pre) .list) (o .kept) (o .count)) ((c .before .before .before .before .before .before .before .before .gather-in) .ensures .1) la)
+    ((c .before .gather-in2) .result) (passed o ((c .before .before .before .before .before .before .before .before .before .before .before .args) .hour) ((c .before .before .key-of3) .ensures) ((c .before .gather-in2) .ensures .0 ((c .before .before .before .before .before .before .before .before .before .before .before .pre) .list) (o .kept) (o .count)) ((c .before .gather-in2) .ensures .1) lb)
 
 returns-2 : tie.Need-returns-2
-returns-2 c = let k = (c .before .before .before .before .before .before .before .before .before .before .gather-in) .ok in let k2 = (c .before .before .before .gather-in2) .ok in let la : length ((c .before .before .before .before .before .before .before .before .before .before .gather-in) .result .at) ≡ 16 = search (needs, unmapped) in let lb : length ((c .before .before .before .gather-in2) .result .at) ≡ 16 = search (needs, unmapped) in (
-  λ l o. (c .worked) .ensures .0 ∙ has-worked o ((c .before .before .before .before .before .before .before .before .before .before .before .before .before .args) .hour) ((c .before .before .before .before .before .before .before .key-of2) .result) ((c .before .before .before .before .before .before .before .key-of2) .ensures) ((c .before .before .before .before .before .before .look-in) .result) ((c .before .before .before .before .before .before .look-in) .ensures) ((c .before .before .before .before .before .if2) .taken) ((c .before .prices-of) .result) ((c .before .prices-of) .ensures ∙ ap pricesIn (to-end ((c .before .before .before .before .before .before .look-in) .result .start) ((c .before .before .before .before .before .before .before .before .before .before .before .before .before .args) .log .now)))
-      ((c .before .before .before .before .before .before .before .before .before .before .gather-in) .result) (passed o ((c .before .before .before .before .before .before .before .before .before .before .before .before .before .args) .hour) ((c .before .before .before .before .before .before .before .before .before .before .before .key-of) .ensures) ((c .before .before .before .before .before .before .before .before .before .before .gather-in) .ensures .0 l (o .kept) (o .count)) ((c .before .before .before .before .before .before .before .before .before .before .gather-in) .ensures .1) la)
-      ((c .before .before .before .gather-in2) .result) (passed o ((c .before .before .before .before .before .before .before .before .before .before .before .before .before .args) .hour) ((c .before .before .before .before .key-of3) .ensures) ((c .before .before .before .gather-in2) .ensures .0 l (o .kept) (o .count)) ((c .before .before .before .gather-in2) .ensures .1) lb) ((c .before .before .before .before .before .before .before .before .if1) .left),
+returns-2 c = let k = (c .before .before .before .before .before .before .before .before .before .gather-in) .ok in let k2 = (c .before .before .gather-in2) .ok in let la : length ((c .before .before .before .before .before .before .before .before .before .gather-in) .result .at) ≡ 16 = search (needs, unmapped) in let lb : length ((c .before .before .gather-in2) .result .at) ≡ 16 = search (needs, unmapped) in (
+  λ l o. (c .worked) .ensures .0 ∙ has-worked o ((c .before .before .before .before .before .before .before .before .before .before .before .before .args) .hour) ((c .before .before .before .before .before .before .key-of2) .result) ((c .before .before .before .before .before .before .key-of2) .ensures) ((c .before .before .before .before .before .look-in) .result) ((c .before .before .before .before .before .look-in) .ensures) ((c .before .before .before .before .if2) .taken) ((c .before .prices-at) .result) ((c .before .prices-at) .ensures)
+      ((c .before .before .before .before .before .before .before .before .before .gather-in) .result) (passed o ((c .before .before .before .before .before .before .before .before .before .before .before .before .args) .hour) ((c .before .before .before .before .before .before .before .before .before .before .key-of) .ensures) ((c .before .before .before .before .before .before .before .before .before .gather-in) .ensures .0 l (o .kept) (o .count)) ((c .before .before .before .before .before .before .before .before .before .gather-in) .ensures .1) la)
+      ((c .before .before .gather-in2) .result) (passed o ((c .before .before .before .before .before .before .before .before .before .before .before .before .args) .hour) ((c .before .before .before .key-of3) .ensures) ((c .before .before .gather-in2) .ensures .0 l (o .kept) (o .count)) ((c .before .before .gather-in2) .ensures .1) lb) ((c .before .before .before .before .before .before .before .if1) .left),
   (c .worked) .ensures .1,
   (c .worked) .ensures .2,
 )
@@ -94,10 +76,7 @@ of-hour-spec =
     look-in-requires
     key-of-requires-3
     gather-in-requires-2
-    sub-prices-of
-    part-prices-of-start
-    part-prices-of-end
-    prices-of-requires
+    prices-at-requires
     worked-requires
     returns-2
     no-guarantees-requires-2

@@ -1,21 +1,18 @@
 use Prim.Native.Nat.{_-_}
-use native.Mathlib.Omega.{arith}
 use mathlib.Core.Path.{refl, ap, _∙_}
 use Prim.Native.Nat.{ℕ}
 use mathlib.Core.Path.{_≡_}
 use mathlib.Core.List.{List}
 use lib.ListN.{length, getD}
-use Rattle.book.specs.Layer.{exportIn, totalsWith}
+use Rattle.book.specs.Layer.{TotalsAnswer, totalsWithIn}
 use Rattle.book.proofs.Surveying.{to-end}
 use Rattle.book.specs.Worked.{noSpot}
 use Rattle.book.proofs.Totalling.{Totalling, totalling-start, totalling-more, totalling-all}
 use Rattle.book.proofs.Inserting.{unmapped}
 use borrow.Author.Needs.{needs}
+use native.Mathlib.Omega.{arith}
 use Rattle.book.proofs.guarantees.totals_at.Statement.{statement}
 use Rattle.book.proofs.guarantees.totals_at.Tie as tie
-use Rattle.book.proofs.guarantees.totals_at.Reads as reads
-use Rattle.book.proofs.guarantees.totals_at.Lts as lts
-use Rattle.records.proofs.amounts.totals_with_export.Reads as totals-with-export-reads
 
 abbrev Inv-loop : tie.InvT-loop
 Inv-loop log p sums₀ i₀ sums i = Totalling log (p .n) (p .at) sums i
@@ -45,13 +42,13 @@ totals-with-export-requires : tie.Need-totals-with-export-requires Inv-loop μ-l
 totals-with-export-requires c κs = search needs
 
 add-i : tie.Need-add-i Inv-loop μ-loop
-add-i c = omega (arith, (c .before .before .before .before .loop) .inv .upto, (c .before .before .before .before .before .before .pre) .few, (c .before .before .before .loop-test) .taken)
+add-i c = omega (arith, (c .before .before .before .before .before .loop) .inv .upto, (c .before .before .before .before .before .before .before .pre) .few, (c .before .before .before .before .loop-test) .taken)
 
 loop-less : tie.Need-loop-less Inv-loop μ-loop
-loop-less c = omega (arith, (c .before .before .before .loop-test) .taken)
+loop-less c = omega (arith, (c .before .before .before .before .loop-test) .taken)
 
 loop-again : tie.Need-loop-again Inv-loop μ-loop
-loop-again c = let la : length ((c .before .before .before .before .before .before .args) .t2 .at) ≡ 16 = search (needs, unmapped) in totalling-more ((c .before .before .before .before .loop) .inv) ((c .before .before .before .loop-test) .taken) (omega (arith, la, (c .before .before .before .before .before .before .pre) .few)) refl ((c .totals-with-export) .ensures ∙ ap (λ (x : List ℕ). totalsWith ((c .before .before .before .before .loop) .sums) (exportIn x .mqsw)) (to-end (getD ((c .before .before .before .before .before .before .args) .t2 .at) ((c .before .before .before .before .loop) .i) noSpot .start) ((c .before .before .before .before .before .before .args) .log .now)))
+loop-again c = let la : length ((c .before .before .before .before .before .before .before .args) .t2 .at) ≡ 16 = search (needs, unmapped) in totalling-more ((c .before .before .before .before .before .loop) .inv) ((c .before .before .before .before .loop-test) .taken) (omega (arith, la, (c .before .before .before .before .before .before .before .pre) .few)) (ap (λ (a : TotalsAnswer). a .totals) ((c .before .totals-with-export) .ensures) ∙ ap (λ (x : List ℕ). totalsWithIn x ((c .before .before .before .before .before .loop) .sums) .totals) (to-end (getD ((c .before .before .before .before .before .before .before .args) .t2 .at) ((c .before .before .before .before .before .loop) .i) noSpot .start) ((c .before .before .before .before .before .before .before .args) .log .now)))
 
 returns : tie.Need-returns Inv-loop μ-loop
 returns c = totalling-all ((c .before .loop) .inv) ((c .loop-test) .left)
