@@ -357,12 +357,7 @@ pub fn change(
 }
 
 /// A change of the book of some numbers, as many as there are.
-pub fn change_of_numbers(
-    method: u32,
-    numbers: &mut [u64],
-    lent: &mut [u8],
-    record: &[u8],
-) -> u32 {
+pub fn change_of_numbers(method: u32, numbers: &mut [u64], lent: &mut [u8], record: &[u8]) -> u32 {
     // SAFETY: each pointer comes with the count of its own slice.
     unsafe {
         symbols::pewatuno_change(
