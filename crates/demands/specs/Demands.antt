@@ -156,7 +156,7 @@ StandAgain ts us zero = standing (run us .list) ≡ standing (run ts .list)
 StandAgain ts us (suc n) = Again ts us n
 
 pub record Demand3 {ts : List Turn} {rs : List Reply} {b : Book} {held : List ℕ} (σ : Session ts rs b held) : Type 0 where
-  -- "For every such list, each call in it gets the answer or the number that 01's plain register gives."
+  -- "For every list of calls from a fresh book, each call in it gets the answer or the number that 01's plain register gives.": a `Session` is such a list
   pub answers : rs ≡ told ts
   -- "After it the standing records, the free bytes and every amount are those that 01's formulas give for the register's records."
   pub after : Afterwards ts b held
