@@ -63,4 +63,4 @@ AsAsked l p r = chargeOf (r .key) (standing l) (priceOf (standing l)) ≡ charge
 pub record ChargesByKey (b : Book) (s : List ℕ) (m : Mark) (h : ℕ) (c : Charges) : Type 0 where
   pub lines : (l : List Change) → load b s ≡ belongs l → isFailure m ≡ true → askHourOf m h ≡ got (hourKey m h) [] → (p : HourPrices) → priceOf (standing l) h ≡ priced p
       → c ≡ charged (map (chargeLine (startIn l) p) (byName (hourKey m h) (standing l)))
-  pub each : (l : List Change) (p : HourPrices) → priceOf (standing l) h ≡ priced p → All (AsAsked l p) (byName (hourKey m h) (standing l))
+  pub each : (l : List Change) → load b s ≡ belongs l → (p : HourPrices) → priceOf (standing l) h ≡ priced p → All (AsAsked l p) (byName (hourKey m h) (standing l))

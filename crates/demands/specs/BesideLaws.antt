@@ -16,8 +16,8 @@ use Rattle.book.specs.Tables.{replied}
 use Rattle.book.specs.Feed.{firstRecord, Fed, stopped, later, onward, fed, feeding}
 use Rattle.book.specs.FeedPromise.{Feeds}
 use Rattle.book.specs.CallLaws.{Refusal, Decided, decided-change}
-use Rattle.book.specs.LoadLaws.{load-whole}
-use Rattle.book.specs.RegisterLaws.{once-standing}
+use Rattle.book.specs.LoadLaws.{load-whole, loaded-valid}
+use Rattle.book.specs.RegisterLaws.{New, valid-new, once-standing}
 use Rattle.book.specs.StandLaws.{All, all-map, all-by-name, own-pick}
 use Rattle.book.specs.Session.{Session, Agrees}
 use Rattle.demands.specs.ListLaws.{agreed}
@@ -116,8 +116,8 @@ module _ (m : Mark) (h : ℕ) (l : List Change) (p : HourPrices) (e : priceOf (s
       ap (λ (x : Pick). chargeAt x (priceOf (standing l) (r .key .hour))) (w .0)
       ∙ ap (λ (x : Price). chargeAt (is r) x) (ap (priceOf (standing l)) (sym (hour-parts (hourKey m h) (r .key) (w .1) .1)) ∙ e)
 
-  all-asked : All (AsAsked l p) (byName (hourKey m h) (standing l))
-  all-asked = all-map as-asked (all-by-name (hourKey m h) (own-pick (standing l) (once-standing l)))
+  all-asked : New l → All (AsAsked l p) (byName (hourKey m h) (standing l))
+  all-asked w = all-map as-asked (all-by-name (hourKey m h) (own-pick (standing l) (once-standing l w)))
 
 pub charges-by-key : (b : Book) (s : List ℕ) (m : Mark) (h : ℕ) (c : Charges) → c ≡ hourCharges m h (load b s) → ChargesByKey b s m h c
 unfolding chargesOf
@@ -125,5 +125,5 @@ charges-by-key b s m h c w = record {
   lines = λ l e f a p q.
       w ∙ ap (hourCharges m h) e ∙ ap (λ (x : Bool). cond x (chargesKeyed l (askHourOf m h)) (no 2)) f ∙ ap (chargesKeyed l) a
       ∙ ap (λ (x : Price). chargesAt (startIn l) x (byName (hourKey m h) (standing l))) q ∙ lines-are l p (byName (hourKey m h) (standing l));
-  each = λ l p q. all-asked m h l p q;
+  each = λ l e p q. all-asked m h l p q (valid-new l (loaded-valid b s l e));
 }
