@@ -8,8 +8,9 @@ use Prim.Native.String.{String, [] as end, _∷_ as next}
 use lib.Dec.{eqb}
 use lib.IntN.{ℤ, pos, negsuc}
 use lib.ListN.{length}
+use Rattle.laws.specs.Sums.{every}
 use Rattle.money.specs.Units.{centsOf}
-use Rattle.money.specs.Names.{sameBytes}
+use Rattle.money.specs.Names.{nameOk, sameBytes}
 use Rattle.records.specs.Names.{nameOf, spell, spellByte, unreserved, digit}
 use Rattle.book.specs.declared.answers.NamedAmount.{NamedAmount}
 use Rattle.book.specs.Replies.{Reply, refused, guarantees, unitDay}
@@ -94,5 +95,5 @@ cases =
     ∷ []
 
 pub examples : all cases ≡ true
-unfolding textOf lineBytes whenBytes twoDigits kindBytes nameBytes spell spellByte unreserved digit figure sign dollars number decimal digits centsOf sameBytes
+unfolding textOf lineBytes whenBytes twoDigits kindBytes nameBytes nameOk every spell spellByte unreserved digit figure sign dollars number decimal digits centsOf sameBytes
 examples = refl

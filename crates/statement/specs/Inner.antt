@@ -5,6 +5,7 @@ use mathlib.Core.Bool.{Bool, true, false}
 use mathlib.Core.List.{List, [], _++_}
 use Prim.Native.Nat.{ℕ, _+_, _*_, _≤_, _<_}
 use lib.ListN.{length, take, drop}
+use Rattle.money.specs.Names.{nameOk}
 use Rattle.records.specs.Names.{spell, bytesOf}
 use Rattle.book.specs.Layer.{Name, Change, askUnit, got}
 use Rattle.book.specs.declared.journal.Book.{Book}
@@ -78,8 +79,7 @@ pub record Listed (l : List Change) (ns : List Name) (n : ℕ) : Type 0 where
 
 -- a name that can be asked for
 pub record Askable (n : Name) : Type 0 where
-  pub some : 1 ≤ n .len
-  pub few : n .len ≤ 12
+  pub fine : nameOk n ≡ true
   pub asked : askUnit (spell (bytesOf n)) ≡ got (unitKey n) []
 
 -- enough bytes for the most that there can be, or for what there is

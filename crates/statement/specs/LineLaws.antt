@@ -1,20 +1,20 @@
 -- Laws of lines and of their text. Assumes nothing.
 use mathlib.Core.Path.{_≡_, refl, sym, ap, _∙_}
 use mathlib.Core.List.{List, [], _∷_, _++_, append-assoc, append-nil}
-use mathlib.Core.Bool.{Bool, true, false, cond, _&&_}
+use mathlib.Core.Bool.{Bool, true, false, cond}
 use Prim.Native.Nat.{ℕ, _+_, _/_, _%_, _≤_, _<_}
 use native.Mathlib.Omega.{arith}
 use native.Mathlib.Numerals.{add-one}
-use lib.Dec.{leb, eqb, ltb→lt}
+use lib.Dec.{eqb, ltb→lt}
 use lib.IntN.{ℤ, pos, negsuc, natAbs}
 use lib.Signed.{_≤ℤ_, _<ℤ_}
 use lib.ListN.{length, take, drop, getD, length-append, length-take, take-append-drop}
 use lib.Seq.{take-suc, take-take}
-use borrow.Author.Tests.{le-leb, lt-leb, leb-true}
+use Rattle.money.specs.Names.{nameOk}
 use Rattle.money.specs.declared.names.Name.{Name}
 use Rattle.records.specs.Numbers.{pad}
 use Rattle.records.specs.Names.{spell, bytesOf, spellingOf, spellingBytes}
-use Rattle.records.specs.BookLaws.{spelled-short, spelling-full, take-pad}
+use Rattle.records.specs.BookLaws.{name-most, spelled-short, spelling-full, spelling-none, take-pad}
 use Rattle.records.specs.declared.names.Spelling.{Spelling}
 use Rattle.statement.specs.Decimal.{twoDigits, decimal}
 use Rattle.statement.specs.DecimalLaws.{decimal-length}
@@ -35,20 +35,16 @@ sign-above (pos n) h = refl
 sign-above (negsuc n) h = absurd (h .le)
 
 -- ---- names
-pub name-none : (n : Name) → n .len ≡ 0 → nameBytes n ≡ 45 ∷ []
+pub name-none : (n : Name) → nameOk n ≡ false → nameBytes n ≡ 45 ∷ []
 unfolding nameBytes
 name-none n h = rw h
 
-pub name-long : (n : Name) → 12 < n .len → nameBytes n ≡ 45 ∷ []
+pub name-some : (n : Name) → nameOk n ≡ true → nameBytes n ≡ spell (bytesOf n)
 unfolding nameBytes
-name-long n h = rw (le-leb 1 (n .len) (omega arith), lt-leb (n .len) 12 h)
+name-some n h = rw h
 
-pub name-some : (n : Name) → 1 ≤ n .len → n .len ≤ 12 → nameBytes n ≡ spell (bytesOf n)
-unfolding nameBytes
-name-some n h k = rw (le-leb 1 (n .len) h, le-leb (n .len) 12 k)
-
-spelled-most : (n : Name) → n .len ≤ 12 → length (spell (bytesOf n)) ≤ 36
-spelled-most n h = spelled-short (bytesOf n) (omega (arith, length-take (n .len) (n .bytes)))
+spelled-most : (n : Name) → nameOk n ≡ true → length (spell (bytesOf n)) ≤ 36
+spelled-most n h = spelled-short (bytesOf n) (omega (arith, length-take (n .len) (n .bytes), name-most n h))
 
 -- the spelling that records gives of a name is what its line shows
 pub record Spells (n : Name) (s : Spelling) : Type 0 where
@@ -57,27 +53,42 @@ pub record Spells (n : Name) (s : Spelling) : Type 0 where
   pub within : s .len ≤ length (s .bytes)
   pub all : s .len ≡ length (take (s .len) (s .bytes))
 
-pub spells : (n : Name) (s : Spelling) → 1 ≤ n .len → n .len ≤ 12 → s ≡ spellingOf n → Spells n s
-spells n s h k e =
-    let q : s ≡ spellingBytes (spell (bytesOf n)) = e ∙ spelling-full n k in
+pub spells : (n : Name) (s : Spelling) → nameOk n ≡ true → s ≡ spellingOf n → Spells n s
+spells n s h e =
+    let q : s ≡ spellingBytes 0 (spell (bytesOf n)) = e ∙ spelling-full n h in
     let xs : List ℕ = spell (bytesOf n) in
-    let m : length xs ≤ 36 = spelled-most n k in
+    let m : length xs ≤ 36 = spelled-most n h in
     let p : take (length xs) (pad 0 36 xs) ≡ xs = take-pad 0 36 xs m in
     rw q (record {
-      bytes = p ∙ sym (name-some n h k);
+      bytes = p ∙ sym (name-some n h);
       few = m;
       within = omega (arith, ap length p, length-take (length xs) (pad 0 36 xs));
       all = ap length (sym p);
     })
 
+-- by the number beside it
+module _ (n : Name) (s : Spelling) (e : s ≡ spellingOf n) where
+  pub name-spelled : s .number ≡ 0 → nameOk n ≡ true
+  name-spelled z = go (nameOk n) refl
+    where
+      go : (b : Bool) → nameOk n ≡ b → nameOk n ≡ true
+      go true h = h
+      go false h = absurd (omega (arith, z, ap (λ (x : Spelling). x .number) (e ∙ spelling-none n h)))
+
+  pub name-unspelled : (s .number ≡ 0 → ⊥) → nameBytes n ≡ 45 ∷ []
+  name-unspelled z = go (nameOk n) refl
+    where
+      go : (b : Bool) → nameOk n ≡ b → nameBytes n ≡ 45 ∷ []
+      go true h = absurd (z (ap (λ (x : Spelling). x .number) (e ∙ spelling-full n h)))
+      go false h = name-none n h
+
 pub name-length : (n : Name) → length (nameBytes n) ≤ 36
 unfolding nameBytes
-name-length n = go (leb 1 (n .len)) (leb (n .len) 12) refl
+name-length n = go (nameOk n) refl
   where
-    go : (a b : Bool) → leb (n .len) 12 ≡ b → length (cond (a && b) (spell (bytesOf n)) (45 ∷ [])) ≤ 36
-    go true true e = spelled-most n (leb-true (n .len) 12 e)
-    go true false e = omega arith
-    go false b e = omega arith
+    go : (b : Bool) → nameOk n ≡ b → length (cond b (spell (bytesOf n)) (45 ∷ [])) ≤ 36
+    go true e = spelled-most n e
+    go false e = omega arith
 
 -- ---- times and kinds
 pub when-length : (h : ℕ) → length (whenBytes h) ≡ 2

@@ -5,8 +5,9 @@ use Prim.Native.Nat.{ℕ, _/_, _%_}
 use lib.Dec.{eqb}
 use lib.IntN.{ℤ, pos, negsuc, natAbs}
 use lib.ListN.{length}
+use Rattle.money.specs.Names.{nameOk}
 use Rattle.money.specs.declared.names.Name.{Name}
-use Rattle.records.specs.Numbers.{between, pad}
+use Rattle.records.specs.Numbers.{pad}
 use Rattle.records.specs.Names.{spell, bytesOf}
 use Rattle.statement.specs.Decimal.{twoDigits, decimal}
 use Rattle.statement.specs.declared.lines.Kind.{Kind}
@@ -28,9 +29,9 @@ kindBytes Pcg = 80 ∷ 67 ∷ 71 ∷ []
 kindBytes Rev = 82 ∷ 69 ∷ 86 ∷ []
 kindBytes Err = 69 ∷ 82 ∷ 82 ∷ []
 
--- "written name or `-`"; a name is of 1 to 12 bytes, any other is none
+-- "written name or `-`"; one that breaks the rule of a name is none
 unfoldable pub nameBytes : Name → List ℕ
-nameBytes n = cond (between 1 12 (n .len)) (spell (bytesOf n)) (45 ∷ [])
+nameBytes n = cond (nameOk n) (spell (bytesOf n)) (45 ∷ [])
 
 -- "zero without a sign"
 unfoldable pub sign : ℤ → List ℕ

@@ -12,7 +12,7 @@ use borrow.Author.Tests.{leb-true, leb-false}
 use Rattle.money.specs.declared.names.Name.{Name}
 use Rattle.records.specs.Names.{nameOf, spell, bytesOf}
 use Rattle.records.specs.Marks.{hasName}
-use Rattle.records.specs.BookLaws.{hour-key, name-decoded, unit-asked, at-hour}
+use Rattle.records.specs.BookLaws.{hour-key, name-sound, unit-asked, at-hour}
 use Rattle.book.specs.Layer.{Key, Rec, Change, filed, Good, Mark, Pr, Im, Ex, Gh, Fi, Fe, got, isFailure}
 use Rattle.book.specs.Layer as layer
 use Rattle.book.specs.declared.journal.Book.{Book}
@@ -103,11 +103,8 @@ gh-mark Fe h = true≠false h refl
 
 askable : (r : Rec) → Good (filed r) → r .key .mark ≡ Gh → Askable (r .key .name)
 askable r g e =
-    let d = name-decoded r g (ap hasName e) in
-    let q : length (d .bytes) ≡ r .key .name .len = ap (λ (n : Name). n .len) (d .is) in
     record {
-      some = omega (arith, d .valid .some);
-      few = omega (arith, d .valid .few);
+      fine = name-sound r g (ap hasName e);
       asked = unit-asked r g e ∙ ap (λ (k : Key). got k []) (at-hour (r .key) 1) ∙ ap (λ (m : Mark). got (record { mark = m; hour = 1; name = r .key .name }) []) e;
     }
 

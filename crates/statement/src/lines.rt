@@ -26,7 +26,7 @@ pub enum Kind {
     Err,
 }
 
-// Hour 0 is the day. A name of no bytes is none. The cents of an `Err` are its number.
+// Hour 0 is the day. A name that breaks its rule, as one of no bytes, is none. The cents of an `Err` are its number.
 pub struct Line {
     pub hour: u8,
     pub kind: Kind,
@@ -65,13 +65,10 @@ fn with_name(t: Text, name: Name) -> Text
     requires { ⌜ t .len ≤ 30 ⌝ }
     ensures { λ r. ⌜ Added t r (nameBytes name) ⌝ }
 {
-    if name.len == 0 {
-        return with_byte(t, b'-');
-    }
-    if 12 < name.len {
-        return with_byte(t, b'-');
-    }
     let s = spell_name(name);
+    if s.number != 0 {
+        return with_byte(t, b'-');
+    }
     let n = s.len as usize;
     let bytes = s.bytes;
     with_part(t, &bytes[..n])

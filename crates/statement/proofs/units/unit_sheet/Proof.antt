@@ -23,10 +23,10 @@ cast-n : tie.Need-cast-n
 cast-n c = search needs
 
 array-share-prefix-bytes : tie.Need-array-share-prefix-bytes
-array-share-prefix-bytes c = spells ((c .before .before .before .before .args) .name) ((c .before .before .spell-name) .result) ((c .before .before .before .before .pre) .1 .some) ((c .before .before .before .before .pre) .1 .few) ((c .before .before .spell-name) .ensures) .within
+array-share-prefix-bytes c = spells ((c .before .before .before .before .args) .name) ((c .before .before .spell-name) .result) ((c .before .before .before .before .pre) .1 .fine) ((c .before .before .spell-name) .ensures) .within
 
 slice-aggregate-unit-day : tie.Need-slice-aggregate-unit-day
-slice-aggregate-unit-day c = spells ((c .before .before .before .before .before .args) .name) ((c .before .before .before .spell-name) .result) ((c .before .before .before .before .before .pre) .1 .some) ((c .before .before .before .before .before .pre) .1 .few) ((c .before .before .before .spell-name) .ensures) .all
+slice-aggregate-unit-day c = spells ((c .before .before .before .before .before .args) .name) ((c .before .before .before .spell-name) .result) ((c .before .before .before .before .before .pre) .1 .fine) ((c .before .before .before .spell-name) .ensures) .all
 
 unit-day-requires : tie.Need-unit-day-requires
 unit-day-requires c κs = search needs
@@ -36,7 +36,7 @@ unit-of-requires c κs = search needs
 
 returns : tie.Need-returns
 returns c =
-    let e = spells ((c .before .before .before .before .before .before .before .args) .name) ((c .before .before .before .before .before .spell-name) .result) ((c .before .before .before .before .before .before .before .pre) .1 .some) ((c .before .before .before .before .before .before .before .pre) .1 .few) ((c .before .before .before .before .before .spell-name) .ensures) .bytes ∙ name-some ((c .before .before .before .before .before .before .before .args) .name) ((c .before .before .before .before .before .before .before .pre) .1 .some) ((c .before .before .before .before .before .before .before .pre) .1 .few) in
+    let e = spells ((c .before .before .before .before .before .before .before .args) .name) ((c .before .before .before .before .before .spell-name) .result) ((c .before .before .before .before .before .before .before .pre) .1 .fine) ((c .before .before .before .before .before .spell-name) .ensures) .bytes ∙ name-some ((c .before .before .before .before .before .before .before .args) .name) ((c .before .before .before .before .before .before .before .pre) .1 .fine) in
     let m = subst (λ (w : List ℕ). Meets (ask (dayOf w)) ((c .before .before .before .before .before .before .before .args) .book) ((c .before .before .before .before .before .before .before .args) .log .now) ((c .before .before .before .before .before .before .before .args) .book) (replyOf ((c .before .unit-day) .result)) ((c .before .before .before .before .before .before .before .args) .log .now)) e ((c .before .unit-day) .ensures) in
     (subst (λ (ls : List Line). Holds ((c .unit-of) .result) ls) (unit-answer ((c .before .before .before .before .before .before .before .pre) .0) ((c .before .before .before .before .before .before .before .args) .name) ((c .before .before .before .before .before .before .before .pre) .1) _ m) ((c .unit-of) .ensures .0), (c .unit-of) .ensures .1)
 
