@@ -232,7 +232,8 @@ fn has_amount(bytes: &[u8]) -> bool
 fn amount_of(prices: &[u8], bytes: &[u8]) -> Answer
     ensures { λ r. ⌜ r ≡ amountIn (now (prices .entry)) (now (bytes .entry)) ⌝ }
 {
-    let p = prices_of(prices);
+    let read = prices_of(prices);
+    let p = read.prices;
     if bears(bytes, b'I', b'M') {
         return import_credit(bytes, p);
     }

@@ -1,17 +1,12 @@
 use mathlib.Core.Path.{sym, ap, _∙_}
 use Rattle.records.specs.declared.layouts.HourPrices.{HourPrices}
+use Rattle.records.specs.declared.views.PricesAnswer.{PricesAnswer}
 use Rattle.records.specs.declared.marks.Mark.the-variants.{Fi, Fe}
 use Rattle.records.specs.Amounts.{creditIn, unitAmountIn, chargeIn}
 use borrow.Author.Needs.{needs}
+use native.Mathlib.Omega.{arith}
 use Rattle.bridge.proofs.amount_of.Statement.{statement}
 use Rattle.bridge.proofs.amount_of.Tie as tie
-use Rattle.bridge.proofs.amount_of.Reads as reads
-use Rattle.bridge.proofs.amount_of.Lts as lts
-use Rattle.records.proofs.amounts.failure_charge.Reads as failure-charge-reads
-use Rattle.records.proofs.amounts.import_credit.Reads as import-credit-reads
-use Rattle.records.proofs.amounts.unit_amount.Reads as unit-amount-reads
-use Rattle.records.proofs.leads.bears.Reads as bears-reads
-use Rattle.records.proofs.views.prices_of.Reads as prices-of-reads
 
 prices-of-requires : tie.Need-prices-of-requires
 prices-of-requires c κs = search needs
@@ -23,7 +18,7 @@ import-credit-requires : tie.Need-import-credit-requires
 import-credit-requires c κs = search needs
 
 returns : tie.Need-returns
-returns c = rw (sym ((c .before .before .bears) .ensures) ∙ (c .before .if1) .taken) ((c .import-credit) .ensures ∙ ap (λ (p : HourPrices). creditIn ((c .before .before .before .before .before .before .args) .bytes .now) p) ((c .before .before .before .prices-of) .ensures))
+returns c = rw (sym ((c .before .before .bears) .ensures) ∙ (c .before .if1) .taken) ((c .import-credit) .ensures ∙ ap (λ (p : HourPrices). creditIn ((c .before .before .before .before .before .before .before .args) .bytes .now) p) (ap (λ (a : PricesAnswer). a .prices) ((c .before .before .before .before .prices-of) .ensures)))
 
 bears-requires-2 : tie.Need-bears-requires-2
 bears-requires-2 c κs = search needs
@@ -32,7 +27,7 @@ unit-amount-requires : tie.Need-unit-amount-requires
 unit-amount-requires c κs = search needs
 
 returns-2 : tie.Need-returns-2
-returns-2 c = rw (sym ((c .before .before .before .before .bears) .ensures) ∙ (c .before .before .before .if1) .left, sym ((c .before .before .bears2) .ensures) ∙ (c .before .if2) .taken) ((c .unit-amount) .ensures ∙ ap (λ (p : HourPrices). unitAmountIn ((c .before .before .before .before .before .before .before .before .args) .bytes .now) p) ((c .before .before .before .before .before .prices-of) .ensures))
+returns-2 c = rw (sym ((c .before .before .before .before .bears) .ensures) ∙ (c .before .before .before .if1) .left, sym ((c .before .before .bears2) .ensures) ∙ (c .before .if2) .taken) ((c .unit-amount) .ensures ∙ ap (λ (p : HourPrices). unitAmountIn ((c .before .before .before .before .before .before .before .before .before .args) .bytes .now) p) (ap (λ (a : PricesAnswer). a .prices) ((c .before .before .before .before .before .before .prices-of) .ensures)))
 
 bears-requires-3 : tie.Need-bears-requires-3
 bears-requires-3 c κs = search needs
@@ -41,13 +36,13 @@ failure-charge-requires : tie.Need-failure-charge-requires
 failure-charge-requires c κs = search needs
 
 returns-3 : tie.Need-returns-3
-returns-3 c = rw (sym ((c .before .before .before .before .before .before .bears) .ensures) ∙ (c .before .before .before .before .before .if1) .left, sym ((c .before .before .before .before .bears2) .ensures) ∙ (c .before .before .before .if2) .left, sym ((c .before .before .bears3) .ensures) ∙ (c .before .if3) .taken) ((c .failure-charge) .ensures ∙ ap (λ (p : HourPrices). chargeIn Fi ((c .before .before .before .before .before .before .before .before .before .before .args) .bytes .now) p) ((c .before .before .before .before .before .before .before .prices-of) .ensures))
+returns-3 c = rw (sym ((c .before .before .before .before .before .before .bears) .ensures) ∙ (c .before .before .before .before .before .if1) .left, sym ((c .before .before .before .before .bears2) .ensures) ∙ (c .before .before .before .if2) .left, sym ((c .before .before .bears3) .ensures) ∙ (c .before .if3) .taken) ((c .failure-charge) .ensures ∙ ap (λ (p : HourPrices). chargeIn Fi ((c .before .before .before .before .before .before .before .before .before .before .before .args) .bytes .now) p) (ap (λ (a : PricesAnswer). a .prices) ((c .before .before .before .before .before .before .before .before .prices-of) .ensures)))
 
 failure-charge-requires-2 : tie.Need-failure-charge-requires-2
 failure-charge-requires-2 c κs = search needs
 
 returns-4 : tie.Need-returns-4
-returns-4 c = rw (sym ((c .before .before .before .before .before .before .bears) .ensures) ∙ (c .before .before .before .before .before .if1) .left, sym ((c .before .before .before .before .bears2) .ensures) ∙ (c .before .before .before .if2) .left, sym ((c .before .before .bears3) .ensures) ∙ (c .before .if3) .left) ((c .failure-charge2) .ensures ∙ ap (λ (p : HourPrices). chargeIn Fe ((c .before .before .before .before .before .before .before .before .before .before .args) .bytes .now) p) ((c .before .before .before .before .before .before .before .prices-of) .ensures))
+returns-4 c = rw (sym ((c .before .before .before .before .before .before .bears) .ensures) ∙ (c .before .before .before .before .before .if1) .left, sym ((c .before .before .before .before .bears2) .ensures) ∙ (c .before .before .before .if2) .left, sym ((c .before .before .bears3) .ensures) ∙ (c .before .if3) .left) ((c .failure-charge2) .ensures ∙ ap (λ (p : HourPrices). chargeIn Fe ((c .before .before .before .before .before .before .before .before .before .before .before .args) .bytes .now) p) (ap (λ (a : PricesAnswer). a .prices) ((c .before .before .before .before .before .before .before .before .prices-of) .ensures)))
 
 pub amount-of-spec : {M : Type 1} → statement M
 amount-of-spec =
