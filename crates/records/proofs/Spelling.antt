@@ -2,16 +2,15 @@
 use mathlib.Core.Path.{_≡_, refl, sym, ap, _∙_}
 use mathlib.Core.List.{List, [], _∷_, _++_}
 use mathlib.Core.Bool.{true}
-use Prim.Native.Nat.{ℕ, zero, suc, _+_, _*_, _≤_, _<_}
+use Prim.Native.Nat.{ℕ, zero, suc, _+_, _≤_}
 use native.Mathlib.Omega.{arith}
 use native.Mathlib.Nat.{not-suc-le-zero, le-of-suc-le-suc, zero-add}
-use lib.ListN.{length, take, drop, length-take}
+use lib.ListN.{length, drop, length-take}
 use Rattle.money.specs.Names.{nameOk}
 use Rattle.money.specs.NameLaws.{name-most}
 use Rattle.money.specs.declared.names.Name.{Name}
 use Rattle.records.specs.Numbers.{pad}
 use Rattle.records.specs.Names.{spell, bytesOf, spellingOf}
-use Rattle.records.specs.Changes.{put}
 use Rattle.records.specs.Inner.{Wrote}
 use Rattle.records.specs.NameLaws.{spell-length, spelling-full}
 use Rattle.records.specs.PutLaws.{put-whole}

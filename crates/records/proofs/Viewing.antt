@@ -1,5 +1,5 @@
 -- The fields of a record that bytes begin with, and the amounts of them.
-use mathlib.Core.Path.{_≡_, refl, sym, ap, ap₂, _∙_}
+use mathlib.Core.Path.{_≡_, refl, sym, ap, _∙_}
 use mathlib.Core.List.{List, []}
 use Prim.Native.Nat.{ℕ, _<_}
 use native.Mathlib.Omega.{arith}
@@ -11,8 +11,7 @@ use Rattle.records.specs.Reading.{Res, bad, got, Reader, _>>=_, from}
 use Rattle.records.specs.Inner.{shown, then}
 use Rattle.records.specs.Layouts.{import}
 use Rattle.records.specs.Views.{valueOr, faultOf, ahead, viewed}
-use Rattle.records.specs.Amounts.{amountFrom, creditFor, given, entryFrom, entryRead, entryAnswer}
-use Rattle.records.specs.ReaderLaws.{Counted}
+use Rattle.records.specs.Amounts.{creditFor, given, entryFrom, entryRead, entryAnswer}
 use Rattle.records.specs.declared.amounts.EntryAnswer.{EntryAnswer}
 use Rattle.records.specs.declared.fields.End.{End}
 use Rattle.records.specs.declared.fields.End.the-variants.{At, No}

@@ -26,7 +26,7 @@ use Rattle.records.specs.Reading.{Res, got, _>>=_}
 use Rattle.records.specs.Layouts.{import}
 use Rattle.records.specs.Changes.{Rec, filed, write, Good}
 use Rattle.records.specs.Views.{importOf, exportOf, unitHourOf, failureOf, noImport}
-use Rattle.records.specs.Amounts.{creditFor, creditOf, unitAmountOf, chargeFor, chargeOf, creditTicks, unitTicks, chargeTicksFor, chargeTicks, given, entryFrom, entryRead, entryAnswer, partAnswer, totalsAnswer, totalsWith, offsetEntry, offsetEntryIn, unitPartIn, totalsWithIn, chargeIn}
+use Rattle.records.specs.Amounts.{creditFor, creditOf, unitAmountOf, chargeFor, chargeOf, creditTicks, unitTicks, chargeTicksFor, chargeTicks, given, entryFrom, entryAnswer, partAnswer, totalsAnswer, totalsWith, offsetEntry, offsetEntryIn, unitPartIn, totalsWithIn, chargeIn}
 use Rattle.records.specs.NameLaws.{Visible}
 use Rattle.records.specs.KeyLaws.{name-decoded}
 use Rattle.records.specs.ViewLaws.{view-import, written-ahead, body-view, export-view, failed-import-charge, failed-export-charge, unit-view}

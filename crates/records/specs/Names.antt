@@ -1,8 +1,8 @@
 -- 01, "Records": names, percent-decoded exactly once (RFC 3986), and their one written spelling. Assumes nothing.
 use mathlib.Core.List.{List, [], _∷_, _++_}
-use mathlib.Core.Bool.{Bool, true, false, cond, _&&_, _||_}
+use mathlib.Core.Bool.{Bool, cond, _||_}
 use Prim.Native.Nat.{ℕ, zero, suc, _+_, _*_, _-_, _/_, _%_}
-use lib.Dec.{ltb, leb, eqb}
+use lib.Dec.{ltb, eqb}
 use lib.ListN.{length, take}
 use Rattle.money.specs.Refusals.{badName}
 use Rattle.money.specs.Names.{nameOk}

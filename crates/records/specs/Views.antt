@@ -14,7 +14,7 @@ use Rattle.records.specs.Marks.{sameMark, isFailure}
 use Rattle.records.specs.Layouts.{hourPrices, import, export, unit, failure}
 use Rattle.records.specs.Changes.{Rec, head, nameFor}
 use Rattle.records.specs.declared.marks.Mark.{Mark}
-use Rattle.records.specs.declared.marks.Mark.the-variants.{Pr, Im, Ex, Gh}
+use Rattle.records.specs.declared.marks.Mark.the-variants.{Pr}
 use Rattle.records.specs.declared.marks.Kind.the-variants.{File}
 use Rattle.records.specs.declared.layouts.HourPrices.{HourPrices}
 use Rattle.records.specs.declared.layouts.Import.{Import}

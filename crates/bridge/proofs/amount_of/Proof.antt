@@ -4,7 +4,6 @@ use Rattle.records.specs.declared.views.PricesAnswer.{PricesAnswer}
 use Rattle.records.specs.declared.marks.Mark.the-variants.{Fi, Fe}
 use Rattle.records.specs.Amounts.{creditIn, unitAmountIn, chargeIn}
 use borrow.Author.Needs.{needs}
-use native.Mathlib.Omega.{arith}
 use Rattle.bridge.proofs.amount_of.Statement.{statement}
 use Rattle.bridge.proofs.amount_of.Tie as tie
 

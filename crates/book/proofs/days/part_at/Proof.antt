@@ -1,6 +1,5 @@
 use Rattle.book.proofs.DayAnswering.{part-empty, part-there}
 use borrow.Author.Needs.{needs}
-use native.Mathlib.Omega.{arith}
 use Rattle.book.proofs.days.part_at.Statement.{statement}
 use Rattle.book.proofs.days.part_at.Tie as tie
 

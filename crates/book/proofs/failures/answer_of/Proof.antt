@@ -1,7 +1,6 @@
 use mathlib.Core.Path.{sym, ap}
 use Rattle.book.specs.Worked.{chargeReply}
 use borrow.Author.Needs.{needs}
-use native.Mathlib.Omega.{arith}
 use Rattle.book.proofs.failures.answer_of.Statement.{statement}
 use Rattle.book.proofs.failures.answer_of.Tie as tie
 

@@ -1,11 +1,9 @@
 use mathlib.Core.Path.{ap, _∙_}
 use Rattle.book.specs.Amounts.{charged}
 use Rattle.book.proofs.Inserting.{unmapped}
-use Rattle.book.proofs.Surveying.{to-end}
 use Rattle.book.proofs.ChargeAnswering.{seen-inside, gathered-inside, hour-absent, hour-unpriced, hour-charged}
 use Rattle.book.proofs.Handing.{with-charges}
 use borrow.Author.Needs.{needs}
-use native.Mathlib.Omega.{arith}
 use Rattle.book.proofs.failures.of_hour.Statement.{statement}
 use Rattle.book.proofs.failures.of_hour.Tie as tie
 

@@ -1,11 +1,9 @@
-use mathlib.Core.Path.{_≡_, ap, _∙_}
+use mathlib.Core.Path.{_≡_, _∙_}
 use lib.ListN.{length}
 use Rattle.book.proofs.Inserting.{unmapped}
-use Rattle.book.proofs.Surveying.{to-end}
 use Rattle.book.proofs.ChargeAnswering.{seen-inside}
 use Rattle.book.proofs.Guaranteeing.{passed, hour-none, lacks-price, has-workable, has-worked}
 use borrow.Author.Needs.{needs}
-use native.Mathlib.Omega.{arith}
 use Rattle.book.proofs.guarantees.of_hour.Statement.{statement}
 use Rattle.book.proofs.guarantees.of_hour.Tie as tie
 

@@ -1,9 +1,7 @@
-use Prim.Native.Nat.{ℕ}
 use mathlib.Core.Path.{ap, _∙_}
 use Rattle.book.specs.Layer.{PricesAnswer, pricesIn}
 use Rattle.book.proofs.Surveying.{to-end}
 use borrow.Author.Needs.{needs}
-use native.Mathlib.Omega.{arith}
 use Rattle.book.proofs.prices.prices_at.Statement.{statement}
 use Rattle.book.proofs.prices.prices_at.Tie as tie
 

@@ -1,11 +1,6 @@
-use native.Mathlib.Omega.{arith}
 use borrow.Author.Needs.{needs}
 use Rattle.records.proofs.amounts.charge_for.Statement.{statement}
 use Rattle.records.proofs.amounts.charge_for.Tie as tie
-use Rattle.records.proofs.amounts.charge_for.Reads as reads
-use Rattle.records.proofs.amounts.charge_for.Lts as lts
-use Rattle.money.proofs.failure.export_charge.Reads as export-charge-reads
-use Rattle.money.proofs.failure.import_charge.Reads as import-charge-reads
 
 enum-told : tie.Need-enum-told
 enum-told c = search needs

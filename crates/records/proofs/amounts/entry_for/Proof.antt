@@ -1,15 +1,10 @@
-use mathlib.Core.Path.{_≡_, sym, ap, _∙_}
+use mathlib.Core.Path.{sym, ap, _∙_}
 use mathlib.Core.List.{[]}
 use Rattle.money.specs.declared.units.Answer.{Answer}
 use Rattle.records.specs.Amounts.{given, entryFrom, entryAnswer}
-use native.Mathlib.Omega.{arith}
 use borrow.Author.Needs.{needs}
 use Rattle.records.proofs.amounts.entry_for.Statement.{statement}
 use Rattle.records.proofs.amounts.entry_for.Tie as tie
-use Rattle.records.proofs.amounts.entry_for.Reads as reads
-use Rattle.records.proofs.amounts.entry_for.Lts as lts
-use Rattle.records.proofs.amounts.credit_for.Reads as credit-for-reads
-use Rattle.records.proofs.amounts.no_entry.Reads as no-entry-reads
 
 credit-for-requires : tie.Need-credit-for-requires
 credit-for-requires c κs = search needs

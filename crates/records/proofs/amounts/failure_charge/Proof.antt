@@ -7,7 +7,6 @@ use Rattle.records.specs.ViewLaws.{counted-failure}
 use Rattle.records.specs.declared.views.FailureAnswer.{FailureAnswer}
 use Rattle.records.proofs.Viewing.{faulty, had}
 use borrow.Author.Needs.{needs}
-use native.Mathlib.Omega.{arith}
 use Rattle.records.proofs.amounts.failure_charge.Statement.{statement}
 use Rattle.records.proofs.amounts.failure_charge.Tie as tie
 

@@ -10,7 +10,6 @@ use Rattle.records.specs.declared.marks.Mark.the-variants.{Im}
 use Rattle.records.specs.declared.views.ImportAnswer.{ImportAnswer}
 use Rattle.records.proofs.Viewing.{faulty, had}
 use borrow.Author.Needs.{needs}
-use native.Mathlib.Omega.{arith}
 use Rattle.records.proofs.amounts.import_credit.Statement.{statement}
 use Rattle.records.proofs.amounts.import_credit.Tie as tie
 

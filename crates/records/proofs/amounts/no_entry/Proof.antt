@@ -1,11 +1,6 @@
-use native.Mathlib.Omega.{arith}
 use borrow.Author.Needs.{needs}
 use Rattle.records.proofs.amounts.no_entry.Statement.{statement}
 use Rattle.records.proofs.amounts.no_entry.Tie as tie
-use Rattle.records.proofs.amounts.no_entry.Reads as reads
-use Rattle.records.proofs.amounts.no_entry.Lts as lts
-use Rattle.records.proofs.names.no_name.Reads as no-name-reads
-use Rattle.records.proofs.views.no_offer.Reads as no-offer-reads
 
 no-name-requires : tie.Need-no-name-requires
 no-name-requires c κs = search needs

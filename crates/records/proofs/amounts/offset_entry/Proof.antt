@@ -1,7 +1,6 @@
-use mathlib.Core.Path.{_≡_, sym, ap, _∙_}
+use mathlib.Core.Path.{_∙_}
 use Rattle.records.proofs.Viewing.{entry-at, entry-no}
 use borrow.Author.Needs.{needs}
-use native.Mathlib.Omega.{arith}
 use Rattle.records.proofs.amounts.offset_entry.Statement.{statement}
 use Rattle.records.proofs.amounts.offset_entry.Tie as tie
 

@@ -11,7 +11,6 @@ use Rattle.records.specs.declared.marks.Mark.the-variants.{Ex}
 use Rattle.records.specs.declared.views.ExportAnswer.{ExportAnswer}
 use Rattle.records.proofs.Viewing.{faulty, had}
 use borrow.Author.Needs.{needs}
-use native.Mathlib.Omega.{arith}
 use Rattle.records.proofs.amounts.totals_with_export.Statement.{statement}
 use Rattle.records.proofs.amounts.totals_with_export.Tie as tie
 

@@ -11,7 +11,6 @@ use Rattle.records.specs.declared.marks.Mark.the-variants.{Gh}
 use Rattle.records.specs.declared.views.UnitAnswer.{UnitAnswer}
 use Rattle.records.proofs.Viewing.{faulty, had}
 use borrow.Author.Needs.{needs}
-use native.Mathlib.Omega.{arith}
 use Rattle.records.proofs.amounts.unit_amount.Statement.{statement}
 use Rattle.records.proofs.amounts.unit_amount.Tie as tie
 

@@ -1,6 +1,4 @@
 use mathlib.Core.Path.{sym, ap, _∙_}
-use mathlib.Core.List.{List}
-use Prim.Native.Nat.{ℕ}
 use Rattle.money.specs.Production.{hourAnswer}
 use Rattle.money.specs.declared.production.UnitHour.{UnitHour}
 use Rattle.money.specs.declared.units.Answer.{Answer}
@@ -14,7 +12,6 @@ use Rattle.records.specs.declared.marks.Mark.the-variants.{Gh}
 use Rattle.records.specs.declared.views.UnitAnswer.{UnitAnswer}
 use Rattle.records.proofs.Viewing.{faulty, had}
 use borrow.Author.Needs.{needs}
-use native.Mathlib.Omega.{arith}
 use Rattle.records.proofs.amounts.unit_part.Statement.{statement}
 use Rattle.records.proofs.amounts.unit_part.Tie as tie
 

@@ -7,10 +7,6 @@ use native.Mathlib.Omega.{arith}
 use borrow.Author.Needs.{needs}
 use Rattle.records.proofs.names.spell_name.Statement.{statement}
 use Rattle.records.proofs.names.spell_name.Tie as tie
-use Rattle.records.proofs.names.spell_name.Reads as reads
-use Rattle.records.proofs.names.spell_name.Lts as lts
-use Rattle.money.proofs.names.name_ok.Reads as name-ok-reads
-use Rattle.records.proofs.names.write_name.Reads as write-name-reads
 
 name-ok-requires : tie.Need-name-ok-requires
 name-ok-requires c κs = search needs

@@ -4,7 +4,6 @@ use Rattle.records.specs.Views.{exportAnswer}
 use Rattle.records.specs.declared.marks.Mark.the-variants.{Ex}
 use Rattle.records.proofs.Viewing.{view-at, view-no}
 use borrow.Author.Needs.{needs}
-use native.Mathlib.Omega.{arith}
 use Rattle.records.proofs.views.export_of.Statement.{statement}
 use Rattle.records.proofs.views.export_of.Tie as tie
 

@@ -6,7 +6,6 @@ use Rattle.records.specs.Layouts.{failure}
 use Rattle.records.specs.Views.{viewed, failureAnswer}
 use Rattle.records.proofs.Viewing.{view-at, view-no}
 use borrow.Author.Needs.{needs}
-use native.Mathlib.Omega.{arith}
 use Rattle.records.proofs.views.failure_of.Statement.{statement}
 use Rattle.records.proofs.views.failure_of.Tie as tie
 

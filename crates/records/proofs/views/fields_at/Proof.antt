@@ -1,21 +1,13 @@
-use mathlib.Core.Path.{_≡_, sym, ap, _∙_}
+use mathlib.Core.Path.{sym, ap, _∙_}
 use Rattle.records.specs.Numbers.{hour}
 use Rattle.records.specs.Changes.{head}
 use Rattle.records.specs.Inner.{then, guarded}
 use Rattle.records.specs.Marks.{sameMark}
 use Rattle.records.specs.Views.{ahead}
 use Rattle.records.proofs.Step.{first, next, test}
-use native.Mathlib.Omega.{arith}
 use borrow.Author.Needs.{needs}
 use Rattle.records.proofs.views.fields_at.Statement.{statement}
 use Rattle.records.proofs.views.fields_at.Tie as tie
-use Rattle.records.proofs.views.fields_at.Reads as reads
-use Rattle.records.proofs.views.fields_at.Lts as lts
-use Rattle.records.proofs.changes.name_then.Reads as name-then-reads
-use Rattle.records.proofs.fields.guard_end.Reads as guard-end-reads
-use Rattle.records.proofs.fields.hour_then.Reads as hour-then-reads
-use Rattle.records.proofs.marks.head_at.Reads as head-at-reads
-use Rattle.records.proofs.marks.same_mark.Reads as same-mark-reads
 
 head-at-requires : tie.Need-head-at-requires
 head-at-requires c κs = search needs

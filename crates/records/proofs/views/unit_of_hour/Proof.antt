@@ -4,7 +4,6 @@ use Rattle.records.specs.Views.{unitAnswer}
 use Rattle.records.specs.declared.marks.Mark.the-variants.{Gh}
 use Rattle.records.proofs.Viewing.{view-at, view-no}
 use borrow.Author.Needs.{needs}
-use native.Mathlib.Omega.{arith}
 use Rattle.records.proofs.views.unit_of_hour.Statement.{statement}
 use Rattle.records.proofs.views.unit_of_hour.Tie as tie
 

@@ -10,11 +10,6 @@ use Rattle.statement.specs.declared.lines.Line.{Line}
 use borrow.Author.Needs.{needs}
 use Rattle.statement.proofs.units.unit_sheet.Statement.{statement}
 use Rattle.statement.proofs.units.unit_sheet.Tie as tie
-use Rattle.statement.proofs.units.unit_sheet.Reads as reads
-use Rattle.statement.proofs.units.unit_sheet.Lts as lts
-use Rattle.book.proofs.journal.Book.unit_day.Reads as unit-day-reads
-use Rattle.records.proofs.names.spell_name.Reads as spell-name-reads
-use Rattle.statement.proofs.units.unit_of.Reads as unit-of-reads
 
 spell-name-requires : tie.Need-spell-name-requires
 spell-name-requires c κs = search needs
