@@ -12,13 +12,15 @@ use book::journal::Book;
 use money::units::Ticks;
 use records::marks::Mark;
 use records::names::no_name;
+ghost use mathlib.Core.Path.{_≡_};
 ghost use mathlib.Core.List.{[]};
-ghost use Rattle.book.specs.Register.{ask};
+ghost use Rattle.book.specs.Register.{ask, accepted};
+ghost use Rattle.book.specs.Handed.{guaranteesFrom};
 ghost use Rattle.book.specs.Meaning.{replyOf, chargesReply};
 ghost use Rattle.book.specs.Session.{Session};
 ghost use Rattle.demands.specs.Demands.{Demanded};
 ghost use Rattle.demands.specs.Beside.{ReadAsCalls, ChargesByKey};
-ghost use Rattle.demands.specs.Script.{changeOf, questionOf, callOf, saidOf};
+ghost use Rattle.demands.specs.Script.{changeOf, questionOf, callOf, saidOf, Alone};
 
 // What a call hands back: the book, and its answer, or an hour's guarantees where it asked for them.
 pub struct Turned {
@@ -76,7 +78,9 @@ pub fn put_question(b: Book, log: &[u8], method: u8, mark: &[u8], hour: u8, byte
     b.failure_charge(log, mark, hour, bytes)
 }
 
-fn no_guarantees() -> Guarantees {
+fn no_guarantees() -> Guarantees
+    ensures { λ r. ⌜ r ≡ guaranteesFrom accepted ⌝ }
+{
     let name = no_name();
     let none = NamedAmount {
         name,
@@ -96,7 +100,7 @@ fn no_guarantees() -> Guarantees {
 
 // Any call of the register: a change (0 to 5), an hour's guarantees (6), or another question (7 to 11).
 pub fn step(b: Book, log: &mut [u8], method: u8, mark: &[u8], hour: u8, bytes: &[u8]) -> Turned
-    ensures { λ r. ⌜ Demanded (callOf method (now (mark .entry)) hour (now (bytes .entry))) b (now (log .entry)) (r .book) (saidOf r) (now (log .exit)) ⌝ }
+    ensures { λ r. ⌜ Demanded (callOf method (now (mark .entry)) hour (now (bytes .entry))) b (now (log .entry)) (r .book) (saidOf r) (now (log .exit)) × Alone (r .hourly) (r .answer) (r .guarantees) ⌝ }
 {
     if method < 6 {
         let d = make_change(b, log, method, bytes);

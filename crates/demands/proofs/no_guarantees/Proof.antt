@@ -1,0 +1,27 @@
+use mathlib.Core.Path.{_≡_, ap, _∙_}
+use mathlib.Core.List.{List}
+use lib.IntN.{pos}
+use lib.ListN.{replicate}
+use Rattle.book.specs.Layer.{Name, noTicks}
+use Rattle.book.specs.Handed.{noAmount, amountsOf}
+use Rattle.book.specs.HandedLaws.{pad-none}
+use Rattle.book.specs.declared.answers.NamedAmount.{NamedAmount}
+use Rattle.book.specs.declared.answers.Guarantees.{Guarantees}
+use borrow.Author.Needs.{needs}
+use Rattle.demands.proofs.no_guarantees.Statement.{statement}
+use Rattle.demands.proofs.no_guarantees.Tie as tie
+
+no-name-requires : tie.Need-no-name-requires
+no-name-requires c κs = search needs
+
+-- an hour's guarantees without credits
+abbrev blank : List NamedAmount → Guarantees
+blank l = record { number = 0; credits = record { n = 0; list = l }; offset = record { 0 = pos 0 } }
+
+returns : tie.Need-returns
+unfolding amountsOf
+returns c =
+    ap (λ (x : Name). blank (replicate 16 (record { name = x; start = 0; ticks = noTicks }))) ((c .no-name) .ensures) ∙ ap blank (pad-none noAmount 16)
+
+pub no-guarantees-spec : {M : Type 1} → statement M
+no-guarantees-spec = tie.close (tie.spec no-name-requires returns)
