@@ -10,10 +10,12 @@ use borrow.Author.Tests.{le-leb, lt-leb, lt-ltb, leb-true, ltb-true}
 use lib.Dec.{leb, ltb}
 use lib.IntN.{ℤ, pos, natAbs, _+ℤ_, _*ℤ_, +ℤ-idr, +ℤ-idl}
 use lib.Signed.{leZ}
-use lib.ListN.{getD}
+use lib.ListN.{length, getD, set, length-set}
+use lib.Seq.{getD-set-same, getD-set-other}
 use Rattle.laws.specs.Ints.{ints, by₁, add-within, mul-within}
 use Rattle.laws.specs.Sums.{Σℤ, Σℕ, Σℤ-ext, Σℤ-cut, Σℤ-more, Σℕ-cut, Σℕ-ones, Σℤ-within, last-or, below-step, every, every-at, and-true}
 use Rattle.money.specs.declared.units.Price.{Price}
+use Rattle.money.specs.declared.units.Ticks.{Ticks}
 use Rattle.money.specs.declared.offers.Offer.{Offer}
 use Rattle.money.specs.Units.{noPrice, noQuantity, priceOk}
 use Rattle.money.specs.Offers.{P, Q, before, lastQ, countOk, numberOk, numbersOk, risesAt, orderOk, offerFault, piece, partPair, fullPairs, cost}
@@ -168,6 +170,47 @@ module _ {o : Offer} {q : ℕ} (good : Good o) (within : q ≤ lastQ o) {acc : �
 
   pub walked : {t r : ℤ} → q ≤ Q o i → t ≡ P o i *ℤ pos (q - last) → r ≡ acc +ℤ t → r ≡ cost o q
   walked h e k = ends o q good within acc last i w _ h (k ∙ ap (λ (z : ℤ). acc +ℤ z) e)
+
+-- ---- what the pairs before each pair cost, as a loop finds it
+abbrev pub ticksAt : List Ticks → ℕ → ℤ
+ticksAt ts i = getD ts i (record { 0 = pos 0 }) .0
+
+pub record Costed (o : Offer) (costs : List Ticks) (acc : ℤ) (last i : ℕ) : Type 0 where
+  pub upto : i ≤ o .count
+  pub long : length costs ≡ 20
+  pub from : last ≡ before o i
+  pub sum : acc ≡ Σℤ i (piece o)
+  pub so-far : (j : ℕ) → j < i → ticksAt costs j ≡ Σℤ j (piece o)
+
+pub costed-none : (o : Offer) (costs : List Ticks) → length costs ≡ 20 → Costed o costs (pos 0) 0 0
+unfolding Σℤ
+costed-none o costs h = record { upto = zero-le; long = h; from = refl; sum = refl; so-far = λ j l. absurd (omega arith) }
+
+module _ {o : Offer} {costs : List Ticks} {acc : ℤ} {last i : ℕ} (good : Good o) (s : Costed o costs acc last i) (l : i < o .count) where
+  pub costed-reach : last ≤ Q o i
+  costed-reach = omega (arith, s .from, good .rising i l)
+
+  pub costed-room : Moderate acc
+  costed-room = rw (s .sum) (omega (arith, pieces-size o good i l))
+
+  pub costed-more : {v : Ticks} {t r : ℤ} → v .0 ≡ acc → t ≡ P o i *ℤ pos (Q o i - last) → r ≡ acc +ℤ t → Costed o (set costs i v) r (Q o i) (i + 1)
+  costed-more {v} f e k = record {
+    upto = omega arith;
+    long = simp length-set (s .long);
+    from = rw add-one;
+    sum = rw (Σℤ-more, ← s .sum, ← s .from) (k ∙ ap (λ (z : ℤ). acc +ℤ z) e);
+    so-far = λ j h. last-or j i (omega arith)
+        (λ q. subst (λ (n : ℕ). ticksAt (set costs i v) n ≡ Σℤ n (piece o)) (sym q) (ap (λ (x : Ticks). x .0) (getD-set-same costs i v (record { 0 = pos 0 }) (omega (arith, s .long, good .most))) ∙ f ∙ s .sum))
+        (λ q. ap (λ (x : Ticks). x .0) (getD-set-other costs i j v (record { 0 = pos 0 }) (λ z. omega arith)) ∙ s .so-far j q);
+  }
+
+-- the walk that finds a pair, with what the pairs before it cost
+module _ {o : Offer} {q : ℕ} (good : Good o) (within : q ≤ lastQ o) {last i : ℕ} (w : Walk o q (Σℤ i (piece o)) last i) where
+  pub found-on : Q o i < q → Walk o q (Σℤ (i + 1) (piece o)) (Q o i) (i + 1)
+  found-on h = next o q good within (Σℤ i (piece o)) last i w (Σℤ (i + 1) (piece o)) h (Σℤ-more i (piece o) ∙ (λ k. Σℤ i (piece o) +ℤ P o i *ℤ pos (Q o i - sym (w .from) k)))
+
+  pub found : {b t r : ℤ} → b ≡ Σℤ i (piece o) → q ≤ Q o i → t ≡ P o i *ℤ pos (q - last) → r ≡ b +ℤ t → r ≡ cost o q
+  found {t = t} d h e k = walked good within w h e (k ∙ ap (λ (z : ℤ). z +ℤ t) d)
 
 -- ---- an offer
 pub good-of : (o : Offer) → offerFault o ≡ 0 → Good o

@@ -2,7 +2,7 @@
 use mathlib.Core.Path.{_≡_, refl, sym, ap, _∙_}
 use mathlib.Core.Bool.{Bool, true, false, cond, _&&_}
 use mathlib.Core.List.{List}
-use Prim.Native.Nat.{ℕ, zero, suc, _+_, _-_, _*_, _≤_, _<_, min, max}
+use Prim.Native.Nat.{ℕ, zero, suc, _+_, _-_, _*_, _≤_, _<_, zero-le, min, max}
 use native.Mathlib.Nat.{sub-zero}
 use native.Mathlib.Decide.{decLt}
 use native.Mathlib.Omega.{arith}
@@ -11,23 +11,35 @@ use lib.Dec.{leb, ltb}
 use lib.IntN.{ℤ, pos, negℤ, natAbs, _+ℤ_, _-ℤ_, _*ℤ_, +ℤ-idr}
 use lib.Signed.{leZ, _≤ℤ_}
 use lib.ListN.{getD}
-use Rattle.laws.specs.Ints.{ints, dif, pos-dif, by₁, by₄, by₅, minℤ, maxℤ, le-true, true-le, min-max-neg, add-within, sub-within}
-use Rattle.laws.specs.Sums.{Σℤ, Σℤ-within, Summed, every-at, every-yes, and-true, orElse}
+use Rattle.laws.specs.Ints.{ints, dif, pos-dif, by₁, by₃, by₄, by₅, minℤ, maxℤ, le-true, true-le, min-max-neg, add-within, sub-within}
+use Rattle.laws.specs.Sums.{Σℤ, Σℤ-ext, Σℤ-cut, Σℤ-sub, Σℤ-within, Summed, every-at, every-yes, and-true, orElse}
 use Rattle.money.specs.declared.units.Price.{Price}
 use Rattle.money.specs.declared.units.Ticks.{Ticks}
 use Rattle.money.specs.declared.units.Answer.the-variants.{Amount}
 use Rattle.money.specs.declared.units.CentsPerStart.{CentsPerStart}
 use Rattle.money.specs.declared.offers.Offer.{Offer}
+use Rattle.money.specs.declared.production.Pick.{Pick}
+use Rattle.money.specs.declared.production.Pick.the-variants.{Lesser, Greater, Above}
 use Rattle.money.specs.declared.production.Reserve.{Reserve}
 use Rattle.money.specs.declared.production.UnitHour.{UnitHour}
 use Rattle.money.specs.declared.production.DayAnswer.the-variants.{Day}
 use Rattle.money.specs.Units.{priceAt, pricesOk, quantitiesOk, withinOk, maxCents, unless, answer}
 use Rattle.money.specs.Offers.{before, lastQ, offerFault, cost}
-use Rattle.money.specs.Guarantee.{profit}
-use Rattle.money.specs.Production.{shortfall, arranged, congestion, reserveNet, component4, S, D, R, U, A, K, C1, C2, C3, C4, interval, hourAmount, reserveFault, reserveNumbersOk, reservesNumbersOk, numbersFine, withinFine, listsFault, unitFault, intervalFault, noTicks, noStart, hourPart, maxHour, daySum, amountOk, hoursOk, reversal, dayAnswer, hourAnswer}
+use Rattle.money.specs.Guarantee.{profit, profits}
+use Rattle.money.specs.Production.{component1, shortfall, component2, arranged, component3, congestion, reserveNet, component4, S, D, R, U, A, K, C1, C2, C3, C4, interval, hourAmount, reserveFault, reserveNumbersOk, reservesNumbersOk, numbersFine, withinFine, listsFault, unitFault, intervalFault, noTicks, noStart, hourPart, maxHour, daySum, amountOk, hoursOk, reversal, dayAnswer, hourAnswer}
 use Rattle.money.specs.UnitLaws.{Moderate, Rates, prices-of, within-at, passes, neither}
 use Rattle.money.specs.OfferLaws.{Good, good-of, cost-none, abs-mul-pos, cost-size, last-size}
-use Rattle.money.specs.GuaranteeLaws.{profit-size}
+use Rattle.money.specs.GuaranteeLaws.{Ready, profit-size, profits-size}
+
+-- what two quantities give
+abbrev pub pickOf : Pick → ℕ → ℕ → ℕ
+pickOf Lesser x y = min x y
+pickOf Greater x y = max x y
+pickOf Above x y = x - y
+
+-- an interval's speed no-load, where something is delivered
+abbrev pub running : ℕ → ℕ → ℤ
+running noload m = cond (ltb 0 m) (pos (noload * 10)) (pos 0)
 
 -- a reserve that passed its checks: its list keeps the rule, or is empty
 pub record Usable (s : Reserve) : Type 0 where
@@ -76,6 +88,9 @@ two-room {c = c} {d = d} e f h k g = rw (g ∙ (λ i. e i +ℤ f i)) (omega (ari
 pub lesser-in : (a b : ℕ) {q last : ℕ} → q ≡ min a b → a ≤ last → q ≤ last
 lesser-in a b e h = omega arith
 
+pub second-in : (a b : ℕ) {q : ℕ} → q ≡ min a b → q ≤ b
+second-in a b e = omega arith
+
 -- ---- a cost within an offer, and that cost less a price's value
 module _ (o : Offer) (q : ℕ) (good : Good o) (within : q ≤ lastQ o) where
   pub in-range : q ≤ 100000
@@ -102,27 +117,29 @@ module _ (o : Offer) (q : ℕ) (good : Good o) (within : q ≤ lastQ o) where
       loss-room = room loss-is (omega (arith, loss-size))
 
 -- ---- C1
-module _ (o : Offer) (p : ℤ) (noload q : ℕ) {l : ℤ} (e : l ≡ cost o q -ℤ p *ℤ pos q) where
-  pub shortfall-none : q < 1 → l ≡ shortfall o p noload q
-  unfolding shortfall
-  shortfall-none h = e ∙ sym (rw (le-ltb 0 q (omega arith)) (+ℤ-idr _))
+pub running-none : (noload q : ℕ) → q < 1 → pos 0 ≡ running noload q
+running-none noload q h = rw (le-ltb 0 q (omega arith)) refl
 
-  pub shortfall-some : {t r : ℤ} → 1 ≤ q → t ≡ pos (noload * 10) → r ≡ l +ℤ t → r ≡ shortfall o p noload q
-  unfolding shortfall
-  shortfall-some h f g = g ∙ (λ i. e i +ℤ f i) ∙ sym (rw (lt-ltb 0 q (omega arith)))
+pub running-some : (noload q : ℕ) {t : ℤ} → 1 ≤ q → t ≡ pos (noload * 10) → t ≡ running noload q
+running-some noload q h e = e ∙ rw (lt-ltb 0 q (omega arith)) refl
+
+running-size : (noload q : ℕ) → noload ≤ 100000000 → natAbs (running noload q) ≤ 1000000000
+running-size noload q small = go (ltb 0 q)
+  where
+    go : (t : Bool) → natAbs (cond t (pos (noload * 10)) (pos 0)) ≤ 1000000000
+    go true = omega arith
+    go false = omega arith
+
+pub running-room : (noload q : ℕ) {t : ℤ} → noload ≤ 100000000 → t ≡ running noload q → Moderate t
+running-room noload q small e = rw e (omega (arith, running-size noload q small))
+
+pub shortfall-is : (o : Offer) (p : ℤ) (noload q : ℕ) {l t r : ℤ} → l ≡ cost o q -ℤ p *ℤ pos q → t ≡ running noload q → r ≡ l +ℤ t → r ≡ shortfall o p noload q
+unfolding shortfall
+shortfall-is o p noload q e f g = g ∙ (λ i. e i +ℤ f i)
 
 shortfall-size : (o : Offer) (p : ℤ) (noload q : ℕ) → Good o → q ≤ lastQ o → natAbs p ≤ 200000 → noload ≤ 100000000 → natAbs (shortfall o p noload q) ≤ 441000000000
 unfolding shortfall
-shortfall-size o p noload q good within rate small =
-    add-within (cost o q -ℤ p *ℤ pos q) (cond (ltb 0 q) (pos (noload * 10)) (pos 0)) (loss-size o q good within p rate) (part (ltb 0 q))
-  where
-    part : (t : Bool) → natAbs (cond t (pos (noload * 10)) (pos 0)) ≤ 1000000000
-    part true = omega arith
-    part false = omega arith
-
--- an interval's speed no-load
-pub ten-room : {n : ℕ} {t : ℤ} → t ≡ pos (n * 10) → n ≤ 100000000 → Moderate t
-ten-room e h = rw e (omega arith)
+shortfall-size o p noload q good within rate small = add-within (cost o q -ℤ p *ℤ pos q) (running noload q) (loss-size o q good within p rate) (running-size noload q small)
 
 -- ---- C2: the cost between two quantities, in two offers
 module _ (o : Offer) (b a : ℕ) (good : Good o) (upper : b ≤ lastQ o) (lower : a ≤ lastQ o) where
@@ -265,20 +282,144 @@ module _ {h : UnitHour} {ps : List Price} (ready : UnitReady h ps) where
   unfolding hourAmount
   hour-size = some-size 12 (omega arith)
 
-pub hour-room : {h : UnitHour} {ps : List Price} {sum : ℤ} {k : ℕ} → UnitReady h ps → Summed 12 (interval h ps) sum k → Moderate sum
-hour-room {k = k} ready u = rw (u .so-far) (omega (arith, some-size ready k (u .upto)))
+-- ---- twelve intervals at a time
+Σℤ-add : (n : ℕ) (f g : ℕ → ℤ) → Σℤ n (λ j. f j +ℤ g j) ≡ Σℤ n f +ℤ Σℤ n g
+unfolding Σℤ
+Σℤ-add zero f g = refl
+Σℤ-add (suc n) f g = (λ i. Σℤ-add n f g i +ℤ (f n +ℤ g n)) ∙ swap (Σℤ n f) (Σℤ n g) (f n) (g n)
+  where
+    swap : (x y z w : ℤ) → x +ℤ y +ℤ (z +ℤ w) ≡ x +ℤ z +ℤ (y +ℤ w)
+    swap = by₄ _ (λ a a′ b b′ c c′ d d′. simp ints (omega arith))
 
+-- quantities that are no larger
+pub ready-less : {o : Offer} {ps : List Price} {q q′ : ℕ → ℕ} → Ready o ps q → ((k : ℕ) → k < 12 → q′ k ≤ q k) → Ready o ps q′
+ready-less r h = record { good = r .good; prices = r .prices; within = λ k l. omega (arith, h k l, r .within k l) }
+
+pub profits-moderate : {o : Offer} {ps : List Price} {q : ℕ → ℕ} → Ready o ps q → {x : ℤ} → x ≡ profits o ps q → Moderate x
+profits-moderate {o} {ps} {q} r e = rw e (omega (arith, profits-size o ps q r))
+
+-- the difference of two
+pub two-profits : {o : Offer} {ps : List Price} {q q′ : ℕ → ℕ} → Ready o ps q → Ready o ps q′ → {x y z : ℤ} → x ≡ profits o ps q → y ≡ profits o ps q′ → z ≡ x -ℤ y → Moderate z
+two-profits {o} {ps} {q} {q′} r r′ e f g = rw (g ∙ (λ i. e i -ℤ f i)) (omega (arith, sub-within (profits o ps q) (profits o ps q′) (profits-size o ps q r) (profits-size o ps q′ r′)))
+
+-- speed no-load
+pub runs-room : (noload : ℕ) (m : ℕ → ℕ) → noload ≤ 100000000 → {sum : ℤ} {k : ℕ} → Summed 12 (λ j. running noload (m j)) sum k → Moderate sum
+runs-room noload m small {k = k} u = rw (u .so-far) (omega (arith, u .upto, Σℤ-within 1000000000 k (λ j. running noload (m j)) (λ j l. running-size noload (m j) small)))
+
+pub runs-moderate : (noload : ℕ) (m : ℕ → ℕ) → noload ≤ 100000000 → {x : ℤ} → x ≡ Σℤ 12 (λ j. running noload (m j)) → Moderate x
+runs-moderate noload m small e = rw e (omega (arith, Σℤ-within 1000000000 12 (λ j. running noload (m j)) (λ j l. running-size noload (m j) small)))
+
+turned : (n v c : ℤ) → n -ℤ (v -ℤ c) ≡ c -ℤ v +ℤ n
+turned = by₃ _ (λ a a′ b b′ c c′. simp ints (omega arith))
+
+-- C1 is the speed no-load less the profits
+pub sum1-is : (da : Offer) (ps : List Price) (noload : ℕ) (d r a m : ℕ → ℕ) → ((k : ℕ) → k < 12 → m k ≡ min (d k) (min (r k) (a k))) → {n p x : ℤ} → n ≡ Σℤ 12 (λ k. running noload (m k)) → p ≡ profits da ps m → x ≡ n -ℤ p
+    → x ≡ Σℤ 12 (λ k. component1 da (priceAt ps k) noload (d k) (r k) (a k))
+unfolding profits shortfall
+sum1-is da ps noload d r a m h e f g =
+    g ∙ (λ i. e i -ℤ f i) ∙ sym (Σℤ-sub 12 (λ k. running noload (m k)) (λ k. profit da (priceAt ps k) (m k)))
+    ∙ Σℤ-ext 12 (λ k. running noload (m k) -ℤ profit da (priceAt ps k) (m k)) (λ k. component1 da (priceAt ps k) noload (d k) (r k) (a k))
+    (λ k l. turned (running noload (m k)) (priceAt ps k *ℤ pos (m k)) (cost da (m k)) ∙ ap (λ (q : ℕ). shortfall da (priceAt ps k) noload q) (h k l))
+
+crossed : (v c w d : ℤ) → (v -ℤ c) -ℤ (w -ℤ d) ≡ (d -ℤ c) -ℤ (w -ℤ v)
+crossed = by₄ _ (λ a a′ b b′ c c′ d d′. simp ints (omega arith))
+
+dropped : (x y z : ℤ) → (x -ℤ z) -ℤ (y -ℤ z) ≡ x -ℤ y
+dropped = by₃ _ (λ a a′ b b′ c c′. simp ints (omega arith))
+
+-- C2 is what the profits of two offers differ by, between the same two quantities at the same prices
+arranged-by : (da rt : Offer) (p : ℤ) (b a : ℕ) → (profit da p a -ℤ profit da p b) -ℤ (profit rt p a -ℤ profit rt p b) ≡ arranged da rt b a
+unfolding arranged
+arranged-by da rt p b a =
+    let v = p *ℤ pos a in
+    let w = p *ℤ pos b in
+    (λ i. crossed v (cost da a) w (cost da b) i -ℤ crossed v (cost rt a) w (cost rt b) i) ∙ dropped (cost da b -ℤ cost da a) (cost rt b -ℤ cost rt a) (w -ℤ v)
+
+-- what one offer's profits differ by, over the twelve
+profits-differ : (o : Offer) (ps : List Price) (from to : ℕ → ℕ) {x y s : ℤ} → x ≡ profits o ps from → y ≡ profits o ps to → s ≡ x -ℤ y
+    → s ≡ Σℤ 12 (λ k. profit o (priceAt ps k) (from k) -ℤ profit o (priceAt ps k) (to k))
+unfolding profits
+profits-differ o ps from to e f g = g ∙ (λ i. e i -ℤ f i) ∙ sym (Σℤ-sub 12 (λ k. profit o (priceAt ps k) (from k)) (λ k. profit o (priceAt ps k) (to k)))
+
+pub sum2-is : (da rt : Offer) (ps : List Price) (d r a c to from : ℕ → ℕ) → ((k : ℕ) → k < 12 → to k ≡ min (d k) (c k)) → ((k : ℕ) → k < 12 → from k ≡ min (to k) (max (r k) (a k)))
+    → {x y z w s t n : ℤ} → x ≡ profits da ps from → y ≡ profits da ps to → z ≡ profits rt ps from → w ≡ profits rt ps to → s ≡ x -ℤ y → t ≡ z -ℤ w → n ≡ s -ℤ t
+    → n ≡ Σℤ 12 (λ k. component2 da rt (d k) (r k) (a k) (c k))
+sum2-is da rt ps d r a c to from h h′ e f e′ f′ g g′ m =
+    let one : Offer → ℕ → ℤ = λ o k. profit o (priceAt ps k) (from k) -ℤ profit o (priceAt ps k) (to k) in
+    m ∙ (λ i. profits-differ da ps from to e f g i -ℤ profits-differ rt ps from to e′ f′ g′ i) ∙ sym (Σℤ-sub 12 (one da) (one rt))
+    ∙ Σℤ-ext 12 (λ k. one da k -ℤ one rt k) (λ k. component2 da rt (d k) (r k) (a k) (c k))
+    (λ k l. arranged-by da rt (priceAt ps k) (to k) (from k) ∙ (λ i. arranged da rt (h k l i) ((h′ k l ∙ ap (λ (n : ℕ). min n (max (r k) (a k))) (h k l)) i)))
+
+-- C3 is what the profits of one offer differ by
+congestion-by : (rt : Offer) (p : ℤ) (b a : ℕ) → profit rt p a -ℤ profit rt p b ≡ congestion rt p b a
+unfolding congestion
+congestion-by rt p b a = swap (p *ℤ pos a) (cost rt a) (p *ℤ pos b) (cost rt b) ∙ apart (cost rt b) (cost rt a) p (pos b) (pos a)
+  where
+    swap : (v c w d : ℤ) → (v -ℤ c) -ℤ (w -ℤ d) ≡ (d -ℤ w) -ℤ (c -ℤ v)
+    swap = by₄ _ (λ a a′ b b′ c c′ d d′. simp ints (omega arith))
+
+pub sum3-is : (rt : Offer) (ps : List Price) (d r u to from : ℕ → ℕ) → ((k : ℕ) → k < 12 → to k ≡ min (r k) (d k)) → ((k : ℕ) → k < 12 → from k ≡ min (u k) (d k))
+    → {x y n : ℤ} → x ≡ profits rt ps from → y ≡ profits rt ps to → n ≡ x -ℤ y → n ≡ Σℤ 12 (λ k. component3 rt (priceAt ps k) (d k) (r k) (u k))
+sum3-is rt ps d r u to from h h′ e f g =
+    profits-differ rt ps from to e f g
+    ∙ Σℤ-ext 12 (λ k. profit rt (priceAt ps k) (from k) -ℤ profit rt (priceAt ps k) (to k)) (λ k. component3 rt (priceAt ps k) (d k) (r k) (u k))
+    (λ k l. congestion-by rt (priceAt ps k) (to k) (from k) ∙ (λ i. congestion rt (priceAt ps k) (h k l i) (h′ k l i)))
+
+-- C4: one reserve, of as much of its schedules as is left
+abbrev reserved : Reserve → (ℕ → ℕ) → ℕ → ℤ
+reserved s left k = reserveNet s k (min (left k) (S s k))
+
+module _ {s : Reserve} (u : Usable s) (left : ℕ → ℕ) where
+  pub reserve-none : s .offer .count < 1 → pos 0 ≡ Σℤ 12 (reserved s left)
+  unfolding Σℤ
+  reserve-none h = sym (Σℤ-cut 12 0 (reserved s left) zero-le (λ k a l. sym (idle u k (min (left k) (S s k)) (omega (arith, u .within k l, last-none (s .offer) h)))))
+
+  module _ (q : ℕ → ℕ) (row : (k : ℕ) → k < 12 → q k ≡ min (left k) (S s k)) where
+    pub reserve-ready : 1 ≤ s .offer .count → Ready (s .offer) (s .prices) q
+    reserve-ready h = record { good = u .good h; prices = u .rates; within = λ k l. omega (arith, row k l, u .within k l) }
+
+    pub reserve-is : {x : ℤ} → x ≡ profits (s .offer) (s .prices) q → x ≡ Σℤ 12 (reserved s left)
+    unfolding profits
+    reserve-is e = e ∙ Σℤ-ext 12 (λ k. profit (s .offer) (priceAt (s .prices) k) (q k)) (reserved s left) (λ k l. ap (λ (n : ℕ). reserveNet s k n) (row k l))
+
+  reserve-size : natAbs (Σℤ 12 (reserved s left)) ≤ 5280000000000
+  reserve-size = Σℤ-within 440000000000 12 (reserved s left) (λ k l. net-size u k (min (left k) (S s k)) l (omega (arith, u .within k l)))
+
+  pub reserve-room : {x : ℤ} → x ≡ Σℤ 12 (reserved s left) → Moderate x
+  reserve-room e = rw e (omega (arith, reserve-size))
+
+pub two-reserves : {s s′ : Reserve} → Usable s → Usable s′ → (left left′ : ℕ → ℕ) {x y z : ℤ} → x ≡ Σℤ 12 (reserved s left) → y ≡ Σℤ 12 (reserved s′ left′) → z ≡ x +ℤ y → Moderate z
+two-reserves {s} {s′} u u′ left left′ e f g = rw (g ∙ (λ i. e i +ℤ f i)) (omega (arith, add-within (Σℤ 12 (reserved s left)) (Σℤ 12 (reserved s′ left′)) (reserve-size u left) (reserve-size u′ left′)))
+
+pub sum4-is : (r1 r2 r3 : Reserve) (d u l1 l2 l3 : ℕ → ℕ) → ((k : ℕ) → k < 12 → l1 k ≡ d k - u k) → ((k : ℕ) → k < 12 → l2 k ≡ l1 k - S r1 k) → ((k : ℕ) → k < 12 → l3 k ≡ l2 k - S r2 k)
+    → {x y z s n : ℤ} → x ≡ Σℤ 12 (reserved r1 l1) → y ≡ Σℤ 12 (reserved r2 l2) → z ≡ Σℤ 12 (reserved r3 l3) → s ≡ x +ℤ y → n ≡ s +ℤ z
+    → n ≡ Σℤ 12 (λ k. component4 r1 r2 r3 k (d k) (u k))
+sum4-is r1 r2 r3 d u l1 l2 l3 a b c e f g h m =
+    m ∙ (λ i. h i +ℤ g i) ∙ (λ i. e i +ℤ f i +ℤ Σℤ 12 (reserved r3 l3)) ∙ (λ i. sym (Σℤ-add 12 (reserved r1 l1) (reserved r2 l2)) i +ℤ Σℤ 12 (reserved r3 l3))
+    ∙ sym (Σℤ-add 12 (λ k. reserved r1 l1 k +ℤ reserved r2 l2 k) (reserved r3 l3))
+    ∙ Σℤ-ext 12 (λ k. reserved r1 l1 k +ℤ reserved r2 l2 k +ℤ reserved r3 l3 k) (λ k. component4 r1 r2 r3 k (d k) (u k))
+    (λ k l. component4-is r1 r2 r3 k (d k) (u k) (a k l) (b k l) (c k l) refl refl refl refl refl refl refl refl)
+
+-- ---- the four together
 parts : (x y z w : ℤ) → (x +ℤ y) -ℤ (z +ℤ w) ≡ x +ℤ y -ℤ z -ℤ w
 parts = by₄ _ (λ a a′ b b′ c c′ d d′. simp ints (omega arith))
 
--- what the calls of a turn returned: the components, the two sums, and their difference
-module _ {h : UnitHour} {ps : List Price} (ready : UnitReady h ps) {k : ℕ} (l : k < 12) {x y z w s t n : ℤ} (a : x ≡ C1 h ps k) (b : y ≡ C2 h ps k) (c : z ≡ C3 h ps k) (d : w ≡ C4 h ps k) (e : s ≡ x +ℤ y) (f : t ≡ z +ℤ w) (g : n ≡ s -ℤ t) where
-  pub interval-is : n ≡ interval h ps k
-  unfolding interval
-  interval-is = g ∙ (λ i. e i -ℤ f i) ∙ (λ i. (a i +ℤ b i) -ℤ (c i +ℤ d i)) ∙ parts (C1 h ps k) (C2 h ps k) (C3 h ps k) (C4 h ps k)
+sum-size : (f : ℕ → ℤ) → ((k : ℕ) → k < 12 → Small (f k)) → natAbs (Σℤ 12 f) ≤ 24000000000000
+sum-size f h = Σℤ-within 2000000000000 12 f h
 
-  pub interval-room : Moderate n
-  interval-room = rw interval-is (omega (arith, interval-size ready k l))
+pub sum-room : (f : ℕ → ℤ) {x : ℤ} → ((k : ℕ) → k < 12 → Small (f k)) → x ≡ Σℤ 12 f → Moderate x
+sum-room f h e = rw e (omega (arith, sum-size f h))
+
+pub two-sums : (f g : ℕ → ℤ) {x y s : ℤ} → ((k : ℕ) → k < 12 → Small (f k)) → ((k : ℕ) → k < 12 → Small (g k)) → x ≡ Σℤ 12 f → y ≡ Σℤ 12 g → s ≡ x +ℤ y → Moderate s
+two-sums f g h k e e′ m = rw (m ∙ (λ i. e i +ℤ e′ i)) (omega (arith, add-within (Σℤ 12 f) (Σℤ 12 g) (sum-size f h) (sum-size g k)))
+
+pub hour-is : (h : UnitHour) (ps : List Price) {x y z w s t n : ℤ} → x ≡ Σℤ 12 (C1 h ps) → y ≡ Σℤ 12 (C2 h ps) → z ≡ Σℤ 12 (C3 h ps) → w ≡ Σℤ 12 (C4 h ps)
+    → s ≡ x +ℤ y → t ≡ z +ℤ w → n ≡ s -ℤ t → n ≡ hourAmount h ps
+unfolding hourAmount interval
+hour-is h ps a b c d e f g =
+    g ∙ (λ i. e i -ℤ f i) ∙ (λ i. (a i +ℤ b i) -ℤ (c i +ℤ d i)) ∙ (λ i. sym (Σℤ-add 12 (C1 h ps) (C2 h ps)) i -ℤ sym (Σℤ-add 12 (C3 h ps) (C4 h ps)) i)
+    ∙ sym (Σℤ-sub 12 (λ k. C1 h ps k +ℤ C2 h ps k) (λ k. C3 h ps k +ℤ C4 h ps k))
+    ∙ Σℤ-ext 12 (λ k. (C1 h ps k +ℤ C2 h ps k) -ℤ (C3 h ps k +ℤ C4 h ps k)) (interval h ps) (λ k l. parts (C1 h ps k) (C2 h ps k) (C3 h ps k) (C4 h ps k))
 
 -- ---- what the checks tell
 module _ (s : Reserve) (e : reserveFault s ≡ 0) where

@@ -3,6 +3,7 @@ ghost use Rattle.money.specs.Units.{quantityAt};
 ghost use Rattle.money.specs.Guarantee.{profits, credit, creditAnswer};
 ghost use Rattle.money.specs.GuaranteeLaws.{Ready};
 use crate::offers::Offer;
+use crate::offers::costs_before;
 use crate::offers::last_of;
 use crate::offers::offer_fault;
 use crate::refusals::BEYOND_LIST;
@@ -15,26 +16,26 @@ use crate::units::prices_ok;
 use crate::units::quantities_ok;
 use crate::units::within_ok;
 
-// The profits of twelve intervals. The walk over the pairs stops at the first one that reaches the quantity.
-fn profit_sum(o: Offer, prices: [Price; 12], qs: [Quantity; 12]) -> Ticks
+// The profits of twelve intervals. The walk over the pairs stops at the first one that reaches the quantity; what the pairs before it cost is known.
+pub(crate) fn profit_sum(o: Offer, prices: [Price; 12], qs: [Quantity; 12]) -> Ticks
     requires { ⌜ Ready o prices (quantityAt qs) ⌝ }
     ensures { λ r. ⌜ r .0 ≡ profits o prices (quantityAt qs) ⌝ }
 {
+    let costs = costs_before(o);
     let mut sum = Ticks(0);
     let mut k: usize = 0;
     'intervals: while k < 12 {
         let q = qs[k];
         let emp = prices[k];
-        let mut acc = Ticks(0);
         let mut last = Quantity(0);
         let mut i: usize = 0;
         let cost = loop {
-            let p = o.prices[i];
             let w = o.quantities[i];
             if q.0 <= w.0 {
-                break acc.plus(p.times(last, q));
+                let p = o.prices[i];
+                let before = costs[i];
+                break before.plus(p.times(last, q));
             }
-            acc = acc.plus(p.times(last, w));
             last = w;
             i = i + 1;
         };

@@ -1,9 +1,10 @@
 ghost use mathlib.Core.Path.{_≡_};
-ghost use Prim.Native.Nat.{ℕ, _≤_};
+ghost use Prim.Native.Nat.{ℕ, _≤_, _<_};
 ghost use mathlib.Core.Bool.{_&&_};
 ghost use Rattle.money.specs.Units.{priceOk, quantityOk};
-ghost use Rattle.money.specs.Offers.{numbersOk, rises, orderOk, offerFault, lastQ, cost, costAnswer};
-ghost use Rattle.money.specs.OfferLaws.{Good};
+ghost use Rattle.laws.specs.Sums.{Σℤ};
+ghost use Rattle.money.specs.Offers.{numbersOk, rises, orderOk, offerFault, lastQ, piece, cost, costAnswer};
+ghost use Rattle.money.specs.OfferLaws.{Good, ticksAt};
 use crate::refusals::BAD_LIST;
 use crate::refusals::BEYOND_LIST;
 use crate::refusals::OUT_OF_RANGE;
@@ -120,6 +121,27 @@ pub(crate) fn cost_of(o: Offer, q: Quantity) -> Ticks
         i = i + 1;
     };
     c
+}
+
+// For each pair, what the pairs before it cost together.
+pub(crate) fn costs_before(o: Offer) -> [Ticks; 20]
+    requires { ⌜ Good o ⌝ }
+    ensures { λ r. ⌜ ((i : ℕ) → i < o .count → ticksAt r i ≡ Σℤ i (piece o)) ⌝ }
+{
+    let n = o.count as usize;
+    let mut costs = [Ticks(0); 20];
+    let mut acc = Ticks(0);
+    let mut last = Quantity(0);
+    let mut i: usize = 0;
+    while i < n {
+        costs[i] = acc;
+        let p = o.prices[i];
+        let w = o.quantities[i];
+        acc = acc.plus(p.times(last, w));
+        last = w;
+        i = i + 1;
+    }
+    costs
 }
 
 // The cost of a quantity, or the number of the refusal.

@@ -1,12 +1,15 @@
 ghost use mathlib.Core.Path.{_≡_};
-ghost use Prim.Native.Nat.{ℕ, _<_, _≤_};
+ghost use Prim.Native.Nat.{ℕ, _<_, _≤_, min};
 ghost use lib.IntN.{natAbs};
-ghost use Rattle.money.specs.Units.{withinOk};
+ghost use Rattle.laws.specs.Sums.{Σℤ};
+ghost use Rattle.money.specs.Units.{priceAt, quantityAt, withinOk};
 ghost use Rattle.money.specs.UnitLaws.{Moderate};
 ghost use Rattle.money.specs.Offers.{lastQ};
 ghost use Rattle.money.specs.OfferLaws.{Good};
-ghost use Rattle.money.specs.Production.{component1, component2, component3, component4, reserveNet, C1, C2, C3, C4, hourAmount, reserveFault, reserveNumbersOk, reservesNumbersOk, numbersFine, listsFault, withinFine, unitFault, intervalFault, component1Answer, component2Answer, component3Answer, component4Answer, hourAnswer, amountOk, hoursOk, daySum, dayAnswer};
-ghost use Rattle.money.specs.ProductionLaws.{Usable, ListsGood, UnitReady, DayReady};
+ghost use Rattle.money.specs.GuaranteeLaws.{Ready};
+ghost use Rattle.money.specs.Production.{component1, component2, component3, component4, reserveNet, S, C1, C2, C3, C4, hourAmount, reserveFault, reserveNumbersOk, reservesNumbersOk, numbersFine, listsFault, withinFine, unitFault, intervalFault, component1Answer, component2Answer, component3Answer, component4Answer, hourAnswer, amountOk, hoursOk, daySum, dayAnswer};
+ghost use Rattle.money.specs.ProductionLaws.{running, pickOf, Usable, ListsGood, UnitReady, DayReady};
+use crate::guarantee::profit_sum;
 use crate::offers::Offer;
 use crate::offers::cost_of;
 use crate::offers::last_of;
@@ -54,6 +57,16 @@ pub enum DayAnswer {
 
 // ---- one interval
 
+// An interval's speed no-load, where something is delivered.
+fn running_at(noload: CentsPerHour, m: Quantity) -> Ticks
+    ensures { λ x. ⌜ x .0 ≡ running (noload .0) (m .0) ⌝ }
+{
+    if m.0 < 1 {
+        return Ticks(0);
+    }
+    noload.an_interval()
+}
+
 // C1, of the lesser of D, R and A.
 fn component_1_of(
     da: Offer,
@@ -68,10 +81,7 @@ fn component_1_of(
 {
     let m = d.lesser(r.lesser(a));
     let loss = cost_of(da, m).minus(emp.times(Quantity(0), m));
-    if m.0 < 1 {
-        return loss;
-    }
-    loss.plus(noload.an_interval())
+    loss.plus(running_at(noload, m))
 }
 
 // C2, between the lesser of D and K and what was dispatched or delivered of it.
@@ -186,33 +196,159 @@ fn c4(h: UnitHour, prices: [Price; 12], k: usize) -> Ticks
     component_4_of(r1, r2, r3, k, d, u)
 }
 
-// The sum of the twelve intervals of a checked hour. Its lists are taken out once, not in each interval.
+// ---- twelve intervals at a time: each list is walked in one call, not in each interval
+
+// How two quantities give one.
+pub(crate) enum Pick {
+    Lesser,
+    Greater,
+    Above,
+}
+
+fn picked(by: Pick, x: Quantity, y: Quantity) -> Quantity
+    ensures { λ r. ⌜ r .0 ≡ pickOf by (x .0) (y .0) ⌝ }
+{
+    match by {
+        Pick::Lesser => x.lesser(y),
+        Pick::Greater => x.greater(y),
+        Pick::Above => x.above(y),
+    }
+}
+
+fn row_by(by: Pick, a: [Quantity; 12], b: [Quantity; 12]) -> [Quantity; 12]
+    ensures { λ r. ⌜ ((k : ℕ) → k < 12 → quantityAt r k ≡ pickOf by (quantityAt a k) (quantityAt b k)) ⌝ }
+{
+    let mut row = [Quantity(0); 12];
+    let mut k: usize = 0;
+    while k < 12 {
+        let x = a[k];
+        let y = b[k];
+        row[k] = picked(by, x, y);
+        k = k + 1;
+    }
+    row
+}
+
+// The speed no-load of the intervals in which something is delivered.
+fn noload_sum(noload: CentsPerHour, m: [Quantity; 12]) -> Ticks
+    requires { ⌜ noload .0 ≤ 100000000 ⌝ }
+    ensures { λ x. ⌜ x .0 ≡ Σℤ 12 (λ (k : ℕ). running (noload .0) (quantityAt m k)) ⌝ }
+{
+    let mut sum = Ticks(0);
+    let mut k: usize = 0;
+    while k < 12 {
+        let q = m[k];
+        sum = sum.plus(running_at(noload, q));
+        k = k + 1;
+    }
+    sum
+}
+
+// C1 of the twelve.
+fn sum_1(
+    da: Offer,
+    prices: [Price; 12],
+    noload: CentsPerHour,
+    d: [Quantity; 12],
+    r: [Quantity; 12],
+    a: [Quantity; 12],
+) -> Ticks
+    requires { ⌜ Ready da prices (quantityAt d) ⌝ ∗ ⌜ noload .0 ≤ 100000000 ⌝ }
+    ensures { λ x. ⌜ x .0 ≡ Σℤ 12 (λ (k : ℕ). component1 da (priceAt prices k) (noload .0) (quantityAt d k) (quantityAt r k) (quantityAt a k)) ⌝ }
+{
+    let ra = row_by(Pick::Lesser, r, a);
+    let m = row_by(Pick::Lesser, d, ra);
+    noload_sum(noload, m).minus(profit_sum(da, prices, m))
+}
+
+// C2 of the twelve. At any prices it is what the profits differ by.
+fn sum_2(
+    da: Offer,
+    rt: Offer,
+    prices: [Price; 12],
+    d: [Quantity; 12],
+    r: [Quantity; 12],
+    a: [Quantity; 12],
+    cap: [Quantity; 12],
+) -> Ticks
+    requires { ⌜ Ready da prices (quantityAt d) ⌝ ∗ ⌜ Ready rt prices (quantityAt d) ⌝ }
+    ensures { λ x. ⌜ x .0 ≡ Σℤ 12 (λ (k : ℕ). component2 da rt (quantityAt d k) (quantityAt r k) (quantityAt a k) (quantityAt cap k)) ⌝ }
+{
+    let to = row_by(Pick::Lesser, d, cap);
+    let ra = row_by(Pick::Greater, r, a);
+    let from = row_by(Pick::Lesser, to, ra);
+    let ahead = profit_sum(da, prices, from).minus(profit_sum(da, prices, to));
+    let real = profit_sum(rt, prices, from).minus(profit_sum(rt, prices, to));
+    ahead.minus(real)
+}
+
+// C3 of the twelve.
+fn sum_3(
+    rt: Offer,
+    prices: [Price; 12],
+    d: [Quantity; 12],
+    r: [Quantity; 12],
+    u: [Quantity; 12],
+) -> Ticks
+    requires { ⌜ Ready rt prices (quantityAt d) ⌝ }
+    ensures { λ x. ⌜ x .0 ≡ Σℤ 12 (λ (k : ℕ). component3 rt (priceAt prices k) (quantityAt d k) (quantityAt r k) (quantityAt u k)) ⌝ }
+{
+    let to = row_by(Pick::Lesser, r, d);
+    let from = row_by(Pick::Lesser, u, d);
+    profit_sum(rt, prices, from).minus(profit_sum(rt, prices, to))
+}
+
+// Of one reserve in the twelve, of as much of its schedules as is left.
+fn reserve_sum(s: Reserve, left: [Quantity; 12]) -> Ticks
+    requires { ⌜ Usable s ⌝ }
+    ensures { λ x. ⌜ x .0 ≡ Σℤ 12 (λ (k : ℕ). reserveNet s k (min (quantityAt left k) (S s k))) ⌝ }
+{
+    let o = s.offer;
+    if o.count < 1 {
+        return Ticks(0);
+    }
+    let schedules = s.schedules;
+    let prices = s.prices;
+    let q = row_by(Pick::Lesser, left, schedules);
+    profit_sum(o, prices, q)
+}
+
+// C4 of the twelve.
+fn sum_4(r1: Reserve, r2: Reserve, r3: Reserve, d: [Quantity; 12], u: [Quantity; 12]) -> Ticks
+    requires { ⌜ Usable r1 ⌝ ∗ ⌜ Usable r2 ⌝ ∗ ⌜ Usable r3 ⌝ }
+    ensures { λ x. ⌜ x .0 ≡ Σℤ 12 (λ (k : ℕ). component4 r1 r2 r3 k (quantityAt d k) (quantityAt u k)) ⌝ }
+{
+    let s1 = r1.schedules;
+    let s2 = r2.schedules;
+    let left1 = row_by(Pick::Above, d, u);
+    let left2 = row_by(Pick::Above, left1, s1);
+    let left3 = row_by(Pick::Above, left2, s2);
+    let one = reserve_sum(r1, left1);
+    let two = reserve_sum(r2, left2);
+    let three = reserve_sum(r3, left3);
+    one.plus(two).plus(three)
+}
+
+// The sum of the twelve intervals of a checked hour.
 fn hour_sum(h: UnitHour, prices: [Price; 12]) -> Ticks
     requires { ⌜ UnitReady h prices ⌝ }
     ensures { λ x. ⌜ x .0 ≡ hourAmount h prices ⌝ }
 {
     let da = h.aheadoffer;
     let rt = h.realoffer;
+    let d = h.ahead;
+    let r = h.constrained;
+    let u = h.unconstrained;
+    let a = h.metered;
+    let cap = h.capacity;
     let r1 = h.spinning;
     let r2 = h.nonspinning;
     let r3 = h.thirty;
-    let mut sum = Ticks(0);
-    let mut k: usize = 0;
-    while k < 12 {
-        let emp = prices[k];
-        let d = h.ahead[k];
-        let r = h.constrained[k];
-        let u = h.unconstrained[k];
-        let a = h.metered[k];
-        let cap = h.capacity[k];
-        let x1 = component_1_of(da, emp, h.noload, d, r, a);
-        let x2 = component_2_of(da, rt, d, r, a, cap);
-        let x3 = component_3_of(rt, emp, d, r, u);
-        let x4 = component_4_of(r1, r2, r3, k, d, u);
-        sum = sum.plus(x1.plus(x2).minus(x3.plus(x4)));
-        k = k + 1;
-    }
-    sum
+    let x1 = sum_1(da, prices, h.noload, d, r, a);
+    let x2 = sum_2(da, rt, prices, d, r, a, cap);
+    let x3 = sum_3(rt, prices, d, r, u);
+    let x4 = sum_4(r1, r2, r3, d, u);
+    x1.plus(x2).minus(x3.plus(x4))
 }
 
 // ---- checks

@@ -1,8 +1,7 @@
 use mathlib.Core.Path.{_≡_}
 use Prim.Native.Nat.{_≤_, zero-le, min}
-use lib.IntN.{pos}
 use Rattle.money.specs.Offers.{lastQ}
-use Rattle.money.specs.ProductionLaws.{in-range, spent-room, loss-is, loss-room, shortfall-none, shortfall-some, ten-room}
+use Rattle.money.specs.ProductionLaws.{in-range, spent-room, loss-is, loss-room, running-room, shortfall-is}
 use native.Mathlib.Omega.{arith}
 use borrow.Author.Needs.{needs}
 use Rattle.money.proofs.production.component_1_of.Statement.{statement}
@@ -10,7 +9,7 @@ use Rattle.money.proofs.production.component_1_of.Tie as tie
 use Rattle.money.proofs.production.component_1_of.Reads as reads
 use Rattle.money.proofs.production.component_1_of.Lts as lts
 use Rattle.money.proofs.offers.cost_of.Reads as cost-of-reads
-use Rattle.money.proofs.units.CentsPerHour.an_interval.Reads as an-interval-reads
+use Rattle.money.proofs.production.running_at.Reads as running-at-reads
 use Rattle.money.proofs.units.Price.times.Reads as times-reads
 use Rattle.money.proofs.units.Quantity.lesser.Reads as lesser-reads
 use Rattle.money.proofs.units.Ticks.minus.Reads as minus-reads
@@ -35,25 +34,19 @@ minus-requires c κs =
     let w : (c .before .before .lesser2) .result .0 ≤ lastQ ((c .before .before .before .before .args) .da) = omega arith in
     (spent-room _ _ ((c .before .before .before .before .pre) .0) w ((c .before .cost-of) .ensures), omega (arith, (c .times) .ensures .1))
 
+running-at-requires : tie.Need-running-at-requires
+running-at-requires c κs = search needs
+
+plus-requires : tie.Need-plus-requires
+plus-requires c κs =
+    let w : (c .before .before .before .before .lesser2) .result .0 ≤ lastQ ((c .before .before .before .before .before .before .args) .da) = omega arith in
+    (loss-room _ _ ((c .before .before .before .before .before .before .pre) .0) w ((c .before .before .before .before .before .before .args) .emp .0) ((c .before .before .before .before .before .before .pre) .1 .1 .0) ((c .before .before .before .cost-of) .ensures) ((c .before .before .times) .ensures .0) ((c .before .minus) .ensures), running-room ((c .before .before .before .before .before .before .args) .noload .0) ((c .before .before .before .before .lesser2) .result .0) ((c .before .before .before .before .before .before .pre) .1 .1 .1) ((c .running-at) .ensures))
+
 returns : tie.Need-returns
 returns c =
     let w : (c .before .before .before .before .before .lesser2) .result .0 ≤ lastQ ((c .before .before .before .before .before .before .before .args) .da) = omega arith in
     let e : (c .before .before .before .before .before .lesser2) .result .0 ≡ min ((c .before .before .before .before .before .before .before .args) .d .0) (min ((c .before .before .before .before .before .before .before .args) .r .0) ((c .before .before .before .before .before .before .before .args) .a .0)) = omega arith in
-    rw (← e) (shortfall-none ((c .before .before .before .before .before .before .before .args) .da) ((c .before .before .before .before .before .before .before .args) .emp .0) ((c .before .before .before .before .before .before .before .args) .noload .0) ((c .before .before .before .before .before .lesser2) .result .0) (loss-is _ _ ((c .before .before .before .before .before .before .before .pre) .0) w ((c .before .before .before .before .before .before .before .args) .emp .0) ((c .before .before .before .before .before .before .before .pre) .1 .1 .0) ((c .before .before .before .before .cost-of) .ensures) ((c .before .before .before .times) .ensures .0) ((c .before .before .minus) .ensures)) ((c .if1) .taken))
-
-an-interval-requires : tie.Need-an-interval-requires
-an-interval-requires c κs = search needs
-
-plus-requires : tie.Need-plus-requires
-plus-requires c κs =
-    let w : (c .before .before .before .before .before .before .lesser2) .result .0 ≤ lastQ ((c .before .before .before .before .before .before .before .before .args) .da) = omega arith in
-    (loss-room _ _ ((c .before .before .before .before .before .before .before .before .pre) .0) w ((c .before .before .before .before .before .before .before .before .args) .emp .0) ((c .before .before .before .before .before .before .before .before .pre) .1 .1 .0) ((c .before .before .before .before .before .cost-of) .ensures) ((c .before .before .before .before .times) .ensures .0) ((c .before .before .before .minus) .ensures), ten-room ((c .an-interval) .ensures) ((c .before .before .before .before .before .before .before .before .pre) .1 .1 .1))
-
-returns-2 : tie.Need-returns-2
-returns-2 c =
-    let w : (c .before .before .before .before .before .before .before .lesser2) .result .0 ≤ lastQ ((c .before .before .before .before .before .before .before .before .before .args) .da) = omega arith in
-    let e : (c .before .before .before .before .before .before .before .lesser2) .result .0 ≡ min ((c .before .before .before .before .before .before .before .before .before .args) .d .0) (min ((c .before .before .before .before .before .before .before .before .before .args) .r .0) ((c .before .before .before .before .before .before .before .before .before .args) .a .0)) = omega arith in
-    rw (← e) (shortfall-some ((c .before .before .before .before .before .before .before .before .before .args) .da) ((c .before .before .before .before .before .before .before .before .before .args) .emp .0) ((c .before .before .before .before .before .before .before .before .before .args) .noload .0) ((c .before .before .before .before .before .before .before .lesser2) .result .0) (loss-is _ _ ((c .before .before .before .before .before .before .before .before .before .pre) .0) w ((c .before .before .before .before .before .before .before .before .before .args) .emp .0) ((c .before .before .before .before .before .before .before .before .before .pre) .1 .1 .0) ((c .before .before .before .before .before .before .cost-of) .ensures) ((c .before .before .before .before .before .times) .ensures .0) ((c .before .before .before .before .minus) .ensures)) ((c .before .before .if1) .left) ((c .before .an-interval) .ensures) ((c .plus) .ensures))
+    rw (← e) (shortfall-is ((c .before .before .before .before .before .before .before .args) .da) ((c .before .before .before .before .before .before .before .args) .emp .0) ((c .before .before .before .before .before .before .before .args) .noload .0) ((c .before .before .before .before .before .lesser2) .result .0) (loss-is _ _ ((c .before .before .before .before .before .before .before .pre) .0) w ((c .before .before .before .before .before .before .before .args) .emp .0) ((c .before .before .before .before .before .before .before .pre) .1 .1 .0) ((c .before .before .before .before .cost-of) .ensures) ((c .before .before .before .times) .ensures .0) ((c .before .before .minus) .ensures)) ((c .before .running-at) .ensures) ((c .plus) .ensures))
 
 pub component-1-of-spec : {M : Type 1} → statement M
 component-1-of-spec =
@@ -64,7 +57,6 @@ component-1-of-spec =
     cost-of-requires
     times-requires
     minus-requires
-    returns
-    an-interval-requires
+    running-at-requires
     plus-requires
-    returns-2)
+    returns)

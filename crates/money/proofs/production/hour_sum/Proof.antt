@@ -1,135 +1,58 @@
-use Rattle.laws.specs.Sums.{Summed, summed-none, summed-more, summed-all}
-use Prim.Native.Nat.{_-_}
-use Rattle.money.specs.Production.{C1, C2, C3, C4, interval, hourAmount}
-use Rattle.money.specs.ProductionLaws.{room, two-room, C1-small, C2-small, C3-small, C4-small, hour-room, interval-is, interval-room}
-use borrow.Author.Needs.{needs}
+use Rattle.money.specs.Production.{C1, C2, C3, C4}
+use Rattle.money.specs.ProductionLaws.{C1-small, C2-small, C3-small, C4-small, sum-room, two-sums, hour-is}
 use native.Mathlib.Omega.{arith}
+use borrow.Author.Needs.{needs}
 use Rattle.money.proofs.production.hour_sum.Statement.{statement}
 use Rattle.money.proofs.production.hour_sum.Tie as tie
 use Rattle.money.proofs.production.hour_sum.Reads as reads
 use Rattle.money.proofs.production.hour_sum.Lts as lts
-use Rattle.money.proofs.production.component_1_of.Reads as component-1-of-reads
-use Rattle.money.proofs.production.component_2_of.Reads as component-2-of-reads
-use Rattle.money.proofs.production.component_3_of.Reads as component-3-of-reads
-use Rattle.money.proofs.production.component_4_of.Reads as component-4-of-reads
+use Rattle.money.proofs.production.sum_1.Reads as sum-1-reads
+use Rattle.money.proofs.production.sum_2.Reads as sum-2-reads
+use Rattle.money.proofs.production.sum_3.Reads as sum-3-reads
+use Rattle.money.proofs.production.sum_4.Reads as sum-4-reads
 use Rattle.money.proofs.units.Ticks.minus.Reads as minus-reads
 use Rattle.money.proofs.units.Ticks.plus.Reads as plus-reads
 
-abbrev Inv-loop : tie.InvT-loop
-Inv-loop h prices da rt r1 r2 r3 sum₀ k₀ sum k = Summed 12 (interval h prices) (sum .0) k
+sum-1-requires : tie.Need-sum-1-requires
+sum-1-requires c κs = search needs
 
-abbrev μ-loop : tie.MeasureT-loop
-μ-loop h prices da rt r1 r2 r3 sum₀ k₀ sum k = 12 - k
+sum-2-requires : tie.Need-sum-2-requires
+sum-2-requires c κs = search needs
 
-loop-holds : tie.Need-loop-holds Inv-loop μ-loop
-loop-holds c = summed-none _ _
+sum-3-requires : tie.Need-sum-3-requires
+sum-3-requires c κs = search needs
 
-mul-emp : tie.Need-mul-emp Inv-loop μ-loop
-mul-emp c = search needs
+sum-4-requires : tie.Need-sum-4-requires
+sum-4-requires c κs = search needs
 
-array-copy-out-emp : tie.Need-array-copy-out-emp Inv-loop μ-loop
-array-copy-out-emp c = search needs
-
-mul-d : tie.Need-mul-d Inv-loop μ-loop
-mul-d c = search needs
-
-element-copy-out-d : tie.Need-element-copy-out-d Inv-loop μ-loop
-element-copy-out-d c = search needs
-
-mul-r : tie.Need-mul-r Inv-loop μ-loop
-mul-r c = search needs
-
-element-copy-out-r : tie.Need-element-copy-out-r Inv-loop μ-loop
-element-copy-out-r c = search needs
-
-mul-u : tie.Need-mul-u Inv-loop μ-loop
-mul-u c = search needs
-
-element-copy-out-u : tie.Need-element-copy-out-u Inv-loop μ-loop
-element-copy-out-u c = search needs
-
-mul-a : tie.Need-mul-a Inv-loop μ-loop
-mul-a c = search needs
-
-element-copy-out-a : tie.Need-element-copy-out-a Inv-loop μ-loop
-element-copy-out-a c = search needs
-
-mul-cap : tie.Need-mul-cap Inv-loop μ-loop
-mul-cap c = search needs
-
-element-copy-out-cap : tie.Need-element-copy-out-cap Inv-loop μ-loop
-element-copy-out-cap c = search needs
-
-component-1-of-requires : tie.Need-component-1-of-requires Inv-loop μ-loop
-component-1-of-requires c κs = ((c .before .before .before .before .before .before .before .before .before .before .before .before .before .before .pre) .ahead, ((c .before .before .before .before .before .before .before .before .before .before .before .before .before .before .pre) .ahead-within ((c .before .before .before .before .before .before .before .before .loop) .k) ((c .before .before .before .before .before .before .before .loop-test) .taken), ((c .before .before .before .before .before .before .before .before .before .before .before .before .before .before .pre) .rates ((c .before .before .before .before .before .before .before .before .loop) .k) ((c .before .before .before .before .before .before .before .loop-test) .taken), (c .before .before .before .before .before .before .before .before .before .before .before .before .before .before .pre) .noload)))
-
-component-2-of-requires : tie.Need-component-2-of-requires Inv-loop μ-loop
-component-2-of-requires c κs = ((c .before .before .before .before .before .before .before .before .before .before .before .before .before .before .before .pre) .ahead, ((c .before .before .before .before .before .before .before .before .before .before .before .before .before .before .before .pre) .real, ((c .before .before .before .before .before .before .before .before .before .before .before .before .before .before .before .pre) .ahead-within ((c .before .before .before .before .before .before .before .before .before .loop) .k) ((c .before .before .before .before .before .before .before .before .loop-test) .taken), (c .before .before .before .before .before .before .before .before .before .before .before .before .before .before .before .pre) .real-within ((c .before .before .before .before .before .before .before .before .before .loop) .k) ((c .before .before .before .before .before .before .before .before .loop-test) .taken))))
-
-component-3-of-requires : tie.Need-component-3-of-requires Inv-loop μ-loop
-component-3-of-requires c κs = ((c .before .before .before .before .before .before .before .before .before .before .before .before .before .before .before .before .pre) .real, ((c .before .before .before .before .before .before .before .before .before .before .before .before .before .before .before .before .pre) .real-within ((c .before .before .before .before .before .before .before .before .before .before .loop) .k) ((c .before .before .before .before .before .before .before .before .before .loop-test) .taken), (c .before .before .before .before .before .before .before .before .before .before .before .before .before .before .before .before .pre) .rates ((c .before .before .before .before .before .before .before .before .before .before .loop) .k) ((c .before .before .before .before .before .before .before .before .before .loop-test) .taken)))
-
-component-4-of-requires : tie.Need-component-4-of-requires Inv-loop μ-loop
-component-4-of-requires c κs = ((c .before .before .before .before .before .before .before .before .before .before .before .before .before .before .before .before .before .pre) .spinning, ((c .before .before .before .before .before .before .before .before .before .before .before .before .before .before .before .before .before .pre) .nonspinning, ((c .before .before .before .before .before .before .before .before .before .before .before .before .before .before .before .before .before .pre) .thirty, (c .before .before .before .before .before .before .before .before .before .before .loop-test) .taken)))
-
-plus-requires : tie.Need-plus-requires Inv-loop μ-loop
+plus-requires : tie.Need-plus-requires
 unfolding C1 C2
-plus-requires c κs = (room ((c .before .before .before .component-1-of) .ensures) (C1-small ((c .before .before .before .before .before .before .before .before .before .before .before .before .before .before .before .before .before .before .pre)) _ ((c .before .before .before .before .before .before .before .before .before .before .before .loop-test) .taken)), room ((c .before .before .component-2-of) .ensures) (C2-small ((c .before .before .before .before .before .before .before .before .before .before .before .before .before .before .before .before .before .before .pre)) _ ((c .before .before .before .before .before .before .before .before .before .before .before .loop-test) .taken)))
+plus-requires c κs = (sum-room (C1 ((c .before .before .before .before .before .before .before .before .before .before .before .before .before .before .args) .h) ((c .before .before .before .before .before .before .before .before .before .before .before .before .before .before .args) .prices)) (C1-small ((c .before .before .before .before .before .before .before .before .before .before .before .before .before .before .pre))) ((c .before .before .before .sum-1) .ensures), sum-room (C2 ((c .before .before .before .before .before .before .before .before .before .before .before .before .before .before .args) .h) ((c .before .before .before .before .before .before .before .before .before .before .before .before .before .before .args) .prices)) (C2-small ((c .before .before .before .before .before .before .before .before .before .before .before .before .before .before .pre))) ((c .before .before .sum-2) .ensures))
 
-plus-requires-2 : tie.Need-plus-requires-2 Inv-loop μ-loop
+plus-requires-2 : tie.Need-plus-requires-2
 unfolding C3 C4
-plus-requires-2 c κs = (room ((c .before .before .component-3-of) .ensures) (C3-small ((c .before .before .before .before .before .before .before .before .before .before .before .before .before .before .before .before .before .before .before .pre)) _ ((c .before .before .before .before .before .before .before .before .before .before .before .before .loop-test) .taken)), room ((c .before .component-4-of) .ensures) (C4-small ((c .before .before .before .before .before .before .before .before .before .before .before .before .before .before .before .before .before .before .before .pre)) _ ((c .before .before .before .before .before .before .before .before .before .before .before .before .loop-test) .taken)))
+plus-requires-2 c κs = (sum-room (C3 ((c .before .before .before .before .before .before .before .before .before .before .before .before .before .before .before .args) .h) ((c .before .before .before .before .before .before .before .before .before .before .before .before .before .before .before .args) .prices)) (C3-small ((c .before .before .before .before .before .before .before .before .before .before .before .before .before .before .before .pre))) ((c .before .before .sum-3) .ensures), sum-room (C4 ((c .before .before .before .before .before .before .before .before .before .before .before .before .before .before .before .args) .h) ((c .before .before .before .before .before .before .before .before .before .before .before .before .before .before .before .args) .prices)) (C4-small ((c .before .before .before .before .before .before .before .before .before .before .before .before .before .before .before .pre))) ((c .before .sum-4) .ensures))
 
-minus-requires : tie.Need-minus-requires Inv-loop μ-loop
+minus-requires : tie.Need-minus-requires
 unfolding C1 C2 C3 C4
-minus-requires c κs = (two-room ((c .before .before .before .before .before .component-1-of) .ensures) ((c .before .before .before .before .component-2-of) .ensures) (C1-small ((c .before .before .before .before .before .before .before .before .before .before .before .before .before .before .before .before .before .before .before .before .pre)) _ ((c .before .before .before .before .before .before .before .before .before .before .before .before .before .loop-test) .taken)) (C2-small ((c .before .before .before .before .before .before .before .before .before .before .before .before .before .before .before .before .before .before .before .before .pre)) _ ((c .before .before .before .before .before .before .before .before .before .before .before .before .before .loop-test) .taken)) ((c .before .plus) .ensures), two-room ((c .before .before .before .component-3-of) .ensures) ((c .before .before .component-4-of) .ensures) (C3-small ((c .before .before .before .before .before .before .before .before .before .before .before .before .before .before .before .before .before .before .before .before .pre)) _ ((c .before .before .before .before .before .before .before .before .before .before .before .before .before .loop-test) .taken)) (C4-small ((c .before .before .before .before .before .before .before .before .before .before .before .before .before .before .before .before .before .before .before .before .pre)) _ ((c .before .before .before .before .before .before .before .before .before .before .before .before .before .loop-test) .taken)) ((c .plus2) .ensures))
+minus-requires c κs = (
+  two-sums (C1 ((c .before .before .before .before .before .before .before .before .before .before .before .before .before .before .before .before .args) .h) ((c .before .before .before .before .before .before .before .before .before .before .before .before .before .before .before .before .args) .prices)) (C2 ((c .before .before .before .before .before .before .before .before .before .before .before .before .before .before .before .before .args) .h) ((c .before .before .before .before .before .before .before .before .before .before .before .before .before .before .before .before .args) .prices)) (C1-small ((c .before .before .before .before .before .before .before .before .before .before .before .before .before .before .before .before .pre))) (C2-small ((c .before .before .before .before .before .before .before .before .before .before .before .before .before .before .before .before .pre))) ((c .before .before .before .before .before .sum-1) .ensures) ((c .before .before .before .before .sum-2) .ensures) ((c .before .plus) .ensures),
+  two-sums (C3 ((c .before .before .before .before .before .before .before .before .before .before .before .before .before .before .before .before .args) .h) ((c .before .before .before .before .before .before .before .before .before .before .before .before .before .before .before .before .args) .prices)) (C4 ((c .before .before .before .before .before .before .before .before .before .before .before .before .before .before .before .before .args) .h) ((c .before .before .before .before .before .before .before .before .before .before .before .before .before .before .before .before .args) .prices)) (C3-small ((c .before .before .before .before .before .before .before .before .before .before .before .before .before .before .before .before .pre))) (C4-small ((c .before .before .before .before .before .before .before .before .before .before .before .before .before .before .before .before .pre))) ((c .before .before .before .sum-3) .ensures) ((c .before .before .sum-4) .ensures) ((c .plus2) .ensures),
+)
 
-plus-requires-3 : tie.Need-plus-requires-3 Inv-loop μ-loop
+returns : tie.Need-returns
 unfolding C1 C2 C3 C4
-plus-requires-3 c κs = (hour-room ((c .before .before .before .before .before .before .before .before .before .before .before .before .before .before .before .before .before .before .before .before .before .pre)) ((c .before .before .before .before .before .before .before .before .before .before .before .before .before .before .before .loop) .inv), interval-room ((c .before .before .before .before .before .before .before .before .before .before .before .before .before .before .before .before .before .before .before .before .before .pre)) ((c .before .before .before .before .before .before .before .before .before .before .before .before .before .before .loop-test) .taken) ((c .before .before .before .before .before .before .component-1-of) .ensures) ((c .before .before .before .before .before .component-2-of) .ensures) ((c .before .before .before .before .component-3-of) .ensures) ((c .before .before .before .component-4-of) .ensures) ((c .before .before .plus) .ensures) ((c .before .plus2) .ensures) ((c .minus) .ensures))
-
-add-k : tie.Need-add-k Inv-loop μ-loop
-add-k c = record { fits = omega (arith, (c .before .before .before .before .before .before .before .before .before .before .before .before .before .before .before .loop-test) .taken) }
-
-loop-less : tie.Need-loop-less Inv-loop μ-loop
-loop-less c = omega (arith, (c .before .before .before .before .before .before .before .before .before .before .before .before .before .before .before .loop-test) .taken)
-
-loop-again : tie.Need-loop-again Inv-loop μ-loop
-unfolding C1 C2 C3 C4
-loop-again c = summed-more ((c .before .before .before .before .before .before .before .before .before .before .before .before .before .before .before .before .loop) .inv) ((c .before .before .before .before .before .before .before .before .before .before .before .before .before .before .before .loop-test) .taken) ((c .plus3) .ensures) (interval-is ((c .before .before .before .before .before .before .before .before .before .before .before .before .before .before .before .before .before .before .before .before .before .before .pre)) ((c .before .before .before .before .before .before .before .before .before .before .before .before .before .before .before .loop-test) .taken) ((c .before .before .before .before .before .before .before .component-1-of) .ensures) ((c .before .before .before .before .before .before .component-2-of) .ensures) ((c .before .before .before .before .before .component-3-of) .ensures) ((c .before .before .before .before .component-4-of) .ensures) ((c .before .before .before .plus) .ensures) ((c .before .before .plus2) .ensures) ((c .before .minus) .ensures))
-
-returns : tie.Need-returns Inv-loop μ-loop
-unfolding hourAmount
-returns c = summed-all ((c .before .loop) .inv) ((c .loop-test) .left)
+returns c = hour-is ((c .before .before .before .before .before .before .before .before .before .before .before .before .before .before .before .before .before .args) .h) ((c .before .before .before .before .before .before .before .before .before .before .before .before .before .before .before .before .before .args) .prices) ((c .before .before .before .before .before .before .sum-1) .ensures) ((c .before .before .before .before .before .sum-2) .ensures) ((c .before .before .before .before .sum-3) .ensures) ((c .before .before .before .sum-4) .ensures) ((c .before .before .plus) .ensures) ((c .before .plus2) .ensures) ((c .minus) .ensures)
 
 pub hour-sum-spec : {M : Type 1} → statement M
 hour-sum-spec =
     tie.close
     (tie.spec
-    Inv-loop
-    μ-loop
-    loop-holds
-    mul-emp
-    array-copy-out-emp
-    mul-d
-    element-copy-out-d
-    mul-r
-    element-copy-out-r
-    mul-u
-    element-copy-out-u
-    mul-a
-    element-copy-out-a
-    mul-cap
-    element-copy-out-cap
-    component-1-of-requires
-    component-2-of-requires
-    component-3-of-requires
-    component-4-of-requires
+    sum-1-requires
+    sum-2-requires
+    sum-3-requires
+    sum-4-requires
     plus-requires
     plus-requires-2
     minus-requires
-    plus-requires-3
-    add-k
-    loop-less
-    loop-again
     returns)

@@ -1,0 +1,80 @@
+use mathlib.Core.Path.{_≡_, refl}
+use Prim.Native.Nat.{_-_}
+use Rattle.money.specs.OfferLaws.{Costed, costed-none, costed-reach, costed-room, costed-more}
+use borrow.Author.Needs.{needs}
+use native.Mathlib.Omega.{arith}
+use Rattle.money.proofs.offers.costs_before.Statement.{statement}
+use Rattle.money.proofs.offers.costs_before.Tie as tie
+use Rattle.money.proofs.offers.costs_before.Reads as reads
+use Rattle.money.proofs.offers.costs_before.Lts as lts
+use Rattle.money.proofs.units.Price.times.Reads as times-reads
+use Rattle.money.proofs.units.Ticks.plus.Reads as plus-reads
+
+abbrev Inv-loop : tie.InvT-loop
+Inv-loop o n costs₀ acc₀ last₀ i₀ costs acc last i = (n ≡ o .count) × Costed o costs (acc .0) (last .0) i
+
+abbrev μ-loop : tie.MeasureT-loop
+μ-loop o n costs₀ acc₀ last₀ i₀ costs acc last i = n - i
+
+cast-n : tie.Need-cast-n Inv-loop μ-loop
+cast-n c = search needs
+
+loop-holds : tie.Need-loop-holds Inv-loop μ-loop
+loop-holds c = (refl, costed-none _ _ refl)
+
+mul-costs : tie.Need-mul-costs Inv-loop μ-loop
+mul-costs c = omega (arith, (c .before .before .pre) .most, (c .before .loop) .inv .0, (c .loop-test) .taken)
+
+array-set-from-costs : tie.Need-array-set-from-costs Inv-loop μ-loop
+array-set-from-costs c = search needs
+
+mul-p : tie.Need-mul-p Inv-loop μ-loop
+mul-p c = search needs
+
+element-copy-out-p : tie.Need-element-copy-out-p Inv-loop μ-loop
+element-copy-out-p c = search needs
+
+mul-w : tie.Need-mul-w Inv-loop μ-loop
+mul-w c = search needs
+
+element-copy-out-w : tie.Need-element-copy-out-w Inv-loop μ-loop
+element-copy-out-w c = search needs
+
+times-requires : tie.Need-times-requires Inv-loop μ-loop
+times-requires c κs = ((c .before .before .before .before .pre) .prices-in _ (omega (arith, (c .before .before .before .loop) .inv .0, (c .before .before .loop-test) .taken)), (costed-reach ((c .before .before .before .before .pre)) ((c .before .before .before .loop) .inv .1) (omega (arith, (c .before .before .before .loop) .inv .0, (c .before .before .loop-test) .taken)), (c .before .before .before .before .pre) .quantities-in _ (omega (arith, (c .before .before .before .loop) .inv .0, (c .before .before .loop-test) .taken))))
+
+plus-requires : tie.Need-plus-requires Inv-loop μ-loop
+plus-requires c κs = (costed-room ((c .before .before .before .before .before .pre)) ((c .before .before .before .before .loop) .inv .1) (omega (arith, (c .before .before .before .before .loop) .inv .0, (c .before .before .before .loop-test) .taken)), omega (arith, (c .times) .ensures .1))
+
+add-i : tie.Need-add-i Inv-loop μ-loop
+add-i c = search needs
+
+loop-less : tie.Need-loop-less Inv-loop μ-loop
+loop-less c = search needs
+
+loop-again : tie.Need-loop-again Inv-loop μ-loop
+loop-again c = ((c .before .before .before .before .before .loop) .inv .0, costed-more ((c .before .before .before .before .before .before .pre)) ((c .before .before .before .before .before .loop) .inv .1) (omega (arith, (c .before .before .before .before .before .loop) .inv .0, (c .before .before .before .before .loop-test) .taken)) refl ((c .before .times) .ensures .0) ((c .plus) .ensures))
+
+returns : tie.Need-returns Inv-loop μ-loop
+returns c = λ j l. (c .before .loop) .inv .1 .so-far j (omega (arith, (c .before .loop) .inv .0, (c .loop-test) .left))
+
+pub costs-before-spec : {M : Type 1} → statement M
+costs-before-spec =
+    tie.close
+    (tie.spec
+    Inv-loop
+    μ-loop
+    cast-n
+    loop-holds
+    mul-costs
+    array-set-from-costs
+    mul-p
+    element-copy-out-p
+    mul-w
+    element-copy-out-w
+    times-requires
+    plus-requires
+    add-i
+    loop-less
+    loop-again
+    returns)
