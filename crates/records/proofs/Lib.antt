@@ -7,6 +7,8 @@ pub mod Step
 pub mod Head
 pub mod Body
 pub mod Out
+pub mod Heading
+pub mod PutViewed
 pub mod Asking
 pub mod Leading
 pub mod Entries

@@ -51,27 +51,21 @@ begins-short [] s h = absurd (not-suc-le-zero h)
 begins-short (x ∷ xs) [] h = refl
 begins-short (x ∷ xs) (y ∷ s) h = rw (begins-short xs s (le-of-suc-le-suc h)) (and-false (eqb x y))
 
-pub starts-short : (n : ℕ) (bs s : List ℕ) → n ≤ length bs → length s < n → false ≡ begins (take n bs) s
-starts-short n bs s h k = let e = length-take-le n bs h in sym (begins-short (take n bs) s (omega arith))
+pub starts-short : (xs s : List ℕ) → length s < length xs → false ≡ begins xs s
+starts-short xs s h = sym (begins-short xs s h)
 
-pub record Started (bs s : List ℕ) (n i : ℕ) : Type 0 where
-  pub so-far : begins (take n bs) s ≡ begins (drop i (take n bs)) (drop i s)
+pub record Started (xs s : List ℕ) (i : ℕ) : Type 0 where
+  pub so-far : begins xs s ≡ begins (drop i xs) (drop i s)
 
-take-cons : (bs : List ℕ) (n i : ℕ) → i < n → n ≤ length bs → drop i (take n bs) ≡ getD bs i 0 ∷ drop (suc i) (take n bs)
-take-cons bs zero i h k = absurd (not-suc-le-zero h)
-take-cons [] (suc n) i h k = absurd (not-suc-le-zero k)
-take-cons (b ∷ bs) (suc n) zero h k = refl
-take-cons (b ∷ bs) (suc n) (suc i) h k = take-cons bs n i (le-of-suc-le-suc h) (le-of-suc-le-suc k)
+module _ {xs s : List ℕ} {i : ℕ} (h : Started xs s i) where
+  pub started-more : i < length xs → i < length s → getD s i 0 ≡ getD xs i 0 → Started xs s (i + 1)
+  started-more a l e = record { so-far = h .so-far ∙ rw (drop-cons xs i 0 a, drop-cons s i 0 l, eq-eqb (getD xs i 0) (getD s i 0) (sym e), add-one i) }
 
-module _ {bs s : List ℕ} {n i : ℕ} (h : Started bs s n i) where
-  pub started-more : i < n → n ≤ length bs → i < length s → getD s i 0 ≡ getD bs i 0 → Started bs s n (i + 1)
-  started-more a b l e = record { so-far = h .so-far ∙ rw (take-cons bs n i a b, drop-cons s i 0 l, eq-eqb (getD bs i 0) (getD s i 0) (sym e), add-one i) }
+  pub started-not : i < length xs → i < length s → (getD s i 0 ≡ getD xs i 0 → ⊥) → false ≡ begins xs s
+  started-not a l e = sym (h .so-far ∙ rw (drop-cons xs i 0 a, drop-cons s i 0 l, ne-eqb (getD xs i 0) (getD s i 0) (λ q. e (sym q))))
 
-  pub started-not : i < n → n ≤ length bs → i < length s → (getD s i 0 ≡ getD bs i 0 → ⊥) → false ≡ begins (take n bs) s
-  started-not a b l e = sym (h .so-far ∙ rw (take-cons bs n i a b, drop-cons s i 0 l, ne-eqb (getD bs i 0) (getD s i 0) (λ q. e (sym q))))
-
-  pub started-all : n ≤ i → true ≡ begins (take n bs) s
-  started-all a = sym (h .so-far ∙ rw (drop-of-length-le (take n bs) {i = i} (simp length-take (omega arith))))
+  pub started-all : length xs ≤ i → true ≡ begins xs s
+  started-all a = sym (h .so-far ∙ rw (drop-of-length-le xs {i = i} a))
 
 module _ (a b : Key) where
   pub other-mark : (order (a .mark) ≡ order (b .mark) → ⊥) → false ≡ sameHour a b

@@ -14,12 +14,14 @@ pub use Rattle.records.specs.ChangeLaws.{bare-exact}
 pub use Rattle.records.specs.EntryLaws.{Ahead, entry-got, entry-fault, any-fault, any-good, alone, asEntry, any-back, any-close, any-change}
 -- the first of several changes, with more bytes behind and by itself; a fault in any mark
 pub use Rattle.records.specs.FirmLaws.{entry-more, entry-alone, entry-firm, Unread, entry-bad}
+-- the first of several changes by the code's answer; a change that is written of its view
+pub use Rattle.records.specs.ViewedLaws.{Alone, First, front-first, front-unread, viewed-put}
 -- a record that ends early is shorter than the longest one
 pub use Rattle.records.specs.LengthLaws.{entry-early, unread-early, bare-early, whole-early}
--- the records of one hour
-pub use Rattle.records.specs.HourRecordLaws.{OfHour, hour-record-got, hour-record-fault}
+-- the records of one hour: their limit and their written length; a `PR` has no name
+pub use Rattle.records.specs.HourRecordLaws.{OfHour, hour-record-got, hour-record-fault, price-name, hour-limit, hour-written}
 -- keys that are the same: mark, hour and decoded name; one stands for the other in every test
-pub use Rattle.records.specs.KeyLaws.{same-alike, same-refl, same-sym, same-left, same-right, hour-right}
+pub use Rattle.records.specs.KeyLaws.{same-by, same-alike, same-refl, same-sym, same-left, same-right, hour-right}
 -- keys whose names have zeros behind their bytes, as those of changes that may stand, are equal then
 pub use Rattle.records.specs.KeyLaws.{Padded, good-padded, same-true}
 -- keys of one mark and hour, and the key of a question
@@ -28,8 +30,14 @@ pub use Rattle.records.specs.KeyLaws.{sameHour-same, hour-parts, parts-h
 pub use Rattle.records.specs.KeyLaws.{askHourOf-fault, askUnit-fault}
 -- what such a key is; a failure's key has a failure's mark
 pub use Rattle.records.specs.KeyLaws.{hour-key, hour-asked, unit-marked, failure-marked}
+-- it has an hour of the day, and a name with zeros behind its bytes
+pub use Rattle.records.specs.KeyLaws.{Wellformed, key-formed, failure-formed, hour-formed, mark-hour-formed, unit-formed}
 -- the name of a record that stands was decoded from its written spelling
-pub use Rattle.records.specs.KeyLaws.{Decoded, name-decoded}
+pub use Rattle.records.specs.KeyLaws.{Decoded, name-decoded, own-unnamed}
+-- the key of a change is read back from what is written; a record begins with the head of a key exactly when it has the key
+pub use Rattle.records.specs.HeadLaws.{head-written, head-same}
+-- and has its name, in whatever hour, exactly when the bytes behind mark and hour begin with the head's
+pub use Rattle.records.specs.NameHeadLaws.{name-same, name-none, write-long}
 -- two keys of one mark and hour have names of other bytes, unless they are the same
 pub use Rattle.records.specs.KeyLaws.{names-apart}
 -- bytes written at a place
@@ -50,6 +58,8 @@ pub use Rattle.records.specs.AmountLaws.{credit-amount, unit-amount, cha
 pub use Rattle.records.specs.AmountLaws.{entry-view, entry-sound}
 -- an hour's export totals with those of one more
 pub use Rattle.records.specs.AmountLaws.{totals-written}
+-- what is taken of a record in any spelling of its name
+pub use Rattle.records.specs.SpelledLaws.{read-prices, read-entry, read-totals}
 -- a unit's hour as its day takes it
 pub use Rattle.records.specs.AmountLaws.{unit-ready}
 -- names: the name of a record that stands keeps its rule

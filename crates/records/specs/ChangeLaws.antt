@@ -35,7 +35,7 @@ and-right false false h = h
 
 -- ---- each field is read again from what is written of it
 
-head-again : (k : Kind) (m : Mark) (t : List ℕ) → head 0 (leadBytes k ++ (markBytes m ++ t)) ≡ got (record { kind = k; mark = m }) t
+pub head-again : (k : Kind) (m : Mark) (t : List ℕ) → head 0 (leadBytes k ++ (markBytes m ++ t)) ≡ got (record { kind = k; mark = m }) t
 unfolding head mark
 head-again File Pr t = refl
 head-again File Im t = refl
@@ -121,15 +121,41 @@ kept-made File m o n b p q r = record { hour-back = p; name-back = q; body-back 
 kept-made Correct m o n b p q r = record { hour-back = p; name-back = q; body-back = r }
 kept-made Withdraw m o n b p q r = record { hour-back = p; name-back = q; body-back = λ u. refl }
 
-rest-kept : (h : Head) (s : List ℕ) (c : Change) (t : List ℕ) → rest h s ≡ got c t → Kept c × (kind c ≡ h .kind)
+-- the parts of a change behind its mark
+pub record Parts (h : Head) (s : List ℕ) (c : Change) (t : List ℕ) : Type 0 where
+  pub hour-of : ℕ
+  pub after-hour : List ℕ
+  pub name-of : Name
+  pub after-name : List ℕ
+  pub body : List ℕ
+  pub hour-is : hour s ≡ got hour-of after-hour
+  pub name-is : nameFor (h .kind) (h .mark) after-hour ≡ got name-of after-name
+  pub body-is : bodyFor (h .kind) (h .mark) after-name ≡ got body t
+  pub is : c ≡ made (h .kind) (record { mark = h .mark; hour = hour-of; name = name-of }) body
+
+pub rest-parts : (h : Head) (s : List ℕ) (c : Change) (t : List ℕ) → rest h s ≡ got c t → Parts h s c t
 unfolding rest
-rest-kept h s c t e =
+rest-parts h s c t e =
     let x = bind-got (hour s) (λ o t. nameFor (h .kind) (h .mark) t >>= λ n u. bodyFor (h .kind) (h .mark) u >>= λ b v. got (made (h .kind) (record { mark = h .mark; hour = o; name = n }) b) v) c t e in
     let y = bind-got (nameFor (h .kind) (h .mark) (x .1)) (λ n u. bodyFor (h .kind) (h .mark) u >>= λ b v. got (made (h .kind) (record { mark = h .mark; hour = x .0; name = n }) b) v) c t (x .3) in
     let z = bind-got (bodyFor (h .kind) (h .mark) (y .1)) (λ b v. got (made (h .kind) (record { mark = h .mark; hour = x .0; name = y .0 }) b) v) c t (y .3) in
-    let p : made (h .kind) (record { mark = h .mark; hour = x .0; name = y .0 }) (z .0) ≡ c = cc (z .3) in (
-      subst Kept p (kept-made (h .kind) (h .mark) (x .0) (y .0) (z .0) (hour-again s (x .0) (x .1) (x .2)) (name-again (h .kind) (h .mark) (x .1) (y .0) (y .1) (y .2)) (body-again (h .kind) (h .mark) (y .1) (z .0) (z .1) (z .2))),
-      ap kind (sym p) ∙ made-kind (h .kind) (record { mark = h .mark; hour = x .0; name = y .0 }) (z .0),
+    let p : made (h .kind) (record { mark = h .mark; hour = x .0; name = y .0 }) (z .0) ≡ c = cc (z .3) in
+    let q : z .1 ≡ t = cc (z .3) in
+    record { hour-of = x .0; after-hour = x .1; name-of = y .0; after-name = y .1; body = z .0; hour-is = x .2; name-is = y .2; body-is = z .2 ∙ ap (got (z .0)) q; is = sym p }
+
+-- only a filing makes a filed record
+pub filed-made : (k : Kind) (x : Key) (b : List ℕ) (r : Rec) → filed r ≡ made k x b → (k ≡ File) × (r ≡ record { key = x; body = b })
+filed-made File x b r e = (refl, let q : r ≡ record { key = x; body = b } = cc in q)
+filed-made Correct x b r e = absurd (let z : _≡_ {A = ℕ} 0 1 = cc in omega arith)
+filed-made Withdraw x b r e = absurd (let z : _≡_ {A = ℕ} 0 1 = cc in omega arith)
+
+rest-kept : (h : Head) (s : List ℕ) (c : Change) (t : List ℕ) → rest h s ≡ got c t → Kept c × (kind c ≡ h .kind)
+rest-kept h s c t e =
+    let x = rest-parts h s c t e in (
+      subst Kept (sym (x .is))
+          (kept-made (h .kind) (h .mark) (x .hour-of) (x .name-of) (x .body) (hour-again s (x .hour-of) (x .after-hour) (x .hour-is))
+          (name-again (h .kind) (h .mark) (x .after-hour) (x .name-of) (x .after-name) (x .name-is)) (body-again (h .kind) (h .mark) (x .after-name) (x .body) t (x .body-is))),
+      ap kind (x .is) ∙ made-kind (h .kind) (record { mark = h .mark; hour = x .hour-of; name = x .name-of }) (x .body),
     )
   where
     made-kind : (k : Kind) (x : Key) (b : List ℕ) → kind (made k x b) ≡ k
@@ -368,17 +394,17 @@ parse-fault want s n = go (change want s) refl
 
 -- ---- the written form
 
+pub mark-two : (m : Mark) → length (markBytes m) ≡ 2
+mark-two Pr = refl
+mark-two Im = refl
+mark-two Ex = refl
+mark-two Gh = refl
+mark-two Fi = refl
+mark-two Fe = refl
+
 pub write-pos : (c : Change) → 0 < length (write c)
 unfolding write headBytes
-write-pos c = simp length-append (omega (arith, marked (keyOf c .mark)))
-  where
-    marked : (m : Mark) → length (markBytes m) ≡ 2
-    marked Pr = refl
-    marked Im = refl
-    marked Ex = refl
-    marked Gh = refl
-    marked Fi = refl
-    marked Fe = refl
+write-pos c = simp length-append (omega (arith, mark-two (keyOf c .mark)))
 
 -- a correction is its mark, and then the record as filed
 pub write-co : (r : Rec) → (length (write (corrected r)) ≡ 2 + length (write (filed r))) × (drop 2 (write (corrected r)) ≡ write (filed r))

@@ -16,13 +16,14 @@ use Rattle.records.specs.Numbers.{between, word, signed, price, quantity
 use Rattle.records.specs.Names.{decodeName, nameField, nameOf, noOne}
 use Rattle.records.specs.Marks.{is, mark, markBytes, hasName}
 use Rattle.records.specs.Layouts.{within, hourPrices, import, export, schedules, reserveRows, fewest, lists, allWithin, unit, failure, skip, layout, taken}
-use Rattle.records.specs.Changes.{Change, Head, allowed, inside, head, leadBytes, nameless, nameFor, bodyFor, rest, change, Entry, changed, takingBack, closing, entry, takeBackBytes, closeBytes, fine, fault, whole, parse, parseAny, begins}
-use Rattle.records.specs.ReaderLaws.{bad-got, check-got, Part, counted-bad, Lawful, lawful-got, lawful-bind, lawful-byte, lawful-word, taken-got, counted-taken}
-use Rattle.records.specs.ChangeLaws.{counted-decode, begins-true}
+use Rattle.records.specs.Changes.{Change, bodyOf, made, Head, allowed, inside, head, leadBytes, nameless, nameFor, bodyFor, rest, change, Entry, changed, takingBack, closing, entry, takeBackBytes, closeBytes, fine, fault, whole, parse, parseAny, begins}
+use Rattle.records.specs.ReaderLaws.{bad-got, bind-got, check-got, Part, counted-bad, Lawful, lawful-got, lawful-bind, lawful-byte, lawful-word, taken-got, counted-taken}
+use Rattle.records.specs.ChangeLaws.{counted-decode, body-rest, begins-true}
 use Rattle.records.specs.declared.marks.Mark.{Mark}
 use Rattle.records.specs.declared.marks.Mark.the-variants.{Pr, Im, Ex, Gh, Fi, Fe}
 use Rattle.records.specs.declared.marks.Kind.{Kind}
 use Rattle.records.specs.declared.marks.Kind.the-variants.{File, Correct, Withdraw}
+use Rattle.records.specs.declared.keys.Key.{Key}
 
 -- a reader that more bytes behind do not lead elsewhere
 pub record Firm {A : Type 0} (f : Reader A) : Type 0 where
@@ -297,9 +298,13 @@ firm-rest h =
     firm-bind hour _ firm-hour (λ o. firm-bind (nameFor (h .kind) (h .mark)) _ (firm-name (h .kind) (h .mark)) (λ n.
     firm-bind (bodyFor (h .kind) (h .mark)) _ (firm-body (h .kind) (h .mark)) (λ b. firm-got _)))
 
+firm-head : (want : ℕ) → Firm (head want)
+unfolding head
+firm-head want = firm-two (head want) refl (λ a. refl) (head-behind want)
+
 firm-change : (want : ℕ) → Firm (change want)
-unfolding change head
-firm-change want = firm-bind (head want) _ (firm-two (head want) refl (λ a. refl) (head-behind want)) (λ h. firm-rest h)
+unfolding change
+firm-change want = firm-bind (head want) _ (firm-head want) (λ h. firm-rest h)
 
 firm-entry : Firm entry
 unfolding entry change
@@ -339,6 +344,45 @@ change-end want s c t e =
     let p = firm-change want .lawful .local .reads s c t e in
     let n : length s - length t ≡ length (p .part) = omega (arith, ap length (p .whole), length-append (p .part) t) in
     ap (λ (k : ℕ). drop k s) n ∙ ap (drop (length (p .part))) (p .whole) ∙ drop-at (p .part) t (length (p .part)) refl
+
+-- a change's body, and before it the bytes of its head in whatever spelling
+pub record Ends (s : List ℕ) (c : Change) (t : List ℕ) : Type 0 where
+  pub front : List ℕ
+  pub whole : s ≡ front ++ (bodyOf c ++ t)
+
+ends-behind : (p s u : List ℕ) (c : Change) (t : List ℕ) → s ≡ p ++ u → Ends u c t → Ends s c t
+ends-behind p s u c t e x = record { front = p ++ x .front; whole = e ∙ ap (λ (l : List ℕ). p ++ l) (x .whole) ∙ sym (append-assoc p (x .front) (bodyOf c ++ t)) }
+
+ends-made : (k : Kind) (x : Key) (s b t : List ℕ) (c : Change) → bodyFor k (x .mark) s ≡ got b t → made k x b ≡ c → Ends s c t
+unfolding bodyFor
+ends-made k x s b t c e m =
+    record { front = []; whole = body-rest k (x .mark) s b t e ∙ ap (λ (l : List ℕ). l ++ t) (sym (own k e) ∙ ap bodyOf m) }
+  where
+    own : (k : Kind) → bodyFor k (x .mark) s ≡ got b t → bodyOf (made k x b) ≡ b
+    own File e = refl
+    own Correct e = refl
+    own Withdraw e = let p : [] ≡ b = cc in p
+
+ends-rest : (h : Head) (s : List ℕ) (c : Change) (t : List ℕ) → rest h s ≡ got c t → Ends s c t
+unfolding rest
+ends-rest h s c t e =
+    let x = bind-got (hour s) (λ o t. nameFor (h .kind) (h .mark) t >>= λ n u. bodyFor (h .kind) (h .mark) u >>= λ b v. got (made (h .kind) (record { mark = h .mark; hour = o; name = n }) b) v) c t e in
+    let y = bind-got (nameFor (h .kind) (h .mark) (x .1)) (λ n u. bodyFor (h .kind) (h .mark) u >>= λ b v. got (made (h .kind) (record { mark = h .mark; hour = x .0; name = n }) b) v) c t (x .3) in
+    let z = bind-got (bodyFor (h .kind) (h .mark) (y .1)) (λ b v. got (made (h .kind) (record { mark = h .mark; hour = x .0; name = y .0 }) b) v) c t (y .3) in
+    let k : Key = record { mark = h .mark; hour = x .0; name = y .0 } in
+    let p : made (h .kind) k (z .0) ≡ c = cc (z .3) in
+    let q : z .1 ≡ t = cc (z .3) in
+    let o = firm-hour .lawful .local .reads s (x .0) (x .1) (x .2) in
+    let n = firm-name (h .kind) (h .mark) .lawful .local .reads (x .1) (y .0) (y .1) (y .2) in
+    ends-behind (o .part) s (x .1) c t (o .whole)
+    (ends-behind (n .part) (x .1) (y .1) c t (n .whole) (ends-made (h .kind) k (y .1) (z .0) t c (z .2 ∙ ap (got (z .0)) q) p))
+
+pub change-ends : (want : ℕ) (s : List ℕ) (c : Change) (t : List ℕ) → change want s ≡ got c t → Ends s c t
+unfolding change
+change-ends want s c t e =
+    let x = bind-got (head want s) (λ h u. rest h u) c t e in
+    let p = firm-head want .lawful .local .reads s (x .0) (x .1) (x .2) in
+    ends-behind (p .part) s (x .1) c t (p .whole) (ends-rest (x .0) (x .1) c t (x .3))
 
 -- a fault other than 1 stays whatever bytes follow
 pub entry-firm : (s u : List ℕ) (j : ℕ) → entry s ≡ bad j → (j ≡ 1 → ⊥) → entry (s ++ u) ≡ bad j

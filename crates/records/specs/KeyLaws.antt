@@ -4,17 +4,18 @@ use mathlib.Core.List.{List, [], _∷_, _++_}
 use mathlib.Core.Bool.{Bool, true, false, cond, true≢false, _&&_}
 use Prim.Native.Nat.{ℕ, _≤_, _<_}
 use native.Mathlib.Omega.{arith}
-use lib.Dec.{eqb}
+use lib.Dec.{eqb, leb}
 use lib.ListN.{length}
-use borrow.Author.Tests.{eq-eqb, eqb-true, le-leb}
+use borrow.Author.Tests.{eq-eqb, eqb-true, le-leb, leb-true}
 use Rattle.money.specs.declared.names.Name.{Name}
+use Rattle.money.specs.Names.{sameName}
 use Rattle.money.specs.NameLaws.{same-of, same-names}
 use Rattle.records.specs.Reading.{Res, bad, got, _>>=_, check, byte}
 use Rattle.records.specs.Numbers.{between, hour}
 use Rattle.records.specs.Names.{decodeName, nameField, spell, nameOf, noOne, bytesOf, held}
 use Rattle.records.specs.Marks.{markBytes, mark, hasName, isFailure, order}
 use Rattle.records.specs.Changes.{Rec, Change, filed, keyOf, kind, Good, nameless, nameFor, noName, nameBytes}
-use Rattle.records.specs.Keys.{sameHour, same, askMark, askName, askFailureMark, askFrom, ask, askFailure, askHourOf, askHour, askUnit}
+use Rattle.records.specs.Keys.{sameHour, same, askMark, askName, askFailureMark, askFrom, ask, askFailure, askHourOf, askHour, askUnit, keyAnswer}
 use Rattle.records.specs.ReaderLaws.{bad-got, check-got, bind-got}
 use Rattle.records.specs.NameLaws.{take-pad, field-spelled, Valid, decoded-valid}
 use Rattle.records.specs.ChangeLaws.{and-left, and-right, good-kept, hour-range, counted-mark, counted-decode}
@@ -23,6 +24,7 @@ use Rattle.records.specs.declared.marks.Mark.the-variants.{Pr, Im, Ex, G
 use Rattle.records.specs.declared.marks.Kind.{Kind}
 use Rattle.records.specs.declared.marks.Kind.the-variants.{File, Correct, Withdraw}
 use Rattle.records.specs.declared.keys.Key.{Key}
+use Rattle.records.specs.declared.keys.KeyAnswer.{KeyAnswer}
 
 -- the mark of a place in the order
 abbrev atOrder : ℕ → Mark
@@ -65,6 +67,10 @@ pub same-hour : (a b : Key) → same a b ≡ true → sameHour a b ≡ true
 unfolding same
 same-hour a b h = and-left (sameHour a b) _ h
 
+pub same-by : (a b : Key) (t : Bool) → sameHour a b ≡ t → same a b ≡ (t && sameName (a .name) (b .name))
+unfolding same
+same-by a b t h = ap (λ (x : Bool). x && sameName (a .name) (b .name)) h
+
 pub same-alike : (a b : Key) → same a b ≡ true → Alike a b
 unfolding same
 same-alike a b h =
@@ -88,7 +94,7 @@ same-trans a b c h k =
     alike-same a c (record { mark = v .mark ∙ w .mark; hour = v .hour ∙ w .hour; name = v .name ∙ w .name })
 
 -- two tests that hold together
-both : (s t : Bool) → (s ≡ true → t ≡ true) → (t ≡ true → s ≡ true) → s ≡ t
+pub both : (s t : Bool) → (s ≡ true → t ≡ true) → (t ≡ true → s ≡ true) → s ≡ t
 both true t f g = sym (f refl)
 both false true f g = g refl
 both false false f g = refl
@@ -236,13 +242,20 @@ askUnit-fault ns k = go (held (decodeName ns)) refl
     go (bad j) q e = name-fault ns k (q ∙ (let p : j ≡ k = cc in ap bad p))
     go (got n u) q e = absurd (bad-got (sym e))
 
-got-value : {A : Type 0} {a b : A} {s t : List ℕ} → _≡_ {A = Res A} (got a s) (got b t) → a ≡ b
+pub got-value : {A : Type 0} {a b : A} {s t : List ℕ} → _≡_ {A = Res A} (got a s) (got b t) → a ≡ b
 got-value e = cc
 
 -- ---- the names of records that stand
 
 name-own : (r : Rec) → Good (filed r) → askName (r .key .mark) (askBytes (r .key)) ≡ got (r .key .name) []
 name-own r g = name-asked File (r .key .mark) (r .key .name) (good-kept (filed r) g .name-back [])
+
+-- a record of a mark without names stands under none
+pub own-unnamed : (r : Rec) → Good (filed r) → hasName (r .key .mark) ≡ false → r .key .name ≡ noOne
+unfolding askName
+own-unnamed r g h =
+    sym (got-value
+    (sym (λ i. cond (h i) (held (decodeName (cond (h i) (spell (bytesOf (r .key .name))) []))) (check (eqb (length (cond (h i) (spell (bytesOf (r .key .name))) [])) 0) 4 (got noOne []))) ∙ name-own r g))
 
 -- a name that stands is the one that its written spelling decodes to
 pub own-name : (r : Rec) → Good (filed r) → hasName (r .key .mark) ≡ true → held (decodeName (spell (bytesOf (r .key .name)))) ≡ got (r .key .name) []
@@ -265,19 +278,37 @@ name-decoded r g h =
 abbrev pub Padded : Name → Type 0
 Padded n = nameOf (bytesOf n) ≡ n
 
-asked-padded : (m : Mark) (s : List ℕ) (n : Name) (t : List ℕ) → askName m s ≡ got n t → Padded n
+-- a name that was read: of at most 12 bytes
+record Short (n : Name) : Type 0 where
+  bytes : List ℕ
+  few : length bytes ≤ 12
+  is : nameOf bytes ≡ n
+
+asked-short : (m : Mark) (s : List ℕ) (n : Name) (t : List ℕ) → askName m s ≡ got n t → Short n
 unfolding askName
-asked-padded m s n t = go (hasName m)
+asked-short m s n t = go (hasName m)
   where
-    go : (b : Bool) → cond b (held (decodeName s)) (check (eqb (length s) 0) 4 (got noOne [])) ≡ got n t → Padded n
+    go : (b : Bool) → cond b (held (decodeName s)) (check (eqb (length s) 0) 4 (got noOne [])) ≡ got n t → Short n
     go true e =
         let x = bind-got (decodeName s) (λ v u. got (nameOf v) u) n t e in
-        let p : nameOf (x .0) ≡ n = got-value (x .3) in
-        subst Padded p (ap nameOf (take-pad 0 12 (x .0) (decoded-valid s (x .0) (x .1) (x .2) .few)))
-    go false e = let y = check-got (eqb (length s) 0) 4 (got noOne []) n t e in subst Padded (got-value (y .1)) refl
+        record { bytes = x .0; few = decoded-valid s (x .0) (x .1) (x .2) .few; is = got-value (x .3) }
+    go false e = let y = check-got (eqb (length s) 0) 4 (got noOne []) n t e in record { bytes = []; few = omega arith; is = got-value (y .1) }
+
+short-padded : (n : Name) → Short n → Padded n
+short-padded n x = subst Padded (x .is) (ap nameOf (take-pad 0 12 (x .bytes) (x .few)))
+
+asked-padded : (m : Mark) (s : List ℕ) (n : Name) (t : List ℕ) → askName m s ≡ got n t → Padded n
+asked-padded m s n t e = short-padded n (asked-short m s n t e)
+
+good-short : (c : Change) → Good c → Short (keyOf c .name)
+good-short c g = asked-short (keyOf c .mark) _ (keyOf c .name) [] (name-asked (kind c) (keyOf c .mark) (keyOf c .name) (good-kept c g .name-back []))
 
 pub good-padded : (c : Change) → Good c → Padded (keyOf c .name)
-good-padded c g = asked-padded (keyOf c .mark) _ (keyOf c .name) [] (name-asked (kind c) (keyOf c .mark) (keyOf c .name) (good-kept c g .name-back []))
+good-padded c g = short-padded (keyOf c .name) (good-short c g)
+
+-- the name of a change that may stand has at most 12 bytes
+pub good-few : (c : Change) → Good c → keyOf c .name .len ≤ 12
+good-few c g = let x = good-short c g in subst (λ (n : Name). n .len ≤ 12) (x .is) (x .few)
 
 pub same-true : (a b : Key) → Padded (a .name) → Padded (b .name) → same a b ≡ true → a ≡ b
 same-true a b p q h =
@@ -312,3 +343,54 @@ failure-marked ms h ns k t e =
     let w = bind-got (askMark ms) (λ m v. check (isFailure m) 2 (got m v)) (x .0) (x .1) (x .2) in
     let d = check-got (isFailure (w .0)) 2 (got (w .0) (w .1)) (x .0) (x .1) (w .3) in
     ap (λ (z : Key). isFailure (z .mark)) (sym (got-value (y .3))) ∙ ap isFailure (sym (got-value (d .1))) ∙ d .0
+
+-- ---- the key of a question has an hour of the day and a name with zeros behind its bytes; so has the key of no question
+pub record Wellformed (k : Key) : Type 0 where
+  pub low : k .hour < 32
+  pub padded : Padded (k .name)
+
+answer-formed : (a : Res Key) → ((k : Key) (t : List ℕ) → a ≡ got k t → Wellformed k) → (r : KeyAnswer) → r ≡ keyAnswer a → Wellformed (r .key)
+answer-formed a f r e = subst Wellformed (sym (ap (λ (y : KeyAnswer). y .key) e)) (go a f)
+  where
+    go : (a : Res Key) → ((k : Key) (t : List ℕ) → a ≡ got k t → Wellformed k) → Wellformed (keyAnswer a .key)
+    go (bad n) f = record { low = omega arith; padded = refl }
+    go (got k t) f = f k t refl
+
+in-day : (h : ℕ) → between 1 24 h ≡ true → h < 32
+in-day h t = omega (arith, leb-true h 24 (and-right (leb 1 h) (leb h 24) t))
+
+formed-from : (x : Res Mark) (h : ℕ) (ns : List ℕ) (k : Key) (t : List ℕ) → askFrom x h ns ≡ got k t → Wellformed k
+unfolding askFrom
+formed-from x h ns k t e =
+    let y = bind-got x (λ m v. check (between 1 24 h) 3 (askName m ns >>= λ n u. got (record { mark = m; hour = h; name = n }) [])) k t e in
+    let c = check-got (between 1 24 h) 3 (askName (y .0) ns >>= λ n u. got (record { mark = y .0; hour = h; name = n }) []) k t (y .3) in
+    let z = bind-got (askName (y .0) ns) (λ n u. got (record { mark = y .0; hour = h; name = n }) []) k t (c .1) in
+    subst Wellformed (got-value (z .3)) (record { low = in-day h (c .0); padded = asked-padded (y .0) ns (z .0) (z .1) (z .2) })
+
+pub key-formed : (ms : List ℕ) (h : ℕ) (ns : List ℕ) (r : KeyAnswer) → r ≡ keyAnswer (ask ms h ns) → Wellformed (r .key)
+key-formed ms h ns r e = answer-formed (ask ms h ns) (formed-from (askMark ms) h ns) r e
+
+pub failure-formed : (ms : List ℕ) (h : ℕ) (ns : List ℕ) (r : KeyAnswer) → r ≡ keyAnswer (askFailure ms h ns) → Wellformed (r .key)
+failure-formed ms h ns r e = answer-formed (askFailure ms h ns) (formed-from (askFailureMark ms) h ns) r e
+
+formed-hour : (m : Mark) (h : ℕ) (k : Key) (t : List ℕ) → askHourOf m h ≡ got k t → Wellformed k
+unfolding askHourOf
+formed-hour m h k t e =
+    let c = check-got (between 1 24 h) 3 (got (record { mark = m; hour = h; name = noOne }) []) k t e in
+    subst Wellformed (got-value (c .1)) (record { low = in-day h (c .0); padded = refl })
+
+pub mark-hour-formed : (m : Mark) (h : ℕ) (r : KeyAnswer) → r ≡ keyAnswer (askHourOf m h) → Wellformed (r .key)
+mark-hour-formed m h r e = answer-formed (askHourOf m h) (formed-hour m h) r e
+
+pub hour-formed : (ms : List ℕ) (h : ℕ) (r : KeyAnswer) → r ≡ keyAnswer (askHour ms h) → Wellformed (r .key)
+unfolding askHour
+hour-formed ms h r e = answer-formed (askHour ms h) (λ k t g. let y = bind-got (askMark ms) (λ m u. askHourOf m h) k t g in formed-hour (y .0) h k t (y .3)) r e
+
+formed-unit : (ns : List ℕ) (k : Key) (t : List ℕ) → askUnit ns ≡ got k t → Wellformed k
+unfolding askUnit askName
+formed-unit ns k t e =
+    let y = bind-got (held (decodeName ns)) (λ n u. got (record { mark = Gh; hour = 1; name = n }) []) k t e in
+    subst Wellformed (got-value (y .3)) (record { low = omega arith; padded = asked-padded Gh ns (y .0) (y .1) (y .2) })
+
+pub unit-formed : (ns : List ℕ) (r : KeyAnswer) → r ≡ keyAnswer (askUnit ns) → Wellformed (r .key)
+unit-formed ns r e = answer-formed (askUnit ns) (formed-unit ns) r e

@@ -1,11 +1,11 @@
--- No record is longer than 1,383 bytes, and only fewer bytes can end early. Assumes nothing.
+-- No record is longer than 1,383 bytes, and only fewer bytes can end early; how long a record of each mark can be. Assumes nothing.
 use mathlib.Core.Path.{_≡_, refl, sym, ap, _∙_}
-use mathlib.Core.List.{List, [], _∷_}
+use mathlib.Core.List.{List, [], _∷_, _++_}
 use mathlib.Core.Bool.{Bool, true, false, cond, _&&_}
 use Prim.Native.Nat.{ℕ, zero, suc, _+_, _-_, _*_, _≤_, _<_}
 use native.Mathlib.Omega.{arith}
 use lib.Dec.{ltb, leb, eqb}
-use lib.ListN.{length, take, drop, length-drop}
+use lib.ListN.{length, take, drop, length-append, length-drop}
 use borrow.Author.Tests.{leb-true, leb-false, eqb-true, eq-eqb}
 use Rattle.money.specs.Units.{priceOk, quantityOk, maxCents}
 use Rattle.money.specs.declared.units.Quantity.{Quantity}
@@ -14,9 +14,9 @@ use Rattle.records.specs.Numbers.{between, word, signed, price, quantity
 use Rattle.records.specs.Names.{visible, hexVal, escaped, one, upTo, decodeName, nameField, nameOf, noOne}
 use Rattle.records.specs.Marks.{is, mark, markBytes, hasName}
 use Rattle.records.specs.Layouts.{within, hourPrices, import, export, schedules, reserveRows, fewest, lists, allWithin, unit, failure, skip, layout, taken}
-use Rattle.records.specs.Changes.{Change, Head, allowed, inside, head, leadBytes, nameless, nameFor, bodyFor, rest, change, Entry, changed, takingBack, closing, entry, takeBackBytes, closeBytes, fine, fault, whole, parse, parseAny, bare, begins}
+use Rattle.records.specs.Changes.{Rec, Change, filed, Head, allowed, inside, head, leadBytes, nameless, nameFor, bodyFor, rest, change, Entry, changed, takingBack, closing, entry, takeBackBytes, closeBytes, fine, fault, whole, parse, parseAny, bare, begins, nameBytes, headBytes, write, Good}
 use Rattle.records.specs.ReaderLaws.{bad-got}
-use Rattle.records.specs.ChangeLaws.{and-left, and-right, begins-true}
+use Rattle.records.specs.ChangeLaws.{and-left, and-right, begins-true, good-kept, mark-two}
 use Rattle.records.specs.FirmLaws.{Unread}
 use Rattle.records.specs.declared.marks.Mark.{Mark}
 use Rattle.records.specs.declared.marks.Mark.the-variants.{Pr, Im, Ex, Gh, Fi, Fe}
@@ -202,18 +202,34 @@ unfolding failure
 brief-failure =
     brief-bind 4 12 quantity _ brief-quantity (λ x. brief-bind 4 8 quantity _ brief-quantity (λ y. brief-bind 4 4 price _ brief-price (λ p. brief-bind 4 0 price _ brief-price (λ q. brief-got _))))
 
-brief-skip : {A : Type 0} (n : ℕ) (f : Reader A) → n ≤ 1341 → Brief n f → Brief 1341 (skip f)
-brief-skip n f l h = brief-more (n + 0) 1341 (skip f) (omega arith) (brief-bind n 0 f _ h (λ x. brief-got tt))
+brief-skip : {A : Type 0} (n : ℕ) (f : Reader A) → Brief n f → Brief n (skip f)
+brief-skip n f h = brief-more (n + 0) n (skip f) (omega arith) (brief-bind n 0 f _ h (λ x. brief-got tt))
 
--- the longest is `GH`'s, with five full lists
-brief-layout : (m : Mark) → Brief 1341 (layout m)
+-- the most bytes that the fields of a mark take: `GH`'s the most of all, with five full lists
+abbrev pub bodyMost : Mark → ℕ
+bodyMost Pr = 52
+bodyMost Im = 209
+bodyMost Ex = 48
+bodyMost Gh = 1341
+bodyMost Fi = 16
+bodyMost Fe = 16
+
+body-most : (m : Mark) → bodyMost m ≤ 1341
+body-most Pr = omega arith
+body-most Im = omega arith
+body-most Ex = omega arith
+body-most Gh = omega arith
+body-most Fi = omega arith
+body-most Fe = omega arith
+
+brief-layout : (m : Mark) → Brief (bodyMost m) (layout m)
 unfolding layout
-brief-layout Pr = brief-skip 52 hourPrices (omega arith) brief-prices
-brief-layout Im = brief-skip 209 import (omega arith) brief-import
-brief-layout Ex = brief-skip 48 export (omega arith) brief-export
-brief-layout Gh = brief-skip 1341 unit (omega arith) brief-unit
-brief-layout Fi = brief-skip 16 failure (omega arith) brief-failure
-brief-layout Fe = brief-skip 16 failure (omega arith) brief-failure
+brief-layout Pr = brief-skip 52 hourPrices brief-prices
+brief-layout Im = brief-skip 209 import brief-import
+brief-layout Ex = brief-skip 48 export brief-export
+brief-layout Gh = brief-skip 1341 unit brief-unit
+brief-layout Fi = brief-skip 16 failure brief-failure
+brief-layout Fe = brief-skip 16 failure brief-failure
 
 brief-taken : (n : ℕ) (f : Reader Unit) → Brief n f → Brief n (taken f)
 unfolding taken
@@ -308,11 +324,31 @@ brief-name k m = brief-cond 37 (hasName m) _ (nameless k) (brief-bind 37 0 nameF
 
 -- ---- changes
 
+brief-fields : (m : Mark) → Brief (bodyMost m) (taken (layout m))
+brief-fields m = brief-taken (bodyMost m) (layout m) (brief-layout m)
+
 brief-body : (k : Kind) (m : Mark) → Brief 1341 (bodyFor k m)
 unfolding bodyFor
-brief-body File m = brief-taken 1341 (layout m) (brief-layout m)
-brief-body Correct m = brief-taken 1341 (layout m) (brief-layout m)
+brief-body File m = brief-more (bodyMost m) 1341 _ (body-most m) (brief-fields m)
+brief-body Correct m = brief-more (bodyMost m) 1341 _ (body-most m) (brief-fields m)
 brief-body Withdraw m = brief-more 0 1341 _ (omega arith) (brief-got [])
+
+-- mark and hour, a name, and its mark's fields
+pub written-most : (r : Rec) → Good (filed r) → length (write (filed r)) ≤ 40 + bodyMost (r .key .mark)
+unfolding write headBytes bodyFor
+written-most r g =
+    let k = good-kept (filed r) g in
+    let m = r .key .mark in
+    let n = nameBytes File m (r .key .name) in
+    simp length-append
+    (omega (
+      arith,
+      mark-two m,
+      length-append n [],
+      brief-name File m .takes (n ++ []) (r .key .name) [] (k .name-back []),
+      length-append (r .body) [],
+      brief-fields m .takes (r .body ++ []) (r .body) [] (k .body-back []),
+    ))
 
 -- a reader that looks at two bytes first
 brief-two : {A : Type 0} (n : ℕ) (f : Reader A) → f [] ≡ bad 1 → ((a : ℕ) → f (a ∷ []) ≡ bad 1) → ((a b : ℕ) → Brief n (λ s. f (a ∷ b ∷ s))) → Brief (2 + n) f

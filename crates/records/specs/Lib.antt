@@ -5,10 +5,12 @@ pub mod Marks
 pub mod Layouts
 pub mod Changes
 pub mod Keys
+pub mod Heads
 pub mod Hours
 pub mod HourRecord
 pub mod Views
 pub mod Amounts
+pub mod Viewed
 pub mod Inner
 pub mod ReaderLaws
 pub mod NameLaws
@@ -22,8 +24,12 @@ pub mod LengthLaws
 pub mod HourRecordLaws
 pub mod PutLaws
 pub mod StoreLaws
+pub mod ViewedLaws
 pub mod FitLaws
 pub mod AmountLaws
+pub mod HeadLaws
+pub mod SpelledLaws
+pub mod NameHeadLaws
 pub mod BookLaws
 pub mod Examples
 pub mod PriceExample

@@ -3,20 +3,22 @@ use crate::changes::read_change;
 use crate::fields::End;
 use crate::fields::guard_end;
 use crate::fields::hour_then;
+use crate::keys::Key;
 use crate::marks::FILED;
 use crate::marks::Mark;
 use crate::marks::head_at;
+use money::names::Name;
 use money::refusals::BAD_HOUR;
 use money::refusals::UNKNOWN_MARK;
 ghost use mathlib.Core.Path.{_≡_};
 ghost use Rattle.records.specs.HourRecord.{ofHour, sameAs, hourRecord, hourFrontOf};
-ghost use Rattle.records.specs.Changes.{change};
+ghost use Rattle.records.specs.Changes.{change, noKey};
 ghost use Rattle.records.specs.Inner.{then, EndIn};
 
-// The first of them: its hour and the place where it ends, or the number of its first fault.
+// The first of them: its key and the place where it ends, or the number of its first fault.
 pub struct HourFront {
     pub number: u8,
-    pub hour: u8,
+    pub key: Key,
     pub end: usize,
 }
 
@@ -58,11 +60,16 @@ fn start_of(s: &[u8], first: u8) -> End
 }
 
 fn no_record(number: u8) -> HourFront
-    ensures { λ r. ⌜ r ≡ record { number = number; hour = 0; end = 0 } ⌝ }
+    ensures { λ r. ⌜ r ≡ record { number = number; key = noKey; end = 0 } ⌝ }
 {
+    let bytes = [0u8; 12];
     HourFront {
         number,
-        hour: 0,
+        key: Key {
+            mark: Mark::Pr,
+            hour: 0,
+            name: Name { len: 0, bytes },
+        },
         end: 0,
     }
 }
@@ -76,10 +83,9 @@ fn filed_front(s: &[u8]) -> HourFront
     match e {
         End::At(end) => {
             let key = c.key;
-            let hour = key.hour;
             HourFront {
                 number: 0,
-                hour,
+                key,
                 end,
             }
         }

@@ -90,7 +90,7 @@ fn asked_name(name: &[u8], mark: Mark) -> NameRead
     unnamed(End::No(BAD_NAME))
 }
 
-fn hour_ok(hour: u8) -> bool
+pub(crate) fn hour_ok(hour: u8) -> bool
     ensures { λ r. ⌜ r ≡ between 1 24 hour ⌝ }
 {
     if hour < 1 {
@@ -111,7 +111,7 @@ pub fn key_of(mark: Mark, hour: u8) -> Key
     }
 }
 
-fn key_no(n: u8) -> KeyAnswer
+pub(crate) fn key_no(n: u8) -> KeyAnswer
     ensures { λ r. ⌜ r ≡ record { number = n; key = noKey } ⌝ }
 {
     let bytes = [0u8; 12];

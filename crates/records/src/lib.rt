@@ -2,6 +2,7 @@
 pub mod amounts;
 pub mod changes;
 pub mod fields;
+pub mod heads;
 pub mod hour_records;
 pub mod hours;
 pub mod keys;

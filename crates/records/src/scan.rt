@@ -3,12 +3,9 @@ use crate::fields::End;
 use crate::keys::Key;
 use crate::marks::Mark;
 use crate::marks::number;
-use crate::writing::HeadOut;
 use crate::writing::head_of;
 use money::names::Name;
 ghost use mathlib.Core.Path.{_≡_};
-ghost use Prim.Native.Nat.{ℕ, _≤_};
-ghost use lib.ListN.{take};
 ghost use Rattle.records.specs.Changes.{blind, begins, scan, viewOf};
 
 // A change as the book sees it: its kind (0 for none), its key, and its written length.
@@ -18,18 +15,17 @@ pub struct View {
     pub len: usize,
 }
 
-fn starts(s: &[u8], h: HeadOut) -> bool
-    requires { ⌜ h .len ≤ 44 ⌝ }
-    ensures { λ r. ⌜ r ≡ begins (take (h .len) (h .bytes)) (now (s .entry)) ⌝ }
+// Whether bytes begin with others.
+pub fn starts(s: &[u8], front: &[u8]) -> bool
+    ensures { λ r. ⌜ r ≡ begins (now (front .entry)) (now (s .entry)) ⌝ }
 {
-    let n = h.len;
+    let n = front.len();
     if s.len() < n {
         return false;
     }
     let mut i: usize = 0;
     while i < n {
-        let x = h.bytes[i];
-        if s[i] != x {
+        if s[i] != front[i] {
             return false;
         }
         i += 1;
@@ -63,8 +59,10 @@ pub fn peek(s: &[u8]) -> View
             let kind = c.kind;
             let key = c.key;
             let h = head_of(kind, key);
-            if starts(s, h) {
-                let len = h.len + (n - c.body);
+            let m = h.len;
+            let bytes = h.bytes;
+            if starts(s, &bytes[..m]) {
+                let len = m + (n - c.body);
                 View {
                     kind: number(kind),
                     key,

@@ -1,19 +1,25 @@
 use crate::changes::read_change;
 use crate::fields::End;
 use crate::keys::Key;
+use crate::marks::CORRECTED;
+use crate::marks::FILED;
 use crate::marks::Kind;
 use crate::marks::Mark;
+use crate::marks::WITHDRAWN;
 use crate::marks::has_name;
 use crate::names::spelled_len;
 use crate::names::write_name;
+use crate::scan::View;
 use money::names::Name;
 use money::refusals::LEFT_OVER;
 use money::refusals::NO_SPACE;
+use money::refusals::UNKNOWN_MARK;
 ghost use mathlib.Core.Path.{_≡_};
 ghost use Prim.Native.Nat.{ℕ, _+_, _≤_};
 ghost use lib.ListN.{length};
 ghost use Rattle.records.specs.Marks.{markBytes};
 ghost use Rattle.records.specs.Changes.{leadBytes, noName, nameBytes, headBytes, parse, putNumber, putBytes};
+ghost use Rattle.records.specs.Viewed.{kindAt, isView, viewedNumber, viewedBytes};
 ghost use Rattle.records.specs.Inner.{Wrote, HeadIs};
 
 // The bytes of a change before its fields.
@@ -166,4 +172,66 @@ pub fn put(log: &mut [u8], at: usize, s: &[u8], want: u8) -> u8
         }
         End::No(k) => k,
     }
+}
+
+// The kind of change under a number.
+fn kind_at(n: u8) -> Kind
+    ensures { λ r. ⌜ r ≡ kindAt n ⌝ }
+{
+    if n == FILED {
+        return Kind::File;
+    }
+    if n == CORRECTED {
+        return Kind::Correct;
+    }
+    Kind::Withdraw
+}
+
+// Whether a view is one of a change whose body has room in some bytes.
+fn is_view(view: View, lent: usize) -> bool
+    ensures { λ r. ⌜ r ≡ isView view lent ⌝ }
+{
+    let n = view.kind;
+    if n == 0 {
+        return false;
+    }
+    if WITHDRAWN < n {
+        return false;
+    }
+    let key = view.key;
+    let name = key.name;
+    if 12 < name.len {
+        return false;
+    }
+    let kind = kind_at(n);
+    let h = head_of(kind, key);
+    if view.len < h.len {
+        return false;
+    }
+    view.len - h.len <= lent
+}
+
+// Writes the change that bytes end with, of which the view is known, at a place of the log. 13 where it does not fit there, 2 where the view is none.
+pub fn put_viewed(log: &mut [u8], at: usize, s: &[u8], view: View) -> u8
+    ensures { λ r. ⌜ (r ≡ viewedNumber view at (now (s .entry)) (now (log .entry))) × (now (log .exit) ≡ viewedBytes view at (now (s .entry)) (now (log .entry))) ⌝ }
+{
+    if !is_view(view, s.len()) {
+        return UNKNOWN_MARK;
+    }
+    if log.len() < at {
+        return NO_SPACE;
+    }
+    let len = view.len;
+    if log.len() - at < len {
+        return NO_SPACE;
+    }
+    let kind = kind_at(view.kind);
+    let key = view.key;
+    let h = head_of(kind, key);
+    let m = h.len;
+    let bytes = h.bytes;
+    let next = copy(&bytes[..m], log, at);
+    let b = s.len() - (len - m);
+    copy(&s[b..], log, next);
+    0
 }

@@ -1,0 +1,37 @@
+-- A change as it is written of its view and its bytes: the head of the view's kind and key, and the body that the bytes end with. Assumes nothing.
+use mathlib.Core.List.{List, _++_}
+use mathlib.Core.Bool.{Bool, cond, _&&_}
+use Prim.Native.Nat.{ℕ, _+_, _-_}
+use lib.Dec.{leb, eqb}
+use lib.ListN.{length, drop}
+use Rattle.money.specs.Refusals.{unknownMark, noSpace}
+use Rattle.records.specs.Numbers.{between}
+use Rattle.records.specs.Changes.{headBytes, put}
+use Rattle.records.specs.declared.marks.Kind.{Kind}
+use Rattle.records.specs.declared.marks.Kind.the-variants.{File, Correct, Withdraw}
+use Rattle.records.specs.declared.scan.View.{View}
+
+-- the kind of change under a number from 1 to 3
+abbrev pub kindAt : ℕ → Kind
+kindAt n = cond (eqb n 1) File (cond (eqb n 2) Correct Withdraw)
+
+abbrev pub viewHead : View → List ℕ
+viewHead v = headBytes (kindAt (v .kind)) (v .key)
+
+-- how many of the bytes are its body
+abbrev pub viewRest : View → ℕ
+viewRest v = v .len - length (viewHead v)
+
+-- a view of a filed, corrected or withdrawn record whose body n bytes have room for
+unfoldable pub isView : View → ℕ → Bool
+isView v n = between 1 3 (v .kind) && (leb (v .key .name .len) 12 && (leb (length (viewHead v)) (v .len) && leb (viewRest v) n))
+
+unfoldable pub viewWritten : View → List ℕ → List ℕ
+viewWritten v s = viewHead v ++ drop (length s - viewRest v) s
+
+-- written at a place of lent bytes: 13 where it does not fit, 2 of what is no view, and then the bytes remain
+abbrev pub viewedNumber : View → ℕ → List ℕ → List ℕ → ℕ
+viewedNumber v at s d = cond (isView v (length s)) (cond (leb (at + v .len) (length d)) 0 noSpace) unknownMark
+
+abbrev pub viewedBytes : View → ℕ → List ℕ → List ℕ → List ℕ
+viewedBytes v at s d = cond (isView v (length s)) (cond (leb (at + v .len) (length d)) (put d at (viewWritten v s)) d) d
