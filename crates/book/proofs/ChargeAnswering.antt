@@ -7,25 +7,27 @@ use native.Mathlib.Omega.{arith}
 use lib.ListN.{length, take, drop, getD, set, length-set, length-map}
 use lib.Seq.{length-take-le}
 use borrow.Author.Tests.{ne-eqb}
-use Rattle.book.specs.Layer.{Key, View, KeyAnswer, Change, Mark, Pr, HourPrices, Ticks, Answer, isFailure, noTicks, pricesIn, chargeIn, Asked, got, bad, askHourOf, askFailure, keyAnswer, askHourOf-fault, askFailure-fault, hour-asked, failure-marked}
+use Rattle.book.specs.Layer.{Key, KeyAnswer, Change, Mark, HourPrices, Ticks, Answer, isFailure, noTicks, chargeIn, Asked, got, bad, askHourOf, askFailure, keyAnswer, askHourOf-fault, askFailure-fault, hour-asked, failure-marked, Wellformed, mark-hour-formed}
 use Rattle.book.specs.declared.journal.Book.{Book}
-use Rattle.book.specs.declared.survey.Survey.{Survey}
-use Rattle.book.specs.declared.replay.Table.{Table}
+use Rattle.book.specs.declared.rows.Seek.{Seek}
 use Rattle.book.specs.declared.places.Spot.{Spot}
 use Rattle.book.specs.declared.places.Places.{Places}
+use Rattle.book.specs.declared.prices.HourPrice.{HourPrice}
 use Rattle.book.specs.Register.{standing, startIn, ask, failureCharge, Reply, refused, answered, stepOf}
-use Rattle.book.specs.Amounts.{hourKey, priceOf, chargeOf, Charges, charged, no, chargesOf}
+use Rattle.book.specs.Amounts.{Price, hourKey, priceOf, chargeOf, Charges, charged, no, chargesOf}
 use Rattle.book.specs.ByName.{byName}
-use Rattle.book.specs.Meaning.{Load, belongs, astray, load, Meets, chargesKeyed, hourCharges}
-use Rattle.book.specs.Tables.{Kept, Tabled, survey}
-use Rattle.book.specs.Places.{spotOf}
+use Rattle.book.specs.Meaning.{Load, belongs, astray, Meets, chargesKeyed, hourCharges}
+use Rattle.book.specs.Places.{spotOf, spots}
+use Rattle.book.specs.Rows.{Logged, Log}
+use Rattle.book.specs.Prices.{PriceIs}
 use Rattle.book.specs.Built.{Built, built-none, built-more, built-all}
-use Rattle.book.specs.Worked.{Opened, Open, noSpot, Inside, chargeReply, chargeAtSpot, chargesIn, namedOf, noCharges}
-use Rattle.book.specs.StandLaws.{found-at}
+use Rattle.book.specs.Worked.{begun, noSpot, Inside, chargeReply, chargeAtSpot, chargesIn, namedOf, noCharges}
 use Rattle.book.specs.WorkedLaws.{inside}
+use Rattle.book.specs.PriceLaws.{known-priced, unknown-unpriced}
 use Rattle.book.specs.ChargeLaws.{getD-same, charge-absent, charge-unpriced, charge-found, charges-absent, charges-unpriced, charges-found}
 use Rattle.book.specs.LoadLaws.{Loaded}
 use Rattle.book.proofs.Answering.{step-is, leaves-answered, keyed-wrong, keyed-right}
+use Rattle.book.proofs.Pricing.{Finds, sought}
 
 -- ---- the loop over the places
 
@@ -36,10 +38,6 @@ pub record Charging (s : List ℕ) (m : Mark) (q : HourPrices) (p : Places) (tic
 
 pub charging-start : (s : List ℕ) (m : Mark) (q : HourPrices) (p : Places) (ticks : List Ticks) → length ticks ≡ 16 → Charging s m q p ticks 0
 charging-start s m q p ticks e = record { long = e; upto = omega arith; built = built-none }
-
--- what stands past the end of the places: never met
-abbrev pub noPlace : Spot
-noPlace = record { name = record { len = 0; bytes = [] }; start = 0 }
 
 -- a place by any default
 pub spot-inside : {s : List ℕ} {p : Places} → Inside s p → length (p .at) ≡ 16 → (i : ℕ) → i < p .n → (d : Spot) → getD (p .at) i d .start ≤ length s
@@ -60,92 +58,66 @@ module _ {s : List ℕ} {m : Mark} {q : HourPrices} {p : Places} {ticks : List T
       let e : i ≡ p .n = omega (arith, c .upto) in
       built-all (p .n) (subst (Built (chargeAtSpot s m q) (p .at) noSpot ticks noTicks) e (c .built)) (omega (arith, c .long, w .few)) (omega (arith, w .few))
 
--- ---- what the kept views say
+-- ---- what a pass over the rows gathered for a mark and hour
 
-abbrev pub Seen : List View → ℕ → Key → Survey → Type 0
-Seen views n k v = (l : List Change) → Kept views l → length l ≡ n → v ≡ survey k l
+pub record Passed (s rows : List ℕ) (n : ℕ) (m : Mark) (h : ℕ) (p : Places) : Type 0 where
+  pub are : (l : List Change) → Logged s rows n l → spots p ≡ map (spotOf l) (byName (hourKey m h) (standing l))
+  pub few : p .n ≤ 16
+  pub long : length (p .at) ≡ 16
 
-abbrev pub Gathered : List View → ℕ → Key → Places → Type 0
-Gathered views n k p = (l : List Change) → Kept views l → length l ≡ n → take (p .n) (p .at) ≡ map (spotOf l) (byName k (standing l))
+pub passed : {s rows : List ℕ} {n h : ℕ} {m : Mark} {k : Key} {p : Places} → k ≡ hourKey m h
+    → ((l : List Change) → Logged s rows n l → take (p .n) (p .at) ≡ map (spotOf l) (byName k (standing l))) × (p .n ≤ 16) → length (p .at) ≡ 16 → Passed s rows n m h p
+passed e w long = record { are = λ l g. w .0 l g ∙ ap (λ (x : Key). map (spotOf l) (byName x (standing l))) e; few = w .1; long = long }
 
-module _ {s : List ℕ} {views : List View} {n : ℕ} where
-  pub seen-inside : Open s views n → (k : Key) (v : Survey) → Seen views n k v → v .found ≡ true → v .start ≤ length s
-  seen-inside o k v e h =
-      let w = o .opened in
-      let q = e (o .list) (w .kept) (w .count) in
-      subst (λ (x : Survey). x .start ≤ length s) (sym q) (found-at w k (sym (ap (λ (x : Survey). x .found) q) ∙ h) .at .inside)
+pub key-low : {m : Mark} {h : ℕ} {k : Key} → k ≡ hourKey m h → h < 32 → k .hour < 32
+key-low e low = subst (λ (x : Key). x .hour < 32) (sym e) low
 
-  pub gathered-inside : Open s views n → (k : Key) (p : Places) → Gathered views n k p → p .n ≤ 16 → length (p .at) ≡ 16 → Inside s p
-  gathered-inside o k p e few long = let w = o .opened in inside w k p (e (o .list) (w .kept) (w .count)) few long
+module _ {s rows : List ℕ} {n h : ℕ} {m : Mark} {p : Places} (w : Passed s rows n m h p) where
+  pub passed-inside : Log s rows n → Inside s p
+  passed-inside o = inside (begun (o .logged)) (hourKey m h) p (w .are (o .list) (o .logged)) (w .few) (w .long)
 
-  -- ---- of a key: f is its survey, q that of its hour's price
+  pub passed-size : {l : List Change} → Logged s rows n l → length (byName (hourKey m h) (standing l)) ≡ p .n
+  passed-size {l} g = sym (length-map (byName (hourKey m h) (standing l)) (spotOf l)) ∙ ap length (sym (w .are l g)) ∙ length-take-le (p .n) (p .at) (omega (arith, w .few, w .long))
 
-  module _ (k : Key) (f : Survey) (ef : Seen views n k f) where
-    pub key-absent : f .found ≡ false → (l : List Change) → Opened s views n l → refused 11 ≡ chargeOf k (standing l) (priceOf (standing l))
-    key-absent h l o = charge-absent o k (sym (ap (λ (x : Survey). x .found) (ef l (o .kept) (o .count))) ∙ h)
+-- ---- of a key: f is what was sought
 
-    module _ (hf : f .found ≡ true) (pr : Key) (epr : pr ≡ hourKey Pr (k .hour)) (q : Survey) (eq : Seen views n pr q) where
-      price-seen : (l : List Change) → Opened s views n l → q ≡ survey (hourKey Pr (k .hour)) l
-      price-seen l o = eq l (o .kept) (o .count) ∙ ap (λ (x : Key). survey x l) epr
+module _ {s rows : List ℕ} {n : ℕ} {k : Key} {f : Seek} (ef : Finds s rows n k f) (wk : Wellformed k) where
+  pub key-absent : f .found ≡ false → (l : List Change) → Logged s rows n l → (q : ℕ → Price) → refused 11 ≡ chargeOf k (standing l) q
+  key-absent h l g q = charge-absent (begun g) k q (sym (sought ef wk l g .found) ∙ h)
 
-      pub key-unpriced : q .found ≡ false → (l : List Change) → Opened s views n l → refused 15 ≡ chargeOf k (standing l) (priceOf (standing l))
-      key-unpriced h l o =
-          charge-unpriced o k (sym (ap (λ (x : Survey). x .found) (ef l (o .kept) (o .count))) ∙ hf) (sym (ap (λ (x : Survey). x .found) (price-seen l o)) ∙ h)
+  module _ (hf : f .found ≡ true) {p : HourPrice} where
+    pub key-unpriced : p .known ≡ false → (l : List Change) → Logged s rows n l → (q : ℕ → Price) → PriceIs (q (k .hour)) p → refused 15 ≡ chargeOf k (standing l) q
+    key-unpriced h l g q w = charge-unpriced (begun g) k q (sym (sought ef wk l g .found) ∙ hf) (unknown-unpriced w h)
 
-      pub key-charged : q .found ≡ true → (p : HourPrices) → p ≡ pricesIn (drop (q .start) s) → (t : Answer) → t ≡ chargeIn (k .mark) (drop (f .start) s) p
-          → (l : List Change) → Opened s views n l → isFailure (k .mark) ≡ true → chargeReply t ≡ chargeOf k (standing l) (priceOf (standing l))
-      key-charged h p ep t et l o b =
-          let a = ef l (o .kept) (o .count) in
-          let c = price-seen l o in
-          ap chargeReply
-          (et ∙ ap₂ (λ (x : Survey) (y : HourPrices). chargeIn (k .mark) (drop (x .start) s) y) a (ep ∙ ap (λ (x : Survey). pricesIn (drop (x .start) s)) c))
-          ∙ charge-found o k b (sym (ap (λ (x : Survey). x .found) a) ∙ hf) (sym (ap (λ (x : Survey). x .found) c) ∙ h)
+    pub key-charged : p .known ≡ true → (t : Answer) → t ≡ chargeIn (k .mark) (drop (f .start) s) (p .prices)
+        → (l : List Change) → Logged s rows n l → isFailure (k .mark) ≡ true → (q : ℕ → Price) → PriceIs (q (k .hour)) p → chargeReply t ≡ chargeOf k (standing l) q
+    key-charged h t et l g b q w =
+        let a = sought ef wk l g in
+        ap chargeReply (et ∙ ap (λ (x : ℕ). chargeIn (k .mark) (drop x s) (p .prices)) (a .start hf))
+        ∙ charge-found (begun g) k q b (sym (a .found) ∙ hf) (p .prices) (w .fits h) (known-priced w h)
 
-  -- ---- of a mark and hour: p are the places of its failures, v is the survey of its price
+-- ---- of a mark and hour: p are the places of its failures
 
-  module _ (m : Mark) (h : ℕ) (k : Key) (ek : k ≡ hourKey m h) (p : Places) (ep : Gathered views n k p) where
-    places-are : (l : List Change) → Opened s views n l → take (p .n) (p .at) ≡ map (spotOf l) (byName (hourKey m h) (standing l))
-    places-are l o = ep l (o .kept) (o .count) ∙ ap (λ (x : Key). map (spotOf l) (byName x (standing l))) ek
+module _ {s rows : List ℕ} {n h : ℕ} {m : Mark} {p : Places} (w : Passed s rows n m h p) where
+  pub hour-absent : p .n ≡ 0 → {r : Charges} → r ≡ noCharges 0 → (l : List Change) → Logged s rows n l → (q : ℕ → Price) → r ≡ chargesOf (startIn l) (hourKey m h) (standing l) q
+  hour-absent z er l g q = er ∙ charges-absent (begun g) m h q (passed-size w g ∙ z)
 
-    size-is : (l : List Change) → Opened s views n l → length (take (p .n) (p .at)) ≡ length (byName (hourKey m h) (standing l))
-    size-is l o = ap length (places-are l o) ∙ length-map (byName (hourKey m h) (standing l)) (spotOf l)
+  module _ (some : p .n ≡ 0 → ⊥) where
+    not-none : {l : List Change} → Logged s rows n l → length (byName (hourKey m h) (standing l)) ≡ 0 → ⊥
+    not-none g z = some (sym (passed-size w g) ∙ z)
 
-    pub hour-absent : p .n ≡ 0 → (r : Charges) → r ≡ noCharges 0 → (l : List Change) → Opened s views n l → r ≡ chargesOf (startIn l) (hourKey m h) (standing l) (priceOf (standing l))
-    hour-absent z r er l o = er ∙ charges-absent o m h (sym (size-is l o) ∙ ap (λ (x : ℕ). length (take x (p .at))) z)
+    pub hour-unpriced : {v : HourPrice} → v .known ≡ false → {r : Charges} → r ≡ noCharges 15
+        → (l : List Change) → Logged s rows n l → (q : ℕ → Price) → PriceIs (q h) v → r ≡ chargesOf (startIn l) (hourKey m h) (standing l) q
+    hour-unpriced e er l g q y = er ∙ charges-unpriced (begun g) m h q (not-none g) (unknown-unpriced y e)
 
-    module _ (few : p .n ≤ 16) (long : length (p .at) ≡ 16) (some : p .n ≡ 0 → ⊥) (pr : Key) (epr : pr ≡ hourKey Pr h) (v : Survey) (ev : Seen views n pr v) where
-      not-none : (l : List Change) → Opened s views n l → length (byName (hourKey m h) (standing l)) ≡ 0 → ⊥
-      not-none l o z = some (sym (length-take-le (p .n) (p .at) (omega arith)) ∙ size-is l o ∙ z)
-
-      hour-price : (l : List Change) → Opened s views n l → v ≡ survey (hourKey Pr h) l
-      hour-price l o = ev l (o .kept) (o .count) ∙ ap (λ (x : Key). survey x l) epr
-
-      pub hour-unpriced : v .found ≡ false → (r : Charges) → r ≡ noCharges 15 → (l : List Change) → Opened s views n l → r ≡ chargesOf (startIn l) (hourKey m h) (standing l) (priceOf (standing l))
-      hour-unpriced e r er l o = er ∙ charges-unpriced o m h (not-none l o) (sym (ap (λ (x : Survey). x .found) (hour-price l o)) ∙ e)
-
-      pub hour-charged : v .found ≡ true → (q : HourPrices) → q ≡ pricesIn (drop (v .start) s) → (ts : List Ticks) → take (p .n) ts ≡ chargesIn s m q (take (p .n) (p .at))
-          → (l : List Change) → Opened s views n l → isFailure m ≡ true
-          → charged (namedOf (take (p .n) (p .at)) (take (p .n) ts)) ≡ chargesOf (startIn l) (hourKey m h) (standing l) (priceOf (standing l))
-      hour-charged e q eq ts et l o b =
-          let a = places-are l o in
-          let c = hour-price l o in
-          ap charged (ap₂ namedOf a (et ∙ ap₂ (chargesIn s m) (eq ∙ ap (λ (x : Survey). pricesIn (drop (x .start) s)) c) a))
-          ∙ charges-found o m h b (not-none l o) (sym (ap (λ (x : Survey). x .found) c) ∙ e)
+    pub hour-charged : {v : HourPrice} → v .known ≡ true → (ts : List Ticks) → take (p .n) ts ≡ chargesIn s m (v .prices) (take (p .n) (p .at))
+        → (l : List Change) → Logged s rows n l → isFailure m ≡ true → (q : ℕ → Price) → PriceIs (q h) v
+        → charged (namedOf (take (p .n) (p .at)) (take (p .n) ts)) ≡ chargesOf (startIn l) (hourKey m h) (standing l) q
+    hour-charged {v} e ts et l g b q y =
+        let a = w .are l g in
+        ap charged (ap₂ namedOf a (et ∙ ap (chargesIn s m (v .prices)) a)) ∙ charges-found (begun g) m h q b (not-none g) (v .prices) (y .fits e) (known-priced y e)
 
 -- ---- the answers of the book
-
--- the bytes of a book that is loaded, with its table
-pub opened-by : (b : Book) (s : List ℕ) (t : Table) → Tabled (load b s) t → (x : Loaded b s) → Opened s (t .views) (b .changes) (x .list)
-opened-by b s t e x = record {
-  valid = x .valid;
-  kept = e .kept (x .list) (x .is);
-  count = x .count-is;
-  within = omega (arith, x .size, x .within);
-  bytes = ap (λ (k : ℕ). take k s) (x .size) ∙ sym (x .bytes);
-}
-
-pub open-by : (b : Book) (s : List ℕ) (t : Table) → Tabled (load b s) t → (x : Loaded b s) → Open s (t .views) (b .changes)
-open-by b s t e x = record { list = x .list; opened = opened-by b s t e x }
 
 module _ (b : Book) (s mark : List ℕ) (h : ℕ) (name : List ℕ) (x : Loaded b s) (r : KeyAnswer) (e : r ≡ keyAnswer (askFailure mark h name)) where
   failure-step : (f : Reply) → answered f ≡ stepOf (ask (failureCharge mark h name)) (length s) (record { list = x .list; closed = b .closed }) → Meets (ask (failureCharge mark h name)) b s b f s
@@ -165,6 +137,14 @@ module _ (b : Book) (s mark : List ℕ) (h : ℕ) (name : List ℕ) (x : Loaded 
   pub failure-at : r .number ≡ 0 → (f : Reply) → f ≡ chargeOf (r .key) (standing (x .list)) (priceOf (standing (x .list))) → Meets (ask (failureCharge mark h name)) b s b f s
   failure-at z f ef =
       failure-step f (ap answered (ef ∙ sym (keyed-right (askFailure mark h name) (λ (k : Key). chargeOf k (standing (x .list)) (priceOf (standing (x .list)))) r (askFailure-fault mark h name) e z)))
+
+-- the hour of a question that is not refused
+pub hour-low : (m : Mark) (h : ℕ) (r : KeyAnswer) → r ≡ keyAnswer (askHourOf m h) → r .number ≡ 0 → h < 32
+hour-low m h r e z = subst (λ (k : Key). k .hour < 32) (go (askHourOf m h) refl e) (mark-hour-formed m h r e .low)
+  where
+    go : (a : Asked) → askHourOf m h ≡ a → r ≡ keyAnswer a → r .key ≡ hourKey m h
+    go (got k t) q w = ap (λ (y : KeyAnswer). y .key) w ∙ hour-asked m h k t q
+    go (bad n) q w = absurd (omega (arith, askHourOf-fault m h n q, sym (ap (λ (y : KeyAnswer). y .number) w) ∙ z))
 
 pub no-charges-for : (n : ℕ) → (n ≡ 0 → ⊥) → noCharges n ≡ no n
 no-charges-for n z = ap (λ (b : Bool). cond b (charged []) (no n)) (ne-eqb n 0 z)

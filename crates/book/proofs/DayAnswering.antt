@@ -1,60 +1,63 @@
 -- A unit's day: its loops, the places that they read, and its answer.
 use Prim.Native.Nat.{ℕ, _+_, _-_, _≤_, _<_}
-use mathlib.Core.Path.{_≡_, refl, sym, ap, ap₂, _∙_, subst}
+use mathlib.Core.Path.{_≡_, refl, sym, ap, _∙_, subst}
 use mathlib.Core.List.{List}
 use mathlib.Core.Bool.{Bool, true, false, cond, not, _||_}
 use native.Mathlib.Omega.{arith}
 use lib.ListN.{length, take, drop, getD, set, replicate, length-set}
 use lib.Seq.{getD-set-same, getD-set-other}
-use lib.Dec.{eqb}
-use borrow.Author.Tests.{eq-eqb, ne-eqb}
 use Rattle.laws.specs.Sums.{every, every-ext, last-or}
-use Rattle.book.specs.Layer.{Key, View, KeyAnswer, Change, Gh, Pr, HourPrices, Ticks, CentsPerStart, UnitPart, PartAnswer, DayAnswer, noPart, unitPartIn, pricesIn, dayAnswer, reversal, noTicks, noStart, Asked, got, bad, askUnit, keyAnswer, askUnit-fault, unit-marked}
+use Rattle.book.specs.Layer.{Key, KeyAnswer, Change, Gh, Ticks, CentsPerStart, UnitPart, PartAnswer, DayAnswer, noPart, unitPartIn, atHour, dayAnswer, reversal, noTicks, noStart, Asked, got, bad, askUnit, keyAnswer, askUnit-fault, unit-marked}
 use Rattle.book.specs.declared.journal.Book.{Book}
-use Rattle.book.specs.declared.replay.Table.{Table}
+use Rattle.book.specs.declared.answers.UnitDay.{UnitDay}
+use Rattle.book.specs.declared.hours.HourPlace.{HourPlace}
 use Rattle.book.specs.declared.hours.Day.{Day}
+use Rattle.book.specs.declared.prices.HourPrice.{HourPrice}
+use Rattle.book.specs.declared.prices.PriceTable.{PriceTable}
 use Rattle.book.specs.Register.{standing, ask, dayOf, Reply, refused, unitDay, answered, stepOf, keyed}
-use Rattle.book.specs.Amounts.{hourKey, priceOf, absent, payable, unitAt, dayTotal, unitDayOf}
-use Rattle.book.specs.Meaning.{load, Meets}
-use Rattle.book.specs.Tables.{Tabled, Stored}
+use Rattle.book.specs.Amounts.{Price, priceOf, absent, payable, unitAt, dayTotal, unitDayOf}
+use Rattle.book.specs.Meaning.{load, astray, Meets, dayReply}
 use Rattle.book.specs.Hours.{DayIs}
-use Rattle.book.specs.Worked.{Open, Opened, InDay, partAt, Parts, dayReply}
+use Rattle.book.specs.Prices.{TableOf}
+use Rattle.book.specs.Handed.{unitDayFrom}
+use Rattle.book.specs.HandedLaws.{day-whole, day-refused}
+use Rattle.book.specs.Worked.{Begun, placeIn, priceFor, InDay, paid, partOf, Parts, totalReply}
+use Rattle.book.specs.StandLaws.{found-at}
 use Rattle.book.specs.DayLaws.{slots-in, payable-is, day-is}
-use Rattle.book.proofs.Surveying.{to-end}
-use Rattle.book.proofs.ChargeAnswering.{opened-by}
 use Rattle.book.specs.LoadLaws.{Loaded}
-use Rattle.book.proofs.Answering.{is-tabled, step-is, leaves-answered}
+use Rattle.book.proofs.Surveying.{to-end}
+use Rattle.book.proofs.Answering.{step-is, leaves-answered, leaves-16}
 
 -- ---- an hour
 
-pub payable-none : (u p : ℕ) → u ≡ 0 → true ≡ (eqb u 0 || not (eqb p 0))
-payable-none u p h = sym (ap (λ (b : Bool). b || not (eqb p 0)) (eq-eqb u 0 h))
+module _ (u : HourPlace) (p : HourPrice) where
+  pub paid-known : u .known ≡ true → p .known ≡ paid u p
+  paid-known h = sym (ap (λ (b : Bool). not b || p .known) h)
 
-pub payable-some : (u p : ℕ) → (u ≡ 0 → ⊥) → not (eqb p 0) ≡ (eqb u 0 || not (eqb p 0))
-payable-some u p h = sym (ap (λ (b : Bool). b || not (eqb p 0)) (ne-eqb u 0 h))
+  pub paid-none : u .known ≡ false → true ≡ paid u p
+  paid-none h = sym (ap (λ (b : Bool). not b || p .known) h)
 
-module _ (s : List ℕ) (u p : Day) (j : ℕ) where
-  pub part-empty : getD (u .len) j 0 ≡ 0 → noPart ≡ partAt s u p j
-  unfolding partAt
-  part-empty h = sym (ap (λ (b : Bool). cond b noPart (unitPartIn (drop (getD (u .start) j 0) s) (pricesIn (drop (getD (p .start) j 0) s)) .part)) (eq-eqb (getD (u .len) j 0) 0 h))
+  module _ (s : List ℕ) where
+    pub part-empty : u .known ≡ false → noPart ≡ partOf s u p
+    unfolding partOf
+    part-empty h = sym (ap (λ (b : Bool). cond b (unitPartIn (drop (u .start) s) (p .prices) .part) noPart) h)
 
-  pub part-there : (getD (u .len) j 0 ≡ 0 → ⊥) → (q : HourPrices) → q ≡ pricesIn (drop (getD (p .start) j 0) s)
-      → (r : PartAnswer) → r ≡ unitPartIn (take (length s - getD (u .start) j 0) (drop (getD (u .start) j 0) s)) q → r .part ≡ partAt s u p j
-  unfolding partAt
-  part-there h q eq r er =
-      ap (λ (a : PartAnswer). a .part) (er ∙ ap₂ unitPartIn (to-end (getD (u .start) j 0) s) eq)
-      ∙ sym (ap (λ (b : Bool). cond b noPart (unitPartIn (drop (getD (u .start) j 0) s) (pricesIn (drop (getD (p .start) j 0) s)) .part)) (ne-eqb (getD (u .len) j 0) 0 h))
+    pub part-there : u .known ≡ true → (r : PartAnswer) → r ≡ unitPartIn (take (length s - u .start) (drop (u .start) s)) (p .prices) → r .part ≡ partOf s u p
+    unfolding partOf
+    part-there h r e =
+        ap (λ (a : PartAnswer). a .part) (e ∙ ap (λ (y : List ℕ). unitPartIn y (p .prices)) (to-end (u .start) s))
+        ∙ sym (ap (λ (b : Bool). cond b (unitPartIn (drop (u .start) s) (p .prices) .part) noPart) h)
 
 -- ---- the loop over the hours
 
-pub record Filled (s : List ℕ) (u p : Day) (ts : List Ticks) (ss : List CentsPerStart) (j : ℕ) : Type 0 where
+pub record Filled (s : List ℕ) (u : Day) (t : PriceTable) (ts : List Ticks) (ss : List CentsPerStart) (j : ℕ) : Type 0 where
   pub upto : j ≤ 24
   pub all-ticks : length ts ≡ 24
   pub all-starts : length ss ≡ 24
-  pub parts : Parts s u p ts ss j
+  pub parts : Parts s u t ts ss j
 
-pub filled-none : (s : List ℕ) (u p : Day) → Filled s u p (replicate 24 noTicks) (replicate 24 noStart) 0
-filled-none s u p =
+pub filled-none : (s : List ℕ) (u : Day) (t : PriceTable) → Filled s u t (replicate 24 noTicks) (replicate 24 noStart) 0
+filled-none s u t =
     record {
       upto = omega arith;
       all-ticks = refl;
@@ -63,76 +66,76 @@ filled-none s u p =
     }
 
 -- the values below i, and that of i
-set-below : {A : Type 0} (xs : List A) (d x : A) (f : ℕ → A) (i : ℕ) → i < length xs → ((j : ℕ) → j < i → getD xs j d ≡ f j) → x ≡ f i → (j : ℕ) → j < i + 1 → getD (set xs i x) j d ≡ f j
+pub set-below : {A : Type 0} (xs : List A) (d x : A) (f : ℕ → A) (i : ℕ) → i < length xs → ((j : ℕ) → j < i → getD xs j d ≡ f j) → x ≡ f i → (j : ℕ) → j < i + 1 → getD (set xs i x) j d ≡ f j
 set-below xs d x f i fits h e j lt =
     last-or j i (omega arith)
     (λ q. ap (λ (m : ℕ). getD (set xs i x) m d) q ∙ getD-set-same xs i x d fits ∙ e ∙ ap f (sym q))
     (λ q. getD-set-other xs i j x d (λ z. omega arith) ∙ h j q)
 
-module _ {s : List ℕ} {u p : Day} {ts : List Ticks} {ss : List CentsPerStart} {j : ℕ} (h : Filled s u p ts ss j) where
-  pub filled-more : j < 24 → (r : UnitPart) → r ≡ partAt s u p j → Filled s u p (set ts j (r .ticks)) (set ss j (r .start)) (j + 1)
+module _ {s : List ℕ} {u : Day} {t : PriceTable} {ts : List Ticks} {ss : List CentsPerStart} {j : ℕ} (h : Filled s u t ts ss j) where
+  pub filled-more : j < 24 → (r : UnitPart) → r ≡ partOf s (placeIn u j) (priceFor t j) → Filled s u t (set ts j (r .ticks)) (set ss j (r .start)) (j + 1)
   filled-more lt r e =
       record {
         upto = omega arith;
         all-ticks = length-set ts j (r .ticks) ∙ h .all-ticks;
         all-starts = length-set ss j (r .start) ∙ h .all-starts;
         parts = record {
-          ticks = set-below ts noTicks (r .ticks) (λ (i : ℕ). partAt s u p i .ticks) j (omega (arith, h .all-ticks)) (h .parts .ticks) (ap (λ (x : UnitPart). x .ticks) e);
-          starts = set-below ss noStart (r .start) (λ (i : ℕ). partAt s u p i .start) j (omega (arith, h .all-starts)) (h .parts .starts) (ap (λ (x : UnitPart). x .start) e);
+          ticks = set-below ts noTicks (r .ticks) (λ (i : ℕ). partOf s (placeIn u i) (priceFor t i) .ticks) j (omega (arith, h .all-ticks)) (h .parts .ticks) (ap (λ (x : UnitPart). x .ticks) e);
+          starts = set-below ss noStart (r .start) (λ (i : ℕ). partOf s (placeIn u i) (priceFor t i) .start) j (omega (arith, h .all-starts)) (h .parts .starts) (ap (λ (x : UnitPart). x .start) e);
         };
       }
 
-  pub filled-all : 24 ≤ j → Parts s u p ts ss 24
-  filled-all le = let e : j ≡ 24 = omega (arith, h .upto) in subst (Parts s u p ts ss) e (h .parts)
+  pub filled-all : 24 ≤ j → Parts s u t ts ss 24
+  filled-all le = let e : j ≡ 24 = omega (arith, h .upto) in subst (Parts s u t ts ss) e (h .parts)
 
--- ---- lent bytes whose changes are kept
+-- ---- what a day is handed back in
 
-pub open-stored : (s : List ℕ) (views : List View) (n : ℕ) → Open s views n → Stored views n
-open-stored s views n o = record { list = o .list; valid = o .opened .valid; kept = o .opened .kept; count = o .opened .count }
-
-pub tabled-open : (b : Book) (s : List ℕ) (t : Table) → Tabled (load b s) t → t .ok ≡ true → Open s (t .views) (b .changes)
-tabled-open b s t e h = let x = is-tabled b s t e h in record { list = x .list; opened = opened-by b s t e x }
+-- one made from a reply is fixed by what it replies
+pub handed-whole : (x : Reply) (r : UnitDay) → r ≡ unitDayFrom x → r ≡ unitDayFrom (dayReply r)
+handed-whole x r e = e ∙ day-whole x ∙ sym (ap (λ (d : UnitDay). unitDayFrom (dayReply d)) e)
 
 -- ---- the answer
 
-module _ {s : List ℕ} {views : List View} {n : ℕ} {l : List Change} (o : Opened s views n l) where
-  pub in-day : (k : Key) (d : Day) → DayIs k l d → InDay s d
-  in-day k d h j lt = omega (arith, h .inside j lt, o .within)
+module _ {s : List ℕ} {l : List Change} (o : Begun s l) (k : Key) (u : Day) (du : DayIs k l u) where
+  pub in-day : InDay s u
+  in-day j lt e h =
+      let w = du .each j lt e in
+      omega (arith, w .start h, found-at o (atHour k (1 + j)) (sym (w .known) ∙ h) .at .inside)
 
-  module _ (k : Key) (u : Day) (du : DayIs k l u) where
-    absent-hours : every 24 (λ (j : ℕ). eqb (getD (u .len) j 0) 0) ≡ every 24 (λ (j : ℕ). absent (unitAt k (standing l) j))
-    absent-hours = every-ext 24 (λ (j : ℕ). eqb (getD (u .len) j 0) 0) (λ (j : ℕ). absent (unitAt k (standing l) j)) (λ j lt. slots-in o k u du j lt .none)
+  absent-hours : every 24 (λ (j : ℕ). not (placeIn u j .known)) ≡ every 24 (λ (j : ℕ). absent (unitAt k (standing l) j))
+  absent-hours = every-ext 24 (λ (j : ℕ). not (placeIn u j .known)) (λ (j : ℕ). absent (unitAt k (standing l) j)) (λ j lt. slots-in o k u du j lt .none)
 
+  module _ (price : ℕ → Price) where
     abbrev priced-day : Bool → Reply
-    priced-day b = cond b (unitDay (dayTotal k (standing l) (priceOf (standing l))) (reversal (dayTotal k (standing l) (priceOf (standing l))))) (refused 15)
+    priced-day b = cond b (unitDay (dayTotal k (standing l) price) (reversal (dayTotal k (standing l) price))) (refused 15)
 
     abbrev whole-day : Reply
-    whole-day = priced-day (every 24 (λ (j : ℕ). payable (unitAt k (standing l) j) (priceOf (standing l) (1 + j))))
+    whole-day = priced-day (every 24 (λ (j : ℕ). payable (unitAt k (standing l) j) (price (1 + j))))
 
     -- 11
-    pub day-nowhere : every 24 (λ (j : ℕ). eqb (getD (u .len) j 0) 0) ≡ true → refused 11 ≡ unitDayOf k (standing l) (priceOf (standing l))
+    pub day-nowhere : every 24 (λ (j : ℕ). not (placeIn u j .known)) ≡ true → refused 11 ≡ unitDayOf k (standing l) price
     unfolding unitDayOf
     day-nowhere h = sym (ap (λ (b : Bool). cond b (refused 11) whole-day) (sym absent-hours ∙ h))
 
-    day-somewhere : every 24 (λ (j : ℕ). eqb (getD (u .len) j 0) 0) ≡ false → unitDayOf k (standing l) (priceOf (standing l)) ≡ whole-day
+    day-somewhere : every 24 (λ (j : ℕ). not (placeIn u j .known)) ≡ false → unitDayOf k (standing l) price ≡ whole-day
     unfolding unitDayOf
     day-somewhere h = ap (λ (b : Bool). cond b (refused 11) whole-day) (sym absent-hours ∙ h)
 
-    module _ (some : every 24 (λ (j : ℕ). eqb (getD (u .len) j 0) 0) ≡ false) (marked : k .mark ≡ Gh) (key : Key) (priced : key ≡ hourKey Pr 1) (p : Day) (dk : DayIs key l p) where
-      prices-day : DayIs (hourKey Pr 1) l p
-      prices-day = subst (λ (x : Key). DayIs x l p) priced dk
-
+    module _ (some : every 24 (λ (j : ℕ). not (placeIn u j .known)) ≡ false) (marked : k .mark ≡ Gh) (t : PriceTable) (dt : TableOf price t) where
       -- 15
-      pub day-unpriced : every 24 (λ (j : ℕ). eqb (getD (u .len) j 0) 0 || not (eqb (getD (p .len) j 0) 0)) ≡ false → refused 15 ≡ unitDayOf k (standing l) (priceOf (standing l))
-      day-unpriced h = sym (day-somewhere some ∙ ap priced-day (sym (payable-is o k marked u p du prices-day) ∙ h))
+      pub day-unpriced : every 24 (λ (j : ℕ). paid (placeIn u j) (priceFor t j)) ≡ false → refused 15 ≡ unitDayOf k (standing l) price
+      day-unpriced h = sym (day-somewhere some ∙ ap priced-day (sym (payable-is o k marked u du price t dt) ∙ h))
 
-      pub day-worked : every 24 (λ (j : ℕ). eqb (getD (u .len) j 0) 0 || not (eqb (getD (p .len) j 0) 0)) ≡ true → (ts : List Ticks) (ss : List CentsPerStart) → Parts s u p ts ss 24
-          → (d : DayAnswer) → d ≡ dayAnswer ts ss → (r : Reply) → r ≡ dayReply d → r ≡ unitDayOf k (standing l) (priceOf (standing l))
+      pub day-worked : every 24 (λ (j : ℕ). paid (placeIn u j) (priceFor t j)) ≡ true → (ts : List Ticks) (ss : List CentsPerStart) → Parts s u t ts ss 24
+          → (d : DayAnswer) → d ≡ dayAnswer ts ss → (r : UnitDay) → r ≡ unitDayFrom (totalReply d) → dayReply r ≡ unitDayOf k (standing l) price
       day-worked h ts ss ps d ed r er =
-          let y = sym (payable-is o k marked u p du prices-day) ∙ h in
-          er ∙ ap dayReply ed ∙ day-is o k marked u p du prices-day ts ss ps y ∙ sym (day-somewhere some ∙ ap priced-day y)
+          let y = sym (payable-is o k marked u du price t dt) ∙ h in
+          ap dayReply (er ∙ ap unitDayFrom (ap totalReply ed ∙ day-is o k marked u du price t dt ts ss ps y)) ∙ sym (day-somewhere some ∙ ap priced-day y)
 
 -- ---- the question
+
+pub unit-astray : (b : Book) (s name : List ℕ) → load b s ≡ astray → (d : UnitDay) → d ≡ unitDayFrom (refused 16) → Meets (ask (dayOf name)) b s b (dayReply d) s
+unit-astray b s name e d ed = subst (λ (y : Reply). Meets (ask (dayOf name)) b s b y s) (sym (ap dayReply ed)) (leaves-16 (stepOf (ask (dayOf name))) b s e)
 
 module _ (b : Book) (s name : List ℕ) (x : Loaded b s) (r : KeyAnswer) (e : r ≡ keyAnswer (askUnit name)) where
   abbrev unit-reply : Key → Reply
@@ -141,8 +144,8 @@ module _ (b : Book) (s name : List ℕ) (x : Loaded b s) (r : KeyAnswer) (e : r 
   unit-meets : (y : Reply) → keyed (askUnit name) unit-reply ≡ y → Meets (ask (dayOf name)) b s b y s
   unit-meets y h = leaves-answered _ b s y (step-is (stepOf (ask (dayOf name))) b s x ∙ ap answered h)
 
-  pub unit-wrong : (r .number ≡ 0 → ⊥) → Meets (ask (dayOf name)) b s b (refused (r .number)) s
-  unit-wrong z = unit-meets (refused (r .number)) (go (askUnit name) e)
+  pub unit-wrong : (r .number ≡ 0 → ⊥) → (d : UnitDay) → d ≡ unitDayFrom (refused (r .number)) → Meets (ask (dayOf name)) b s b (dayReply d) s
+  unit-wrong z d ed = subst (λ (y : Reply). Meets (ask (dayOf name)) b s b y s) (sym (ap dayReply ed ∙ day-refused (r .number) z)) (unit-meets (refused (r .number)) (go (askUnit name) e))
     where
       go : (a : Asked) → r ≡ keyAnswer a → keyed a unit-reply ≡ refused (r .number)
       go (got k t) q = absurd (z (ap (λ (y : KeyAnswer). y .number) q))

@@ -1,19 +1,18 @@
--- The index of a replay: its numbers, and what the latest change of a number says of a key.
+-- The index of a replay: its numbers, and the latest change of a number.
 use Prim.Native.Nat.{ℕ, suc, _+_, _-_, _*_, _%_, _≤_, _<_}
 use mathlib.Core.Path.{_≡_, refl, sym, ap, _∙_}
 use mathlib.Core.List.{List, [], _∷_}
-use mathlib.Core.Bool.{Bool, true, false, cond, not}
+use mathlib.Core.Bool.{Bool, true, false, cond}
 use native.Mathlib.Nat.{mul-le-mul}
 use native.Mathlib.Numerals.{add-one}
 use native.Mathlib.Omega.{arith}
 use lib.ListN.{length, drop, getD, set, drop-of-length-le}
 use lib.Seq.{drop-cons, getD-set-same, getD-set-other}
 use lib.Dec.{eqb}
-use borrow.Author.Tests.{eq-eqb, ne-eqb, eqb-true}
-use Rattle.book.specs.Layer.{Key, View, Change, Good, keyOf, kindOf, same, sameHour, Mark, Pr, Im, Ex, Gh, Fi, Fe, order, Padded, good-padded, same-true, hour-parts, parts-hour}
-use Rattle.book.specs.Meaning.{Valid}
-use Rattle.book.specs.Tables.{Kept, survey, viewed}
-use Rattle.book.specs.Index.{hourSlot, weighed, slot, latestOf, toldBy}
+use borrow.Author.Tests.{eq-eqb, eqb-true}
+use Rattle.book.specs.Layer.{Key, Change, Good, keyOf, kindOf, same, sameHour, Mark, Pr, Im, Ex, Gh, Fi, Fe, order, Padded, good-padded, same-true, hour-parts, parts-hour}
+use Rattle.book.specs.Tables.{survey}
+use Rattle.book.specs.Index.{hourSlot, weighed, slot, latestOf}
 use Rattle.book.specs.RegisterLaws.{by-test, true≠false}
 
 -- ---- the numbers
@@ -57,25 +56,6 @@ unfolding slot weighed
 weighing-end k sum weight i size h le =
     (ap (λ (x : ℕ). x % 8192) (sym (ap (weighed sum weight) (drop-of-length-le (k .name .bytes) {i = i} (omega arith))) ∙ h .so-far), omega arith)
 
--- ---- what is told
-
-module _ (near : ℕ) (v : View) (k : Key) where
-  pub told-none : near ≡ 0 → 0 ≡ toldBy near v k
-  told-none e = sym (ap (λ (t : Bool). cond t 0 (cond (same k (v .key)) (cond (eqb (v .kind) 3) 0 1) 2)) (eq-eqb near 0 e))
-
-  module _ (some : near ≡ 0 → ⊥) where
-    told-some : toldBy near v k ≡ cond (same k (v .key)) (cond (eqb (v .kind) 3) 0 1) 2
-    told-some = ap (λ (t : Bool). cond t 0 (cond (same k (v .key)) (cond (eqb (v .kind) 3) 0 1) 2)) (ne-eqb near 0 some)
-
-    pub told-gone : same k (v .key) ≡ true → v .kind ≡ 3 → 0 ≡ toldBy near v k
-    told-gone e q = sym (told-some ∙ ap (λ (t : Bool). cond t (cond (eqb (v .kind) 3) 0 1) 2) e ∙ ap (λ (t : Bool). cond t 0 1) (eq-eqb (v .kind) 3 q))
-
-    pub told-stands : same k (v .key) ≡ true → (v .kind ≡ 3 → ⊥) → 1 ≡ toldBy near v k
-    told-stands e q = sym (told-some ∙ ap (λ (t : Bool). cond t (cond (eqb (v .kind) 3) 0 1) 2) e ∙ ap (λ (t : Bool). cond t 0 1) (ne-eqb (v .kind) 3 q))
-
-    pub told-unsure : same k (v .key) ≡ false → 2 ≡ toldBy near v k
-    told-unsure e = sym (told-some ∙ ap (λ (t : Bool). cond t (cond (eqb (v .kind) 3) 0 1) 2) e)
-
 -- ---- the latest change of a number
 
 pub latest-few : (h : ℕ) (l : List Change) → latestOf h l ≤ length l
@@ -88,44 +68,9 @@ latest-few h (c ∷ l) = go (eqb (slot (keyOf c)) h) (latest-few h l)
     go false ih = omega arith
 
 -- another number is another key: the number is made of all places of a name, which are as reading makes them
-other-slot : (k : Key) → Padded (k .name) → (c : Change) → Good c → eqb (slot (keyOf c)) (slot k) ≡ false → same k (keyOf c) ≡ false
+pub other-slot : (k : Key) → Padded (k .name) → (c : Change) → Good c → eqb (slot (keyOf c)) (slot k) ≡ false → same k (keyOf c) ≡ false
 other-slot k p c g h =
     by-test (same k (keyOf c)) (λ t. true≠false (eq-eqb (slot (keyOf c)) (slot k) (ap slot (sym (same-true k (keyOf c) p (good-padded c g) t)))) h) (λ t. t)
-
--- what the survey of a key finds is told by that change, unless it has another key
-pub told-found : (views : List View) (k : Key) → Padded (k .name) → (l : List Change) → Valid l → Kept views l → (d : View) (t : ℕ) → t ≡ toldBy (latestOf (slot k) l) (getD views (latestOf (slot k) l - 1) d) k
-    → (t ≡ 2 → ⊥) → survey k l .found ≡ eqb t 1
-unfolding latestOf survey Kept Valid
-told-found views k p [] valid kept d t e z = ap (λ (x : ℕ). eqb x 1) (sym e)
-told-found views k p (c ∷ l) valid kept d t e z = by-test (eqb (slot (keyOf c)) (slot k)) here (elsewhere (λ w. told-found views k p l (valid .2) (kept .1) d t w z))
-  where
-    near : ℕ
-    near = latestOf (slot k) l
-
-    at : ℕ → ℕ
-    at n = toldBy n (getD views (n - 1) d) k
-
-    elsewhere : (t ≡ at near → survey k l .found ≡ eqb t 1) → eqb (slot (keyOf c)) (slot k) ≡ false → cond (same k (keyOf c)) (not (eqb (kindOf c) 3)) (survey k l .found) ≡ eqb t 1
-    elsewhere ih q =
-        ap (λ (b : Bool). cond b (not (eqb (kindOf c) 3)) (survey k l .found)) (other-slot k p c (valid .0) q)
-        ∙ ih (e ∙ ap (λ (b : Bool). at (cond b (length l + 1) near)) q)
-
-    said : Bool → Bool → ℕ
-    said a b = cond a (cond b 0 1) 2
-
-    final : (a b : Bool) → t ≡ said a b → cond a (not b) (survey k l .found) ≡ eqb t 1
-    final true true w = ap (λ (x : ℕ). eqb x 1) (sym w)
-    final true false w = ap (λ (x : ℕ). eqb x 1) (sym w)
-    final false b w = absurd (z w)
-
-    here : eqb (slot (keyOf c)) (slot k) ≡ true → cond (same k (keyOf c)) (not (eqb (kindOf c) 3)) (survey k l .found) ≡ eqb t 1
-    here q =
-        let n : length l + 1 - 1 ≡ length l = omega arith in
-        let v : getD views (length l + 1 - 1) d ≡ viewed c = ap (λ (m : ℕ). getD views m d) n ∙ kept .0 d in
-        let some : length l + 1 ≡ 0 → ⊥ = λ w. omega arith in
-        final (same k (keyOf c)) (eqb (kindOf c) 3)
-        (e ∙ ap (λ (b : Bool). at (cond b (length l + 1) near)) q ∙ ap (λ (b : Bool). cond b 0 (said (same k (getD views (length l + 1 - 1) d .key)) (eqb (getD views (length l + 1 - 1) d .kind) 3))) (ne-eqb (length l + 1) 0 some)
-        ∙ ap (λ (x : View). said (same k (x .key)) (eqb (x .kind) 3)) v)
 
 -- ---- one change more
 

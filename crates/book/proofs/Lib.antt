@@ -1,8 +1,11 @@
 pub mod Weighing
 pub mod Surveying
 pub mod Indexing
-pub mod Replaying
+pub mod Rowing
+pub mod Ruling
+pub mod Pricing
 pub mod Answering
+pub mod Restoring
 pub mod Holding
 pub mod Feeding
 pub mod Inserting
@@ -13,5 +16,8 @@ pub mod Totalling
 pub mod Pairing
 pub mod ChargeAnswering
 pub mod DayAnswering
+pub mod RowAnswering
+pub mod RowGathering
 pub mod Guaranteeing
 pub mod Handing
+pub mod WholeDayAnswering

@@ -1,25 +1,30 @@
--- The loop over the kept views that gathers the names of a mark, each once.
-use Prim.Native.Nat.{ℕ, _+_, _≤_, _<_}
-use mathlib.Core.Path.{_≡_, refl, sym, ap, _∙_, subst⁻¹}
+-- The loop over the rows that gathers the names of a mark, each once.
+use Prim.Native.Nat.{ℕ, _+_, _-_, _/_, _≤_, _<_}
+use mathlib.Core.Path.{_≡_, refl, sym, ap, ap₂, _∙_}
 use mathlib.Core.List.{List, [], _∷_, _++_}
 use mathlib.Core.Bool.{Bool, true, false, cond, _&&_}
 use native.Mathlib.Omega.{arith}
-use lib.ListN.{length, take, drop, getD, set, length-set}
+use lib.ListN.{length, take, drop, getD, set, length-set, drop-of-length-le}
+use lib.Dec.{eqb}
+use borrow.Author.Tests.{eq-eqb, ne-eqb, eqb-true, le-leb, lt-leb}
 use lib.Seq.{length-take-le}
-use Rattle.book.specs.Layer.{Key, View, Name, Change, nameOf, nameBefore, noOne, pad}
+use Rattle.book.specs.Layer.{Key, Name, Change, keyOf, order, nameOf, nameBefore, noOne, pad}
 use Rattle.book.specs.declared.units.Units.{Units}
-use Rattle.book.specs.Register.{standing}
+use Rattle.book.specs.Register.{writeAll, standing}
 use Rattle.book.specs.ByName.{addName, sameMark, namesOf}
 use Rattle.book.specs.Meaning.{Load, belongs}
-use Rattle.book.specs.Tables.{Kept, Stored, survey}
+use Rattle.book.specs.Tables.{survey, viewed}
 use Rattle.book.specs.Places.{liveAt}
 use Rattle.book.specs.Units.{ghKey, namesIn, named, unitNames}
 use Rattle.book.specs.Handed.{unitsOf}
 use Rattle.book.specs.HandedLaws.{pad-behind, pad-front}
-use Rattle.book.specs.GatherLaws.{markPass, mark-standing}
-use Rattle.book.proofs.Surveying.{stored-new, valid-size}
+use Rattle.book.specs.Rows.{rowSlot, rowLive, rowPlace, Logged, Log, keyAt}
+use Rattle.book.specs.RegisterLaws.{by-test, true≠false, valid-new}
+use Rattle.book.specs.GatherLaws.{gather, markPass, mark-standing}
+use Rattle.book.proofs.Surveying.{valid-size}
+use Rattle.book.proofs.Rowing.{Seen, ruled-at, ruled-few, ruled-good, ruled-seen, and-turned, written-at, key-at}
+use Rattle.book.proofs.RowGathering.{left-of}
 use Rattle.book.proofs.Inserting.{Sought, sought-here, sought-there, sought-on, sought-end, Opened, opened-behind}
-use Rattle.book.proofs.Gathering.{Held, held-start, held-next, held-end}
 
 -- ---- the place of a name
 module _ (a : Name) (u : Units) (i : ℕ) (h : Sought (addName a) (u .names) (u .n) i) (le : u .n ≤ length (u .names)) where
@@ -68,37 +73,105 @@ module _ (u : Units) (size : length (u .names) ≡ 512) (few : u .n < 512) where
       let blank : names ≡ pad noOne 512 (take (u .n + 1) names) = pad-front noOne 512 (u .n + 1) names long (opened-behind (omega arith) o le s ∙ blank-behind e) in
       λ k. record { n = sym count k; names = blank k }
 
+-- ---- a row of a mark
+
+abbrev pub ofMark : ℕ → ℕ → Bool
+ofMark row mark = rowLive row && eqb (rowSlot row / 32) mark
+
+turned : (a b : ℕ) → eqb a b ≡ eqb b a
+turned a b = by-test (eqb a b) (λ t. t ∙ sym (eq-eqb b a (sym (eqb-true a b t)))) (λ t. t ∙ sym (ne-eqb b a (λ e. true≠false (eq-eqb a b (sym e)) t)))
+
+-- a row that stands, of the mark
+picked-mark : {row : ℕ} {all : List Change} {q : ℕ} {c : Change} → Seen row all q c → (k : Key) (mark : ℕ) → mark ≡ order (k .mark)
+    → ofMark row mark ≡ (sameMark k (keyOf c) && liveAt (survey (keyOf c) all) (viewed c) q)
+picked-mark {row} {all} {q} {c} s k mark e =
+    let m : rowSlot row / 32 ≡ order (keyOf c .mark) = omega (arith, s .slot, s .low) in
+    ap₂ _&&_ (s .live) (ap₂ eqb m e ∙ turned (order (keyOf c .mark)) (order (k .mark))) ∙ and-turned (liveAt (survey (keyOf c) all) (viewed c) q) (sameMark k (keyOf c))
+
+pub mark-gone : (row mark : ℕ) → row < 134217728 → false ≡ ofMark row mark
+mark-gone row mark h = sym (ap (λ (b : Bool). b && eqb (rowSlot row / 32) mark) (lt-leb 134217728 row h))
+
+pub mark-live : (row mark : ℕ) {b : Bool} → 134217728 ≤ row → b ≡ eqb (rowSlot row / 32) mark → b ≡ ofMark row mark
+mark-live row mark h e = e ∙ sym (ap (λ (b : Bool). b && eqb (rowSlot row / 32) mark) (le-leb 134217728 row h))
+
 -- ---- the loop over a mark
-pub record Listed (k : Key) (views : List View) (n i q : ℕ) (u : Units) : Type 0 where
+pub record Listed (s rows : List ℕ) (n mark i : ℕ) (u : Units) : Type 0 where
   pub size : length (u .names) ≡ 512
   pub few : u .n ≤ i
   pub whole : u ≡ unitsOf (namesIn u)
-  pub held : Held (markPass k) views n i q (namesIn u)
+  pub inside : i ≤ n
+  pub is : (l : List Change) → Logged s rows n l → (k : Key) → mark ≡ order (k .mark) → namesIn u ≡ gather (markPass k) l (drop (n - i) l)
 
-pub listed-start : (k : Key) (views : List View) (n : ℕ) (u : Units) → length (u .names) ≡ 512 → u ≡ unitsOf [] → Listed k views n 0 0 u
-unfolding unitsOf
-listed-start k views n u e w =
+pub listed-start : (s rows : List ℕ) (n mark : ℕ) (u : Units) → length (u .names) ≡ 512 → u ≡ unitsOf [] → Listed s rows n mark 0 u
+unfolding unitsOf gather
+listed-start s rows n mark u e w =
     let z : u .n ≡ 0 = ap (λ (x : Units). x .n) w in
     record {
       size = e;
       few = omega arith;
       whole = w ∙ ap unitsOf (sym (ap (λ (m : ℕ). take m (u .names)) z));
-      held = subst⁻¹ (Held (markPass k) views n 0 0) (ap (λ (m : ℕ). take m (u .names)) z) (held-start (markPass k) views n);
+      inside = omega arith;
+      is = λ l g k ek. ap (λ (m : ℕ). take m (u .names)) z ∙ ap (gather (markPass k) l) (sym (drop-of-length-le l {i = n - 0} (omega (arith, g .ruled .count))));
     }
 
-module _ {k : Key} {views : List View} {n i q : ℕ} {u : Units} (f : Listed k views n i q u) where
-  pub listed-end : Stored views n → n ≤ i → (l : List Change) → Kept views l → length l ≡ n → namesIn u ≡ namesOf k (standing l)
-  listed-end st le l kept e = held-end (f .held) le l kept e ∙ mark-standing k l (stored-new views n st l kept e)
+module _ {s rows : List ℕ} {n mark i : ℕ} {u : Units} (h : Listed s rows n mark i u) where
+  pub listed-end : n ≤ i → (k : Key) → mark ≡ order (k .mark) → (l : List Change) → Logged s rows n l → namesIn u ≡ namesOf k (standing l)
+  listed-end le k ek l g =
+      let w : n - i ≡ 0 = omega arith in h .is l g k ek ∙ ap (λ (m : ℕ). gather (markPass k) l (drop m l)) w ∙ mark-standing k l (valid-new l (g .ruled .valid))
 
-  pub listed-few : Stored views n → u .n ≤ 512
-  listed-few st = omega (arith, f .few, f .held .inside, st .count, valid-size (st .list) (st .valid) .0)
+  pub listed-few : Log s rows n → u .n ≤ 512
+  listed-few o = omega (arith, h .few, h .inside, o .logged .ruled .count, valid-size (o .list) (o .logged .ruled .valid) .0)
 
-  pub listed-next : i < n → (d : View) {b : Bool}
-      → ((l : List Change) → Kept views l → length l ≡ n → b ≡ (sameMark k (getD views i d .key) && liveAt (survey (getD views i d .key) l) (getD views i d) q))
-      → (u′ : Units) → length (u′ .names) ≡ 512
-      → (u′ .n ≤ u .n + 1) × (namesIn u′ ≡ cond b (addName (getD views i d .key .name) (namesIn u)) (namesIn u)) × (u ≡ unitsOf (namesIn u) → u′ ≡ unitsOf (namesIn u′))
-      → Listed k views n (i + 1) (q + getD views i d .len) u′
-  listed-next lt d eb u′ size w = record { size = size; few = omega (arith, f .few, w .0); whole = w .2 (f .whole); held = held-next (f .held) lt d eb refl (w .1) }
+  module _ (lt : i < n) where
+    -- the pass at the row's change
+    step : (l : List Change) → Logged s rows n l → (k : Key) → mark ≡ order (k .mark) → (b : Bool) → ofMark (getD rows i 0) mark ≡ b → (name : Name)
+        → (b ≡ true → name ≡ keyAt s (rowPlace (getD rows i 0)) .name) → cond b (addName name (namesIn u)) (namesIn u) ≡ gather (markPass k) l (drop (n - (i + 1)) l)
+    unfolding gather
+    step l g k ek b eb name en =
+        let w = ruled-at (g .ruled) lt in
+        let c = w .what in
+        let q = length (writeAll (drop (n - i) l)) in
+        let sn = ruled-seen (g .ruled) lt in
+        let old = gather (markPass k) l (drop (n - i) l) in
+        let live = sameMark k (keyOf c) && liveAt (survey (keyOf c) l) (viewed c) q in
+        let e : live ≡ b = sym (picked-mark sn k mark ek) ∙ eb in
+        go b e (h .is l g k ek) (λ t. en t ∙ ap (λ (x : ℕ). keyAt s x .name) (sn .place)
+        ∙ ap (λ (y : Key). y .name) (key-at (written-at g c (ruled-good (g .ruled) lt) q (sym (sn .live) ∙ left-of (rowLive (getD rows i 0)) (eqb (rowSlot (getD rows i 0) / 32) mark) (eb ∙ t)))))
+        ∙ ap (gather (markPass k) l) (sym (w .rest))
+      where
+        go : {name own : Name} {old xs : List Name} {live : Bool} (b : Bool) → live ≡ b → xs ≡ old → (b ≡ true → name ≡ own) → cond b (addName name xs) xs ≡ cond live (addName own old) old
+        go {own = own} {old = old} true e ex en = ap₂ addName (en refl) ex ∙ sym (ap (λ (y : Bool). cond y (addName own old) old) e)
+        go {own = own} {old = old} false e ex en = ex ∙ sym (ap (λ (y : Bool). cond y (addName own old) old) e)
+
+    pub listed-at : Log s rows n → i < 512
+    listed-at o = ruled-few (o .logged .ruled) lt
+
+    -- a record of the mark that stands is written within the bytes
+    pub listed-place : Log s rows n → ofMark (getD rows i 0) mark ≡ true → rowPlace (getD rows i 0) ≤ length s
+    listed-place o t =
+        let g = o .logged in
+        let sn = ruled-seen (g .ruled) lt in
+        let row = getD rows i 0 in
+        omega (arith, sn .place, written-at g (ruled-at (g .ruled) lt .what) (ruled-good (g .ruled) lt) (length (writeAll (drop (n - i) (o .list)))) (sym (sn .live) ∙ left-of (rowLive row) (eqb (rowSlot row / 32) mark) t) .at .inside)
+
+    pub listed-skip : ofMark (getD rows i 0) mark ≡ false → Listed s rows n mark (i + 1) u
+    listed-skip f = record {
+      size = h .size;
+      few = omega (arith, h .few);
+      whole = h .whole;
+      inside = omega arith;
+      is = λ l g k ek. step l g k ek false f noOne (λ t. true≠false t refl);
+    }
+
+    pub listed-next : ofMark (getD rows i 0) mark ≡ true → (name : Name) → name ≡ keyAt s (rowPlace (getD rows i 0)) .name → (u′ : Units) → length (u′ .names) ≡ 512
+        → (u′ .n ≤ u .n + 1) × (namesIn u′ ≡ addName name (namesIn u)) × (u ≡ unitsOf (namesIn u) → u′ ≡ unitsOf (namesIn u′)) → Listed s rows n mark (i + 1) u′
+    listed-next t name en u′ size w = record {
+      size = size;
+      few = omega (arith, h .few, w .0);
+      whole = w .2 (h .whole);
+      inside = omega arith;
+      is = λ l g k ek. w .1 ∙ step l g k ek true t name (λ z. en);
+    }
 
 -- ---- the answer
 pub units-at : (d : Load) (l : List Change) → d ≡ belongs l → (k : Key) → k ≡ ghKey → (u : Units) → namesIn u ≡ namesOf k (standing l) → named (namesIn u) ≡ unitNames d

@@ -1,14 +1,11 @@
 -- The tests of the small functions, case by case.
 use Prim.Native.Nat.{ℕ, _+_, _-_, _<_, _≤_}
 use mathlib.Core.Path.{_≡_, sym, ap, _∙_}
-use mathlib.Core.Bool.{Bool, true, false, cond, not}
-use native.Mathlib.Omega.{arith}
+use mathlib.Core.Bool.{Bool, true, false, cond}
 use lib.Dec.{ltb, eqb}
 use borrow.Author.Tests.{le-leb, lt-leb, lt-ltb, le-ltb, ne-eqb, eq-eqb}
-use Rattle.book.specs.Layer.{Key, View, same, sameHour}
-use Rattle.book.specs.declared.survey.Survey.{Survey}
 use Rattle.book.specs.Register.{room}
-use Rattle.book.specs.Tables.{noted, judge}
+use Rattle.book.specs.Tables.{judge}
 
 pub cap-over : (n : ℕ) → 65535 < n → 65535 ≡ cond (ltb 65535 n) 65535 n
 cap-over n h = simp (lt-ltb 65535 n h)
@@ -59,37 +56,3 @@ module _ (kind count : ℕ) where
 
   pub count-2 : (kind ≡ 1 → ⊥) → (kind ≡ 3 → ⊥) → count ≡ cond (eqb kind 1) (count + 1) (cond (eqb kind 3) (count - 1) count)
   count-2 j k = simp (ne-eqb kind 1 j, ne-eqb kind 3 k)
-
--- a choice by a test
-pub chosen : {A : Type 0} (b t : Bool) (x y : A) → b ≡ t → t ≡ true → x ≡ cond b x y
-chosen b t x y p q = sym (ap (λ (z : Bool). cond z x y) (p ∙ q))
-
-pub passed-by : {A : Type 0} (b t : Bool) (x y : A) → b ≡ t → t ≡ false → y ≡ cond b x y
-passed-by b t x y p q = sym (ap (λ (z : Bool). cond z x y) (p ∙ q))
-
-module _ (k : Key) (q : ℕ) (v : View) (s : Survey) (n : ℕ)
-    (e : n ≡ cond (sameHour k (v .key)) (cond (eqb (v .kind) 1) (s .count + 1) (cond (eqb (v .kind) 3) (s .count - 1) (s .count))) (s .count))
-    (t : Bool) (p : t ≡ same k (v .key)) where
-  pub noted-co : t ≡ true → v .kind ≡ 2 → record { found = true; start = q + 2; len = v .len - 2; count = n } ≡ noted k q v s
-  noted-co h j = λ i. record {
-    found = (sym (ap (λ (b : Bool). cond b (not (eqb (v .kind) 3)) (s .found)) (sym p ∙ h) ∙ ap not (ne-eqb (v .kind) 3 (λ w. omega arith)))) i;
-    start = (sym (ap (λ (b : Bool). cond b (cond (eqb (v .kind) 2) (q + 2) q) (s .start)) (sym p ∙ h) ∙ ap (λ (b : Bool). cond b (q + 2) q) (eq-eqb (v .kind) 2 j))) i;
-    len = (sym (ap (λ (b : Bool). cond b (cond (eqb (v .kind) 2) (v .len - 2) (v .len)) (s .len)) (sym p ∙ h) ∙ ap (λ (b : Bool). cond b (v .len - 2) (v .len)) (eq-eqb (v .kind) 2 j))) i;
-    count = e i;
-  }
-
-  pub noted-same : t ≡ true → (v .kind ≡ 2 → ⊥) → record { found = not (eqb (v .kind) 3); start = q; len = v .len; count = n } ≡ noted k q v s
-  noted-same h j = λ i. record {
-    found = (sym (ap (λ (b : Bool). cond b (not (eqb (v .kind) 3)) (s .found)) (sym p ∙ h))) i;
-    start = (sym (ap (λ (b : Bool). cond b (cond (eqb (v .kind) 2) (q + 2) q) (s .start)) (sym p ∙ h) ∙ ap (λ (b : Bool). cond b (q + 2) q) (ne-eqb (v .kind) 2 j))) i;
-    len = (sym (ap (λ (b : Bool). cond b (cond (eqb (v .kind) 2) (v .len - 2) (v .len)) (s .len)) (sym p ∙ h) ∙ ap (λ (b : Bool). cond b (v .len - 2) (v .len)) (ne-eqb (v .kind) 2 j))) i;
-    count = e i;
-  }
-
-  pub noted-other : t ≡ false → record { found = s .found; start = s .start; len = s .len; count = n } ≡ noted k q v s
-  noted-other h = λ i. record {
-    found = (sym (ap (λ (b : Bool). cond b (not (eqb (v .kind) 3)) (s .found)) (sym p ∙ h))) i;
-    start = (sym (ap (λ (b : Bool). cond b (cond (eqb (v .kind) 2) (q + 2) q) (s .start)) (sym p ∙ h))) i;
-    len = (sym (ap (λ (b : Bool). cond b (cond (eqb (v .kind) 2) (v .len - 2) (v .len)) (s .len)) (sym p ∙ h))) i;
-    count = e i;
-  }

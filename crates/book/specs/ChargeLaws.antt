@@ -7,16 +7,15 @@ use native.Mathlib.Omega.{arith}
 use native.Mathlib.Nat.{not-suc-le-zero, le-of-suc-le-suc}
 use lib.ListN.{length, drop, getD}
 use Rattle.money.specs.Refusals.{noSuchKey, priceMissing}
-use Rattle.book.specs.Layer.{Key, View, Rec, Change, Mark, Pr, HourPrices, PricesFit, Ticks, isFailure, hour-parts, pricesIn, chargeIn, chargeTicks, Amount, charge-written}
+use Rattle.book.specs.Layer.{Key, Rec, Change, Mark, HourPrices, PricesFit, Ticks, isFailure, hour-parts, chargeIn, chargeTicks, Amount, charge-written}
 use Rattle.book.specs.Register.{standing, startIn, refused}
-use Rattle.book.specs.Amounts.{Pick, Price, priced, unpriced, hourKey, priceFrom, priceOf, chargeAt, chargeOf, charged, no, chargeLine, chargesAt, chargesOf}
+use Rattle.book.specs.Amounts.{Pick, Price, priced, unpriced, hourKey, chargeAt, chargeOf, charged, no, chargeLine, chargesAt, chargesOf}
 use Rattle.book.specs.ByName.{byName}
 use Rattle.book.specs.Tables.{survey}
 use Rattle.book.specs.Places.{spotOf}
-use Rattle.book.specs.Worked.{Opened, ticksOf, chargeReply, chargesIn, namedOf}
+use Rattle.book.specs.Worked.{Begun, ticksOf, chargeReply, chargesIn, namedOf}
 use Rattle.book.specs.StandLaws.{All, also, At, found-at, none-at}
 use Rattle.book.specs.WorkedLaws.{Here, here}
-use Rattle.book.specs.DayLaws.{price-found}
 
 -- an element is the same by any default
 pub getD-same : {A : Type 0} (l : List A) (i : ℕ) (d e : A) → i < length l → getD l i d ≡ getD l i e
@@ -45,30 +44,24 @@ at-priced : (at : Key → ℕ) (p : HourPrices) (fs : List Rec) → (length fs �
 at-priced at p [] h = absurd (h refl)
 at-priced at p (f ∷ fs) h = refl
 
-module _ {s : List ℕ} {views : List View} {n : ℕ} {l : List Change} (o : Opened s views n l) where
-  unpriced-at : (h : ℕ) → survey (hourKey Pr h) l .found ≡ false → priceOf (standing l) h ≡ unpriced
-  unfolding priceOf
-  unpriced-at h e = ap priceFrom (none-at o (hourKey Pr h) e)
-
+module _ {s : List ℕ} {l : List Change} (o : Begun s l) where
   -- ---- of a key
 
-  module _ (k : Key) where
-    pub charge-absent : survey k l .found ≡ false → refused noSuchKey ≡ chargeOf k (standing l) (priceOf (standing l))
+  module _ (k : Key) (q : ℕ → Price) where
+    pub charge-absent : survey k l .found ≡ false → refused noSuchKey ≡ chargeOf k (standing l) q
     unfolding chargeOf
-    charge-absent e = sym (ap (λ (x : Pick). chargeAt x (priceOf (standing l) (k .hour))) (none-at o k e))
+    charge-absent e = sym (ap (λ (x : Pick). chargeAt x (q (k .hour))) (none-at o k e))
 
-    pub charge-unpriced : survey k l .found ≡ true → survey (hourKey Pr (k .hour)) l .found ≡ false → refused priceMissing ≡ chargeOf k (standing l) (priceOf (standing l))
+    pub charge-unpriced : survey k l .found ≡ true → q (k .hour) ≡ unpriced → refused priceMissing ≡ chargeOf k (standing l) q
     unfolding chargeOf
-    charge-unpriced e f = sym (ap₂ chargeAt (found-at o k e .picked) (unpriced-at (k .hour) f))
+    charge-unpriced e f = sym (ap₂ chargeAt (found-at o k e .picked) f)
 
-    pub charge-found : isFailure (k .mark) ≡ true → survey k l .found ≡ true → survey (hourKey Pr (k .hour)) l .found ≡ true
-        → chargeReply (chargeIn (k .mark) (drop (survey k l .start) s) (pricesIn (drop (survey (hourKey Pr (k .hour)) l .start) s))) ≡ chargeOf k (standing l) (priceOf (standing l))
+    pub charge-found : isFailure (k .mark) ≡ true → survey k l .found ≡ true → (p : HourPrices) → PricesFit p → q (k .hour) ≡ priced p
+        → chargeReply (chargeIn (k .mark) (drop (survey k l .start) s) p) ≡ chargeOf k (standing l) q
     unfolding chargeOf
-    charge-found b e f =
+    charge-found b e p f g =
         let w = found-at o k e in
-        let c = price-found o (k .hour) (found-at o (hourKey Pr (k .hour)) f) in
-        ap chargeReply (charge-at (pricesIn (drop (survey (hourKey Pr (k .hour)) l .start) s)) (c .fits) (k .mark) b (survey k l .start) (w .what) (w .at) (w .mark))
-        ∙ sym (ap₂ chargeAt (w .picked) (c .is-priced))
+        ap chargeReply (charge-at p f (k .mark) b (survey k l .start) (w .what) (w .at) (w .mark)) ∙ sym (ap₂ chargeAt (w .picked) g)
 
   -- ---- of a mark and hour
 
@@ -84,27 +77,22 @@ module _ {s : List ℕ} {views : List View} {n : ℕ} {l : List Change} (o : Ope
   named-are p k (r ∷ rs) (also c a) =
       ap₂ _∷_ (ap (λ (x : ℕ). record { name = r .key .name; start = x; ticks = ticksAt p r }) (sym (c .0 .start))) (named-are p k rs a)
 
-  module _ (m : Mark) (h : ℕ) where
-    pub charges-absent : length (byName (hourKey m h) (standing l)) ≡ 0 → charged [] ≡ chargesOf (startIn l) (hourKey m h) (standing l) (priceOf (standing l))
+  module _ (m : Mark) (h : ℕ) (q : ℕ → Price) where
+    pub charges-absent : length (byName (hourKey m h) (standing l)) ≡ 0 → charged [] ≡ chargesOf (startIn l) (hourKey m h) (standing l) q
     unfolding chargesOf
-    charges-absent e = at-none (startIn l) (priceOf (standing l) h) (byName (hourKey m h) (standing l)) e
+    charges-absent e = at-none (startIn l) (q h) (byName (hourKey m h) (standing l)) e
 
-    pub charges-unpriced : (length (byName (hourKey m h) (standing l)) ≡ 0 → ⊥) → survey (hourKey Pr h) l .found ≡ false
-        → no priceMissing ≡ chargesOf (startIn l) (hourKey m h) (standing l) (priceOf (standing l))
+    pub charges-unpriced : (length (byName (hourKey m h) (standing l)) ≡ 0 → ⊥) → q h ≡ unpriced → no priceMissing ≡ chargesOf (startIn l) (hourKey m h) (standing l) q
     unfolding chargesOf
     charges-unpriced z e =
-        at-unpriced (startIn l) (byName (hourKey m h) (standing l)) z
-        ∙ sym (ap (λ (q : Price). chargesAt (startIn l) q (byName (hourKey m h) (standing l))) (unpriced-at h e))
+        at-unpriced (startIn l) (byName (hourKey m h) (standing l)) z ∙ sym (ap (λ (x : Price). chargesAt (startIn l) x (byName (hourKey m h) (standing l))) e)
 
-    pub charges-found : isFailure m ≡ true → (length (byName (hourKey m h) (standing l)) ≡ 0 → ⊥) → survey (hourKey Pr h) l .found ≡ true
-        → let xs = map (spotOf l) (byName (hourKey m h) (standing l)) in
-        charged (namedOf xs (chargesIn s m (pricesIn (drop (survey (hourKey Pr h) l .start) s)) xs)) ≡ chargesOf (startIn l) (hourKey m h) (standing l) (priceOf (standing l))
+    pub charges-found : isFailure m ≡ true → (length (byName (hourKey m h) (standing l)) ≡ 0 → ⊥) → (p : HourPrices) → PricesFit p → q h ≡ priced p
+        → let xs = map (spotOf l) (byName (hourKey m h) (standing l)) in charged (namedOf xs (chargesIn s m p xs)) ≡ chargesOf (startIn l) (hourKey m h) (standing l) q
     unfolding chargesOf
-    charges-found b z e =
+    charges-found b z p f e =
         let k = hourKey m h in
         let rs = byName k (standing l) in
-        let p = pricesIn (drop (survey (hourKey Pr h) l .start) s) in
-        let c = price-found o h (found-at o (hourKey Pr h) e) in
-        ap charged (ap (namedOf (map (spotOf l) rs)) (charges-are p (c .fits) k b rs (here o k)) ∙ named-are p k rs (here o k))
+        ap charged (ap (namedOf (map (spotOf l) rs)) (charges-are p f k b rs (here o k)) ∙ named-are p k rs (here o k))
         ∙ at-priced (startIn l) p rs z
-        ∙ sym (ap (λ (q : Price). chargesAt (startIn l) q rs) (c .is-priced))
+        ∙ sym (ap (λ (x : Price). chargesAt (startIn l) x rs) e)

@@ -9,6 +9,7 @@ use Rattle.book.specs.declared.answers.NamedAmount.{NamedAmount}
 use Rattle.book.specs.declared.answers.Amounts.{Amounts}
 use Rattle.book.specs.declared.answers.Charges as answers
 use Rattle.book.specs.declared.answers.Guarantees.{Guarantees}
+use Rattle.book.specs.declared.answers.UnitDay.{UnitDay}
 use Rattle.book.specs.declared.units.Units.{Units}
 use Rattle.book.specs.declared.units.UnitList.{UnitList}
 use Rattle.book.specs.Replies.{Reply, refused, accepted, place, number, guarantees, unitDay, charge}
@@ -39,6 +40,21 @@ guaranteesFrom (charge t) = hourHanded 0 [] (noTicks .0)
 abbrev pub chargesFrom : Charges → answers.Charges
 chargesFrom (charged cs) = record { number = 0; charges = amountsOf cs }
 chargesFrom (no n) = record { number = n; charges = amountsOf [] }
+
+-- ---- a unit's day
+
+abbrev pub dayHanded : ℕ → ℤ → ℤ → UnitDay
+dayHanded n t v = record { number = n; total = record { 0 = t }; reversal = record { 0 = v } }
+
+-- no other reply is a unit's day
+abbrev pub unitDayFrom : Reply → UnitDay
+unitDayFrom (unitDay t v) = dayHanded 0 t v
+unitDayFrom (refused n) = dayHanded n (noTicks .0) (noTicks .0)
+unitDayFrom accepted = dayHanded 0 (noTicks .0) (noTicks .0)
+unitDayFrom (place a b) = dayHanded 0 (noTicks .0) (noTicks .0)
+unitDayFrom (number n) = dayHanded 0 (noTicks .0) (noTicks .0)
+unitDayFrom (guarantees cs o) = dayHanded 0 (noTicks .0) (noTicks .0)
+unitDayFrom (charge t) = dayHanded 0 (noTicks .0) (noTicks .0)
 
 -- ---- the names of units, in 512 places
 

@@ -1,36 +1,34 @@
--- The records of a mark and name in each hour, as one pass over the views finds them.
-use Prim.Native.Nat.{ℕ, _+_, _-_, _≤_, _<_}
+-- The records of a mark and name in each hour, as one pass over the rows finds them.
+use Prim.Native.Nat.{ℕ, _+_, _/_, _%_, _<_}
 use mathlib.Core.Path.{_≡_}
-use mathlib.Core.List.{List}
-use mathlib.Core.Bool.{cond}
-use lib.ListN.{length, set, getD}
+use mathlib.Core.List.{List, _++_}
+use mathlib.Core.Bool.{true, cond, _&&_}
+use lib.ListN.{length, drop, getD}
 use lib.Dec.{eqb}
-use Rattle.money.specs.Refusals.{noSuchKey}
-use Rattle.book.specs.Layer.{Key, View, Change, sameName, atHour}
+use Rattle.book.specs.Layer.{Key, Rec, Change, filed, write, begins, Good, order, atHour, sameName}
+use Rattle.book.specs.declared.hours.HourPlace.{HourPlace}
 use Rattle.book.specs.declared.hours.Day.{Day}
-use Rattle.book.specs.Register.{writeAll, Reply, refused, place, placeOf}
+use Rattle.book.specs.Tables.{survey}
+use Rattle.book.specs.Rows.{rowLive, rowSlot, rowPlace}
 
--- ---- what the code answers
-
-abbrev pub slot : ℕ → ℕ → Reply
-slot start len = cond (eqb len 0) (refused noSuchKey) (place start len)
-
--- where a change at q leaves the record of its key
-abbrev pub startOf : ℕ → View → ℕ
-startOf q v = cond (eqb (v .kind) 3) 0 (cond (eqb (v .kind) 2) (q + 2) q)
-
-abbrev pub lenOf : View → ℕ
-lenOf v = cond (eqb (v .kind) 3) 0 (cond (eqb (v .kind) 2) (v .len - 2) (v .len))
-
-unfoldable pub dayNoted : Key → ℕ → View → Day → Day
-dayNoted k q v d =
-    cond (sameName k (v .key))
-    (record { start = set (d .start) (v .key .hour - 1) (startOf q v); len = set (d .len) (v .key .hour - 1) (lenOf v) })
-    d
+-- the place of an hour's record says what stands under its key
+pub record PlaceIs (k : Key) (l : List Change) (p : HourPlace) : Type 0 where
+  pub known : p .known ≡ survey k l .found
+  pub start : p .known ≡ true → p .start ≡ survey k l .start
 
 pub record DayIs (k : Key) (l : List Change) (d : Day) : Type 0 where
-  pub starts : length (d .start) ≡ 24
-  pub lens : length (d .len) ≡ 24
-  pub is : (j : ℕ) → j < 24 → slot (getD (d .start) j 0) (getD (d .len) j 0) ≡ placeOf (atHour k (1 + j)) l
-  -- where none stands too
-  pub inside : (j : ℕ) → j < 24 → getD (d .start) j 0 ≤ length (writeAll l)
+  pub size : length (d .hours) ≡ 24
+  pub each : (j : ℕ) → j < 24 → (e : HourPlace) → PlaceIs (atHour k (1 + j)) l (getD (d .hours) j e)
+
+-- the hour of a row whose record stands and is of a mark, by the mark's order; 0 of any other
+abbrev pub markHour : ℕ → ℕ → ℕ
+markHour m row = cond (rowLive row && eqb (rowSlot row / 32) m) (rowSlot row % 32) 0
+
+-- the same, where behind mark and hour its bytes begin with a name
+abbrev pub nameHour : ℕ → List ℕ → List ℕ → ℕ → ℕ
+nameHour m name s row = cond ((rowLive row && eqb (rowSlot row / 32) m) && begins name (drop (rowPlace row + 3) s)) (rowSlot row % 32) 0
+
+-- bytes by which the records of a key's mark and name are told from others of the mark
+pub record Written (k : Key) (m : ℕ) (name : List ℕ) : Type 0 where
+  pub mark : m ≡ order (k .mark)
+  pub told : (r : Rec) → Good (filed r) → r .key .mark ≡ k .mark → (t : List ℕ) → begins name (drop 3 (write (filed r) ++ t)) ≡ sameName k (r .key)

@@ -4,7 +4,7 @@ use mathlib.Core.List.{List, [], _∷_}
 use mathlib.Core.Bool.{cond}
 use lib.ListN.{length}
 use lib.Dec.{eqb}
-use Rattle.book.specs.Layer.{Key, View, Change, keyOf, same, order}
+use Rattle.book.specs.Layer.{Key, Change, keyOf, order}
 
 abbrev pub hourSlot : Key → ℕ
 hourSlot k = order (k .mark) * 32 + k .hour
@@ -21,7 +21,3 @@ slot k = weighed (hourSlot k) 449 (k .name .bytes) % 8192
 unfoldable pub latestOf : ℕ → List Change → ℕ
 latestOf h [] = 0
 latestOf h (c ∷ l) = cond (eqb (slot (keyOf c)) h) (length l + 1) (latestOf h l)
-
--- what that change says of a key: it is gone, it stands, or another key has its number
-abbrev pub toldBy : ℕ → View → Key → ℕ
-toldBy near v k = cond (eqb near 0) 0 (cond (same k (v .key)) (cond (eqb (v .kind) 3) 0 1) 2)

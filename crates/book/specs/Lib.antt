@@ -22,8 +22,15 @@ pub mod SessionLaws
 pub mod PlaceLaws
 pub mod Places
 pub mod Built
+pub mod Rows
 pub mod Worked
+pub mod Prices
 pub mod StandLaws
+pub mod PriceLaws
+pub mod Inserting
+pub mod Totalling
+pub mod FilingLaws
+pub mod OffsetLaws
 pub mod WorkedLaws
 pub mod DayLaws
 pub mod ChargeLaws
@@ -31,6 +38,9 @@ pub mod OrderLaws
 pub mod Units
 pub mod Handed
 pub mod HandedLaws
+pub mod ValidLaws
+pub mod WholeDay
+pub mod WholeDayLaws
 pub mod GatherLaws
 pub mod Hours
 pub mod HourLaws

@@ -9,9 +9,10 @@ use Rattle.money.specs.Refusals.{unknownMark, notTogether}
 use Rattle.book.specs.Layer.{Change, Good, Scan, seen, blind, scan, Mark, isFailure, Asked, got, bad, askHourOf}
 use Rattle.book.specs.declared.journal.Book.{Book}
 use Rattle.book.specs.declared.answers.Answer.{Answer}
-use Rattle.book.specs.declared.answers.Answer.the-variants.{Accepted, Refused, Place, Number, Day, Charge}
+use Rattle.book.specs.declared.answers.Answer.the-variants.{Accepted, Refused, Place, Number, Charge}
 use Rattle.book.specs.declared.answers.Guarantees.{Guarantees}
 use Rattle.book.specs.declared.answers.Charges as answers
+use Rattle.book.specs.declared.answers.UnitDay.{UnitDay}
 use Rattle.book.specs.Amounts.{Charges, charged, no, chargesOf, priceOf}
 use Rattle.book.specs.Register.{Reg, standing, startIn, Call, Step, answered, becomes, stepOf, writeAll, refusal, Reply, refused, accepted, place, number, guarantees, unitDay, charge}
 
@@ -89,12 +90,15 @@ replyOf Accepted = accepted
 replyOf (Refused n) = refused n
 replyOf (Place start len) = place start len
 replyOf (Number n) = number n
-replyOf (Day total reversal) = unitDay (total .0) (reversal .0)
 replyOf (Charge t) = charge (t .0)
 
 -- an hour's guarantees stand beside their number
 abbrev pub guaranteesReply : Guarantees → Reply
 guaranteesReply g = cond (eqb (g .number) 0) (guarantees (take (g .credits .n) (g .credits .list)) (g .offset .0)) (refused (g .number))
+
+-- and so does a unit's day
+abbrev pub dayReply : UnitDay → Reply
+dayReply d = cond (eqb (d .number) 0) (unitDay (d .total .0) (d .reversal .0)) (refused (d .number))
 
 -- ---- the charges of a mark and hour
 

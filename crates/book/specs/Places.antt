@@ -5,10 +5,9 @@ use mathlib.Core.Bool.{Bool, false, cond}
 use lib.ListN.{take}
 use lib.Dec.{eqb}
 use Rattle.book.specs.Layer.{View, Rec, Change, nameOf, nameBefore}
-use Rattle.book.specs.declared.survey.Survey.{Survey}
 use Rattle.book.specs.declared.places.Spot.{Spot}
 use Rattle.book.specs.declared.places.Places.{Places}
-use Rattle.book.specs.Tables.{survey}
+use Rattle.book.specs.Tables.{Survey, survey}
 
 -- the length of the mark before a corrected record
 abbrev pub leadLength : ℕ → ℕ

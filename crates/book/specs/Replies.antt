@@ -16,3 +16,13 @@ pub data Reply : Type 0 where
   unitDay : ℤ → ℤ → Reply
   -- "a failure charge", in ticks
   charge : ℤ → Reply
+
+-- the number of a refusal; 0 where it is none
+abbrev pub replied : Reply → ℕ
+replied (refused n) = n
+replied accepted = 0
+replied (place a b) = 0
+replied (number n) = 0
+replied (guarantees cs o) = 0
+replied (unitDay t v) = 0
+replied (charge t) = 0

@@ -7,13 +7,13 @@ use native.Mathlib.Omega.{arith}
 use native.Mathlib.Nat.{not-suc-le-zero, le-of-suc-le-suc}
 use lib.ListN.{length, drop, getD, take-append-drop}
 use lib.Seq.{drop-append-le}
-use Rattle.book.specs.Layer.{Key, Name, View, Rec, Change, filed, corrected, withdrawn, write, Good, good-co, same, sameHour, same-refl, same-alike, nameOf, nameBefore, names-apart, sameHour-same, keyAsked, got, markBytes, askBytes, asked}
+use Rattle.book.specs.Layer.{Key, Name, Rec, Change, filed, corrected, withdrawn, write, Good, good-co, same, sameHour, same-refl, same-alike, nameOf, nameBefore, names-apart, sameHour-same, keyAsked, got, markBytes, askBytes, asked}
 use Rattle.book.specs.Register.{writeAll, without, standing, stands, place, refused, startFrom, startIn}
 use Rattle.book.specs.Amounts.{is, nil, pick}
 use Rattle.book.specs.ByName.{inOrder, byName, addName, sameMark, namesOf}
 use Rattle.book.specs.Meaning.{Valid}
 use Rattle.book.specs.Tables.{survey}
-use Rattle.book.specs.Worked.{Opened}
+use Rattle.book.specs.Worked.{Begun}
 use Rattle.book.specs.RegisterLaws.{by-test, true≠false, same-turned, survey-found, Once, valid-new, once-standing}
 use Rattle.book.specs.PlaceLaws.{survey-written, survey-place, pick-none}
 
@@ -108,7 +108,7 @@ pub record Found (s : List ℕ) (l : List Change) (k : Key) : Type 0 where
   pub at : At s (survey k l .start) what
   pub start : startIn l k ≡ survey k l .start
 
-module _ {s : List ℕ} {views : List View} {n : ℕ} {l : List Change} (o : Opened s views n l) where
+module _ {s : List ℕ} {l : List Change} (o : Begun s l) where
   whole : s ≡ writeAll l ++ drop (length (writeAll l)) s
   whole = sym (take-append-drop (length (writeAll l)) s) ∙ ap (λ (x : List ℕ). x ++ drop (length (writeAll l)) s) (o .bytes)
 

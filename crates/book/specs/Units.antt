@@ -1,23 +1,32 @@
--- The names of the units, as one pass over the views finds them.
-use Prim.Native.Nat.{ℕ}
+-- The names of the units, as one pass over the rows finds them.
+use Prim.Native.Nat.{ℕ, _≤_, _<_}
 use mathlib.Core.List.{List}
 use mathlib.Core.Bool.{cond}
-use lib.ListN.{take}
+use lib.ListN.{take, getD}
 use lib.Dec.{eqb}
 use Rattle.money.specs.Refusals.{notTogether}
-use Rattle.book.specs.Layer.{Key, Name, Gh, noOne}
+use Rattle.book.specs.Layer.{Key, Name, Gh, Padded, noOne}
 use Rattle.book.specs.declared.units.Units.{Units}
 use Rattle.book.specs.declared.units.UnitList.{UnitList}
 use Rattle.book.specs.Register.{standing}
 use Rattle.book.specs.ByName.{namesOf}
 use Rattle.book.specs.Meaning.{Load, belongs, astray}
 
+-- the key of a unit's day: its hour is not used
+abbrev pub unitKey : Name → Key
+unitKey n = record { mark = Gh; hour = 1; name = n }
+
 -- a key of the units' mark
 abbrev pub ghKey : Key
-ghKey = record { mark = Gh; hour = 1; name = noOne }
+ghKey = unitKey noOne
 
 abbrev pub namesIn : Units → List Name
 namesIn u = take (u .n) (u .names)
+
+-- each of the names is one that a record has
+pub record Named (u : Units) : Type 0 where
+  pub few : u .n ≤ 512
+  pub padded : (i : ℕ) → i < u .n → (d : Name) → Padded (getD (u .names) i d)
 
 -- the answer: names, or a number
 pub data NameList : Type 0 where

@@ -2,33 +2,32 @@
 use Prim.Native.Nat.{ℕ, _≤_, _<_}
 use mathlib.Core.Path.{_≡_}
 use mathlib.Core.List.{List, [], _∷_, map}
-use mathlib.Core.Bool.{cond}
+use mathlib.Core.Bool.{Bool, true, false, cond, not, _||_}
 use lib.ListN.{length, take, drop, getD, replicate}
 use lib.IntN.{pos}
 use lib.Dec.{eqb}
-use Rattle.book.specs.Layer.{View, Change, Mark, UnitPart, CentsPerStart, noPart, unitPartIn, HourPrices, Quantity, Ticks, Import, Answer, Amount, NoAmount, DayAnswer, Day, Refused, noQuantity, offsetEntryIn, pricesIn, chargeIn, totalsWithIn, offset, offsetAnswer, noTicks, noStart}
+use Rattle.book.specs.Layer.{Change, Mark, UnitPart, CentsPerStart, noPart, unitPartIn, HourPrices, Quantity, Ticks, Import, Answer, Amount, NoAmount, DayAnswer, Day, Refused, noQuantity, offsetEntryIn, chargeIn, totalsWithIn, offset, offsetAnswer, noTicks, noStart}
 use Rattle.book.specs.declared.answers.NamedAmount.{NamedAmount}
+use Rattle.book.specs.declared.hours.HourPlace.{HourPlace}
 use Rattle.book.specs.declared.hours.Day as day
+use Rattle.book.specs.declared.prices.HourPrice.{HourPrice}
+use Rattle.book.specs.declared.prices.PriceTable.{PriceTable}
 use Rattle.book.specs.declared.places.Spot.{Spot}
 use Rattle.book.specs.declared.places.Places.{Places}
 use Rattle.book.specs.Register.{writeAll, Reply, refused, guarantees, unitDay, charge}
 use Rattle.book.specs.Amounts.{Charges, charged, no}
 use Rattle.book.specs.Meaning.{Valid}
-use Rattle.book.specs.Tables.{Kept}
-use Rattle.book.specs.Places.{spots}
+use Rattle.book.specs.Rows.{Logged}
 
--- ---- lent bytes whose changes are kept in a table
+-- ---- lent bytes that begin with changes as written, which can be played
 
-pub record Opened (s : List ℕ) (views : List View) (n : ℕ) (l : List Change) : Type 0 where
+pub record Begun (s : List ℕ) (l : List Change) : Type 0 where
   pub valid : Valid l
-  pub kept : Kept views l
-  pub count : length l ≡ n
   pub within : length (writeAll l) ≤ length s
   pub bytes : take (length (writeAll l)) s ≡ writeAll l
 
-pub record Open (s : List ℕ) (views : List View) (n : ℕ) : Type 0 where
-  pub list : List Change
-  pub opened : Opened s views n list
+pub begun : {s rows : List ℕ} {n : ℕ} {l : List Change} → Logged s rows n l → Begun s l
+begun g = record { valid = g .ruled .valid; within = g .within; bytes = g .bytes }
 
 -- ---- an hour's records at their places
 
@@ -65,12 +64,9 @@ namedOf (x ∷ xs) (t ∷ ts) = record { name = x .name; start = x .start; ticks
 abbrev pub workedIn : List ℕ → HourPrices → List Spot → List Spot → Reply
 workedIn s p xs ys = guarantees (namedOf xs (map entryCredit (entriesIn s p xs))) (offset (length xs) (entriesIn s p xs) (p .emp) (totalsIn s ys))
 
--- the offset of these entries is not refused
-pub record Workable (s : List ℕ) (is es : Places) (p : HourPrices) : Type 0 where
-  pub imports : Inside s is
-  pub exports : Inside s es
-  pub sound : offsetAnswer (length (spots is)) (entriesIn s p (spots is)) (p .emp) (totalsIn s (spots es))
-      ≡ Amount (record { 0 = offset (length (spots is)) (entriesIn s p (spots is)) (p .emp) (totalsIn s (spots es)) })
+-- the offset of these imports and exports is not refused
+pub record Workable (s : List ℕ) (p : HourPrices) (xs ys : List Spot) : Type 0 where
+  pub sound : offsetAnswer (length xs) (entriesIn s p xs) (p .emp) (totalsIn s ys) ≡ Amount (record { 0 = offset (length xs) (entriesIn s p xs) (p .emp) (totalsIn s ys) })
 
 -- no credits and offset 0, or a number
 abbrev pub noGuarantees : ℕ → Reply
@@ -96,16 +92,35 @@ chargesIn s m p xs = map (chargeAtSpot s m p) xs
 
 -- ---- a day's records at their places
 
+-- a place, and a price, that stand past the end of a list: never met
+abbrev pub noPlace : HourPlace
+noPlace = record { known = false; start = 0 }
+
+abbrev pub noPrice : HourPrice
+noPrice = record { known = false; prices = record { emp = []; pd = record { 0 = pos 0 } } }
+
 abbrev pub InDay : List ℕ → day.Day → Type 0
-InDay s d = (j : ℕ) → j < 24 → getD (d .start) j 0 ≤ length s
+InDay s d = (j : ℕ) → j < 24 → (e : HourPlace) → getD (d .hours) j e .known ≡ true → getD (d .hours) j e .start ≤ length s
 
-unfoldable pub partAt : List ℕ → day.Day → day.Day → ℕ → UnitPart
-partAt s u p j = cond (eqb (getD (u .len) j 0) 0) noPart (unitPartIn (drop (getD (u .start) j 0) s) (pricesIn (drop (getD (p .start) j 0) s)) .part)
+-- an hour without the unit, or with its price
+abbrev pub paid : HourPlace → HourPrice → Bool
+paid u p = not (u .known) || p .known
 
-pub record Parts (s : List ℕ) (u p : day.Day) (ts : List Ticks) (ss : List CentsPerStart) (n : ℕ) : Type 0 where
-  pub ticks : (j : ℕ) → j < n → getD ts j noTicks ≡ partAt s u p j .ticks
-  pub starts : (j : ℕ) → j < n → getD ss j noStart ≡ partAt s u p j .start
+abbrev pub placeIn : day.Day → ℕ → HourPlace
+placeIn d j = getD (d .hours) j noPlace
 
-abbrev pub dayReply : DayAnswer → Reply
-dayReply (Day total reversal) = unitDay (total .0) (reversal .0)
-dayReply (Refused n) = refused n
+abbrev pub priceFor : PriceTable → ℕ → HourPrice
+priceFor t j = getD (t .hours) j noPrice
+
+-- what an hour adds
+unfoldable pub partOf : List ℕ → HourPlace → HourPrice → UnitPart
+partOf s u p = cond (u .known) (unitPartIn (drop (u .start) s) (p .prices) .part) noPart
+
+pub record Parts (s : List ℕ) (d : day.Day) (t : PriceTable) (ts : List Ticks) (ss : List CentsPerStart) (n : ℕ) : Type 0 where
+  pub ticks : (j : ℕ) → j < n → getD ts j noTicks ≡ partOf s (placeIn d j) (priceFor t j) .ticks
+  pub starts : (j : ℕ) → j < n → getD ss j noStart ≡ partOf s (placeIn d j) (priceFor t j) .start
+
+-- the total and the reversal, as the money rules answer them
+abbrev pub totalReply : DayAnswer → Reply
+totalReply (Day total reversal) = unitDay (total .0) (reversal .0)
+totalReply (Refused n) = refused n

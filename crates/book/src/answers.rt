@@ -11,8 +11,6 @@ pub enum Answer {
     Refused(u8),
     Place(usize, usize),
     Number(usize),
-    // A unit's day total and its reversal.
-    Day(Ticks, Ticks),
     Charge(Ticks),
 }
 
@@ -25,7 +23,6 @@ pub fn refusal_in(a: Answer) -> u8
         Answer::Refused(n) => n,
         Answer::Place(_start, _len) => 0,
         Answer::Number(_n) => 0,
-        Answer::Day(_total, _reversal) => 0,
         Answer::Charge(_ticks) => 0,
     }
 }
@@ -60,4 +57,32 @@ pub struct Guarantees {
 pub struct Charges {
     pub number: u8,
     pub charges: Amounts,
+}
+
+// A unit's day total and its reversal, or the number of a refusal.
+pub struct UnitDay {
+    pub number: u8,
+    pub total: Ticks,
+    pub reversal: Ticks,
+}
+
+// An hour's guarantees, its charges of failed imports and those of failed exports.
+pub struct HourAmounts {
+    pub guarantees: Guarantees,
+    pub imports: Charges,
+    pub exports: Charges,
+}
+
+// A unit's decoded name and its day.
+pub struct UnitAmounts {
+    pub name: Name,
+    pub day: UnitDay,
+}
+
+// All amounts of a day, or the number of a refusal: those of hour h at h - 1, and the first n units by name.
+pub struct DayAmounts {
+    pub number: u8,
+    pub hours: [HourAmounts; 24],
+    pub n: usize,
+    pub units: [UnitAmounts; 512],
 }

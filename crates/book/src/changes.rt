@@ -6,6 +6,10 @@ use money::refusals::NOT_TOGETHER;
 use records::marks::CORRECTED;
 use records::marks::FILED;
 use records::marks::WITHDRAWN;
+use records::parse::parse_any;
+use records::parse::parse_change;
+use records::parse::parse_close;
+use records::parse::parse_take_back;
 ghost use Rattle.book.specs.Layer.{parse};
 ghost use Rattle.book.specs.Register.{listed, file, correct, withdraw, takeBack, close, change};
 ghost use Rattle.book.specs.Meaning.{Leaves, Meets, replyOf};
@@ -14,11 +18,18 @@ impl Book {
     fn enter(mut self, log: &mut [u8], rec: &[u8], want: u8) -> Done
         ensures { λ r. ⌜ Leaves (listed (parse want (now (rec .entry)))) self (now (log .entry)) (r .book) (replyOf (r .answer)) (now (log .exit)) ⌝ }
     {
-        let k = self.check_table(log);
-        if k.ok {
-            let views = k.views;
-            let m = self.held_enter(views, log, rec, want);
-            return m.done();
+        let mut rows = [0u32; 512];
+        if self.check_rows(log, &mut rows) {
+            let p = parse_change(rec, want);
+            if p.number != 0 {
+                return Done {
+                    book: self,
+                    answer: Answer::Refused(p.number),
+                };
+            }
+            let view = p.view;
+            let n = self.changes as usize;
+            return self.held_enter(log, &mut rows, n, view, rec);
         }
         Done {
             book: self,
@@ -47,11 +58,16 @@ impl Book {
     pub fn take_back(mut self, log: &[u8], rec: &[u8]) -> Done
         ensures { λ r. ⌜ Meets (takeBack (now (rec .entry))) self (now (log .entry)) (r .book) (replyOf (r .answer)) (now (log .entry)) ⌝ }
     {
-        let k = self.check_table(log);
-        if k.ok {
-            let views = k.views;
-            let m = self.held_take_back(views, rec);
-            return m.done();
+        let mut rows = [0u32; 512];
+        if self.check_rows(log, &mut rows) {
+            let m = parse_take_back(rec);
+            if m != 0 {
+                return Done {
+                    book: self,
+                    answer: Answer::Refused(m),
+                };
+            }
+            return self.held_take_back(log, &mut rows);
         }
         Done {
             book: self,
@@ -62,10 +78,16 @@ impl Book {
     pub fn close(mut self, log: &[u8], rec: &[u8]) -> Done
         ensures { λ r. ⌜ Meets (close (now (rec .entry))) self (now (log .entry)) (r .book) (replyOf (r .answer)) (now (log .entry)) ⌝ }
     {
-        let k = self.check_table(log);
-        if k.ok {
-            let m = self.held_close(rec);
-            return m.done();
+        let mut rows = [0u32; 512];
+        if self.check_rows(log, &mut rows) {
+            let m = parse_close(rec);
+            if m != 0 {
+                return Done {
+                    book: self,
+                    answer: Answer::Refused(m),
+                };
+            }
+            return self.held_close();
         }
         Done {
             book: self,
@@ -77,11 +99,18 @@ impl Book {
     pub fn change(mut self, log: &mut [u8], rec: &[u8]) -> Done
         ensures { λ r. ⌜ Meets (change (now (rec .entry))) self (now (log .entry)) (r .book) (replyOf (r .answer)) (now (log .exit)) ⌝ }
     {
-        let k = self.check_table(log);
-        if k.ok {
-            let views = k.views;
-            let m = self.held_change(views, log, rec);
-            return m.done();
+        let mut rows = [0u32; 512];
+        if self.check_rows(log, &mut rows) {
+            let p = parse_any(rec);
+            if p.number != 0 {
+                return Done {
+                    book: self,
+                    answer: Answer::Refused(p.number),
+                };
+            }
+            let view = p.view;
+            let n = self.changes as usize;
+            return self.held_change(log, &mut rows, n, view, rec);
         }
         Done {
             book: self,

@@ -1,9 +1,12 @@
 // A unit's day.
-use crate::answers::Answer;
+use crate::answers::UnitDay;
 use crate::hours;
 use crate::hours::Day;
+use crate::hours::HourPlace;
 use crate::journal::Book;
-use crate::prices::prices_at;
+use crate::prices::HourPrice;
+use crate::prices::PriceTable;
+use crate::prices::price_table;
 use money::production::DayAnswer;
 use money::refusals::NO_SUCH_KEY;
 use money::refusals::NOT_TOGETHER;
@@ -14,22 +17,21 @@ use records::amounts::UnitPart;
 use records::amounts::day_of;
 use records::amounts::unit_part;
 use records::keys::Key;
-use records::keys::key_of;
 use records::keys::unit_key;
-use records::marks::Mark;
-use records::scan::View;
 ghost use mathlib.Core.Path.{_≡_};
-ghost use mathlib.Core.Bool.{_||_, not};
+ghost use mathlib.Core.Bool.{true, not};
 ghost use mathlib.Core.List.{List};
-ghost use lib.Dec.{eqb};
-ghost use lib.ListN.{getD};
-ghost use Prim.Native.Nat.{ℕ, _<_};
+ghost use lib.ListN.{length};
+ghost use Prim.Native.Nat.{ℕ, _≤_};
 ghost use Rattle.laws.specs.Sums.{every};
-ghost use Rattle.book.specs.Layer.{Change, Gh};
-ghost use Rattle.book.specs.Register.{standing, ask, dayOf};
-ghost use Rattle.book.specs.Meaning.{Meets, replyOf};
-ghost use Rattle.book.specs.Amounts.{unitDayOf, priceOf};
-ghost use Rattle.book.specs.Worked.{InDay, partAt, Parts, dayReply, Open, Opened};
+ghost use Rattle.book.specs.Layer.{Change, Gh, Wellformed};
+ghost use Rattle.book.specs.Register.{standing, ask, dayOf, refused};
+ghost use Rattle.book.specs.Meaning.{Meets, dayReply};
+ghost use Rattle.book.specs.Amounts.{Price, unitDayOf};
+ghost use Rattle.book.specs.Rows.{Log, Logged};
+ghost use Rattle.book.specs.Prices.{TableOf};
+ghost use Rattle.book.specs.Handed.{unitDayFrom};
+ghost use Rattle.book.specs.Worked.{InDay, placeIn, priceFor, paid, partOf, Parts, totalReply};
 
 // The amounts of the day's hours and their start-ups, 0 where the unit has no hour.
 struct DayParts {
@@ -39,11 +41,12 @@ struct DayParts {
 
 // No hour of the day has a record.
 fn nowhere(d: Day) -> bool
-    ensures { λ r. ⌜ r ≡ every 24 (λ (j : ℕ). eqb (getD (d .len) j 0) 0) ⌝ }
+    ensures { λ r. ⌜ r ≡ every 24 (λ (j : ℕ). not (placeIn d j .known)) ⌝ }
 {
     let mut j: usize = 0;
     while j < 24 {
-        if d.len[j] != 0 {
+        let u = d.hours[j];
+        if u.known {
             return false;
         }
         j = j + 1;
@@ -52,23 +55,23 @@ fn nowhere(d: Day) -> bool
 }
 
 // The hour has no record, or has its prices.
-fn hour_payable(unit: usize, price: usize) -> bool
-    ensures { λ r. ⌜ r ≡ (eqb unit 0 || not (eqb price 0)) ⌝ }
+fn hour_payable(unit: HourPlace, price: HourPrice) -> bool
+    ensures { λ r. ⌜ r ≡ paid unit price ⌝ }
 {
-    if unit == 0 {
-        return true;
+    if unit.known {
+        return price.known;
     }
-    price != 0
+    true
 }
 
 // Each hour with a record has its prices.
-fn payable(units: Day, prices: Day) -> bool
-    ensures { λ r. ⌜ r ≡ every 24 (λ (j : ℕ). eqb (getD (units .len) j 0) 0 || not (eqb (getD (prices .len) j 0) 0)) ⌝ }
+fn payable(units: Day, table: PriceTable) -> bool
+    ensures { λ r. ⌜ r ≡ every 24 (λ (j : ℕ). paid (placeIn units j) (priceFor table j)) ⌝ }
 {
     let mut j: usize = 0;
     while j < 24 {
-        let u = units.len[j];
-        let p = prices.len[j];
+        let u = units.hours[j];
+        let p = table.hours[j];
         if !hour_payable(u, p) {
             return false;
         }
@@ -77,26 +80,26 @@ fn payable(units: Day, prices: Day) -> bool
     true
 }
 
-// What the j-th hour adds.
-fn part_at(log: &[u8], units: Day, prices: Day, j: usize) -> UnitPart
-    requires { ⌜ InDay (now log) units ⌝ ∗ ⌜ InDay (now log) prices ⌝ ∗ ⌜ j < 24 ⌝ }
-    ensures { λ r. ⌜ r ≡ partAt (now (log .entry)) units prices j ⌝ }
+// What an hour adds.
+fn part_at(log: &[u8], unit: HourPlace, price: HourPrice) -> UnitPart
+    requires { ⌜ (unit .known ≡ true → unit .start ≤ length (now log)) ⌝ }
+    ensures { λ r. ⌜ r ≡ partOf (now (log .entry)) unit price ⌝ }
 {
-    if units.len[j] == 0 {
-        return UnitPart {
-            ticks: Ticks(0),
-            start: CentsPerStart(0),
-        };
+    if unit.known {
+        let start = unit.start;
+        let prices = price.prices;
+        let p = unit_part(&log[start..], prices);
+        return p.part;
     }
-    let a = units.start[j];
-    let b = prices.start[j];
-    let p = unit_part(&log[a..], prices_at(log, b));
-    p.part
+    UnitPart {
+        ticks: Ticks(0),
+        start: CentsPerStart(0),
+    }
 }
 
-fn parts_of(log: &[u8], units: Day, prices: Day) -> DayParts
-    requires { ⌜ InDay (now log) units ⌝ ∗ ⌜ InDay (now log) prices ⌝ }
-    ensures { λ r. ⌜ Parts (now (log .entry)) units prices (r .ticks) (r .starts) 24 ⌝ }
+fn parts_of(log: &[u8], units: Day, table: PriceTable) -> DayParts
+    requires { ⌜ InDay (now log) units ⌝ }
+    ensures { λ r. ⌜ Parts (now (log .entry)) units table (r .ticks) (r .starts) 24 ⌝ }
 {
     let mut d = DayParts {
         ticks: [Ticks(0); 24],
@@ -104,7 +107,9 @@ fn parts_of(log: &[u8], units: Day, prices: Day) -> DayParts
     };
     let mut h: usize = 0;
     while h < 24 {
-        let p = part_at(log, units, prices, h);
+        let u = units.hours[h];
+        let q = table.hours[h];
+        let p = part_at(log, u, q);
         let t = p.ticks;
         let s = p.start;
         d.ticks[h] = t;
@@ -114,29 +119,49 @@ fn parts_of(log: &[u8], units: Day, prices: Day) -> DayParts
     d
 }
 
-fn answer_of(d: DayAnswer) -> Answer
-    ensures { λ r. ⌜ replyOf r ≡ dayReply d ⌝ }
+// A refusal's number, and no ticks beside it.
+fn refused_day(number: u8) -> UnitDay
+    ensures { λ r. ⌜ r ≡ unitDayFrom (refused number) ⌝ }
 {
-    match d {
-        DayAnswer::Day(total, reversal) => Answer::Day(total, reversal),
-        DayAnswer::Refused(k) => Answer::Refused(k),
+    UnitDay {
+        number,
+        total: Ticks(0),
+        reversal: Ticks(0),
     }
 }
 
-// By the kept views of n changes, for the key's mark and name.
-fn of_unit(log: &[u8], views: [View; 512], n: usize, key: Key) -> Answer
-    requires { ⌜ Open (now log) views n ⌝ }
-    ensures { λ r. ⌜ ((l : List Change) → Opened (now (log .entry)) views n l → key .mark ≡ Gh → replyOf r ≡ unitDayOf key (standing l) (priceOf (standing l))) ⌝ }
+fn answer_of(d: DayAnswer) -> UnitDay
+    ensures { λ r. ⌜ r ≡ unitDayFrom (totalReply d) ⌝ }
 {
-    let units = hours::day_in(views, n, key);
+    match d {
+        DayAnswer::Day(total, reversal) => UnitDay {
+            number: 0,
+            total,
+            reversal,
+        },
+        DayAnswer::Refused(k) => refused_day(k),
+    }
+}
+
+// By the rows of n changes, for the key's mark and name, at the prices of a table.
+pub(crate) fn of_unit(
+    log: &[u8],
+    rows: &[u32; 512],
+    n: usize,
+    key: Key,
+    table: PriceTable,
+) -> UnitDay
+    requires { ⌜ Log (now log) (now rows) n ⌝ ∗ ⌜ Wellformed key ⌝ }
+    ensures { λ r. ⌜ ((l : List Change) → Logged (now (log .entry)) (now (rows .entry)) n l → key .mark ≡ Gh → (price : ℕ → Price) → TableOf price table → dayReply r ≡ unitDayOf key (standing l) price) × (r ≡ unitDayFrom (dayReply r)) ⌝ }
+{
+    let units = hours::day_in(log, rows, n, key);
     if nowhere(units) {
-        return Answer::Refused(NO_SUCH_KEY);
+        return refused_day(NO_SUCH_KEY);
     }
-    let prices = hours::day_in(views, n, key_of(Mark::Pr, 1));
-    if !payable(units, prices) {
-        return Answer::Refused(PRICE_MISSING);
+    if !payable(units, table) {
+        return refused_day(PRICE_MISSING);
     }
-    let d = parts_of(log, units, prices);
+    let d = parts_of(log, units, table);
     let ticks = d.ticks;
     let starts = d.starts;
     answer_of(day_of(ticks, starts))
@@ -144,18 +169,19 @@ fn of_unit(log: &[u8], views: [View; 512], n: usize, key: Key) -> Answer
 
 impl Book {
     // The day total of a unit and its reversal.
-    pub fn unit_day(self, log: &[u8], name: &[u8]) -> Answer
-        ensures { λ r. ⌜ Meets (ask (dayOf (now (name .entry)))) self (now (log .entry)) self (replyOf r) (now (log .entry)) ⌝ }
+    pub fn unit_day(self, log: &[u8], name: &[u8]) -> UnitDay
+        ensures { λ r. ⌜ Meets (ask (dayOf (now (name .entry)))) self (now (log .entry)) self (dayReply r) (now (log .entry)) × (r ≡ unitDayFrom (dayReply r)) ⌝ }
     {
-        let k = self.check_table(log);
-        if k.ok {
+        let mut rows = [0u32; 512];
+        if self.check_rows(log, &mut rows) {
             let q = unit_key(name);
             if q.number != 0 {
-                return Answer::Refused(q.number);
+                return refused_day(q.number);
             }
-            let views = k.views;
-            return of_unit(log, views, self.changes as usize, q.key);
+            let n = self.changes as usize;
+            let table = price_table(log, &rows, n);
+            return of_unit(log, &rows, n, q.key, table);
         }
-        Answer::Refused(NOT_TOGETHER)
+        refused_day(NOT_TOGETHER)
     }
 }

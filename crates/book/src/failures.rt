@@ -6,8 +6,9 @@ use crate::guarantees::no_amounts;
 use crate::journal::Book;
 use crate::places;
 use crate::places::Places;
-use crate::prices::prices_at;
-use crate::survey;
+use crate::prices::HourPrice;
+use crate::prices::price_in;
+use crate::rows::find_in;
 use money::refusals::NO_SUCH_KEY;
 use money::refusals::NOT_TOGETHER;
 use money::refusals::PRICE_MISSING;
@@ -22,18 +23,19 @@ use records::keys::key_of;
 use records::layouts::HourPrices;
 use records::marks::Mark;
 use records::marks::is_failure;
-use records::scan::View;
 ghost use mathlib.Core.Path.{_≡_};
 ghost use mathlib.Core.Bool.{true};
 ghost use mathlib.Core.List.{List};
 ghost use lib.ListN.{take};
-ghost use Prim.Native.Nat.{_≤_};
-ghost use Rattle.book.specs.Layer.{Change, isFailure};
+ghost use Prim.Native.Nat.{ℕ, _≤_, _<_};
+ghost use Rattle.book.specs.Layer.{Change, isFailure, Wellformed};
 ghost use Rattle.book.specs.Register.{standing, startIn, ask, failureCharge};
 ghost use Rattle.book.specs.Meaning.{Meets, replyOf, load, chargesReply, hourCharges};
-ghost use Rattle.book.specs.Amounts.{hourKey, chargeOf, chargesOf, priceOf};
+ghost use Rattle.book.specs.Amounts.{Price, hourKey, chargeOf, chargesOf};
 ghost use Rattle.book.specs.Handed.{chargesFrom};
-ghost use Rattle.book.specs.Worked.{Inside, ticksOf, chargeReply, chargesIn, noCharges, Open, Opened};
+ghost use Rattle.book.specs.Worked.{Inside, ticksOf, chargeReply, chargesIn, noCharges};
+ghost use Rattle.book.specs.Rows.{Log, Logged};
+ghost use Rattle.book.specs.Prices.{PriceIs};
 
 fn answer_of(a: Charged) -> Answer
     ensures { λ r. ⌜ replyOf r ≡ chargeReply a ⌝ }
@@ -44,17 +46,15 @@ fn answer_of(a: Charged) -> Answer
     }
 }
 
-// By the kept views of n changes, for a key.
-fn of_key(log: &[u8], views: [View; 512], n: usize, key: Key) -> Answer
-    requires { ⌜ Open (now log) views n ⌝ }
-    ensures { λ r. ⌜ ((l : List Change) → Opened (now (log .entry)) views n l → isFailure (key .mark) ≡ true → replyOf r ≡ chargeOf key (standing l) (priceOf (standing l))) ⌝ }
+// By the rows of n changes, for a key, at a price of its hour.
+pub(crate) fn of_key(log: &[u8], rows: &[u32; 512], n: usize, key: Key, price: HourPrice) -> Answer
+    requires { ⌜ Log (now log) (now rows) n ⌝ ∗ ⌜ Wellformed key ⌝ }
+    ensures { λ r. ⌜ ((l : List Change) → Logged (now (log .entry)) (now (rows .entry)) n l → isFailure (key .mark) ≡ true → (q : ℕ → Price) → PriceIs (q (key .hour)) price → replyOf r ≡ chargeOf key (standing l) q) ⌝ }
 {
-    let f = survey::look_in(views, n, key);
+    let f = find_in(log, rows, n, n, key);
     if f.found {
-        let p = survey::look_in(views, n, key_of(Mark::Pr, key.hour));
-        if p.found {
-            let at = p.start;
-            let prices = prices_at(log, at);
+        if price.known {
+            let prices = price.prices;
             let mark = key.mark;
             let start = f.start;
             return answer_of(failure_charge(&log[start..], mark, prices));
@@ -91,26 +91,31 @@ fn charges_at(log: &[u8], p: Places, mark: Mark, prices: HourPrices) -> [Ticks; 
     ticks
 }
 
-fn no_charges(number: u8) -> Charges
+pub(crate) fn no_charges(number: u8) -> Charges
     ensures { λ r. ⌜ (chargesReply r ≡ noCharges number) × (r .charges .n ≤ 16) × (r ≡ chargesFrom (chargesReply r)) ⌝ }
 {
     let charges = no_amounts();
     Charges { number, charges }
 }
 
-// By the kept views of n changes, for a mark and hour.
-fn of_hour(log: &[u8], views: [View; 512], n: usize, mark: Mark, hour: u8) -> Charges
-    requires { ⌜ Open (now log) views n ⌝ }
-    ensures { λ r. ⌜ ((l : List Change) → Opened (now (log .entry)) views n l → isFailure mark ≡ true → chargesReply r ≡ chargesOf (startIn l) (hourKey mark hour) (standing l) (priceOf (standing l))) × (r .charges .n ≤ 16) × (r ≡ chargesFrom (chargesReply r)) ⌝ }
+// By the rows of n changes, for a mark and hour, at a price of the hour.
+pub(crate) fn of_hour(
+    log: &[u8],
+    rows: &[u32; 512],
+    n: usize,
+    mark: Mark,
+    hour: u8,
+    price: HourPrice,
+) -> Charges
+    requires { ⌜ Log (now log) (now rows) n ⌝ ∗ ⌜ hour < 32 ⌝ }
+    ensures { λ r. ⌜ ((l : List Change) → Logged (now (log .entry)) (now (rows .entry)) n l → isFailure mark ≡ true → (q : ℕ → Price) → PriceIs (q hour) price → chargesReply r ≡ chargesOf (startIn l) (hourKey mark hour) (standing l) q) × (r .charges .n ≤ 16) × (r ≡ chargesFrom (chargesReply r)) ⌝ }
 {
-    let failures = places::gather_in(views, n, key_of(mark, hour));
+    let failures = places::gather_rows(log, rows, n, key_of(mark, hour));
     if failures.n == 0 {
         return no_charges(0);
     }
-    let p = survey::look_in(views, n, key_of(Mark::Pr, hour));
-    if p.found {
-        let at = p.start;
-        let prices = prices_at(log, at);
+    if price.known {
+        let prices = price.prices;
         let ticks = charges_at(log, failures, mark, prices);
         let charges = named(failures, ticks);
         return Charges { number: 0, charges };
@@ -123,14 +128,16 @@ impl Book {
     pub fn failure_charge(self, log: &[u8], mark: &[u8], hour: u8, name: &[u8]) -> Answer
         ensures { λ r. ⌜ Meets (ask (failureCharge (now (mark .entry)) hour (now (name .entry)))) self (now (log .entry)) self (replyOf r) (now (log .entry)) ⌝ }
     {
-        let k = self.check_table(log);
-        if k.ok {
+        let mut rows = [0u32; 512];
+        if self.check_rows(log, &mut rows) {
             let q = ask_failure(mark, hour, name);
             if q.number != 0 {
                 return Answer::Refused(q.number);
             }
-            let views = k.views;
-            return of_key(log, views, self.changes as usize, q.key);
+            let n = self.changes as usize;
+            let key = q.key;
+            let price = price_in(log, &rows, n, key.hour);
+            return of_key(log, &rows, n, key, price);
         }
         Answer::Refused(NOT_TOGETHER)
     }
@@ -139,8 +146,8 @@ impl Book {
     pub fn charges(self, log: &[u8], mark: Mark, hour: u8) -> Charges
         ensures { λ r. ⌜ (chargesReply r ≡ hourCharges mark hour (load self (now (log .entry)))) × (r .charges .n ≤ 16) × (r ≡ chargesFrom (chargesReply r)) ⌝ }
     {
-        let k = self.check_table(log);
-        if k.ok {
+        let mut rows = [0u32; 512];
+        if self.check_rows(log, &mut rows) {
             if !is_failure(mark) {
                 return no_charges(UNKNOWN_MARK);
             }
@@ -148,8 +155,9 @@ impl Book {
             if q.number != 0 {
                 return no_charges(q.number);
             }
-            let views = k.views;
-            return of_hour(log, views, self.changes as usize, mark, hour);
+            let n = self.changes as usize;
+            let price = price_in(log, &rows, n, hour);
+            return of_hour(log, &rows, n, mark, hour, price);
         }
         no_charges(NOT_TOGETHER)
     }

@@ -1,16 +1,17 @@
 // The records of an input, taken back to back into a book.
 use crate::answers::refusal_in;
+use crate::index::slot_of;
 use crate::journal::Book;
 use money::refusals::NOT_TOGETHER;
 use records::parse::first_change;
-use records::scan::View;
 ghost use mathlib.Core.Path.{_≡_};
 ghost use mathlib.Core.List.{List};
+ghost use Prim.Native.Nat.{ℕ, _≤_};
 ghost use lib.ListN.{length};
 ghost use Rattle.book.specs.Layer.{Change};
 ghost use Rattle.book.specs.Meaning.{belongs, load};
 ghost use Rattle.book.specs.Held.{Held};
-ghost use Rattle.book.specs.Feed.{firstRecord, feeding};
+ghost use Rattle.book.specs.Feed.{feeding};
 ghost use Rattle.book.specs.FeedPromise.{Ends, Feeds};
 
 // The book with the records that it took, how many they were and how many bytes; and the number of the refusal that ended the reading, 0 for none.
@@ -21,54 +22,58 @@ pub struct Fed {
     pub number: u8,
 }
 
-// The length of the first record; of bytes that begin with none, of all.
-fn first_length(s: &[u8]) -> usize
-    ensures { λ r. ⌜ r ≡ length (firstRecord (now (s .entry))) ⌝ }
+fn fed_so(book: Book, count: u64, taken: usize, number: u8) -> Fed
+    ensures { λ r. ⌜ r ≡ record { book = book; count = count; taken = taken; number = number } ⌝ }
 {
-    let f = first_change(s);
-    if f.number != 0 {
-        return s.len();
-    }
-    f.end
-}
-
-// Takes the records into a book that was checked, up to the first that is refused.
-fn feed_held(mut book: Book, mut views: [View; 512], log: &mut [u8], input: &[u8]) -> Fed
-    requires { ⌜ Held book (now log) views ⌝ }
-    ensures { λ r. ⌜ ((l : List Change) → load book (now (log .entry)) ≡ belongs l → Ends (feeding (length (now (log .entry))) (record { list = l; closed = book .closed }) (now (input .entry))) (now (log .entry)) r (now (log .exit))) ⌝ }
-{
-    let mut count: u64 = 0;
-    let mut at = 0;
-    while at < input.len() {
-        let ordinal = count + 1;
-        let end = at + first_length(&input[at..]);
-        let made = book.held_change(views, log, &input[at..end]);
-        let answer = made.answer;
-        let number = refusal_in(answer);
-        let place = book.changes as usize;
-        let next = made.book;
-        book = next;
-        if number != 0 {
-            return Fed {
-                book,
-                count,
-                taken: at,
-                number,
-            };
-        }
-        if place < 512 {
-            let view = made.view;
-            views[place] = view;
-        }
-        count = ordinal;
-        at = end;
-    }
     Fed {
         book,
         count,
-        taken: at,
-        number: 0,
+        taken,
+        number,
     }
+}
+
+// Where the search for a key starts, by the latest change of its number: one that was taken back is behind all.
+fn search_from(latest: u16, changes: u16) -> usize
+    ensures { λ r. ⌜ (r ≤ changes) × ((m : ℕ) → m ≤ latest → m ≤ changes → m ≤ r) ⌝ }
+{
+    if latest < changes {
+        return latest as usize;
+    }
+    changes as usize
+}
+
+// Takes the records into a book that was checked, up to the first that is refused. Each is read once.
+fn feed_held(mut book: Book, log: &mut [u8], rows: &mut [u32; 512], input: &[u8]) -> Fed
+    requires { ⌜ Held book (now log) (now rows) ⌝ }
+    ensures { λ r. ⌜ ((l : List Change) → load book (now (log .entry)) ≡ belongs l → Ends (feeding (length (now (log .entry))) (record { list = l; closed = book .closed }) (now (input .entry))) (now (log .entry)) r (now (log .exit))) ⌝ }
+{
+    let mut latest = [book.changes; 8192];
+    let mut count: u64 = 0;
+    let mut at = 0;
+    while at < input.len() {
+        let f = first_change(&input[at..]);
+        if f.number != 0 {
+            return fed_so(book, count, at, f.number);
+        }
+        let ordinal = count + 1;
+        let end = at + f.end;
+        let view = f.view;
+        let slot = slot_of(view.key);
+        let from = search_from(latest[slot], book.changes);
+        let done = book.held_change(log, rows, from, view, &input[at..end]);
+        let answer = done.answer;
+        let number = refusal_in(answer);
+        let next = done.book;
+        book = next;
+        if number != 0 {
+            return fed_so(book, count, at, number);
+        }
+        latest[slot] = book.changes;
+        count = ordinal;
+        at = end;
+    }
+    fed_so(book, count, at, 0)
 }
 
 // Takes the records that the input holds back to back, up to the first that is refused. Book and bytes are checked once.
@@ -76,22 +81,11 @@ pub fn feed(mut book: Book, log: &mut [u8], input: &[u8]) -> Fed
     ensures { λ r. ⌜ Feeds book (now (log .entry)) (now (input .entry)) r (now (log .exit)) ⌝ }
 {
     if input.len() == 0 {
-        return Fed {
-            book,
-            count: 0,
-            taken: 0,
-            number: 0,
-        };
+        return fed_so(book, 0, 0, 0);
     }
-    let k = book.check_table(log);
-    if k.ok {
-        let views = k.views;
-        return feed_held(book, views, log, input);
+    let mut rows = [0u32; 512];
+    if book.check_rows(log, &mut rows) {
+        return feed_held(book, log, &mut rows, input);
     }
-    Fed {
-        book,
-        count: 0,
-        taken: 0,
-        number: NOT_TOGETHER,
-    }
+    fed_so(book, 0, 0, NOT_TOGETHER)
 }

@@ -5,8 +5,8 @@ use crate::answers::NamedAmount;
 use crate::journal::Book;
 use crate::places;
 use crate::places::Places;
-use crate::prices::prices_at;
-use crate::survey;
+use crate::prices::HourPrice;
+use crate::prices::price_in;
 use money::imports::Import;
 use money::refusals::NOT_TOGETHER;
 use money::refusals::PRICE_MISSING;
@@ -21,17 +21,19 @@ use records::keys::key_of;
 use records::layouts::HourPrices;
 use records::marks::Mark;
 use records::names::no_name;
-use records::scan::View;
 ghost use mathlib.Core.Path.{_≡_};
 ghost use mathlib.Core.List.{List, [], map};
 ghost use lib.ListN.{take};
-ghost use Prim.Native.Nat.{_≤_};
+ghost use Prim.Native.Nat.{ℕ, _≤_, _<_};
 ghost use Rattle.book.specs.Layer.{Change};
 ghost use Rattle.book.specs.Register.{standing, startIn, ask, hourGuarantees};
 ghost use Rattle.book.specs.Meaning.{Meets, guaranteesReply};
-ghost use Rattle.book.specs.Amounts.{guaranteesOf, priceOf};
+ghost use Rattle.book.specs.Amounts.{Price, guaranteesOf};
 ghost use Rattle.book.specs.Handed.{amountsOf, guaranteesFrom};
-ghost use Rattle.book.specs.Worked.{Inside, entriesIn, totalsIn, entryCredit, namedOf, noGuarantees, Workable, workedIn, Open, Opened};
+ghost use Rattle.book.specs.Worked.{Inside, entriesIn, totalsIn, entryCredit, namedOf, noGuarantees, Workable, workedIn};
+ghost use Rattle.book.specs.Places.{spots};
+ghost use Rattle.book.specs.Rows.{Log, Logged};
+ghost use Rattle.book.specs.Prices.{PriceIs};
 
 // The offset's entries of the imports at the places.
 fn entries_at(log: &[u8], p: Places, prices: HourPrices) -> [Import; 16]
@@ -124,7 +126,7 @@ pub(crate) fn named(p: Places, ticks: [Ticks; 16]) -> Amounts
     a
 }
 
-fn no_guarantees(number: u8) -> Guarantees
+pub(crate) fn no_guarantees(number: u8) -> Guarantees
     ensures { λ r. ⌜ (guaranteesReply r ≡ noGuarantees number) × (r .credits .n ≤ 16) × (r ≡ guaranteesFrom (guaranteesReply r)) ⌝ }
 {
     let credits = no_amounts();
@@ -137,8 +139,8 @@ fn no_guarantees(number: u8) -> Guarantees
 
 // Of the imports and exports at the places, at their hour's prices.
 fn worked(log: &[u8], imports: Places, exports: Places, prices: HourPrices) -> Guarantees
-    requires { ⌜ Workable (now log) imports exports prices ⌝ }
-    ensures { λ r. ⌜ (guaranteesReply r ≡ workedIn (now (log .entry)) prices (take (imports .n) (imports .at)) (take (exports .n) (exports .at))) × (r .credits .n ≤ 16) × (r ≡ guaranteesFrom (guaranteesReply r)) ⌝ }
+    requires { ⌜ Inside (now log) imports ⌝ ∗ ⌜ Inside (now log) exports ⌝ }
+    ensures { λ r. ⌜ (Workable (now (log .entry)) prices (spots imports) (spots exports) → guaranteesReply r ≡ workedIn (now (log .entry)) prices (spots imports) (spots exports)) × (r .credits .n ≤ 16) × (r ≡ guaranteesFrom (guaranteesReply r)) ⌝ }
 {
     let entries = entries_at(log, imports, prices);
     let totals = totals_at(log, exports);
@@ -157,20 +159,24 @@ fn worked(log: &[u8], imports: Places, exports: Places, prices: HourPrices) -> G
     }
 }
 
-// By the kept views of n changes.
-fn of_hour(log: &[u8], views: [View; 512], n: usize, hour: u8) -> Guarantees
-    requires { ⌜ Open (now log) views n ⌝ }
-    ensures { λ r. ⌜ ((l : List Change) → Opened (now (log .entry)) views n l → guaranteesReply r ≡ guaranteesOf (startIn l) (standing l) (priceOf (standing l)) hour) × (r .credits .n ≤ 16) × (r ≡ guaranteesFrom (guaranteesReply r)) ⌝ }
+// By the rows of n changes, at a price of the hour.
+pub(crate) fn of_hour(
+    log: &[u8],
+    rows: &[u32; 512],
+    n: usize,
+    hour: u8,
+    price: HourPrice,
+) -> Guarantees
+    requires { ⌜ Log (now log) (now rows) n ⌝ ∗ ⌜ hour < 32 ⌝ }
+    ensures { λ r. ⌜ ((l : List Change) → Logged (now (log .entry)) (now (rows .entry)) n l → (q : ℕ → Price) → PriceIs (q hour) price → guaranteesReply r ≡ guaranteesOf (startIn l) (standing l) q hour) × (r .credits .n ≤ 16) × (r ≡ guaranteesFrom (guaranteesReply r)) ⌝ }
 {
-    let imports = places::gather_in(views, n, key_of(Mark::Im, hour));
+    let imports = places::gather_rows(log, rows, n, key_of(Mark::Im, hour));
     if imports.n == 0 {
         return no_guarantees(0);
     }
-    let p = survey::look_in(views, n, key_of(Mark::Pr, hour));
-    if p.found {
-        let exports = places::gather_in(views, n, key_of(Mark::Ex, hour));
-        let at = p.start;
-        let prices = prices_at(log, at);
+    if price.known {
+        let exports = places::gather_rows(log, rows, n, key_of(Mark::Ex, hour));
+        let prices = price.prices;
         return worked(log, imports, exports, prices);
     }
     no_guarantees(PRICE_MISSING)
@@ -181,14 +187,15 @@ impl Book {
     pub fn guarantees(self, log: &[u8], hour: u8) -> Guarantees
         ensures { λ r. ⌜ Meets (ask (hourGuarantees hour)) self (now (log .entry)) self (guaranteesReply r) (now (log .entry)) × (r .credits .n ≤ 16) × (r ≡ guaranteesFrom (guaranteesReply r)) ⌝ }
     {
-        let k = self.check_table(log);
-        if k.ok {
+        let mut rows = [0u32; 512];
+        if self.check_rows(log, &mut rows) {
             let q = hour_key(Mark::Im, hour);
             if q.number != 0 {
                 return no_guarantees(q.number);
             }
-            let views = k.views;
-            return of_hour(log, views, self.changes as usize, hour);
+            let n = self.changes as usize;
+            let price = price_in(log, &rows, n, hour);
+            return of_hour(log, &rows, n, hour, price);
         }
         no_guarantees(NOT_TOGETHER)
     }

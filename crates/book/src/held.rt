@@ -1,162 +1,196 @@
-// Changes on a book that was checked: the views of its changes are at hand, and nothing is replayed.
+// Changes on a book that was checked: the rows of its changes are at hand and change with it, and nothing is replayed.
 use crate::answers::Answer;
 use crate::answers::Done;
+use crate::index::hour_slot;
 use crate::journal::Book;
 use crate::refusal::weigh;
-use crate::survey::Survey;
-use crate::survey::look_in;
+use crate::rows::clear_row;
+use crate::rows::count_in;
+use crate::rows::find_in;
+use crate::rows::kind_in;
+use crate::rows::place_in;
+use crate::rows::row_for;
+use crate::rows::start_in;
 use money::refusals::BOOK_CLOSED;
 use money::refusals::NOTHING_TO_TAKE_BACK;
+use records::heads::head_key;
+use records::heads::record_head;
 use records::hours::limit_of;
-use records::leads::bears;
-use records::parse::Parsed;
-use records::parse::parse_change;
-use records::parse::parse_close;
-use records::parse::parse_take_back;
+use records::marks::CLOSE;
+use records::marks::FILED;
+use records::marks::TAKE_BACK;
+use records::marks::WITHDRAWN;
 use records::scan::View;
-use records::scan::nothing;
-use records::writing::put;
+use records::scan::starts;
+use records::writing::put_viewed;
 ghost use mathlib.Core.Path.{_≡_};
-ghost use mathlib.Core.List.{List};
-ghost use Prim.Native.Nat.{ℕ};
+ghost use mathlib.Core.Bool.{not, _&&_};
+ghost use mathlib.Core.List.{List, _∷_};
+ghost use lib.Dec.{eqb};
 ghost use lib.ListN.{length};
-ghost use Rattle.book.specs.Layer.{parse, parsedOf};
-ghost use Rattle.book.specs.Register.{listed, takenBack, closing, general, bareTakeBack, bareClose};
-ghost use Rattle.book.specs.Meaning.{load, stepped};
-ghost use Rattle.book.specs.LoadLaws.{Loaded};
-ghost use Rattle.book.specs.Tables.{numberOf, survey};
-ghost use Rattle.book.specs.Held.{Held, Viewed, Makes};
+ghost use Prim.Native.Nat.{ℕ, _<_};
+ghost use Rattle.book.specs.Layer.{Key, Change, keyOf, parse};
+ghost use Rattle.book.specs.Register.{listed, takenBack, closing, general};
+ghost use Rattle.book.specs.Rows.{rowSlot, rowKind, Rows, Logged, Log};
+ghost use Rattle.book.specs.Held.{Held, Makes, Since, IsChange, Viewing, IsEntry, Undoing, Wrote};
 
-// What a change leaves: book and answer, and the view to be kept at the change's place.
-pub(crate) struct Made {
-    pub(crate) book: Book,
-    pub(crate) answer: Answer,
-    pub(crate) view: View,
-}
-
-impl Made {
-    pub(crate) fn done(self) -> Done
-        ensures { λ r. ⌜ (r .book ≡ self .book) × (r .answer ≡ self .answer) ⌝ }
-    {
-        let book = self.book;
-        let answer = self.answer;
-        Done { book, answer }
-    }
-}
-
-// A change that is not listed.
-fn unlisted(book: Book, answer: Answer) -> Made
-    ensures { λ r. ⌜ (r .book ≡ book) × (r .answer ≡ answer) ⌝ }
+// Whether a change filed or corrected a record of the mark and hour.
+fn wrote_in(row: u32, slot: usize) -> bool
+    ensures { λ r. ⌜ r ≡ (not (eqb (rowKind row) 3) && eqb (rowSlot row) slot) ⌝ }
 {
-    let view = nothing();
-    Made { book, answer, view }
+    if kind_in(row) == WITHDRAWN {
+        return false;
+    }
+    (row / 65536 % 512) as usize == slot
+}
+
+// The newest change before the last one that wrote a record of the mark and hour which begins with the head.
+fn written_before(log: &[u8], rows: &[u32; 512], n: usize, slot: usize, head: &[u8]) -> usize
+    requires { ⌜ Log (now log) (now rows) n ⌝ ∗ ⌜ 0 < n ⌝ }
+    ensures { λ r. ⌜ ((c : Change) (l : List Change) → Undoing (now (log .entry)) (now (rows .entry)) n slot (now (head .entry)) c l → Wrote (length l) (keyOf c) r l) ⌝ }
+{
+    let mut i: usize = n - 1;
+    while 0 < i {
+        let j = i - 1;
+        let row = rows[j];
+        if wrote_in(row, slot) {
+            let start = place_in(row);
+            if starts(&log[start..], head) {
+                return j;
+            }
+        }
+        i = j;
+    }
+    0
+}
+
+// The rows without the last of n changes: the record that it replaced or removed stands again. A filing did neither.
+fn restore(log: &[u8], rows: &mut [u32; 512], n: usize)
+    requires { ⌜ Log (now log) (now rows) n ⌝ ∗ ⌜ 0 < n ⌝ ∗ ⌜ length (now rows) ≡ 512 ⌝ }
+    ensures { λ _. ⌜ ((c : Change) (l : List Change) → Logged (now (log .entry)) (now (rows .entry)) n (c ∷ l) → Rows (now (rows .exit)) l l) × (length (now (rows .exit)) ≡ 512) ⌝ }
+{
+    let row = rows[n - 1];
+    if kind_in(row) == FILED {
+        return;
+    }
+    let start = start_in(row);
+    let a = head_key(&log[start..]);
+    let key = a.key;
+    let slot = hour_slot(key);
+    let h = record_head(key);
+    let len = h.len;
+    let bytes = h.bytes;
+    let at = written_before(log, rows, n, slot, &bytes[..len]);
+    let was = rows[at];
+    rows[at] = was % 134217728 + 134217728;
 }
 
 impl Book {
-    // The number with which what was read is refused, by what the changes say of its key; 0 where it is taken.
-    fn verdict(self, p: Parsed, s: Survey, lent: usize) -> u8
-        ensures { λ r. ⌜ ((want : ℕ) (rec log : List ℕ) (x : Loaded self log) → length log ≡ lent → p ≡ parsedOf (parse want rec) → s ≡ survey (p .view .key) (x .list) → r ≡ numberOf (stepped (listed (parse want rec)) self log (load self log))) ⌝ }
-    {
-        if p.number != 0 {
-            return p.number;
-        }
-        if self.closed {
-            return BOOK_CLOSED;
-        }
-        let v = p.view;
-        let most = limit_of(v.key);
-        weigh(
-            v.kind,
-            s.found,
-            s.count,
-            most,
-            self.changes as usize,
-            self.used as usize,
-            v.len,
-            lent,
-        )
-    }
-
-    // A record of any kind (0), or of the one wanted.
+    // A filing, correction or withdrawal that was read. Its key is looked for among the first `from` changes.
     pub(crate) fn held_enter(
         mut self,
-        views: [View; 512],
         log: &mut [u8],
+        rows: &mut [u32; 512],
+        from: usize,
+        view: View,
         rec: &[u8],
-        want: u8,
-    ) -> Made
-        requires { ⌜ Held self (now log) views ⌝ }
-        ensures { λ r. ⌜ Makes (listed (parse want (now (rec .entry)))) self (now (log .entry)) views r (now (log .exit)) ⌝ }
+    ) -> Done
+        requires { ⌜ Held self (now log) (now rows) ⌝ ∗ ⌜ Since self (now log) (view .key) from ⌝ ∗ ⌜ Viewing (now rec) view ⌝ }
+        ensures { λ r. ⌜ ((want : ℕ) → IsChange want (now (rec .entry)) view → Makes (listed (parse want (now (rec .entry)))) self (now (log .entry)) (view .key) r (now (log .exit)) (now (rows .exit))) ⌝ }
     {
-        let p = parse_change(rec, want);
-        let view = p.view;
-        let s = look_in(views, self.changes as usize, view.key);
-        let n = self.verdict(p, s, log.len());
-        if n != 0 {
-            return Made {
+        if self.closed {
+            return Done {
                 book: self,
-                answer: Answer::Refused(n),
-                view,
+                answer: Answer::Refused(BOOK_CLOSED),
             };
         }
+        let n = self.changes as usize;
         let at = self.used as usize;
-        put(log, at, rec, want);
+        let s = find_in(log, rows, n, from, view.key);
+        let count = count_in(rows, n, view.key);
+        let most = limit_of(view.key);
+        let refusal = weigh(view.kind, s.found, count, most, n, at, view.len, log.len());
+        if refusal != 0 {
+            return Done {
+                book: self,
+                answer: Answer::Refused(refusal),
+            };
+        }
+        put_viewed(log, at, rec, view);
+        clear_row(rows, s);
+        let hour = hour_slot(view.key);
+        let row = row_for(view.kind, hour, at);
+        rows[n] = row;
         self.used = (at + view.len) as u32;
         self.changes = self.changes + 1;
-        Made {
+        Done {
             book: self,
             answer: Answer::Accepted,
-            view,
         }
     }
 
-    // The last change begins where its length before the used part's end says.
-    pub(crate) fn held_take_back(mut self, views: [View; 512], rec: &[u8]) -> Made
-        requires { ⌜ Viewed self views ⌝ }
-        ensures { λ r. ⌜ ((s : List ℕ) → Held self s views → Makes (takenBack (bareTakeBack (now (rec .entry)))) self s views r s) ⌝ }
+    // The used part then ends where the last change begins.
+    pub(crate) fn held_take_back(mut self, log: &[u8], rows: &mut [u32; 512]) -> Done
+        requires { ⌜ Held self (now log) (now rows) ⌝ }
+        ensures { λ r. ⌜ ((k : Key) → Makes (takenBack 0) self (now (log .entry)) k r (now (log .entry)) (now (rows .exit))) ⌝ }
     {
-        let m = parse_take_back(rec);
-        if m != 0 {
-            return unlisted(self, Answer::Refused(m));
-        }
         if self.closed {
-            return unlisted(self, Answer::Refused(BOOK_CLOSED));
+            return Done {
+                book: self,
+                answer: Answer::Refused(BOOK_CLOSED),
+            };
         }
         if self.changes == 0 {
-            return unlisted(self, Answer::Refused(NOTHING_TO_TAKE_BACK));
+            return Done {
+                book: self,
+                answer: Answer::Refused(NOTHING_TO_TAKE_BACK),
+            };
         }
+        let n = self.changes as usize;
+        let row = rows[n - 1];
+        restore(log, rows, n);
         self.changes = self.changes - 1;
-        let i = self.changes as usize;
-        let last = views[i];
-        self.used = self.used - last.len as u32;
-        unlisted(self, Answer::Accepted)
+        self.used = start_in(row) as u32;
+        Done {
+            book: self,
+            answer: Answer::Accepted,
+        }
     }
 
-    pub(crate) fn held_close(mut self, rec: &[u8]) -> Made
-        ensures { λ r. ⌜ ((s : List ℕ) (views : List View) → Held self s views → Makes (closing (bareClose (now (rec .entry)))) self s views r s) ⌝ }
+    pub(crate) fn held_close(mut self) -> Done
+        ensures { λ r. ⌜ ((s rows : List ℕ) (k : Key) → Held self s rows → Makes (closing 0) self s k r s rows) ⌝ }
     {
-        let m = parse_close(rec);
-        if m != 0 {
-            return unlisted(self, Answer::Refused(m));
-        }
         if self.closed {
-            return unlisted(self, Answer::Refused(BOOK_CLOSED));
+            return Done {
+                book: self,
+                answer: Answer::Refused(BOOK_CLOSED),
+            };
         }
         self.closed = true;
-        unlisted(self, Answer::Accepted)
+        Done {
+            book: self,
+            answer: Answer::Accepted,
+        }
     }
 
-    // A change of any mark.
-    pub(crate) fn held_change(mut self, views: [View; 512], log: &mut [u8], rec: &[u8]) -> Made
-        requires { ⌜ Held self (now log) views ⌝ }
-        ensures { λ r. ⌜ Makes (general (now (rec .entry))) self (now (log .entry)) views r (now (log .exit)) ⌝ }
+    // A change of any mark that was read.
+    pub(crate) fn held_change(
+        mut self,
+        log: &mut [u8],
+        rows: &mut [u32; 512],
+        from: usize,
+        view: View,
+        rec: &[u8],
+    ) -> Done
+        requires { ⌜ Held self (now log) (now rows) ⌝ ∗ ⌜ Since self (now log) (view .key) from ⌝ ∗ ⌜ IsEntry (now rec) view ⌝ }
+        ensures { λ r. ⌜ Makes (general (now (rec .entry))) self (now (log .entry)) (view .key) r (now (log .exit)) (now (rows .exit)) ⌝ }
     {
-        if bears(rec, b'T', b'B') {
-            return self.held_take_back(views, rec);
+        if view.kind == TAKE_BACK {
+            return self.held_take_back(log, rows);
         }
-        if bears(rec, b'C', b'L') {
-            return self.held_close(rec);
+        if view.kind == CLOSE {
+            return self.held_close();
         }
-        self.held_enter(views, log, rec, 0)
+        self.held_enter(log, rows, from, view, rec)
     }
 }

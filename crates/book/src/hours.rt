@@ -1,83 +1,104 @@
 // Where the records of a mark and name are written, in each hour of the day.
-use records::hours::same_name;
+use crate::rows::place_in;
+use records::heads::record_head;
 use records::keys::Key;
-use records::marks::CORRECTED;
-use records::marks::WITHDRAWN;
-use records::scan::View;
+use records::marks::order;
+use records::scan::starts;
 ghost use mathlib.Core.Path.{_≡_};
+ghost use mathlib.Core.Bool.{true, _&&_};
 ghost use mathlib.Core.List.{List};
+ghost use lib.Dec.{eqb};
 ghost use lib.ListN.{length};
-ghost use Prim.Native.Nat.{_<_, _≤_};
-ghost use Rattle.book.specs.Layer.{Change};
-ghost use Rattle.book.specs.Tables.{Kept, Stored};
-ghost use Rattle.book.specs.Hours.{startOf, lenOf, dayNoted, DayIs};
+ghost use Prim.Native.Nat.{_≤_, _+_, _/_};
+ghost use Rattle.book.specs.Layer.{Change, Wellformed};
+ghost use Rattle.book.specs.Rows.{rowLive, rowSlot, rowPlace, Log, Logged};
+ghost use Rattle.book.specs.Hours.{markHour, nameHour, Written, DayIs};
 
-// Start and length of the record of each hour, the first at 0; length 0 where none stands.
+// An hour's record: whether there is one, and where it is written.
+pub struct HourPlace {
+    pub known: bool,
+    pub start: usize,
+}
+
+// The record of each hour, the first at 0.
 pub struct Day {
-    pub start: [usize; 24],
-    pub len: [usize; 24],
+    pub hours: [HourPlace; 24],
 }
 
-fn start_of(v: View, q: usize) -> usize
-    requires { ⌜ q < 9223372036854775808 ⌝ }
-    ensures { λ r. ⌜ r ≡ startOf q v ⌝ }
+// The hour of a row whose record stands and is of the mark, by the mark's order; 0 of any other.
+pub(crate) fn hour_in(row: u32, mark: u32) -> usize
+    ensures { λ r. ⌜ r ≡ markHour mark row ⌝ }
 {
-    if v.kind == WITHDRAWN {
+    let slot = row / 65536 % 512;
+    if row < 134217728 {
         return 0;
     }
-    if v.kind == CORRECTED {
-        return q + 2;
-    }
-    q
-}
-
-fn len_of(v: View) -> usize
-    requires { ⌜ (v .kind ≡ 2 → 2 ≤ v .len) ⌝ }
-    ensures { λ r. ⌜ r ≡ lenOf v ⌝ }
-{
-    if v.kind == WITHDRAWN {
+    if slot / 32 != mark {
         return 0;
     }
-    if v.kind == CORRECTED {
-        return v.len - 2;
-    }
-    v.len
+    (slot % 32) as usize
 }
 
-// The day with one change more, which begins at q.
-fn day_noted(d: Day, key: Key, q: usize, v: View) -> Day
-    requires { ⌜ (q < 9223372036854775808) × (v .kind ≡ 2 → 2 ≤ v .len) × (1 ≤ v .key .hour) × (v .key .hour ≤ 24) ⌝ }
-    ensures { λ r. ⌜ r ≡ dayNoted key q v d ⌝ }
+// The same, where behind mark and hour the record begins with a name.
+fn hour_for(log: &[u8], row: u32, mark: u32, name: &[u8]) -> usize
+    requires { ⌜ ((rowLive row && eqb (rowSlot row / 32) mark) ≡ true → rowPlace row + 3 ≤ length (now log)) ⌝ }
+    ensures { λ r. ⌜ r ≡ nameHour mark (now (name .entry)) (now (log .entry)) row ⌝ }
 {
-    if same_name(key, v.key) {
-        let h = v.key.hour as usize;
-        let j = h - 1;
-        let a = start_of(v, q);
-        let b = len_of(v);
-        let mut next = d;
-        next.start[j] = a;
-        next.len[j] = b;
-        return next;
+    let hour = hour_in(row, mark);
+    if hour == 0 {
+        return 0;
     }
-    d
+    let at = place_in(row) + 3;
+    if starts(&log[at..], name) {
+        return hour;
+    }
+    0
 }
 
-// By the kept views of n changes, for the key's mark and name.
-pub(crate) fn day_in(views: [View; 512], n: usize, key: Key) -> Day
-    requires { ⌜ Stored views n ⌝ }
-    ensures { λ r. ⌜ ((l : List Change) → Kept views l → length l ≡ n → DayIs key l r) ⌝ }
+// By the rows of n changes, for a mark by its order and a name as it is written.
+fn day_named(log: &[u8], rows: &[u32; 512], n: usize, mark: u32, name: &[u8]) -> Day
+    requires { ⌜ Log (now log) (now rows) n ⌝ }
+    ensures { λ r. ⌜ ((k : Key) → Written k mark (now (name .entry)) → (l : List Change) → Logged (now (log .entry)) (now (rows .entry)) n l → DayIs k l r) ⌝ }
 {
-    let mut d = Day {
-        start: [0usize; 24],
-        len: [0usize; 24],
+    let none = HourPlace {
+        known: false,
+        start: 0,
     };
-    let mut q: usize = 0;
+    let mut hours = [none; 24];
     let mut i: usize = 0;
     while i < n {
-        let v = views[i];
-        d = day_noted(d, key, q, v);
-        q = q + v.len;
+        let row = rows[i];
+        let hour = hour_for(log, row, mark, name);
+        if hour != 0 {
+            let start = place_in(row);
+            let j = hour - 1;
+            hours[j] = HourPlace { known: true, start };
+        }
         i = i + 1;
     }
-    d
+    Day { hours }
+}
+
+// By the rows of n changes, for the key's mark and name. The name is spelled once, and no record is read.
+pub(crate) fn day_in(log: &[u8], rows: &[u32; 512], n: usize, key: Key) -> Day
+    requires { ⌜ Log (now log) (now rows) n ⌝ ∗ ⌜ Wellformed key ⌝ }
+    ensures { λ r. ⌜ ((l : List Change) → Logged (now (log .entry)) (now (rows .entry)) n l → DayIs key l r) ⌝ }
+{
+    let mark = key.mark;
+    let name = key.name;
+    let h = record_head(Key {
+        mark,
+        hour: 1,
+        name,
+    });
+    let len = h.len;
+    let bytes = h.bytes;
+    if len < 3 {
+        let none = HourPlace {
+            known: false,
+            start: 0,
+        };
+        return Day { hours: [none; 24] };
+    }
+    day_named(log, rows, n, order(mark) as u32, &bytes[3..len])
 }

@@ -1,11 +1,10 @@
 // The book, and whether it belongs to the bytes that are lent.
 use crate::replay;
-use crate::replay::Table;
-use records::scan::nothing;
 ghost use mathlib.Core.Path.{_≡_};
 ghost use mathlib.Core.Bool.{false};
 ghost use Rattle.book.specs.Meaning.{load};
-ghost use Rattle.book.specs.Tables.{Tabled};
+ghost use lib.ListN.{length};
+ghost use Rattle.book.specs.Rows.{Rowed};
 
 // What the book carries: its number of changes, its used bytes, and whether it is closed.
 pub struct Book {
@@ -25,18 +24,15 @@ impl Book {
         }
     }
 
-    // Whether the book and the bytes belong together, with the views of the changes.
-    pub(crate) fn check_table(self, log: &[u8]) -> Table
-        ensures { λ r. ⌜ Tabled (load self (now (log .entry))) r ⌝ }
+    // Whether the book and the bytes belong together, with a row for each change.
+    pub(crate) fn check_rows(self, log: &[u8], rows: &mut [u32; 512]) -> bool
+        requires { ⌜ length (now rows) ≡ 512 ⌝ }
+        ensures { λ r. ⌜ Rowed (load self (now (log .entry))) r (now (rows .exit)) ⌝ }
     {
         let used = self.used as usize;
         if log.len() < used {
-            let blank = nothing();
-            return Table {
-                ok: false,
-                views: [blank; 512],
-            };
+            return false;
         }
-        replay::replayed_table(&log[..used], self.changes)
+        replay::replayed_rows(&log[..used], self.changes, rows)
     }
 }

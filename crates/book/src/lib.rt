@@ -14,5 +14,6 @@ mod prices;
 pub mod questions;
 mod refusal;
 mod replay;
-mod survey;
+mod rows;
 pub mod units;
+pub mod whole_day;

@@ -1,23 +1,21 @@
 // Where the standing records of a mark and hour are written, by decoded name.
-use crate::survey;
+use crate::index::hour_slot;
+use crate::rows::place_in;
+use crate::rows::stands_in;
 use money::names::Name;
+use records::heads::head_key;
 use records::keys::Key;
-use records::keys::same_hour;
-use records::marks::CORRECTED;
-use records::marks::WITHDRAWN;
 use records::names::comes_before;
 use records::names::no_name;
-use records::scan::View;
 ghost use mathlib.Core.Path.{_≡_};
-ghost use mathlib.Core.Bool.{cond, true, _&&_};
 ghost use mathlib.Core.List.{List, _∷_, _++_, map};
 ghost use lib.ListN.{length, take, drop};
 ghost use Prim.Native.Nat.{_<_, _≤_, _+_};
-ghost use Rattle.book.specs.Layer.{Change, sameHour};
+ghost use Rattle.book.specs.Layer.{Change};
 ghost use Rattle.book.specs.Register.{standing};
 ghost use Rattle.book.specs.ByName.{byName};
-ghost use Rattle.book.specs.Tables.{Kept, Stored, survey};
-ghost use Rattle.book.specs.Places.{leadLength, liveAt, spotOf, putSpot, spots};
+ghost use Rattle.book.specs.Rows.{rowPlace, keyAt, Log, Logged};
+ghost use Rattle.book.specs.Places.{spotOf, putSpot, spots};
 
 // A standing record's decoded name, and where it is written.
 pub struct Spot {
@@ -29,46 +27,6 @@ pub struct Spot {
 pub struct Places {
     pub n: usize,
     pub at: [Spot; 16],
-}
-
-// Where a change at q has its record.
-fn place_of(kind: u8, q: usize) -> usize
-    requires { ⌜ q < 9223372036854775808 ⌝ }
-    ensures { λ r. ⌜ r ≡ q + leadLength kind ⌝ }
-{
-    if kind == CORRECTED {
-        return q + 2;
-    }
-    q
-}
-
-// Whether the change at q wrote the record that stands under its key.
-pub(crate) fn standing_in(views: [View; 512], n: usize, v: View, q: usize) -> bool
-    requires { ⌜ Stored views n ⌝ }
-    requires { ⌜ q < 9223372036854775808 ⌝ }
-    ensures { λ r. ⌜ ((l : List Change) → Kept views l → length l ≡ n → r ≡ liveAt (survey (v .key) l) v q) ⌝ }
-{
-    if v.kind == WITHDRAWN {
-        return false;
-    }
-    let s = survey::look_in(views, n, v.key);
-    if s.found {
-        let x = place_of(v.kind, q);
-        return s.start == x;
-    }
-    false
-}
-
-// The same, of the key's mark and hour.
-fn standing_in_hour(views: [View; 512], n: usize, key: Key, v: View, q: usize) -> bool
-    requires { ⌜ Stored views n ⌝ }
-    requires { ⌜ q < 9223372036854775808 ⌝ }
-    ensures { λ r. ⌜ ((l : List Change) → Kept views l → length l ≡ n → r ≡ (sameHour key (v .key) && liveAt (survey (v .key) l) v q)) ⌝ }
-{
-    if same_hour(key, v.key) {
-        return standing_in(views, n, v, q);
-    }
-    false
 }
 
 // The first place whose name comes after the spot's, n where none does.
@@ -106,17 +64,6 @@ fn inserted(p: Places, j: usize, s: Spot) -> Places
     next
 }
 
-fn with_spot(p: Places, live: bool, s: Spot) -> Places
-    requires { ⌜ (p .n ≤ 16) × (live ≡ true → p .n < 16) ⌝ }
-    ensures { λ r. ⌜ (r .n ≤ 16) × (spots r ≡ cond live (putSpot s (spots p)) (spots p)) ⌝ }
-{
-    if live {
-        let j = slot_for(p, s);
-        return inserted(p, j, s);
-    }
-    p
-}
-
 fn no_spots() -> Places
     ensures { λ r. ⌜ r .n ≡ 0 ⌝ }
 {
@@ -128,21 +75,40 @@ fn no_spots() -> Places
     }
 }
 
-// By the kept views of n changes, for the key's mark and hour.
-pub(crate) fn gather_in(views: [View; 512], n: usize, key: Key) -> Places
-    requires { ⌜ Stored views n ⌝ }
-    ensures { λ r. ⌜ ((l : List Change) → Kept views l → length l ≡ n → take (r .n) (r .at) ≡ map (spotOf l) (byName key (standing l))) × (r .n ≤ 16) ⌝ }
+// The name of the record that is written at a place.
+pub(crate) fn name_at(log: &[u8], start: usize) -> Name
+    requires { ⌜ start ≤ length (now log) ⌝ }
+    ensures { λ r. ⌜ r ≡ keyAt (now (log .entry)) start .name ⌝ }
 {
+    let a = head_key(&log[start..]);
+    a.key.name
+}
+
+// With the record of a row, before the first whose name comes after its own.
+fn with_row(log: &[u8], p: Places, row: u32) -> Places
+    requires { ⌜ (p .n < 16) × (rowPlace row ≤ length (now log)) ⌝ }
+    ensures { λ r. ⌜ (r .n ≤ 16) × (spots r ≡ putSpot (record { name = keyAt (now (log .entry)) (rowPlace row) .name; start = rowPlace row }) (spots p)) ⌝ }
+{
+    let start = place_in(row);
+    let name = name_at(log, start);
+    let s = Spot { name, start };
+    let j = slot_for(p, s);
+    inserted(p, j, s)
+}
+
+// By the rows of n changes, for the key's mark and hour.
+pub(crate) fn gather_rows(log: &[u8], rows: &[u32; 512], n: usize, key: Key) -> Places
+    requires { ⌜ Log (now log) (now rows) n ⌝ ∗ ⌜ key .hour < 32 ⌝ }
+    ensures { λ r. ⌜ ((l : List Change) → Logged (now (log .entry)) (now (rows .entry)) n l → take (r .n) (r .at) ≡ map (spotOf l) (byName key (standing l))) × (r .n ≤ 16) ⌝ }
+{
+    let slot = hour_slot(key);
     let mut p = no_spots();
-    let mut q: usize = 0;
     let mut i: usize = 0;
     while i < n {
-        let v = views[i];
-        let live = standing_in_hour(views, n, key, v, q);
-        let start = place_of(v.kind, q);
-        let name = v.key.name;
-        p = with_spot(p, live, Spot { name, start });
-        q = q + v.len;
+        let row = rows[i];
+        if stands_in(row, slot) {
+            p = with_row(log, p, row);
+        }
         i = i + 1;
     }
     p

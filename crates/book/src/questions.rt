@@ -2,7 +2,9 @@
 use crate::answers::Answer;
 use crate::journal::Book;
 use crate::refusal;
-use crate::survey;
+use crate::rows::count_in;
+use crate::rows::find_in;
+use crate::rows::written_len;
 use money::refusals::NO_SUCH_KEY;
 use money::refusals::NOT_TOGETHER;
 use records::keys::ask_hour;
@@ -15,16 +17,17 @@ impl Book {
     pub fn record_of(self, log: &[u8], mark: &[u8], hour: u8, name: &[u8]) -> Answer
         ensures { λ r. ⌜ Meets (ask (recordOf (now (mark .entry)) hour (now (name .entry)))) self (now (log .entry)) self (replyOf r) (now (log .entry)) ⌝ }
     {
-        let k = self.check_table(log);
-        if k.ok {
+        let mut rows = [0u32; 512];
+        if self.check_rows(log, &mut rows) {
             let q = ask_key(mark, hour, name);
             if q.number != 0 {
                 return Answer::Refused(q.number);
             }
-            let views = k.views;
-            let s = survey::look_in(views, self.changes as usize, q.key);
+            let n = self.changes as usize;
+            let s = find_in(log, &rows, n, n, q.key);
             if s.found {
-                return Answer::Place(s.start, s.len);
+                let start = s.start;
+                return Answer::Place(start, written_len(log, start));
             }
             return Answer::Refused(NO_SUCH_KEY);
         }
@@ -35,15 +38,13 @@ impl Book {
     pub fn count_of(self, log: &[u8], mark: &[u8], hour: u8) -> Answer
         ensures { λ r. ⌜ Meets (ask (countOf (now (mark .entry)) hour)) self (now (log .entry)) self (replyOf r) (now (log .entry)) ⌝ }
     {
-        let k = self.check_table(log);
-        if k.ok {
+        let mut rows = [0u32; 512];
+        if self.check_rows(log, &mut rows) {
             let q = ask_hour(mark, hour);
             if q.number != 0 {
                 return Answer::Refused(q.number);
             }
-            let views = k.views;
-            let s = survey::look_in(views, self.changes as usize, q.key);
-            return Answer::Number(s.count);
+            return Answer::Number(count_in(&rows, self.changes as usize, q.key));
         }
         Answer::Refused(NOT_TOGETHER)
     }
@@ -52,8 +53,8 @@ impl Book {
     pub fn free_bytes(self, log: &[u8]) -> Answer
         ensures { λ r. ⌜ Meets (ask freeBytes) self (now (log .entry)) self (replyOf r) (now (log .entry)) ⌝ }
     {
-        let k = self.check_table(log);
-        if k.ok {
+        let mut rows = [0u32; 512];
+        if self.check_rows(log, &mut rows) {
             let used = self.used as usize;
             let most = refusal::cap(log.len());
             if most < used {

@@ -1,34 +1,46 @@
 // The one pass over a book's used part.
-use crate::index::STANDS;
-use crate::index::UNSURE;
 use crate::index::hour_slot;
-use crate::index::place_before;
 use crate::index::slot_of;
-use crate::index::told_by;
 use crate::refusal::weigh;
-use crate::survey::count_with;
-use crate::survey::look_in;
+use crate::rows::clear_row;
+use crate::rows::find_in;
+use crate::rows::row_for;
 use records::hours::limit_of;
-use records::scan::View;
-use records::scan::nothing;
+use records::marks::FILED;
+use records::marks::WITHDRAWN;
 use records::scan::peek;
+ghost use mathlib.Core.Path.{_≡_};
+ghost use mathlib.Core.Bool.{cond};
 ghost use mathlib.Core.List.{[]};
+ghost use lib.Dec.{eqb};
+ghost use lib.ListN.{length};
+ghost use Prim.Native.Nat.{_<_, _+_, _-_};
 ghost use Rattle.book.specs.Meaning.{replay};
-ghost use Rattle.book.specs.Tables.{Tabled};
+ghost use Rattle.book.specs.Rows.{Rowed};
 
-// Whether the bytes are written changes that can be played, with the view of each change at its place.
-pub(crate) struct Table {
-    pub(crate) ok: bool,
-    pub(crate) views: [View; 512],
+// How many records of a mark and hour stand after a change of theirs.
+fn count_with(kind: u8, count: usize) -> usize
+    requires { ⌜ count < 65536 ⌝ }
+    ensures { λ r. ⌜ r ≡ cond (eqb kind 1) (count + 1) (cond (eqb kind 3) (count - 1) count) ⌝ }
+{
+    if kind == FILED {
+        return count + 1;
+    }
+    if kind == WITHDRAWN {
+        if count == 0 {
+            return 0;
+        }
+        return count - 1;
+    }
+    count
 }
 
-// Each change is read once and its view kept. What stands under its key says the latest change of the key's number, or all views where that
-// change has another key.
-pub(crate) fn replayed_table(part: &[u8], n: u16) -> Table
-    ensures { λ r. ⌜ Tabled (replay n [] (now (part .entry))) r ⌝ }
+// Whether the bytes are n written changes that can be played, with a row for each change. Each is read once. The search for its key
+// starts at the latest change with the key's number.
+pub(crate) fn replayed_rows(part: &[u8], n: u16, rows: &mut [u32; 512]) -> bool
+    requires { ⌜ length (now rows) ≡ 512 ⌝ }
+    ensures { λ r. ⌜ Rowed (replay n [] (now (part .entry))) r (now (rows .exit)) ⌝ }
 {
-    let blank = nothing();
-    let mut views = [blank; 512];
     let mut latest = [0u16; 8192];
     let mut counts = [0usize; 512];
     let mut q: usize = 0;
@@ -37,32 +49,24 @@ pub(crate) fn replayed_table(part: &[u8], n: u16) -> Table
     while i < end {
         let v = peek(&part[q..]);
         if v.kind == 0 {
-            return Table { ok: false, views };
+            return false;
         }
         let slot = slot_of(v.key);
         let near = latest[slot] as usize;
-        let place = place_before(near);
-        let w = views[place];
-        let told = told_by(near, w, v.key);
-        let mut found = told == STANDS;
-        if told == UNSURE {
-            let s = look_in(views, i, v.key);
-            found = s.found;
-        }
+        let s = find_in(part, rows, i, near, v.key);
         let hour = hour_slot(v.key);
         let count = counts[hour];
         let most = limit_of(v.key);
-        if weigh(v.kind, found, count, most, i, q, v.len, 65535) != 0 {
-            return Table { ok: false, views };
+        if weigh(v.kind, s.found, count, most, i, q, v.len, 65535) != 0 {
+            return false;
         }
-        views[i] = v;
+        clear_row(rows, s);
+        let row = row_for(v.kind, hour, q);
+        rows[i] = row;
         latest[slot] = (i + 1) as u16;
         counts[hour] = count_with(v.kind, count);
         q = q + v.len;
         i = i + 1;
     }
-    if q != part.len() {
-        return Table { ok: false, views };
-    }
-    Table { ok: true, views }
+    q == part.len()
 }

@@ -1,26 +1,26 @@
 // The names of the units: those under which a GH stands.
 use crate::journal::Book;
-use crate::places::standing_in;
+use crate::places::name_at;
+use crate::rows::place_in;
 use money::names::Name;
 use money::refusals::NOT_TOGETHER;
 use records::keys::Key;
 use records::keys::key_of;
 use records::marks::Mark;
-use records::marks::same_mark;
+use records::marks::order;
 use records::names::comes_before;
 use records::names::no_name;
-use records::scan::View;
 ghost use mathlib.Core.Path.{_≡_};
-ghost use mathlib.Core.Bool.{cond, true, _&&_};
+ghost use mathlib.Core.Bool.{cond, _&&_};
 ghost use mathlib.Core.List.{List, [], _∷_, _++_};
-ghost use lib.ListN.{length, take, drop};
-ghost use Prim.Native.Nat.{_<_, _≤_, _+_};
+ghost use lib.Dec.{eqb};
+ghost use lib.ListN.{take, drop};
+ghost use Prim.Native.Nat.{_<_, _≤_, _+_, _/_};
 ghost use Rattle.book.specs.Layer.{Change};
 ghost use Rattle.book.specs.Register.{standing};
-ghost use Rattle.book.specs.ByName.{addName, sameMark, namesOf};
+ghost use Rattle.book.specs.ByName.{addName, namesOf};
 ghost use Rattle.book.specs.Meaning.{load};
-ghost use Rattle.book.specs.Tables.{Kept, Stored, survey};
-ghost use Rattle.book.specs.Places.{liveAt};
+ghost use Rattle.book.specs.Rows.{rowLive, rowSlot, Log, Logged};
 ghost use Rattle.book.specs.Units.{namesIn, unitNames, unitListOf};
 ghost use Rattle.book.specs.Handed.{unitsOf, unitListFrom};
 
@@ -42,19 +42,14 @@ struct Slot {
     new: bool,
 }
 
-// Whether the change at q wrote the record that stands under its key, of the key's mark.
-fn standing_in_mark(views: [View; 512], n: usize, key: Key, v: View, q: usize) -> bool
-    requires { ⌜ Stored views n ⌝ }
-    requires { ⌜ q < 9223372036854775808 ⌝ }
-    ensures { λ r. ⌜ ((l : List Change) → Kept views l → length l ≡ n → r ≡ (sameMark key (v .key) && liveAt (survey (v .key) l) v q)) ⌝ }
+// Whether the record that a row's change wrote stands, and is of the mark at a place of the listing.
+fn of_mark(row: u32, mark: usize) -> bool
+    ensures { λ r. ⌜ r ≡ (rowLive row && eqb (rowSlot row / 32) mark) ⌝ }
 {
-    let wanted = key.mark;
-    let k = v.key;
-    let mark = k.mark;
-    if same_mark(wanted, mark) {
-        return standing_in(views, n, v, q);
+    if row < 134217728 {
+        return false;
     }
-    false
+    (row / 65536 % 512 / 32) as usize == mark
 }
 
 // Where a name is, or the first place whose name comes after it, n where none does.
@@ -95,16 +90,13 @@ fn inserted(u: Units, j: usize, name: Name) -> Units
     next
 }
 
-fn with_name(u: Units, live: bool, name: Name) -> Units
+fn with_name(u: Units, name: Name) -> Units
     requires { ⌜ u .n < 512 ⌝ }
-    ensures { λ r. ⌜ (r .n ≤ u .n + 1) × (namesIn r ≡ cond live (addName name (namesIn u)) (namesIn u)) × (u ≡ unitsOf (namesIn u) → r ≡ unitsOf (namesIn r)) ⌝ }
+    ensures { λ r. ⌜ (r .n ≤ u .n + 1) × (namesIn r ≡ addName name (namesIn u)) × (u ≡ unitsOf (namesIn u) → r ≡ unitsOf (namesIn r)) ⌝ }
 {
-    if live {
-        let s = slot_of(u, name);
-        if s.new {
-            return inserted(u, s.at, name);
-        }
-        return u;
+    let s = slot_of(u, name);
+    if s.new {
+        return inserted(u, s.at, name);
     }
     u
 }
@@ -119,19 +111,21 @@ fn no_names() -> Units
     }
 }
 
-// By the kept views of n changes, for the key's mark.
-pub(crate) fn names_in(views: [View; 512], n: usize, key: Key) -> Units
-    requires { ⌜ Stored views n ⌝ }
-    ensures { λ r. ⌜ ((l : List Change) → Kept views l → length l ≡ n → take (r .n) (r .names) ≡ namesOf key (standing l)) × (r .n ≤ 512) × (r ≡ unitsOf (namesIn r)) ⌝ }
+// By the rows of n changes, for the key's mark. Names are read where they are written.
+pub(crate) fn names_in(log: &[u8], rows: &[u32; 512], n: usize, key: Key) -> Units
+    requires { ⌜ Log (now log) (now rows) n ⌝ }
+    ensures { λ r. ⌜ ((l : List Change) → Logged (now (log .entry)) (now (rows .entry)) n l → take (r .n) (r .names) ≡ namesOf key (standing l)) × (r .n ≤ 512) × (r ≡ unitsOf (namesIn r)) ⌝ }
 {
+    let wanted = key.mark;
+    let mark = order(wanted) as usize;
     let mut u = no_names();
-    let mut q: usize = 0;
     let mut i: usize = 0;
     while i < n {
-        let v = views[i];
-        let live = standing_in_mark(views, n, key, v, q);
-        u = with_name(u, live, v.key.name);
-        q = q + v.len;
+        let row = rows[i];
+        if of_mark(row, mark) {
+            let name = name_at(log, place_in(row));
+            u = with_name(u, name);
+        }
         i = i + 1;
     }
     u
@@ -142,10 +136,9 @@ impl Book {
     pub fn units(self, log: &[u8]) -> UnitList
         ensures { λ r. ⌜ (unitListOf r ≡ unitNames (load self (now (log .entry)))) × (r .units .n ≤ 512) × (r ≡ unitListFrom (unitListOf r)) ⌝ }
     {
-        let k = self.check_table(log);
-        if k.ok {
-            let views = k.views;
-            let units = names_in(views, self.changes as usize, key_of(Mark::Gh, 1));
+        let mut rows = [0u32; 512];
+        if self.check_rows(log, &mut rows) {
+            let units = names_in(log, &rows, self.changes as usize, key_of(Mark::Gh, 1));
             return UnitList { number: 0, units };
         }
         let units = no_names();

@@ -1,15 +1,17 @@
-use mathlib.Core.Path.{sym}
+use mathlib.Core.Path.{sym, ap}
+use mathlib.Core.Bool.{not}
 use Prim.Native.Nat.{ℕ, _-_}
-use lib.ListN.{getD}
-use lib.Dec.{eqb}
-use borrow.Author.Tests.{eq-eqb, ne-eqb}
-use Rattle.laws.specs.Sums.{Passed, passed-none, passed-more, passed-all, every-no}
 use borrow.Author.Needs.{needs}
+use Rattle.laws.specs.Sums.{Passed, passed-none, passed-more, passed-all, every-no}
+use Rattle.book.specs.Worked.{placeIn}
+use native.Mathlib.Omega.{arith}
 use Rattle.book.proofs.days.nowhere.Statement.{statement}
 use Rattle.book.proofs.days.nowhere.Tie as tie
+use Rattle.book.proofs.days.nowhere.Reads as reads
+use Rattle.book.proofs.days.nowhere.Lts as lts
 
 abbrev Inv-loop : tie.InvT-loop
-Inv-loop d j₀ j = Passed 24 (λ (j : ℕ). eqb (getD (d .len) j 0) 0) j
+Inv-loop d j₀ j = Passed 24 (λ (j : ℕ). not (placeIn d j .known)) j
 
 abbrev μ-loop : tie.MeasureT-loop
 μ-loop d j₀ j = 24 - j
@@ -17,14 +19,14 @@ abbrev μ-loop : tie.MeasureT-loop
 loop-holds : tie.Need-loop-holds Inv-loop μ-loop
 loop-holds c = passed-none _ _
 
-mul-if1 : tie.Need-mul-if1 Inv-loop μ-loop
-mul-if1 c = search needs
+mul-u : tie.Need-mul-u Inv-loop μ-loop
+mul-u c = search needs
 
-element-copy-out-if1 : tie.Need-element-copy-out-if1 Inv-loop μ-loop
-element-copy-out-if1 c = search needs
+element-copy-out-u : tie.Need-element-copy-out-u Inv-loop μ-loop
+element-copy-out-u c = search needs
 
 returns : tie.Need-returns Inv-loop μ-loop
-returns c = sym (every-no 24 ((c .before .before .before .loop) .j) (λ (j : ℕ). eqb (getD ((c .before .before .before .before .args) .t1 .len) j 0) 0) ((c .before .before .loop-test) .taken) (ne-eqb _ 0 ((c .if1) .taken)))
+returns c = sym (every-no 24 ((c .before .before .before .loop) .j) (λ (j : ℕ). not (placeIn ((c .before .before .before .before .args) .t1) j .known)) ((c .before .before .loop-test) .taken) (ap not ((c .if1) .taken)))
 
 add-j : tie.Need-add-j Inv-loop μ-loop
 add-j c = search needs
@@ -33,7 +35,7 @@ loop-less : tie.Need-loop-less Inv-loop μ-loop
 loop-less c = search needs
 
 loop-again : tie.Need-loop-again Inv-loop μ-loop
-loop-again c = passed-more ((c .before .before .before .loop) .inv) ((c .before .before .loop-test) .taken) (eq-eqb _ 0 ((c .if1) .left))
+loop-again c = passed-more ((c .before .before .before .loop) .inv) ((c .before .before .loop-test) .taken) (ap not ((c .if1) .left))
 
 returns-2 : tie.Need-returns-2 Inv-loop μ-loop
 returns-2 c = sym (passed-all ((c .before .loop) .inv) ((c .loop-test) .left))
@@ -45,8 +47,8 @@ nowhere-spec =
     Inv-loop
     μ-loop
     loop-holds
-    mul-if1
-    element-copy-out-if1
+    mul-u
+    element-copy-out-u
     returns
     add-j
     loop-less

@@ -1,33 +1,47 @@
-use mathlib.Core.Path.{sym, _∙_}
+use mathlib.Core.Path.{sym, ap, _∙_}
 use borrow.Author.Tests.{not-true, not-false}
-use Rattle.book.proofs.DayAnswering.{open-stored, in-day, day-nowhere, day-unpriced, day-worked}
+use Rattle.book.specs.declared.answers.UnitDay.{UnitDay}
+use Rattle.book.specs.Register.{refused}
+use Rattle.book.specs.Meaning.{dayReply}
+use Rattle.book.specs.Worked.{begun, totalReply}
+use Rattle.book.proofs.DayAnswering.{in-day, day-nowhere, day-unpriced, day-worked, handed-whole}
+use native.Mathlib.Omega.{arith}
 use borrow.Author.Needs.{needs}
 use Rattle.book.proofs.days.of_unit.Statement.{statement}
 use Rattle.book.proofs.days.of_unit.Tie as tie
+use Rattle.book.proofs.days.of_unit.Reads as reads
+use Rattle.book.proofs.days.of_unit.Lts as lts
+use Rattle.book.proofs.days.answer_of.Reads as answer-of-reads
+use Rattle.book.proofs.days.nowhere.Reads as nowhere-reads
+use Rattle.book.proofs.days.parts_of.Reads as parts-of-reads
+use Rattle.book.proofs.days.payable.Reads as payable-reads
+use Rattle.book.proofs.days.refused_day.Reads as refused-day-reads
+use Rattle.book.proofs.hours.day_in.Reads as day-in-reads
+use Rattle.records.proofs.amounts.day_of.Reads as day-of-reads
 
 day-in-requires : tie.Need-day-in-requires
-day-in-requires c κs = open-stored ((c .before .args) .log .now) ((c .before .args) .views) ((c .before .args) .n) (c .before .pre)
+day-in-requires c κs = search needs
 
 nowhere-requires : tie.Need-nowhere-requires
 nowhere-requires c κs = search needs
 
+refused-day-requires : tie.Need-refused-day-requires
+refused-day-requires c κs = search needs
+
 returns : tie.Need-returns
-returns c = λ l o marked. day-nowhere o ((c .before .before .before .before .args) .key) ((c .before .before .day-in) .result) ((c .before .before .day-in) .ensures l (o .kept) (o .count)) (sym ((c .before .nowhere) .ensures) ∙ (c .if1) .taken)
-
-key-of-requires : tie.Need-key-of-requires
-key-of-requires c κs = search needs
-
-day-in-requires-2 : tie.Need-day-in-requires-2
-day-in-requires-2 c κs = open-stored ((c .before .before .before .before .before .args) .log .now) ((c .before .before .before .before .before .args) .views) ((c .before .before .before .before .before .args) .n) (c .before .before .before .before .before .pre)
+returns c = (λ l g marked price w. ap (λ (d : UnitDay). dayReply d) ((c .refused-day) .ensures) ∙ day-nowhere (begun g) ((c .before .before .before .before .before .args) .key) ((c .before .before .before .day-in) .result) ((c .before .before .before .day-in) .ensures l g) price (sym ((c .before .before .nowhere) .ensures) ∙ (c .before .if1) .taken), handed-whole (refused 11) _ ((c .refused-day) .ensures))
 
 payable-requires : tie.Need-payable-requires
 payable-requires c κs = search needs
 
+refused-day-requires-2 : tie.Need-refused-day-requires-2
+refused-day-requires-2 c κs = search needs
+
 returns-2 : tie.Need-returns-2
-returns-2 c = λ l o marked. day-unpriced o ((c .before .before .before .before .before .before .before .before .args) .key) ((c .before .before .before .before .before .before .day-in) .result) ((c .before .before .before .before .before .before .day-in) .ensures l (o .kept) (o .count)) (sym ((c .before .before .before .before .before .nowhere) .ensures) ∙ (c .before .before .before .before .if1) .left) marked ((c .before .before .before .key-of) .result) ((c .before .before .before .key-of) .ensures) ((c .before .before .day-in2) .result) ((c .before .before .day-in2) .ensures l (o .kept) (o .count)) (sym ((c .before .payable) .ensures) ∙ not-true _ ((c .if2) .taken))
+returns-2 c = (λ l g marked price w. ap (λ (d : UnitDay). dayReply d) ((c .refused-day2) .ensures) ∙ day-unpriced (begun g) ((c .before .before .before .before .before .before .before .args) .key) ((c .before .before .before .before .before .day-in) .result) ((c .before .before .before .before .before .day-in) .ensures l g) price (sym ((c .before .before .before .before .nowhere) .ensures) ∙ (c .before .before .before .if1) .left) marked ((c .before .before .before .before .before .before .before .args) .table) w (sym ((c .before .before .payable) .ensures) ∙ not-true _ ((c .before .if2) .taken)), handed-whole (refused 15) _ ((c .refused-day2) .ensures))
 
 parts-of-requires : tie.Need-parts-of-requires
-parts-of-requires c κs = (in-day ((c .before .before .before .before .before .before .before .before .pre) .opened) ((c .before .before .before .before .before .before .before .before .args) .key) ((c .before .before .before .before .before .before .day-in) .result) ((c .before .before .before .before .before .before .day-in) .ensures ((c .before .before .before .before .before .before .before .before .pre) .list) ((c .before .before .before .before .before .before .before .before .pre) .opened .kept) ((c .before .before .before .before .before .before .before .before .pre) .opened .count)), in-day ((c .before .before .before .before .before .before .before .before .pre) .opened) ((c .before .before .before .key-of) .result) ((c .before .before .day-in2) .result) ((c .before .before .day-in2) .ensures ((c .before .before .before .before .before .before .before .before .pre) .list) ((c .before .before .before .before .before .before .before .before .pre) .opened .kept) ((c .before .before .before .before .before .before .before .before .pre) .opened .count)))
+parts-of-requires c κs = in-day (begun ((c .before .before .before .before .before .before .pre) .0 .logged)) ((c .before .before .before .before .before .before .args) .key) ((c .before .before .before .before .day-in) .result) ((c .before .before .before .before .day-in) .ensures ((c .before .before .before .before .before .before .pre) .0 .list) ((c .before .before .before .before .before .before .pre) .0 .logged))
 
 day-of-requires : tie.Need-day-of-requires
 day-of-requires c κs = search needs
@@ -36,7 +50,7 @@ answer-of-requires : tie.Need-answer-of-requires
 answer-of-requires c κs = search needs
 
 returns-3 : tie.Need-returns-3
-returns-3 c = λ l o marked. day-worked o ((c .before .before .before .before .before .before .before .before .before .before .before .before .before .args) .key) ((c .before .before .before .before .before .before .before .before .before .before .before .day-in) .result) ((c .before .before .before .before .before .before .before .before .before .before .before .day-in) .ensures l (o .kept) (o .count)) (sym ((c .before .before .before .before .before .before .before .before .before .before .nowhere) .ensures) ∙ (c .before .before .before .before .before .before .before .before .before .if1) .left) marked ((c .before .before .before .before .before .before .before .before .key-of) .result) ((c .before .before .before .before .before .before .before .before .key-of) .ensures) ((c .before .before .before .before .before .before .before .day-in2) .result) ((c .before .before .before .before .before .before .before .day-in2) .ensures l (o .kept) (o .count)) (sym ((c .before .before .before .before .before .before .payable) .ensures) ∙ not-false _ ((c .before .before .before .before .before .if2) .left)) ((c .before .before .before .before .parts-of) .result .ticks) ((c .before .before .before .before .parts-of) .result .starts) ((c .before .before .before .before .parts-of) .ensures) ((c .before .day-of) .result) ((c .before .day-of) .ensures) _ ((c .answer-of) .ensures)
+returns-3 c = (λ l g marked price w. day-worked (begun g) ((c .before .before .before .before .before .before .before .before .before .before .before .args) .key) ((c .before .before .before .before .before .before .before .before .before .day-in) .result) ((c .before .before .before .before .before .before .before .before .before .day-in) .ensures l g) price (sym ((c .before .before .before .before .before .before .before .before .nowhere) .ensures) ∙ (c .before .before .before .before .before .before .before .if1) .left) marked ((c .before .before .before .before .before .before .before .before .before .before .before .args) .table) w (sym ((c .before .before .before .before .before .before .payable) .ensures) ∙ not-false _ ((c .before .before .before .before .before .if2) .left)) ((c .before .before .before .before .parts-of) .result .ticks) ((c .before .before .before .before .parts-of) .result .starts) ((c .before .before .before .before .parts-of) .ensures) ((c .before .day-of) .result) ((c .before .day-of) .ensures) _ ((c .answer-of) .ensures), handed-whole (totalReply ((c .before .day-of) .result)) _ ((c .answer-of) .ensures))
 
 pub of-unit-spec : {M : Type 1} → statement M
 of-unit-spec =
@@ -44,10 +58,10 @@ of-unit-spec =
     (tie.spec
     day-in-requires
     nowhere-requires
+    refused-day-requires
     returns
-    key-of-requires
-    day-in-requires-2
     payable-requires
+    refused-day-requires-2
     returns-2
     parts-of-requires
     day-of-requires

@@ -1,20 +1,36 @@
 use Prim.Native.Nat.{_-_}
-use Rattle.book.proofs.DayAnswering.{Filled, filled-none, filled-more, filled-all}
 use borrow.Author.Needs.{needs}
+use Rattle.book.proofs.DayAnswering.{Filled, filled-none, filled-more, filled-all}
+use native.Mathlib.Omega.{arith}
 use Rattle.book.proofs.days.parts_of.Statement.{statement}
 use Rattle.book.proofs.days.parts_of.Tie as tie
+use Rattle.book.proofs.days.parts_of.Reads as reads
+use Rattle.book.proofs.days.parts_of.Lts as lts
+use Rattle.book.proofs.days.part_at.Reads as part-at-reads
 
 abbrev Inv-loop : tie.InvT-loop
-Inv-loop log units prices d₀ j₀ d j = Filled log units prices (d .ticks) (d .starts) j
+Inv-loop log units table d₀ h₀ d h = Filled log units table (d .ticks) (d .starts) h
 
 abbrev μ-loop : tie.MeasureT-loop
-μ-loop log units prices d₀ j₀ d j = 24 - j
+μ-loop log units table d₀ h₀ d h = 24 - h
 
 loop-holds : tie.Need-loop-holds Inv-loop μ-loop
 loop-holds c = filled-none _ _ _
 
+mul-u : tie.Need-mul-u Inv-loop μ-loop
+mul-u c = search needs
+
+element-copy-out-u : tie.Need-element-copy-out-u Inv-loop μ-loop
+element-copy-out-u c = search needs
+
+mul-q : tie.Need-mul-q Inv-loop μ-loop
+mul-q c = search needs
+
+element-copy-out-q : tie.Need-element-copy-out-q Inv-loop μ-loop
+element-copy-out-q c = search needs
+
 part-at-requires : tie.Need-part-at-requires Inv-loop μ-loop
-part-at-requires c κs = ((c .before .before .before .pre) .0, ((c .before .before .before .pre) .1, (c .loop-test) .taken))
+part-at-requires c κs = (c .before .before .before .before .before .pre) ((c .before .before .before .loop) .h) ((c .before .before .loop-test) .taken) _
 
 mul-t : tie.Need-mul-t Inv-loop μ-loop
 mul-t c = search needs
@@ -35,7 +51,7 @@ loop-less : tie.Need-loop-less Inv-loop μ-loop
 loop-less c = search needs
 
 loop-again : tie.Need-loop-again Inv-loop μ-loop
-loop-again c = filled-more ((c .before .before .before .before .loop) .inv) ((c .before .before .before .loop-test) .taken) ((c .before .before .part-at) .result) ((c .before .before .part-at) .ensures)
+loop-again c = filled-more ((c .before .before .before .before .before .before .loop) .inv) ((c .before .before .before .before .before .loop-test) .taken) ((c .before .before .part-at) .result) ((c .before .before .part-at) .ensures)
 
 returns : tie.Need-returns Inv-loop μ-loop
 returns c = filled-all ((c .before .loop) .inv) ((c .loop-test) .left)
@@ -47,6 +63,10 @@ parts-of-spec =
     Inv-loop
     μ-loop
     loop-holds
+    mul-u
+    element-copy-out-u
+    mul-q
+    element-copy-out-q
     part-at-requires
     mul-t
     element-set-from-t

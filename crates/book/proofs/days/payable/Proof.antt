@@ -1,19 +1,21 @@
 use mathlib.Core.Path.{sym, _∙_}
-use mathlib.Core.Bool.{_||_, not}
 use Prim.Native.Nat.{ℕ, _-_}
-use lib.ListN.{getD}
-use lib.Dec.{eqb}
+use borrow.Author.Needs.{needs}
 use borrow.Author.Tests.{not-true, not-false}
 use Rattle.laws.specs.Sums.{Passed, passed-none, passed-more, passed-all, every-no}
-use borrow.Author.Needs.{needs}
+use Rattle.book.specs.Worked.{placeIn, priceFor, paid}
+use native.Mathlib.Omega.{arith}
 use Rattle.book.proofs.days.payable.Statement.{statement}
 use Rattle.book.proofs.days.payable.Tie as tie
+use Rattle.book.proofs.days.payable.Reads as reads
+use Rattle.book.proofs.days.payable.Lts as lts
+use Rattle.book.proofs.days.hour_payable.Reads as hour-payable-reads
 
 abbrev Inv-loop : tie.InvT-loop
-Inv-loop units prices j₀ j = Passed 24 (λ (j : ℕ). eqb (getD (units .len) j 0) 0 || not (eqb (getD (prices .len) j 0) 0)) j
+Inv-loop units table j₀ j = Passed 24 (λ (j : ℕ). paid (placeIn units j) (priceFor table j)) j
 
 abbrev μ-loop : tie.MeasureT-loop
-μ-loop units prices j₀ j = 24 - j
+μ-loop units table j₀ j = 24 - j
 
 loop-holds : tie.Need-loop-holds Inv-loop μ-loop
 loop-holds c = passed-none _ _
@@ -34,7 +36,7 @@ hour-payable-requires : tie.Need-hour-payable-requires Inv-loop μ-loop
 hour-payable-requires c κs = search needs
 
 returns : tie.Need-returns Inv-loop μ-loop
-returns c = sym (every-no 24 ((c .before .before .before .before .before .loop) .j) (λ (j : ℕ). eqb (getD ((c .before .before .before .before .before .before .args) .t1 .len) j 0) 0 || not (eqb (getD ((c .before .before .before .before .before .before .args) .t2 .len) j 0) 0)) ((c .before .before .before .before .loop-test) .taken) (sym ((c .before .hour-payable) .ensures) ∙ not-true _ ((c .if1) .taken)))
+returns c = sym (every-no 24 ((c .before .before .before .before .before .loop) .j) (λ (j : ℕ). paid (placeIn ((c .before .before .before .before .before .before .args) .t1) j) (priceFor ((c .before .before .before .before .before .before .args) .t2) j)) ((c .before .before .before .before .loop-test) .taken) (sym ((c .before .hour-payable) .ensures) ∙ not-true _ ((c .if1) .taken)))
 
 add-j : tie.Need-add-j Inv-loop μ-loop
 add-j c = search needs

@@ -6,14 +6,6 @@ use Rattle.book.proofs.Handing.{with-credits}
 use borrow.Author.Needs.{needs}
 use Rattle.book.proofs.guarantees.worked.Statement.{statement}
 use Rattle.book.proofs.guarantees.worked.Tie as tie
-use Rattle.book.proofs.guarantees.worked.Reads as reads
-use Rattle.book.proofs.guarantees.worked.Lts as lts
-use Rattle.book.proofs.guarantees.credits_of.Reads as credits-of-reads
-use Rattle.book.proofs.guarantees.entries_at.Reads as entries-at-reads
-use Rattle.book.proofs.guarantees.named.Reads as named-reads
-use Rattle.book.proofs.guarantees.no_guarantees.Reads as no-guarantees-reads
-use Rattle.book.proofs.guarantees.totals_at.Reads as totals-at-reads
-use Rattle.records.proofs.amounts.hour_offset.Reads as hour-offset-reads
 
 entries-at-requires : tie.Need-entries-at-requires
 entries-at-requires c κs = search needs
@@ -44,16 +36,19 @@ no-guarantees-requires c κs = search needs
 
 returns : tie.Need-returns
 returns c = let la : length ((c .before .before .before .before .before .before .before .before .before .before .args) .imports .at) ≡ 16 = search (needs, unmapped) in (
-  worked-is ((c .before .before .before .before .before .before .before .before .before .before .args) .log .now) ((c .before .before .before .before .before .before .before .before .before .before .args) .imports) ((c .before .before .before .before .before .before .before .before .before .before .args) .exports) ((c .before .before .before .before .before .before .before .before .before .before .args) .prices) ((c .before .before .before .before .before .before .before .before .entries-at) .result) ((c .before .before .before .before .before .before .before .before .entries-at) .ensures) ((c .before .credits-of) .result) ((c .before .credits-of) .ensures) ((c .named) .result) ((c .named) .ensures .0) _
-      (sym ((c .before .before .before .a) .given .1) ∙ (c .before .before .before .before .before .hour-offset) .ensures ∙ worked-offset ((c .before .before .before .before .before .before .before .before .before .before .args) .log .now) ((c .before .before .before .before .before .before .before .before .before .before .args) .imports) ((c .before .before .before .before .before .before .before .before .before .before .args) .exports) ((c .before .before .before .before .before .before .before .before .before .before .args) .prices) ((c .before .before .before .before .before .before .before .before .before .before .pre)) la ((c .before .before .before .before .before .before .before .before .entries-at) .result) ((c .before .before .before .before .before .before .before .before .entries-at) .ensures) ((c .before .before .before .before .before .before .before .totals-at) .result) ((c .before .before .before .before .before .before .before .totals-at) .ensures)),
+  λ w. worked-is ((c .before .before .before .before .before .before .before .before .before .before .args) .log .now) ((c .before .before .before .before .before .before .before .before .before .before .args) .imports) ((c .before .before .before .before .before .before .before .before .before .before .args) .exports) ((c .before .before .before .before .before .before .before .before .before .before .args) .prices) ((c .before .before .before .before .before .before .before .before .entries-at) .result) ((c .before .before .before .before .before .before .before .before .entries-at) .ensures) ((c .before .credits-of) .result) ((c .before .credits-of) .ensures) ((c .named) .result) ((c .named) .ensures .0) _
+      (sym ((c .before .before .before .a) .given .1) ∙ (c .before .before .before .before .before .hour-offset) .ensures ∙ worked-offset ((c .before .before .before .before .before .before .before .before .before .before .args) .log .now) ((c .before .before .before .before .before .before .before .before .before .before .args) .imports) ((c .before .before .before .before .before .before .before .before .before .before .args) .exports) ((c .before .before .before .before .before .before .before .before .before .before .args) .prices) w ((c .before .before .before .before .before .before .before .before .before .before .pre) .0 .few) la ((c .before .before .before .before .before .before .before .before .entries-at) .result) ((c .before .before .before .before .before .before .before .before .entries-at) .ensures) ((c .before .before .before .before .before .before .before .totals-at) .result) ((c .before .before .before .before .before .before .before .totals-at) .ensures)),
   (c .named) .ensures .1,
   with-credits ((c .named) .result) _ ((c .named) .ensures .2),
 )
 
 returns-2 : tie.Need-returns-2
-returns-2 c = let la : length ((c .before .before .before .before .before .before .before .before .before .args) .imports .at) ≡ 16 = search (needs, unmapped) in
-    never-refused
-    (sym ((c .before .before .a2) .given .1) ∙ (c .before .before .before .before .hour-offset) .ensures ∙ worked-offset ((c .before .before .before .before .before .before .before .before .before .args) .log .now) ((c .before .before .before .before .before .before .before .before .before .args) .imports) ((c .before .before .before .before .before .before .before .before .before .args) .exports) ((c .before .before .before .before .before .before .before .before .before .args) .prices) ((c .before .before .before .before .before .before .before .before .before .pre)) la ((c .before .before .before .before .before .before .before .entries-at) .result) ((c .before .before .before .before .before .before .before .entries-at) .ensures) ((c .before .before .before .before .before .before .totals-at) .result) ((c .before .before .before .before .before .before .totals-at) .ensures))
+returns-2 c = let la : length ((c .before .before .before .before .before .before .before .before .before .args) .imports .at) ≡ 16 = search (needs, unmapped) in (
+  λ w. never-refused
+      (sym ((c .before .before .a2) .given .1) ∙ (c .before .before .before .before .hour-offset) .ensures ∙ worked-offset ((c .before .before .before .before .before .before .before .before .before .args) .log .now) ((c .before .before .before .before .before .before .before .before .before .args) .imports) ((c .before .before .before .before .before .before .before .before .before .args) .exports) ((c .before .before .before .before .before .before .before .before .before .args) .prices) w ((c .before .before .before .before .before .before .before .before .before .pre) .0 .few) la ((c .before .before .before .before .before .before .before .entries-at) .result) ((c .before .before .before .before .before .before .before .entries-at) .ensures) ((c .before .before .before .before .before .before .totals-at) .result) ((c .before .before .before .before .before .before .totals-at) .ensures)),
+  (c .no-guarantees) .ensures .1,
+  (c .no-guarantees) .ensures .2,
+)
 
 pub worked-spec : {M : Type 1} → statement M
 worked-spec =

@@ -1,54 +1,50 @@
-use Prim.Native.Nat.{_-_}
-use Rattle.book.proofs.Hourly.{Dayed, dayed-start, dayed-bounds, dayed-hour, dayed-next, dayed-end}
+use mathlib.Core.Path.{_≡_}
 use native.Mathlib.Omega.{arith}
+use lib.ListN.{length}
+use Rattle.book.proofs.Hourly.{head-of, head-size, head-written-so, day-none}
+use borrow.Author.Needs.{needs}
 use Rattle.book.proofs.hours.day_in.Statement.{statement}
 use Rattle.book.proofs.hours.day_in.Tie as tie
+use Rattle.book.proofs.hours.day_in.Reads as reads
+use Rattle.book.proofs.hours.day_in.Lts as lts
+use Rattle.book.proofs.hours.day_named.Reads as day-named-reads
+use Rattle.records.proofs.heads.record_head.Reads as record-head-reads
+use Rattle.records.proofs.marks.order.Reads as order-reads
 
-abbrev Inv-loop : tie.InvT-loop
-Inv-loop n key views d₀ q₀ i₀ d q i = Dayed key views n i q d
+record-head-requires : tie.Need-record-head-requires
+record-head-requires c κs = search needs
 
-abbrev μ-loop : tie.MeasureT-loop
-μ-loop n key views d₀ q₀ i₀ d q i = n - i
+returns : tie.Need-returns
+returns c = let z : length ((c .before .before .record-head) .result .bytes) ≡ 44 = search needs in λ l g. day-none ((c .before .before .before .before .before .args) .key) ((c .before .before .before .before .before .pre) .1 .padded) (omega (arith, head-size ((c .before .before .before .before .before .args) .key) ((c .before .before .record-head) .result) ((c .before .before .record-head) .ensures) z, (c .if1) .taken)) l g
 
-loop-holds : tie.Need-loop-holds Inv-loop μ-loop
-loop-holds c = dayed-start ((c .args) .key) ((c .args) .t1) ((c .args) .n)
+order-requires : tie.Need-order-requires
+order-requires c κs = search needs
 
-mul-v : tie.Need-mul-v Inv-loop μ-loop
-mul-v c = omega (arith, (dayed-bounds ((c .before .before .args) .key) ((c .before .before .args) .t1) ((c .before .before .args) .n) ((c .before .loop) .i) ((c .before .loop) .q) ((c .before .loop) .d) ((c .before .loop) .inv) ((c .before .before .pre)) ((c .loop-test) .taken)) .few)
+cast-day-named : tie.Need-cast-day-named
+cast-day-named c = search needs
 
-array-copy-out-v : tie.Need-array-copy-out-v Inv-loop μ-loop
-array-copy-out-v c = (dayed-bounds ((c .before .before .args) .key) ((c .before .before .args) .t1) ((c .before .before .args) .n) ((c .before .loop) .i) ((c .before .loop) .q) ((c .before .loop) .d) ((c .before .loop) .inv) ((c .before .before .pre)) ((c .loop-test) .taken)) .few
+part-day-named-start : tie.Need-part-day-named-start
+part-day-named-start c = search needs
 
-day-noted-requires : tie.Need-day-noted-requires Inv-loop μ-loop
-day-noted-requires c κs = (omega (arith, (dayed-bounds ((c .before .before .before .args) .key) ((c .before .before .before .args) .t1) ((c .before .before .before .args) .n) ((c .before .before .loop) .i) ((c .before .before .loop) .q) ((c .before .before .loop) .d) ((c .before .before .loop) .inv) ((c .before .before .before .pre)) ((c .before .loop-test) .taken)) .low), (dayed-bounds ((c .before .before .before .args) .key) ((c .before .before .before .args) .t1) ((c .before .before .before .args) .n) ((c .before .before .loop) .i) ((c .before .before .loop) .q) ((c .before .before .loop) .d) ((c .before .before .loop) .inv) ((c .before .before .before .pre)) ((c .before .loop-test) .taken)) .long _, (dayed-hour ((c .before .before .before .args) .key) ((c .before .before .before .args) .t1) ((c .before .before .before .args) .n) ((c .before .before .loop) .i) ((c .before .before .loop) .q) ((c .before .before .loop) .d) ((c .before .before .loop) .inv) ((c .before .before .before .pre)) ((c .before .loop-test) .taken)) .low _, (dayed-hour ((c .before .before .before .args) .key) ((c .before .before .before .args) .t1) ((c .before .before .before .args) .n) ((c .before .before .loop) .i) ((c .before .before .loop) .q) ((c .before .before .loop) .d) ((c .before .before .loop) .inv) ((c .before .before .before .pre)) ((c .before .loop-test) .taken)) .high _)
+part-day-named-end : tie.Need-part-day-named-end
+part-day-named-end c = let z : length ((c .before .before .before .before .record-head) .result .bytes) ≡ 44 = search needs in omega (arith, (c .before .before .before .before .record-head) .ensures .1)
 
-add-q : tie.Need-add-q Inv-loop μ-loop
-add-q c = (dayed-bounds ((c .before .before .before .before .before .args) .key) ((c .before .before .before .before .before .args) .t1) ((c .before .before .before .before .before .args) .n) ((c .before .before .before .before .loop) .i) ((c .before .before .before .before .loop) .q) ((c .before .before .before .before .loop) .d) ((c .before .before .before .before .loop) .inv) ((c .before .before .before .before .before .pre)) ((c .before .before .before .loop-test) .taken)) .adds _
+day-named-requires : tie.Need-day-named-requires
+day-named-requires c κs = search needs
 
-add-i : tie.Need-add-i Inv-loop μ-loop
-add-i c = omega (arith, (dayed-bounds ((c .before .before .before .before .before .args) .key) ((c .before .before .before .before .before .args) .t1) ((c .before .before .before .before .before .args) .n) ((c .before .before .before .before .loop) .i) ((c .before .before .before .before .loop) .q) ((c .before .before .before .before .loop) .d) ((c .before .before .before .before .loop) .inv) ((c .before .before .before .before .before .pre)) ((c .before .before .before .loop-test) .taken)) .few)
-
-loop-less : tie.Need-loop-less Inv-loop μ-loop
-loop-less c = omega (arith, (c .before .before .before .loop-test) .taken)
-
-loop-again : tie.Need-loop-again Inv-loop μ-loop
-loop-again c = dayed-next ((c .before .before .before .before .before .args) .key) ((c .before .before .before .before .before .args) .t1) ((c .before .before .before .before .before .args) .n) ((c .before .before .before .before .loop) .i) ((c .before .before .before .before .loop) .q) ((c .before .before .before .before .loop) .d) ((c .before .before .before .before .loop) .inv) ((c .before .before .before .before .before .pre)) ((c .before .before .before .loop-test) .taken) _ _ ((c .before .day-noted) .ensures)
-
-returns : tie.Need-returns Inv-loop μ-loop
-returns c = dayed-end ((c .before .before .args) .key) ((c .before .before .args) .t1) ((c .before .before .args) .n) ((c .before .loop) .i) ((c .before .loop) .q) ((c .before .loop) .d) ((c .before .loop) .inv) ((c .loop-test) .left)
+returns-2 : tie.Need-returns-2
+returns-2 c = let z : length ((c .before .before .before .before .before .before .record-head) .result .bytes) ≡ 44 = search needs in
+    λ l g. (c .day-named) .ensures ((c .before .before .before .before .before .before .before .before .before .args) .key) (head-written-so ((c .before .before .before .before .before .before .before .before .before .args) .key) ((c .before .before .before .before .before .before .before .before .before .pre) .1 .padded) ((c .before .before .before .order) .ensures) (omega (arith, head-size ((c .before .before .before .before .before .before .before .before .before .args) .key) ((c .before .before .before .before .before .before .record-head) .result) ((c .before .before .before .before .before .before .record-head) .ensures) z, (c .before .before .before .before .if1) .left)) (head-of ((c .before .before .before .before .before .before .before .before .before .args) .key) ((c .before .before .before .before .before .before .record-head) .result) ((c .before .before .before .before .before .before .record-head) .ensures) ((c .before .before .before .before .if1) .left))) l g
 
 pub day-in-spec : {M : Type 1} → statement M
 day-in-spec =
     tie.close
     (tie.spec
-    Inv-loop
-    μ-loop
-    loop-holds
-    mul-v
-    array-copy-out-v
-    day-noted-requires
-    add-q
-    add-i
-    loop-less
-    loop-again
-    returns)
+    record-head-requires
+    returns
+    order-requires
+    cast-day-named
+    part-day-named-start
+    part-day-named-end
+    day-named-requires
+    returns-2)

@@ -1,4 +1,3 @@
-use Rattle.book.specs.ByName.{addName}
 use Rattle.book.specs.Units.{namesIn}
 use Rattle.book.proofs.Gathering.{taken-up, left-out}
 use mathlib.Core.Path.{sym, _∙_}
@@ -14,14 +13,18 @@ inserted-requires : tie.Need-inserted-requires
 inserted-requires c κs = search needs
 
 returns : tie.Need-returns
-returns c = (omega (arith, (c .inserted) .ensures .0), (c .inserted) .ensures .1 ∙ taken-up ((c .before .before .slot-of) .result .new) _ (namesIn ((c .before .before .before .before .args) .u)) ((c .before .if2) .taken) ∙ sym ((c .before .before .slot-of) .ensures .1) ∙ taken-up ((c .before .before .before .before .args) .live) (addName ((c .before .before .before .before .args) .name) (namesIn ((c .before .before .before .before .args) .u))) (namesIn ((c .before .before .before .before .args) .u)) ((c .before .before .before .if1) .taken), (c .inserted) .ensures .2)
+returns c = (
+  omega (arith, (c .inserted) .ensures .0),
+  (c .inserted) .ensures .1 ∙ taken-up ((c .before .before .slot-of) .result .new) _ (namesIn ((c .before .before .before .args) .u)) ((c .before .if1) .taken) ∙ sym ((c .before .before .slot-of) .ensures .1),
+  (c .inserted) .ensures .2,
+)
 
 returns-2 : tie.Need-returns-2
-returns-2 c = (omega arith, left-out ((c .before .slot-of) .result .new) _ (namesIn ((c .before .before .before .args) .u)) ((c .if2) .left) ∙ sym ((c .before .slot-of) .ensures .1) ∙ taken-up ((c .before .before .before .args) .live) (addName ((c .before .before .before .args) .name) (namesIn ((c .before .before .before .args) .u))) (namesIn ((c .before .before .before .args) .u)) ((c .before .before .if1) .taken), λ e. e)
-
-returns-3 : tie.Need-returns-3
-returns-3 c = (omega arith, left-out ((c .before .args) .live) (addName ((c .before .args) .name) (namesIn ((c .before .args) .u))) (namesIn ((c .before .args) .u)) ((c .if1) .left), λ e. e)
+returns-2 c = (
+  omega arith,
+  left-out ((c .before .slot-of) .result .new) _ (namesIn ((c .before .before .args) .u)) ((c .if1) .left) ∙ sym ((c .before .slot-of) .ensures .1),
+  λ e. e,
+)
 
 pub with-name-spec : {M : Type 1} → statement M
-with-name-spec =
-    tie.close (tie.spec slot-of-requires inserted-requires returns returns-2 returns-3)
+with-name-spec = tie.close (tie.spec slot-of-requires inserted-requires returns returns-2)

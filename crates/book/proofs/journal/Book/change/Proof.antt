@@ -1,38 +1,51 @@
-use Rattle.book.proofs.Answering.{not-tabled, leaves-16}
-use Rattle.book.proofs.Holding.{held-from, done-leaves}
+use Rattle.book.proofs.Answering.{leaves-16}
+use Rattle.book.proofs.RowAnswering.{is-rowed, not-rowed}
+use Rattle.book.proofs.Holding.{held-from, since-all, any-refused, any-taken}
 use borrow.Author.Needs.{needs}
 use Rattle.book.proofs.journal.Book.change.Statement.{statement}
 use Rattle.book.proofs.journal.Book.change.Tie as tie
 
-check-table-requires : tie.Need-check-table-requires
-check-table-requires c κs = search needs
+check-rows-requires : tie.Need-check-rows-requires
+check-rows-requires c κs = search needs
 
-held-change-requires : tie.Need-held-change-requires
-held-change-requires c κs = held-from ((c .before .before .before .before .before .before .before .args) .self) ((c .before .before .before .before .before .before .before .args) .log .now) ((c .before .before .before .check-table) .result) ((c .before .before .before .check-table) .ensures) ((c .before .before .if1) .taken)
-
-done-requires : tie.Need-done-requires
-done-requires c κs = search needs
+parse-any-requires : tie.Need-parse-any-requires
+parse-any-requires c κs = search needs
 
 same-length : tie.Need-same-length
 same-length c = search needs
 
 returns : tie.Need-returns
-returns c = done-leaves _ ((c .before .before .before .before .before .before .before .before .before .before .before .args) .self) ((c .before .before .before .before .before .before .before .before .before .before .before .args) .log .now) _ ((c .before .before .before .held-change) .result) _ ((c .before .before .before .held-change) .ensures) ((c .done) .result) ((c .done) .ensures)
+returns c = any-refused ((c .before .before .before .before .before .before .before .before .before .args) .self) ((c .before .before .before .before .before .before .before .before .before .args) .log .now) (is-rowed _ _ ((c .before .before .before .before .check-rows) .ensures) ((c .before .before .before .if1) .taken)) ((c .before .before .before .before .before .before .before .before .before .args) .rec .now) ((c .before .before .parse-any) .result) ((c .before .before .parse-any) .ensures) ((c .if2) .taken)
+
+cast-n : tie.Need-cast-n
+cast-n c = search needs
+
+held-change-requires : tie.Need-held-change-requires
+held-change-requires c κs = let h = held-from ((c .before .before .before .before .before .before .before .before .before .before .before .before .before .args) .self) ((c .before .before .before .before .before .before .before .before .before .before .before .before .before .args) .log .now) ((c .before .before .before .before .before .before .before .before .check-rows) .ensures) ((c .before .before .before .before .before .before .before .if1) .taken) in (h, (since-all h _, any-taken ((c .before .before .before .before .before .before .before .before .before .before .before .before .before .args) .rec .now) ((c .before .before .before .before .before .before .parse-any) .result) ((c .before .before .before .before .before .before .parse-any) .ensures) ((c .before .before .before .before .if2) .left)))
 
 same-length-2 : tie.Need-same-length-2
 same-length-2 c = search needs
 
 returns-2 : tie.Need-returns-2
-returns-2 c = leaves-16 _ ((c .before .before .before .before .before .args) .self) ((c .before .before .before .before .before .args) .log .now) (not-tabled ((c .before .before .before .before .before .args) .self) ((c .before .before .before .before .before .args) .log .now) ((c .before .check-table) .result) ((c .before .check-table) .ensures) ((c .if1) .left))
+returns-2 c = ((c .before .before .held-change) .ensures) .leaves
+
+same-length-3 : tie.Need-same-length-3
+same-length-3 c = search needs
+
+returns-3 : tie.Need-returns-3
+returns-3 c = leaves-16 _ ((c .before .before .before .before .before .before .args) .self) ((c .before .before .before .before .before .before .args) .log .now) (not-rowed _ _ ((c .before .check-rows) .ensures) ((c .if1) .left))
 
 pub change-spec : {M : Type 1} → statement M
 change-spec =
     tie.close
     (tie.spec
-    check-table-requires
-    held-change-requires
-    done-requires
+    check-rows-requires
+    parse-any-requires
     same-length
     returns
+    cast-n
+    held-change-requires
     same-length-2
-    returns-2)
+    returns-2
+    same-length-3
+    returns-3)

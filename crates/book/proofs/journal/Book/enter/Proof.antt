@@ -1,38 +1,51 @@
-use Rattle.book.proofs.Answering.{not-tabled, leaves-16}
-use Rattle.book.proofs.Holding.{held-from, done-leaves}
+use Rattle.book.proofs.Answering.{leaves-16}
+use Rattle.book.proofs.RowAnswering.{is-rowed, not-rowed}
+use Rattle.book.proofs.Holding.{held-from, since-all, parse-refused, parse-taken}
 use borrow.Author.Needs.{needs}
 use Rattle.book.proofs.journal.Book.enter.Statement.{statement}
 use Rattle.book.proofs.journal.Book.enter.Tie as tie
 
-check-table-requires : tie.Need-check-table-requires
-check-table-requires c κs = search needs
+check-rows-requires : tie.Need-check-rows-requires
+check-rows-requires c κs = search needs
 
-held-enter-requires : tie.Need-held-enter-requires
-held-enter-requires c κs = held-from ((c .before .before .before .before .before .before .before .args) .self) ((c .before .before .before .before .before .before .before .args) .log .now) ((c .before .before .before .check-table) .result) ((c .before .before .before .check-table) .ensures) ((c .before .before .if1) .taken)
-
-done-requires : tie.Need-done-requires
-done-requires c κs = search needs
+parse-change-requires : tie.Need-parse-change-requires
+parse-change-requires c κs = search needs
 
 same-length : tie.Need-same-length
 same-length c = search needs
 
 returns : tie.Need-returns
-returns c = done-leaves _ ((c .before .before .before .before .before .before .before .before .before .before .before .args) .self) ((c .before .before .before .before .before .before .before .before .before .before .before .args) .log .now) _ ((c .before .before .before .held-enter) .result) _ ((c .before .before .before .held-enter) .ensures) ((c .done) .result) ((c .done) .ensures)
+returns c = parse-refused ((c .before .before .before .before .before .before .before .before .before .args) .self) ((c .before .before .before .before .before .before .before .before .before .args) .log .now) (is-rowed _ _ ((c .before .before .before .before .check-rows) .ensures) ((c .before .before .before .if1) .taken)) ((c .before .before .before .before .before .before .before .before .before .args) .rec .now) ((c .before .before .before .before .before .before .before .before .before .args) .want) ((c .before .before .parse-change) .result) ((c .before .before .parse-change) .ensures) ((c .if2) .taken)
+
+cast-n : tie.Need-cast-n
+cast-n c = search needs
+
+held-enter-requires : tie.Need-held-enter-requires
+held-enter-requires c κs = let h = held-from ((c .before .before .before .before .before .before .before .before .before .before .before .before .before .args) .self) ((c .before .before .before .before .before .before .before .before .before .before .before .before .before .args) .log .now) ((c .before .before .before .before .before .before .before .before .check-rows) .ensures) ((c .before .before .before .before .before .before .before .if1) .taken) in (h, (since-all h _, record { want = _; change = parse-taken ((c .before .before .before .before .before .before .before .before .before .before .before .before .before .args) .want) ((c .before .before .before .before .before .before .before .before .before .before .before .before .before .args) .rec .now) ((c .before .before .before .before .before .before .parse-change) .result) ((c .before .before .before .before .before .before .parse-change) .ensures) ((c .before .before .before .before .if2) .left) }))
 
 same-length-2 : tie.Need-same-length-2
 same-length-2 c = search needs
 
 returns-2 : tie.Need-returns-2
-returns-2 c = leaves-16 _ ((c .before .before .before .before .before .args) .self) ((c .before .before .before .before .before .args) .log .now) (not-tabled ((c .before .before .before .before .before .args) .self) ((c .before .before .before .before .before .args) .log .now) ((c .before .check-table) .result) ((c .before .check-table) .ensures) ((c .if1) .left))
+returns-2 c = ((c .before .before .held-enter) .ensures ((c .before .before .before .before .before .before .before .before .before .before .before .before .before .before .before .before .args) .want) (parse-taken ((c .before .before .before .before .before .before .before .before .before .before .before .before .before .before .before .before .args) .want) ((c .before .before .before .before .before .before .before .before .before .before .before .before .before .before .before .before .args) .rec .now) ((c .before .before .before .before .before .before .before .before .before .parse-change) .result) ((c .before .before .before .before .before .before .before .before .before .parse-change) .ensures) ((c .before .before .before .before .before .before .before .if2) .left))) .leaves
+
+same-length-3 : tie.Need-same-length-3
+same-length-3 c = search needs
+
+returns-3 : tie.Need-returns-3
+returns-3 c = leaves-16 _ ((c .before .before .before .before .before .before .args) .self) ((c .before .before .before .before .before .before .args) .log .now) (not-rowed _ _ ((c .before .check-rows) .ensures) ((c .if1) .left))
 
 pub enter-spec : {M : Type 1} → statement M
 enter-spec =
     tie.close
     (tie.spec
-    check-table-requires
-    held-enter-requires
-    done-requires
+    check-rows-requires
+    parse-change-requires
     same-length
     returns
+    cast-n
+    held-enter-requires
     same-length-2
-    returns-2)
+    returns-2
+    same-length-3
+    returns-3)

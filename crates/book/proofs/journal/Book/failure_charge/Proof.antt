@@ -1,41 +1,55 @@
-use Rattle.book.proofs.Answering.{is-tabled, not-tabled, leaves-16}
-use Rattle.book.proofs.ChargeAnswering.{opened-by, open-by, failure-wrong, failure-asked, failure-at}
+use Rattle.book.specs.Layer.{failure-formed}
+use Rattle.book.specs.Register.{standing}
+use Rattle.book.specs.Amounts.{priceOf}
+use Rattle.book.proofs.Answering.{leaves-16}
+use Rattle.book.proofs.RowAnswering.{is-rowed, not-rowed, rowed-logged, rowed-log}
+use Rattle.book.proofs.ChargeAnswering.{failure-wrong, failure-asked, failure-at}
 use borrow.Author.Needs.{needs}
 use Rattle.book.proofs.journal.Book.failure_charge.Statement.{statement}
 use Rattle.book.proofs.journal.Book.failure_charge.Tie as tie
 
-check-table-requires : tie.Need-check-table-requires
-check-table-requires c κs = search needs
+check-rows-requires : tie.Need-check-rows-requires
+check-rows-requires c κs = search needs
 
 ask-failure-requires : tie.Need-ask-failure-requires
 ask-failure-requires c κs = search needs
 
 returns : tie.Need-returns
-returns c = failure-wrong ((c .before .before .before .before .before .before .before .before .args) .self) ((c .before .before .before .before .before .before .before .before .args) .log .now) ((c .before .before .before .before .before .before .before .before .args) .mark .now) ((c .before .before .before .before .before .before .before .before .args) .hour) ((c .before .before .before .before .before .before .before .before .args) .name .now) (is-tabled ((c .before .before .before .before .before .before .before .before .args) .self) ((c .before .before .before .before .before .before .before .before .args) .log .now) ((c .before .before .before .before .check-table) .result) ((c .before .before .before .before .check-table) .ensures) ((c .before .before .before .if1) .taken)) ((c .before .before .ask-failure) .result) ((c .before .before .ask-failure) .ensures) ((c .if2) .taken)
+returns c = failure-wrong ((c .before .before .before .before .before .before .before .before .before .args) .self) ((c .before .before .before .before .before .before .before .before .before .args) .log .now) ((c .before .before .before .before .before .before .before .before .before .args) .mark .now) ((c .before .before .before .before .before .before .before .before .before .args) .hour) ((c .before .before .before .before .before .before .before .before .before .args) .name .now) (is-rowed ((c .before .before .before .before .before .before .before .before .before .args) .self) ((c .before .before .before .before .before .before .before .before .before .args) .log .now) ((c .before .before .before .before .check-rows) .ensures) ((c .before .before .before .if1) .taken)) ((c .before .before .ask-failure) .result) ((c .before .before .ask-failure) .ensures) ((c .if2) .taken)
 
-cast-of-key : tie.Need-cast-of-key
-cast-of-key c = search needs
+cast-n : tie.Need-cast-n
+cast-n c = search needs
+
+price-in-requires : tie.Need-price-in-requires
+price-in-requires c κs = (
+  rowed-log ((c .before .before .before .before .before .before .before .before .before .before .before .before .args) .self) ((c .before .before .before .before .before .before .before .before .before .before .before .before .args) .log .now) ((c .before .before .before .before .before .before .before .check-rows) .ensures) (is-rowed ((c .before .before .before .before .before .before .before .before .before .before .before .before .args) .self) ((c .before .before .before .before .before .before .before .before .before .before .before .before .args) .log .now) ((c .before .before .before .before .before .before .before .check-rows) .ensures) ((c .before .before .before .before .before .before .if1) .taken)),
+  failure-formed ((c .before .before .before .before .before .before .before .before .before .before .before .before .args) .mark .now) ((c .before .before .before .before .before .before .before .before .before .before .before .before .args) .hour) ((c .before .before .before .before .before .before .before .before .before .before .before .before .args) .name .now) ((c .before .before .before .before .before .ask-failure) .result) ((c .before .before .before .before .before .ask-failure) .ensures) .low,
+)
 
 of-key-requires : tie.Need-of-key-requires
-of-key-requires c κs = open-by ((c .before .before .before .before .before .before .before .before .before .before .args) .self) ((c .before .before .before .before .before .before .before .before .before .before .args) .log .now) ((c .before .before .before .before .before .before .check-table) .result) ((c .before .before .before .before .before .before .check-table) .ensures) (is-tabled ((c .before .before .before .before .before .before .before .before .before .before .args) .self) ((c .before .before .before .before .before .before .before .before .before .before .args) .log .now) ((c .before .before .before .before .before .before .check-table) .result) ((c .before .before .before .before .before .before .check-table) .ensures) ((c .before .before .before .before .before .if1) .taken))
+of-key-requires c κs = (
+  rowed-log ((c .before .before .before .before .before .before .before .before .before .before .before .before .before .before .args) .self) ((c .before .before .before .before .before .before .before .before .before .before .before .before .before .before .args) .log .now) ((c .before .before .before .before .before .before .before .before .before .check-rows) .ensures) (is-rowed ((c .before .before .before .before .before .before .before .before .before .before .before .before .before .before .args) .self) ((c .before .before .before .before .before .before .before .before .before .before .before .before .before .before .args) .log .now) ((c .before .before .before .before .before .before .before .before .before .check-rows) .ensures) ((c .before .before .before .before .before .before .before .before .if1) .taken)),
+  failure-formed ((c .before .before .before .before .before .before .before .before .before .before .before .before .before .before .args) .mark .now) ((c .before .before .before .before .before .before .before .before .before .before .before .before .before .before .args) .hour) ((c .before .before .before .before .before .before .before .before .before .before .before .before .before .before .args) .name .now) ((c .before .before .before .before .before .before .before .ask-failure) .result) ((c .before .before .before .before .before .before .before .ask-failure) .ensures),
+)
 
 returns-2 : tie.Need-returns-2
-returns-2 c = let x = is-tabled ((c .before .before .before .before .before .before .before .before .before .before .before .args) .self) ((c .before .before .before .before .before .before .before .before .before .before .before .args) .log .now) ((c .before .before .before .before .before .before .before .check-table) .result) ((c .before .before .before .before .before .before .before .check-table) .ensures) ((c .before .before .before .before .before .before .if1) .taken) in
-    failure-at ((c .before .before .before .before .before .before .before .before .before .before .before .args) .self) ((c .before .before .before .before .before .before .before .before .before .before .before .args) .log .now) ((c .before .before .before .before .before .before .before .before .before .before .before .args) .mark .now) ((c .before .before .before .before .before .before .before .before .before .before .before .args) .hour) ((c .before .before .before .before .before .before .before .before .before .before .before .args) .name .now) x ((c .before .before .before .before .before .ask-failure) .result) ((c .before .before .before .before .before .ask-failure) .ensures) ((c .before .before .before .if2) .left) _
-    ((c .of-key) .ensures (x .list) (opened-by ((c .before .before .before .before .before .before .before .before .before .before .before .args) .self) ((c .before .before .before .before .before .before .before .before .before .before .before .args) .log .now) ((c .before .before .before .before .before .before .before .check-table) .result) ((c .before .before .before .before .before .before .before .check-table) .ensures) x)
-    (failure-asked ((c .before .before .before .before .before .before .before .before .before .before .before .args) .self) ((c .before .before .before .before .before .before .before .before .before .before .before .args) .log .now) ((c .before .before .before .before .before .before .before .before .before .before .before .args) .mark .now) ((c .before .before .before .before .before .before .before .before .before .before .before .args) .hour) ((c .before .before .before .before .before .before .before .before .before .before .before .args) .name .now) x ((c .before .before .before .before .before .ask-failure) .result) ((c .before .before .before .before .before .ask-failure) .ensures) ((c .before .before .before .if2) .left)))
+returns-2 c = let x = is-rowed ((c .before .before .before .before .before .before .before .before .before .before .before .before .before .before .before .args) .self) ((c .before .before .before .before .before .before .before .before .before .before .before .before .before .before .before .args) .log .now) ((c .before .before .before .before .before .before .before .before .before .before .check-rows) .ensures) ((c .before .before .before .before .before .before .before .before .before .if1) .taken) in
+    let g = rowed-logged ((c .before .before .before .before .before .before .before .before .before .before .before .before .before .before .before .args) .self) ((c .before .before .before .before .before .before .before .before .before .before .before .before .before .before .before .args) .log .now) ((c .before .before .before .before .before .before .before .before .before .before .check-rows) .ensures) x in
+    failure-at ((c .before .before .before .before .before .before .before .before .before .before .before .before .before .before .before .args) .self) ((c .before .before .before .before .before .before .before .before .before .before .before .before .before .before .before .args) .log .now) ((c .before .before .before .before .before .before .before .before .before .before .before .before .before .before .before .args) .mark .now) ((c .before .before .before .before .before .before .before .before .before .before .before .before .before .before .before .args) .hour) ((c .before .before .before .before .before .before .before .before .before .before .before .before .before .before .before .args) .name .now) x ((c .before .before .before .before .before .before .before .before .ask-failure) .result) ((c .before .before .before .before .before .before .before .before .ask-failure) .ensures) ((c .before .before .before .before .before .before .if2) .left) _
+    ((c .of-key) .ensures (x .list) g (failure-asked ((c .before .before .before .before .before .before .before .before .before .before .before .before .before .before .before .args) .self) ((c .before .before .before .before .before .before .before .before .before .before .before .before .before .before .before .args) .log .now) ((c .before .before .before .before .before .before .before .before .before .before .before .before .before .before .before .args) .mark .now) ((c .before .before .before .before .before .before .before .before .before .before .before .before .before .before .before .args) .hour) ((c .before .before .before .before .before .before .before .before .before .before .before .before .before .before .before .args) .name .now) x ((c .before .before .before .before .before .before .before .before .ask-failure) .result) ((c .before .before .before .before .before .before .before .before .ask-failure) .ensures) ((c .before .before .before .before .before .before .if2) .left)) (priceOf (standing (x .list))) ((c .before .before .price-in) .ensures (x .list) g))
 
 returns-3 : tie.Need-returns-3
-returns-3 c = leaves-16 _ ((c .before .before .before .before .before .args) .self) ((c .before .before .before .before .before .args) .log .now) (not-tabled ((c .before .before .before .before .before .args) .self) ((c .before .before .before .before .before .args) .log .now) ((c .before .check-table) .result) ((c .before .check-table) .ensures) ((c .if1) .left))
+returns-3 c = leaves-16 _ ((c .before .before .before .before .before .before .args) .self) ((c .before .before .before .before .before .before .args) .log .now) (not-rowed ((c .before .before .before .before .before .before .args) .self) ((c .before .before .before .before .before .before .args) .log .now) ((c .before .check-rows) .ensures) ((c .if1) .left))
 
 pub failure-charge-spec : {M : Type 1} → statement M
 failure-charge-spec =
     tie.close
     (tie.spec
-    check-table-requires
+    check-rows-requires
     ask-failure-requires
     returns
-    cast-of-key
+    cast-n
+    price-in-requires
     of-key-requires
     returns-2
     returns-3)

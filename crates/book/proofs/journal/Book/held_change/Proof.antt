@@ -1,46 +1,41 @@
-use mathlib.Core.Path.{sym, _∙_}
-use Rattle.book.proofs.Holding.{general-back, general-close, general-listed}
+use Rattle.book.proofs.Holding.{only-back, only-close, only-change, makes-by}
 use borrow.Author.Needs.{needs}
 use Rattle.book.proofs.journal.Book.held_change.Statement.{statement}
 use Rattle.book.proofs.journal.Book.held_change.Tie as tie
 
-bears-requires : tie.Need-bears-requires
-bears-requires c κs = search needs
-
 held-take-back-requires : tie.Need-held-take-back-requires
-held-take-back-requires c κs = record { bytes = _; held = (c .before .before .before .before .pre) }
+held-take-back-requires c κs = search needs
+
+same-length : tie.Need-same-length
+same-length c = search needs
 
 returns : tie.Need-returns
-returns c = general-back ((c .before .before .before .before .before .args) .self) ((c .before .before .before .before .before .args) .log .now) ((c .before .before .before .before .before .args) .views) ((c .before .before .before .before .before .args) .rec .now) _ _ (sym ((c .before .before .bears) .ensures) ∙ (c .before .if1) .taken) ((c .held-take-back) .ensures _ ((c .before .before .before .before .before .pre)))
-
-bears-requires-2 : tie.Need-bears-requires-2
-bears-requires-2 c κs = search needs
+returns c = makes-by (only-back ((c .before .before .before .before .before .before .before .pre) .1 .1) ((c .before .before .before .if1) .taken)) ((c .held-take-back) .ensures _)
 
 held-close-requires : tie.Need-held-close-requires
 held-close-requires c κs = search needs
 
 returns-2 : tie.Need-returns-2
-returns-2 c = general-close ((c .before .before .before .before .before .before .before .args) .self) ((c .before .before .before .before .before .before .before .args) .log .now) ((c .before .before .before .before .before .before .before .args) .views) ((c .before .before .before .before .before .before .before .args) .rec .now) _ _ (sym ((c .before .before .before .before .bears) .ensures) ∙ (c .before .before .before .if1) .left) (sym ((c .before .before .bears2) .ensures) ∙ (c .before .if2) .taken) ((c .held-close) .ensures _ _ ((c .before .before .before .before .before .before .before .pre)))
+returns-2 c = makes-by (only-close ((c .before .before .before .before .before .before .before .pre) .1 .1) ((c .before .if2) .taken)) ((c .held-close) .ensures _ _ _ ((c .before .before .before .before .before .before .before .pre) .0))
 
 held-enter-requires : tie.Need-held-enter-requires
-held-enter-requires c κs = search needs
+held-enter-requires c κs = ((c .before .before .before .before .before .before .before .before .pre) .0, ((c .before .before .before .before .before .before .before .before .pre) .1 .0, record { want = 0; change = only-change ((c .before .before .before .before .before .before .before .before .pre) .1 .1) ((c .before .before .before .before .if1) .left) ((c .before .before .if2) .left) .1 }))
 
-same-length : tie.Need-same-length
-same-length c = search needs
+same-length-2 : tie.Need-same-length-2
+same-length-2 c = search needs
 
 returns-3 : tie.Need-returns-3
-returns-3 c = general-listed ((c .before .before .before .before .before .before .before .before .before .before .args) .self) ((c .before .before .before .before .before .before .before .before .before .before .args) .log .now) ((c .before .before .before .before .before .before .before .before .before .before .args) .views) ((c .before .before .before .before .before .before .before .before .before .before .args) .rec .now) _ _ (sym ((c .before .before .before .before .before .before .before .bears) .ensures) ∙ (c .before .before .before .before .before .before .if1) .left) (sym ((c .before .before .before .before .before .bears2) .ensures) ∙ (c .before .before .before .before .if2) .left) ((c .before .before .held-enter) .ensures)
+returns-3 c = let w = only-change ((c .before .before .before .before .before .before .before .before .before .before .before .pre) .1 .1) ((c .before .before .before .before .before .before .before .if1) .left) ((c .before .before .before .before .before .if2) .left) in makes-by (w .0) ((c .before .before .held-enter) .ensures 0 (w .1))
 
 pub held-change-spec : {M : Type 1} → statement M
 held-change-spec =
     tie.close
     (tie.spec
-    bears-requires
     held-take-back-requires
+    same-length
     returns
-    bears-requires-2
     held-close-requires
     returns-2
     held-enter-requires
-    same-length
+    same-length-2
     returns-3)

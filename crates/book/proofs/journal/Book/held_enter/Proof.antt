@@ -1,62 +1,90 @@
-use mathlib.Core.Path.{_≡_, refl, sym, _∙_}
-use lib.ListN.{length}
-use Rattle.book.proofs.Answering.{refused-by, ready}
-use Rattle.book.proofs.Inserting.{unmapped}
-use Rattle.book.proofs.Holding.{held-stored, makes-refused, ready-small, makes-entered}
+use Rattle.book.proofs.Holding.{held-log, held-rules, listed-closed, listed-refused, listed-few, listed-clear, listed-row, makes-listed}
 use native.Mathlib.Omega.{arith}
 use borrow.Author.Needs.{needs}
 use Rattle.book.proofs.journal.Book.held_enter.Statement.{statement}
 use Rattle.book.proofs.journal.Book.held_enter.Tie as tie
 
-parse-change-requires : tie.Need-parse-change-requires
-parse-change-requires c κs = search needs
-
-cast-look-in : tie.Need-cast-look-in
-cast-look-in c = search needs
-
-look-in-requires : tie.Need-look-in-requires
-look-in-requires c κs = held-stored ((c .before .before .before .before .before .args) .self) ((c .before .before .before .before .before .args) .log .now) ((c .before .before .before .before .before .args) .views) ((c .before .before .before .before .before .pre))
-
-verdict-requires : tie.Need-verdict-requires
-verdict-requires c κs = search needs
-
 returns : tie.Need-returns
-returns c = makes-refused _ ((c .before .before .before .before .before .before .before .before .args) .self) ((c .before .before .before .before .before .before .before .before .args) .log .now) ((c .before .before .before .before .before .before .before .before .args) .views) ((c .before .before .before .before .before .before .before .before .pre)) _ ((c .before .verdict) .result) (refused-by _ ((c .before .verdict) .result) ((c .before .verdict) .ensures ((c .before .before .before .before .before .before .before .before .args) .want) ((c .before .before .before .before .before .before .before .before .args) .rec .now) ((c .before .before .before .before .before .before .before .before .args) .log .now) (((c .before .before .before .before .before .before .before .before .pre)) .base) refl ((c .before .before .before .before .before .parse-change) .ensures) ((c .before .before .look-in) .ensures (((c .before .before .before .before .before .before .before .before .pre)) .base .list) (((c .before .before .before .before .before .before .before .before .pre)) .kept) (((c .before .before .before .before .before .before .before .before .pre)) .base .count-is))) ((c .if1) .taken)) (refl, refl)
+returns c = λ want r. listed-closed ((c .before .before .before .pre) .0) r ((c .if1) .taken)
+
+cast-n : tie.Need-cast-n
+cast-n c = search needs
 
 cast-at : tie.Need-cast-at
 cast-at c = search needs
 
-put-requires : tie.Need-put-requires
-put-requires c κs = search needs
+find-in-requires : tie.Need-find-in-requires
+find-in-requires c κs = (held-log ((c .before .before .before .before .before .before .before .pre) .0), (c .before .before .before .before .before .before .before .pre) .1 .0 .inside)
 
-add-self : tie.Need-add-self
-add-self c = omega (arith, ready-small ((c .before .before .before .before .before .before .before .before .before .before .before .before .before .before .args) .self) ((c .before .before .before .before .before .before .before .before .before .before .before .before .before .before .args) .log .now) ((c .before .before .before .before .before .before .before .before .before .before .before .before .before .before .args) .views) ((c .before .before .before .before .before .before .before .before .before .before .before .before .before .before .pre)) ((c .before .before .before .before .before .before .before .before .before .before .before .before .before .before .args) .rec .now) ((c .before .before .before .before .before .before .before .before .before .before .before .before .before .before .args) .want) ((c .before .before .before .before .before .before .before .before .before .before .before .parse-change) .result) ((c .before .before .before .before .before .before .before .before .before .before .before .parse-change) .ensures) (ready ((c .before .before .before .before .before .before .before .before .before .before .before .before .before .before .args) .self) ((c .before .before .before .before .before .before .before .before .before .before .before .before .before .before .args) .log .now) ((c .before .before .before .before .before .before .before .before .before .before .before .before .before .before .pre) .base) ((c .before .before .before .before .before .before .before .before .before .before .before .before .before .before .args) .rec .now) ((c .before .before .before .before .before .before .before .before .before .before .before .before .before .before .args) .want) (sym ((c .before .before .before .before .before .before .if1) .left) ∙ ((c .before .before .before .before .before .before .before .verdict) .ensures ((c .before .before .before .before .before .before .before .before .before .before .before .before .before .before .args) .want) ((c .before .before .before .before .before .before .before .before .before .before .before .before .before .before .args) .rec .now) ((c .before .before .before .before .before .before .before .before .before .before .before .before .before .before .args) .log .now) (((c .before .before .before .before .before .before .before .before .before .before .before .before .before .before .pre)) .base) refl ((c .before .before .before .before .before .before .before .before .before .before .before .parse-change) .ensures) ((c .before .before .before .before .before .before .before .before .look-in) .ensures (((c .before .before .before .before .before .before .before .before .before .before .before .before .before .before .pre)) .base .list) (((c .before .before .before .before .before .before .before .before .before .before .before .before .before .before .pre)) .kept) (((c .before .before .before .before .before .before .before .before .before .before .before .before .before .before .pre)) .base .count-is))))))
+count-in-requires : tie.Need-count-in-requires
+count-in-requires c κs = held-rules ((c .before .before .before .before .before .before .before .before .before .pre) .0)
 
-cast-self : tie.Need-cast-self
-cast-self c = omega (arith, ready-small ((c .before .before .before .before .before .before .before .before .before .before .before .before .before .before .args) .self) ((c .before .before .before .before .before .before .before .before .before .before .before .before .before .before .args) .log .now) ((c .before .before .before .before .before .before .before .before .before .before .before .before .before .before .args) .views) ((c .before .before .before .before .before .before .before .before .before .before .before .before .before .before .pre)) ((c .before .before .before .before .before .before .before .before .before .before .before .before .before .before .args) .rec .now) ((c .before .before .before .before .before .before .before .before .before .before .before .before .before .before .args) .want) ((c .before .before .before .before .before .before .before .before .before .before .before .parse-change) .result) ((c .before .before .before .before .before .before .before .before .before .before .before .parse-change) .ensures) (ready ((c .before .before .before .before .before .before .before .before .before .before .before .before .before .before .args) .self) ((c .before .before .before .before .before .before .before .before .before .before .before .before .before .before .args) .log .now) ((c .before .before .before .before .before .before .before .before .before .before .before .before .before .before .pre) .base) ((c .before .before .before .before .before .before .before .before .before .before .before .before .before .before .args) .rec .now) ((c .before .before .before .before .before .before .before .before .before .before .before .before .before .before .args) .want) (sym ((c .before .before .before .before .before .before .if1) .left) ∙ ((c .before .before .before .before .before .before .before .verdict) .ensures ((c .before .before .before .before .before .before .before .before .before .before .before .before .before .before .args) .want) ((c .before .before .before .before .before .before .before .before .before .before .before .before .before .before .args) .rec .now) ((c .before .before .before .before .before .before .before .before .before .before .before .before .before .before .args) .log .now) (((c .before .before .before .before .before .before .before .before .before .before .before .before .before .before .pre)) .base) refl ((c .before .before .before .before .before .before .before .before .before .before .before .parse-change) .ensures) ((c .before .before .before .before .before .before .before .before .look-in) .ensures (((c .before .before .before .before .before .before .before .before .before .before .before .before .before .before .pre)) .base .list) (((c .before .before .before .before .before .before .before .before .before .before .before .before .before .before .pre)) .kept) (((c .before .before .before .before .before .before .before .before .before .before .before .before .before .before .pre)) .base .count-is))))))
+limit-of-requires : tie.Need-limit-of-requires
+limit-of-requires c κs = search needs
 
-add-self-2 : tie.Need-add-self-2
-add-self-2 c = omega (arith, (ready ((c .before .before .before .before .before .before .before .before .before .before .before .before .before .before .before .args) .self) ((c .before .before .before .before .before .before .before .before .before .before .before .before .before .before .before .args) .log .now) ((c .before .before .before .before .before .before .before .before .before .before .before .before .before .before .before .pre) .base) ((c .before .before .before .before .before .before .before .before .before .before .before .before .before .before .before .args) .rec .now) ((c .before .before .before .before .before .before .before .before .before .before .before .before .before .before .before .args) .want) (sym ((c .before .before .before .before .before .before .before .if1) .left) ∙ ((c .before .before .before .before .before .before .before .before .verdict) .ensures ((c .before .before .before .before .before .before .before .before .before .before .before .before .before .before .before .args) .want) ((c .before .before .before .before .before .before .before .before .before .before .before .before .before .before .before .args) .rec .now) ((c .before .before .before .before .before .before .before .before .before .before .before .before .before .before .before .args) .log .now) (((c .before .before .before .before .before .before .before .before .before .before .before .before .before .before .before .pre)) .base) refl ((c .before .before .before .before .before .before .before .before .before .before .before .before .parse-change) .ensures) ((c .before .before .before .before .before .before .before .before .before .look-in) .ensures (((c .before .before .before .before .before .before .before .before .before .before .before .before .before .before .before .pre)) .base .list) (((c .before .before .before .before .before .before .before .before .before .before .before .before .before .before .before .pre)) .kept) (((c .before .before .before .before .before .before .before .before .before .before .before .before .before .before .before .pre)) .base .count-is))))) .few)
+weigh-requires : tie.Need-weigh-requires
+weigh-requires c κs = search needs
 
 same-length : tie.Need-same-length
 same-length c = search needs
 
 returns-2 : tie.Need-returns-2
-returns-2 c = let z : length ((c .before .before .before .before .before .before .before .before .before .before .before .before .before .before .before .args) .views) ≡ 512 = let g = (c .before .before .before .before .before .before .before .before .before .before .before .before .before .before .before .good) in let f = (c .before .before .before .before .before .before .before .before .before .before .before .before .before .before .before .fits) in search (needs, unmapped, g, f) in makes-entered ((c .before .before .before .before .before .before .before .before .before .before .before .before .before .before .before .args) .self) ((c .before .before .before .before .before .before .before .before .before .before .before .before .before .before .before .args) .log .now) ((c .before .before .before .before .before .before .before .before .before .before .before .before .before .before .before .args) .views) ((c .before .before .before .before .before .before .before .before .before .before .before .before .before .before .before .pre)) ((c .before .before .before .before .before .before .before .before .before .before .before .before .before .before .before .args) .rec .now) ((c .before .before .before .before .before .before .before .before .before .before .before .before .before .before .before .args) .want) ((c .before .before .before .before .before .before .before .before .before .before .before .before .parse-change) .result) ((c .before .before .before .before .before .before .before .before .before .before .before .before .parse-change) .ensures) (ready ((c .before .before .before .before .before .before .before .before .before .before .before .before .before .before .before .args) .self) ((c .before .before .before .before .before .before .before .before .before .before .before .before .before .before .before .args) .log .now) ((c .before .before .before .before .before .before .before .before .before .before .before .before .before .before .before .pre) .base) ((c .before .before .before .before .before .before .before .before .before .before .before .before .before .before .before .args) .rec .now) ((c .before .before .before .before .before .before .before .before .before .before .before .before .before .before .before .args) .want) (sym ((c .before .before .before .before .before .before .before .if1) .left) ∙ ((c .before .before .before .before .before .before .before .before .verdict) .ensures ((c .before .before .before .before .before .before .before .before .before .before .before .before .before .before .before .args) .want) ((c .before .before .before .before .before .before .before .before .before .before .before .before .before .before .before .args) .rec .now) ((c .before .before .before .before .before .before .before .before .before .before .before .before .before .before .before .args) .log .now) (((c .before .before .before .before .before .before .before .before .before .before .before .before .before .before .before .pre)) .base) refl ((c .before .before .before .before .before .before .before .before .before .before .before .before .parse-change) .ensures) ((c .before .before .before .before .before .before .before .before .before .look-in) .ensures (((c .before .before .before .before .before .before .before .before .before .before .before .before .before .before .before .pre)) .base .list) (((c .before .before .before .before .before .before .before .before .before .before .before .before .before .before .before .pre)) .kept) (((c .before .before .before .before .before .before .before .before .before .before .before .before .before .before .before .pre)) .base .count-is))))) z _ ((c .before .before .before .before .put) .ensures .1)
+returns-2 c = λ want r. listed-refused ((c .before .before .before .before .before .before .before .before .before .before .before .before .before .pre) .0) r ((c .before .before .before .before .before .before .before .before .before .before .if1) .left) ((c .before .before .before .before .before .before .before .before .before .before .before .before .before .pre) .1 .0) ((c .before .before .before .before .before .find-in) .ensures) ((c .before .before .before .count-in) .ensures) ((c .before .before .limit-of) .ensures) ((c .before .weigh) .ensures) ((c .if2) .taken)
+
+put-viewed-requires : tie.Need-put-viewed-requires
+put-viewed-requires c κs = search needs
+
+clear-row-requires : tie.Need-clear-row-requires
+clear-row-requires c κs = listed-clear ((c .before .before .before .before .before .before .before .before .before .before .before .before .before .before .before .before .before .before .pre) .0) ((c .before .before .before .before .before .before .before .before .before .before .before .before .before .before .before .before .before .before .pre) .1 .1 .change) ((c .before .before .before .before .before .before .before .before .before .before .before .before .before .before .before .if1) .left) ((c .before .before .before .before .before .before .before .before .before .before .before .before .before .before .before .before .before .before .pre) .1 .0) ((c .before .before .before .before .before .before .before .before .before .before .find-in) .ensures) ((c .before .before .before .before .before .before .before .before .count-in) .ensures) ((c .before .before .before .before .before .before .before .limit-of) .ensures) ((c .before .before .before .before .before .before .weigh) .ensures) ((c .before .before .before .before .before .if2) .left)
+
+hour-slot-requires : tie.Need-hour-slot-requires
+hour-slot-requires c κs = search needs
+
+row-for-requires : tie.Need-row-for-requires
+row-for-requires c κs = listed-row ((c .before .before .before .before .before .before .before .before .before .before .before .before .before .before .before .before .before .before .before .before .pre) .0) ((c .before .before .before .before .before .before .before .before .before .before .before .before .before .before .before .before .before .before .before .before .pre) .1 .1 .change) ((c .before .before .before .before .before .before .before .before .before .before .before .before .before .before .before .before .before .if1) .left) ((c .before .before .before .before .before .before .before .before .before .before .before .before .before .before .before .before .before .before .before .before .pre) .1 .0) ((c .before .before .before .before .before .before .before .before .before .before .before .before .find-in) .ensures) ((c .before .before .before .before .before .before .before .before .before .before .count-in) .ensures) ((c .before .before .before .before .before .before .before .before .before .limit-of) .ensures) ((c .before .before .before .before .before .before .before .before .weigh) .ensures) ((c .before .before .before .before .before .before .before .if2) .left) ((c .hour-slot) .ensures .1)
+
+mul-rows : tie.Need-mul-rows
+mul-rows c = search needs
+
+element-write-rows : tie.Need-element-write-rows
+element-write-rows c = listed-few ((c .before .before .before .before .before .before .before .before .before .before .before .before .before .before .before .before .before .before .before .before .before .pre) .0) ((c .before .before .before .before .before .before .before .before .before .before .before .before .before .before .before .before .before .before .before .before .before .pre) .1 .1 .change) ((c .before .before .before .before .before .before .before .before .before .before .before .before .before .before .before .before .before .before .if1) .left) ((c .before .before .before .before .before .before .before .before .before .before .before .before .before .before .before .before .before .before .before .before .before .pre) .1 .0) ((c .before .before .before .before .before .before .before .before .before .before .before .before .before .find-in) .ensures) ((c .before .before .before .before .before .before .before .before .before .before .before .count-in) .ensures) ((c .before .before .before .before .before .before .before .before .before .before .limit-of) .ensures) ((c .before .before .before .before .before .before .before .before .before .weigh) .ensures) ((c .before .before .before .before .before .before .before .before .if2) .left) .0
+
+add-self : tie.Need-add-self
+add-self c = omega (arith, listed-few ((c .before .before .before .before .before .before .before .before .before .before .before .before .before .before .before .before .before .before .before .before .before .before .pre) .0) ((c .before .before .before .before .before .before .before .before .before .before .before .before .before .before .before .before .before .before .before .before .before .before .pre) .1 .1 .change) ((c .before .before .before .before .before .before .before .before .before .before .before .before .before .before .before .before .before .before .before .if1) .left) ((c .before .before .before .before .before .before .before .before .before .before .before .before .before .before .before .before .before .before .before .before .before .before .pre) .1 .0) ((c .before .before .before .before .before .before .before .before .before .before .before .before .before .before .find-in) .ensures) ((c .before .before .before .before .before .before .before .before .before .before .before .before .count-in) .ensures) ((c .before .before .before .before .before .before .before .before .before .before .before .limit-of) .ensures) ((c .before .before .before .before .before .before .before .before .before .before .weigh) .ensures) ((c .before .before .before .before .before .before .before .before .before .if2) .left) .2)
+
+cast-self : tie.Need-cast-self
+cast-self c = omega (arith, listed-few ((c .before .before .before .before .before .before .before .before .before .before .before .before .before .before .before .before .before .before .before .before .before .before .pre) .0) ((c .before .before .before .before .before .before .before .before .before .before .before .before .before .before .before .before .before .before .before .before .before .before .pre) .1 .1 .change) ((c .before .before .before .before .before .before .before .before .before .before .before .before .before .before .before .before .before .before .before .if1) .left) ((c .before .before .before .before .before .before .before .before .before .before .before .before .before .before .before .before .before .before .before .before .before .before .pre) .1 .0) ((c .before .before .before .before .before .before .before .before .before .before .before .before .before .before .find-in) .ensures) ((c .before .before .before .before .before .before .before .before .before .before .before .before .count-in) .ensures) ((c .before .before .before .before .before .before .before .before .before .before .before .limit-of) .ensures) ((c .before .before .before .before .before .before .before .before .before .before .weigh) .ensures) ((c .before .before .before .before .before .before .before .before .before .if2) .left) .2)
+
+add-self-2 : tie.Need-add-self-2
+add-self-2 c = omega (arith, listed-few ((c .before .before .before .before .before .before .before .before .before .before .before .before .before .before .before .before .before .before .before .before .before .before .before .pre) .0) ((c .before .before .before .before .before .before .before .before .before .before .before .before .before .before .before .before .before .before .before .before .before .before .before .pre) .1 .1 .change) ((c .before .before .before .before .before .before .before .before .before .before .before .before .before .before .before .before .before .before .before .before .if1) .left) ((c .before .before .before .before .before .before .before .before .before .before .before .before .before .before .before .before .before .before .before .before .before .before .before .pre) .1 .0) ((c .before .before .before .before .before .before .before .before .before .before .before .before .before .before .before .find-in) .ensures) ((c .before .before .before .before .before .before .before .before .before .before .before .before .before .count-in) .ensures) ((c .before .before .before .before .before .before .before .before .before .before .before .before .limit-of) .ensures) ((c .before .before .before .before .before .before .before .before .before .before .before .weigh) .ensures) ((c .before .before .before .before .before .before .before .before .before .before .if2) .left) .0)
+
+same-length-2 : tie.Need-same-length-2
+same-length-2 c = search needs
+
+returns-3 : tie.Need-returns-3
+returns-3 c = λ want r. makes-listed ((c .before .before .before .before .before .before .before .before .before .before .before .before .before .before .before .before .before .before .before .before .before .before .before .pre) .0) r ((c .before .before .before .before .before .before .before .before .before .before .before .before .before .before .before .before .before .before .before .before .if1) .left) ((c .before .before .before .before .before .before .before .before .before .before .before .before .before .before .before .before .before .before .before .before .before .before .before .pre) .1 .0) ((c .before .before .before .before .before .before .before .before .before .before .before .before .before .before .before .find-in) .ensures) ((c .before .before .before .before .before .before .before .before .before .before .before .before .before .count-in) .ensures) ((c .before .before .before .before .before .before .before .before .before .before .before .before .limit-of) .ensures) ((c .before .before .before .before .before .before .before .before .before .before .before .weigh) .ensures) ((c .before .before .before .before .before .before .before .before .before .before .if2) .left) ((c .before .before .before .hour-slot) .ensures .0) ((c .before .before .before .before .before .before .before .before .put-viewed) .ensures .1) ((c .before .before .before .before .clear-row) .ensures) ((c .before .before .row-for) .ensures)
 
 pub held-enter-spec : {M : Type 1} → statement M
 held-enter-spec =
     tie.close
     (tie.spec
-    parse-change-requires
-    cast-look-in
-    look-in-requires
-    verdict-requires
     returns
+    cast-n
     cast-at
-    put-requires
+    find-in-requires
+    count-in-requires
+    limit-of-requires
+    weigh-requires
+    same-length
+    returns-2
+    put-viewed-requires
+    clear-row-requires
+    hour-slot-requires
+    row-for-requires
+    mul-rows
+    element-write-rows
     add-self
     cast-self
     add-self-2
-    same-length
-    returns-2)
+    same-length-2
+    returns-3)

@@ -1,0 +1,74 @@
+-- All amounts of a day from one check: what the statement asks for hour by hour and unit by unit. Assumes nothing.
+use Prim.Native.Nat.{ℕ, zero, suc, _+_}
+use mathlib.Core.List.{List, [], _∷_, map}
+use lib.ListN.{length}
+use Rattle.money.specs.Refusals.{notTogether}
+use Rattle.book.specs.Layer.{Key, Name, Rec, Fi, Fe, noOne, noTicks, pad}
+use Rattle.book.specs.declared.answers.HourAmounts.{HourAmounts}
+use Rattle.book.specs.declared.answers.UnitAmounts.{UnitAmounts}
+use Rattle.book.specs.declared.answers.DayAmounts.{DayAmounts}
+use Rattle.book.specs.Amounts.{Price, Charges, charged, hourKey, priceOf, guaranteesOf, chargesOf, unitDayOf}
+use Rattle.book.specs.ByName.{namesOf}
+use Rattle.book.specs.Register.{Reply, standing, startIn}
+use Rattle.book.specs.Meaning.{Load, belongs, astray}
+use Rattle.book.specs.Units.{ghKey, unitKey}
+use Rattle.book.specs.Handed.{hourHanded, guaranteesFrom, chargesFrom, dayHanded, unitDayFrom}
+
+-- an hour: its guarantees, its charges of failed imports and those of failed exports
+pub record HourReply : Type 0 where
+  pub guaranteed : Reply
+  pub imports : Charges
+  pub exports : Charges
+
+abbrev pub hourReply : (Key → ℕ) → List Rec → (ℕ → Price) → ℕ → HourReply
+hourReply at rs price h = record { guaranteed = guaranteesOf at rs price h; imports = chargesOf at (hourKey Fi h) rs price; exports = chargesOf at (hourKey Fe h) rs price }
+
+-- a unit: its name, and its day
+pub record UnitReply : Type 0 where
+  pub name : Name
+  pub day : Reply
+
+abbrev pub unitReply : List Rec → (ℕ → Price) → Name → UnitReply
+unitReply rs price n = record { name = n; day = unitDayOf (unitKey n) rs price }
+
+-- the n hours from h on
+unfoldable pub hoursFrom : ℕ → ℕ → List ℕ
+hoursFrom h zero = []
+hoursFrom h (suc n) = h ∷ hoursFrom (h + 1) n
+
+-- the hours in turn and the units by name, or a number
+pub data WholeDay : Type 0 where
+  whole : List HourReply → List UnitReply → WholeDay
+  no : ℕ → WholeDay
+
+-- of standing records, at a price of each hour: hours 1 to 24, and the units by name
+abbrev pub wholeOf : (Key → ℕ) → List Rec → (ℕ → Price) → WholeDay
+wholeOf at rs price = whole (map (hourReply at rs price) (hoursFrom 1 24)) (map (unitReply rs price) (namesOf ghKey rs))
+
+-- 16, or the day
+abbrev pub dayAmounts : Load → WholeDay
+dayAmounts astray = no notTogether
+dayAmounts (belongs l) = wholeOf (startIn l) (standing l) (priceOf (standing l))
+
+-- ---- the struct that a day is handed back in; nothing of it is free
+
+abbrev pub hourFrom : HourReply → HourAmounts
+hourFrom x = record { guarantees = guaranteesFrom (x .guaranteed); imports = chargesFrom (x .imports); exports = chargesFrom (x .exports) }
+
+abbrev pub unitFrom : UnitReply → UnitAmounts
+unitFrom x = record { name = x .name; day = unitDayFrom (x .day) }
+
+-- blank places
+abbrev pub noHour : HourAmounts
+noHour = record { guarantees = hourHanded 0 [] (noTicks .0); imports = chargesFrom (charged []); exports = chargesFrom (charged []) }
+
+abbrev pub noUnit : UnitAmounts
+noUnit = record { name = noOne; day = dayHanded 0 (noTicks .0) (noTicks .0) }
+
+unfoldable pub wholeHanded : ℕ → List HourAmounts → List UnitAmounts → DayAmounts
+wholeHanded k hs us = record { number = k; hours = pad noHour 24 hs; n = length us; units = pad noUnit 512 us }
+
+-- beside a number all places are blank
+abbrev pub dayFrom : WholeDay → DayAmounts
+dayFrom (whole hs us) = wholeHanded 0 (map hourFrom hs) (map unitFrom us)
+dayFrom (no k) = wholeHanded k [] []
