@@ -5,6 +5,7 @@ use book::answers::Amounts;
 use book::answers::Answer as Said;
 use book::answers::Guarantees;
 use book::answers::NamedAmount;
+use book::answers::UnitDay;
 use book::answers::refusal_in;
 use book::feed::feed;
 use book::journal::Book;
@@ -39,7 +40,7 @@ ghost use lib.Dec.{eqb};
 ghost use lib.ListN.{take};
 ghost use Rattle.records.specs.Changes.{parse, parsedOf, putNumber, putBytes, entry, frontOf};
 ghost use Rattle.book.specs.Register.{recordOf, countOf, freeBytes, hourGuarantees, dayOf, failureCharge};
-ghost use Rattle.book.specs.Meaning.{replyOf, guaranteesReply};
+ghost use Rattle.book.specs.Meaning.{replyOf, guaranteesReply, dayReply};
 ghost use Rattle.book.specs.Tables.{replied};
 ghost use Rattle.bridge.specs.Bridge.{stored, told, compareNumber, orderOf, anyNumber, anySize, anyBytes, writeNumber, writeSize, writeBytes};
 ghost use Rattle.bridge.specs.Bridge.{filingNumber, hasAmount, amountIn, answerNumber, amountNumber, ticksTold, amountTold};
@@ -387,7 +388,6 @@ fn tell_said(sizes: &mut [u64], a: Said) -> u32
             set(sizes, 0, n as u64);
             0
         }
-        Said::Day(_total, _reversal) => 0,
         Said::Charge(_t) => 0,
     }
 }
@@ -514,16 +514,24 @@ fn tell_amounts(amounts: &mut [i64], a: Said) -> u32
         Said::Accepted => 0,
         Said::Place(_start, _len) => 0,
         Said::Number(_n) => 0,
-        Said::Day(total, reversal) => {
-            set_amount(amounts, 0, total);
-            set_amount(amounts, 1, reversal);
-            0
-        }
         Said::Charge(t) => {
             set_amount(amounts, 0, t);
             0
         }
     }
+}
+
+fn tell_day(amounts: &mut [i64], d: UnitDay) -> u32
+    ensures { λ r. ⌜ r ≡ replied (dayReply d) ⌝ }
+    ensures { λ r. ⌜ now (amounts .exit) ≡ amountsTold (dayReply d) (now (amounts .entry)) ⌝ }
+{
+    let n = d.number;
+    if n != 0 {
+        return n as u32;
+    }
+    set_amount(amounts, 0, d.total);
+    set_amount(amounts, 1, d.reversal);
+    0
 }
 
 // A unit's day: its total, and the reversal.
@@ -538,7 +546,7 @@ pub extern "C" fn pewatuno_unit_day(
     ensures { λ r. ⌜ now (amounts .exit) ≡ amountsTold (asked (dayOf (now (name .entry))) (now (state .entry)) (now (lent .entry))) (now (amounts .entry)) ⌝ }
 {
     let b = book_in(state);
-    tell_amounts(amounts, b.unit_day(lent, name))
+    tell_day(amounts, b.unit_day(lent, name))
 }
 
 // The charge of a failure that stands.

@@ -6,6 +6,7 @@ use book::answers::Charges;
 use book::answers::Done;
 use book::answers::Guarantees;
 use book::answers::NamedAmount;
+use book::answers::UnitDay;
 use book::feed::Fed;
 use book::feed::feed;
 use book::journal::Book;
@@ -15,19 +16,21 @@ use records::names::no_name;
 ghost use mathlib.Core.Path.{_≡_};
 ghost use mathlib.Core.List.{[]};
 ghost use Rattle.book.specs.Register.{ask, accepted};
-ghost use Rattle.book.specs.Handed.{guaranteesFrom};
+ghost use Rattle.book.specs.Handed.{guaranteesFrom, unitDayFrom};
 ghost use Rattle.book.specs.Meaning.{replyOf, chargesReply};
 ghost use Rattle.book.specs.Session.{Session};
 ghost use Rattle.demands.specs.Demands.{Demanded};
 ghost use Rattle.demands.specs.Beside.{ReadAsCalls, ChargesByKey};
 ghost use Rattle.demands.specs.Script.{changeOf, questionOf, callOf, saidOf, Alone};
 
-// What a call hands back: the book, and its answer, or an hour's guarantees where it asked for them.
+// What a call hands back: the book, and its answer; or an hour's guarantees, or a unit's day, where it asked for these.
 pub struct Turned {
     pub book: Book,
     pub hourly: bool,
+    pub daily: bool,
     pub answer: Answer,
     pub guarantees: Guarantees,
+    pub day: UnitDay,
 }
 
 // The book that every list of calls starts from.
@@ -59,7 +62,7 @@ pub fn make_change(b: Book, log: &mut [u8], method: u8, bytes: &[u8]) -> Done
     b.change(log, bytes)
 }
 
-// The record of a key, counts by mark and hour, free bytes, a unit's day (7 to 10), or a failure charge.
+// The record of a key, counts by mark and hour, free bytes (7 to 9), or a failure charge.
 pub fn put_question(b: Book, log: &[u8], method: u8, mark: &[u8], hour: u8, bytes: &[u8]) -> Answer
     ensures { λ r. ⌜ Demanded (ask (questionOf method (now (mark .entry)) hour (now (bytes .entry)))) b (now (log .entry)) b (replyOf r) (now (log .entry)) ⌝ }
 {
@@ -71,9 +74,6 @@ pub fn put_question(b: Book, log: &[u8], method: u8, mark: &[u8], hour: u8, byte
     }
     if method == 9 {
         return b.free_bytes(log);
-    }
-    if method == 10 {
-        return b.unit_day(log, bytes);
     }
     b.failure_charge(log, mark, hour, bytes)
 }
@@ -98,39 +98,71 @@ fn no_guarantees() -> Guarantees
     }
 }
 
-// Any call of the register: a change (0 to 5), an hour's guarantees (6), or another question (7 to 11).
+fn no_day() -> UnitDay
+    ensures { λ r. ⌜ r ≡ unitDayFrom accepted ⌝ }
+{
+    UnitDay {
+        number: 0,
+        total: Ticks(0),
+        reversal: Ticks(0),
+    }
+}
+
+// Any call of the register: a change (0 to 5), an hour's guarantees (6), a unit's day (10), or another question (7 to 11).
 pub fn step(b: Book, log: &mut [u8], method: u8, mark: &[u8], hour: u8, bytes: &[u8]) -> Turned
-    ensures { λ r. ⌜ Demanded (callOf method (now (mark .entry)) hour (now (bytes .entry))) b (now (log .entry)) (r .book) (saidOf r) (now (log .exit)) × Alone (r .hourly) (r .answer) (r .guarantees) ⌝ }
+    ensures { λ r. ⌜ Demanded (callOf method (now (mark .entry)) hour (now (bytes .entry))) b (now (log .entry)) (r .book) (saidOf r) (now (log .exit)) × Alone (r .hourly) (r .daily) (r .answer) (r .guarantees) (r .day) ⌝ }
 {
     if method < 6 {
         let d = make_change(b, log, method, bytes);
         let book = d.book;
         let answer = d.answer;
         let guarantees = no_guarantees();
+        let day = no_day();
         return Turned {
             book,
             hourly: false,
+            daily: false,
             answer,
             guarantees,
+            day,
         };
     }
     if method == 6 {
         let guarantees = b.guarantees(&log[..], hour);
         let answer = Answer::Accepted;
+        let day = no_day();
         return Turned {
             book: b,
             hourly: true,
+            daily: false,
             answer,
             guarantees,
+            day,
+        };
+    }
+    if method == 10 {
+        let day = b.unit_day(&log[..], bytes);
+        let answer = Answer::Accepted;
+        let guarantees = no_guarantees();
+        return Turned {
+            book: b,
+            hourly: false,
+            daily: true,
+            answer,
+            guarantees,
+            day,
         };
     }
     let answer = put_question(b, &log[..], method, mark, hour, bytes);
     let guarantees = no_guarantees();
+    let day = no_day();
     Turned {
         book: b,
         hourly: false,
+        daily: false,
         answer,
         guarantees,
+        day,
     }
 }
 

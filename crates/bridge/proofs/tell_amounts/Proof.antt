@@ -1,7 +1,4 @@
-use mathlib.Core.Path.{refl, ap, _∙_}
-use mathlib.Core.List.{List}
-use lib.IntN.{ℤ}
-use Rattle.bridge.specs.Bridge.{stored}
+use mathlib.Core.Path.{refl}
 use borrow.Author.Needs.{needs}
 use Rattle.bridge.proofs.tell_amounts.Statement.{statement}
 use Rattle.bridge.proofs.tell_amounts.Tie as tie
@@ -27,15 +24,6 @@ enum-known-a-4 c = search needs
 set-amount-requires : tie.Need-set-amount-requires
 set-amount-requires c κs = search needs
 
-set-amount-requires-2 : tie.Need-set-amount-requires-2
-set-amount-requires-2 c κs = search needs
-
-enum-known-a-5 : tie.Need-enum-known-a-5
-enum-known-a-5 c = search needs
-
-set-amount-requires-3 : tie.Need-set-amount-requires-3
-set-amount-requires-3 c κs = search needs
-
 returns : tie.Need-returns
 returns c = search needs
 
@@ -52,13 +40,7 @@ same-length : tie.Need-same-length
 same-length c = search needs
 
 returns-5 : tie.Need-returns-5
-returns-5 c = rw ((c .before .before .before .before .before .before .before .a4) .given .1) (refl, (c .before .set-amount2) .ensures ∙ ap (λ (s : List ℤ). stored s 1 ((c .before .before .before .before .before .before .before .a4) .given .0 .1 .0 .0)) ((c .before .before .before .before .set-amount) .ensures))
-
-same-length-2 : tie.Need-same-length-2
-same-length-2 c = search needs
-
-returns-6 : tie.Need-returns-6
-returns-6 c = rw ((c .before .before .before .before .a5) .given .1) (refl, (c .before .set-amount3) .ensures)
+returns-5 c = rw ((c .before .before .before .before .a4) .given .1) (refl, (c .before .set-amount) .ensures)
 
 pub tell-amounts-spec : {M : Type 1} → statement M
 tell-amounts-spec =
@@ -71,14 +53,9 @@ tell-amounts-spec =
     enum-known-a-3
     enum-known-a-4
     set-amount-requires
-    set-amount-requires-2
-    enum-known-a-5
-    set-amount-requires-3
     returns
     returns-2
     returns-3
     returns-4
     same-length
-    returns-5
-    same-length-2
-    returns-6)
+    returns-5)

@@ -33,9 +33,6 @@ set-requires-3 c κs = search needs
 enum-known-a-4 : tie.Need-enum-known-a-4
 enum-known-a-4 c = search needs
 
-enum-known-a-5 : tie.Need-enum-known-a-5
-enum-known-a-5 c = search needs
-
 returns : tie.Need-returns
 returns c = search needs
 
@@ -57,9 +54,6 @@ returns-4 c = rw ((c .before .before .before .before .before .a3) .given .1) (re
 returns-5 : tie.Need-returns-5
 returns-5 c = search needs
 
-returns-6 : tie.Need-returns-6
-returns-6 c = search needs
-
 pub tell-said-spec : {M : Type 1} → statement M
 tell-said-spec =
     tie.close
@@ -73,12 +67,10 @@ tell-said-spec =
     enum-known-a-3
     set-requires-3
     enum-known-a-4
-    enum-known-a-5
     returns
     returns-2
     same-length
     returns-3
     same-length-2
     returns-4
-    returns-5
-    returns-6)
+    returns-5)

@@ -1,5 +1,6 @@
 use Rattle.demands.specs.DemandLaws.{demanded}
 use borrow.Author.Tests.{eq-eqb, ne-eqb}
+use native.Mathlib.Omega.{arith}
 use borrow.Author.Needs.{needs}
 use Rattle.demands.proofs.put_question.Statement.{statement}
 use Rattle.demands.proofs.put_question.Tie as tie
@@ -9,7 +10,6 @@ use Rattle.book.proofs.journal.Book.count_of.Reads as count-of-reads
 use Rattle.book.proofs.journal.Book.failure_charge.Reads as failure-charge-reads
 use Rattle.book.proofs.journal.Book.free_bytes.Reads as free-bytes-reads
 use Rattle.book.proofs.journal.Book.record_of.Reads as record-of-reads
-use Rattle.book.proofs.journal.Book.unit_day.Reads as unit-day-reads
 
 record-of-requires : tie.Need-record-of-requires
 record-of-requires c κs = search needs
@@ -29,17 +29,11 @@ free-bytes-requires c κs = search needs
 returns-3 : tie.Need-returns-3
 returns-3 c = rw (ne-eqb _ _ ((c .before .before .before .if1) .left), ne-eqb _ _ ((c .before .before .if2) .left), eq-eqb _ _ ((c .before .if3) .taken)) (demanded _ _ _ _ _ _ ((c .free-bytes) .ensures))
 
-unit-day-requires : tie.Need-unit-day-requires
-unit-day-requires c κs = search needs
-
-returns-4 : tie.Need-returns-4
-returns-4 c = rw (ne-eqb _ _ ((c .before .before .before .before .if1) .left), ne-eqb _ _ ((c .before .before .before .if2) .left), ne-eqb _ _ ((c .before .before .if3) .left), eq-eqb _ _ ((c .before .if4) .taken)) (demanded _ _ _ _ _ _ ((c .unit-day) .ensures))
-
 failure-charge-requires : tie.Need-failure-charge-requires
 failure-charge-requires c κs = search needs
 
-returns-5 : tie.Need-returns-5
-returns-5 c = rw (ne-eqb _ _ ((c .before .before .before .before .if1) .left), ne-eqb _ _ ((c .before .before .before .if2) .left), ne-eqb _ _ ((c .before .before .if3) .left), ne-eqb _ _ ((c .before .if4) .left)) (demanded _ _ _ _ _ _ ((c .failure-charge) .ensures))
+returns-4 : tie.Need-returns-4
+returns-4 c = rw (ne-eqb _ _ ((c .before .before .before .if1) .left), ne-eqb _ _ ((c .before .before .if2) .left), ne-eqb _ _ ((c .before .if3) .left)) (demanded _ _ _ _ _ _ ((c .failure-charge) .ensures))
 
 pub put-question-spec : {M : Type 1} → statement M
 put-question-spec =
@@ -51,7 +45,5 @@ put-question-spec =
     returns-2
     free-bytes-requires
     returns-3
-    unit-day-requires
-    returns-4
     failure-charge-requires
-    returns-5)
+    returns-4)
