@@ -4,6 +4,7 @@ use mathlib.Core.Bool.{Bool, true, false}
 use mathlib.Core.List.{List}
 use Prim.Native.Nat.{ℕ}
 use Rattle.book.specs.Meaning.{load}
+use Rattle.statement.specs.Statement.{statementOf, longestStatement}
 use Rattle.statement.specs.declared.day.Written.{Written}
 use Rattle.settling.specs.Reading.{Prints}
 use Rattle.settling.specs.Program.{inputOf, Settles}
@@ -20,7 +21,7 @@ pub record Nothing (lent left : List ℕ) (w : Written) : Type 0 where
 
 abbrev pub Writes : Bool → Input → List ℕ → List ℕ → List ℕ → Written → Type 0
 Writes true i log lent left w = Nothing lent left w
-Writes false i log lent left w = Prints (i .reading) (load (i .reading .book) log) lent left w
+Writes false i log lent left w = Prints statementOf longestStatement (i .reading) (load (i .reading .book) log) lent left w
 
 -- from the bytes lent to the bytes left: nothing is written where the input was not read to its end
 pub record Shows (i : Input) (log lent left : List ℕ) (r : Settled) : Type 0 where
@@ -31,7 +32,7 @@ pub record Shows (i : Input) (log lent left : List ℕ) (r : Settled) : Type 0 w
 
 abbrev pub Outputs : Bool → List ℕ → List ℕ → List ℕ → Written → Type 0
 Outputs true s lent left w = Nothing lent left w
-Outputs false s lent left w = Settles s lent left w
+Outputs false s lent left w = Settles statementOf longestStatement s lent left w
 
 -- the one claim: reads were made until there was no more to read, and the output of all that they brought is written, or nothing where they failed. Which
 -- bytes a read brings, and whether it breaks off, no contract can say

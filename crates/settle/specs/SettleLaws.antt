@@ -9,7 +9,7 @@ use lib.ListN.{length}
 use borrow.Author.Tests.{leb-true}
 use Rattle.records.specs.Changes.{put}
 use Rattle.records.specs.BookLaws.{put-length}
-use Rattle.statement.specs.Refusal.{Fits}
+use Rattle.statement.specs.Statement.{Fits, statementOf, longestStatement}
 use Rattle.statement.specs.declared.day.Written.{Written}
 use Rattle.settling.specs.Program.{inputOf}
 use Rattle.settling.specs.Output.{outputOf}
@@ -26,7 +26,7 @@ printed {i} {log} x e {lent} {left} {r} s = record { input = i; log = log; read 
   where
     go : (b : Bool) → Writes b i log lent left (r .written) → Outputs b (inputOf (x .pieces)) lent left (r .written)
     go true y = y
-    go false y = every-input (read-run x) e (read-few x) lent left (r .written) y
+    go false y = every-input statementOf longestStatement (read-run x) e (read-few x) lent left (r .written) y
 
 -- what is written stands in the bytes
 fits-short : (t lent left : List ℕ) (w : Written) → Fits t lent left w → w .len ≤ length left

@@ -3,6 +3,7 @@ pub mod Reading
 pub mod Program
 pub mod Replies
 pub mod MoveLaws
+pub mod WaitLaws
 pub mod OutputLaws
 pub mod Examples
 pub mod ReplyLaws

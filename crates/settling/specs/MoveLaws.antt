@@ -30,6 +30,9 @@ take-least n s = go (leb n (length s)) refl
         let m : min n (length s) ≡ length s = omega arith in
         take-all (min n (length s)) s (omega arith) ∙ sym (take-all n s (omega arith))
 
+pub take-taken : (n : ℕ) (s : List ℕ) → take (length (take n s)) s ≡ take n s
+take-taken n s = ap (λ (k : ℕ). take k s) (length-take n s) ∙ take-least n s
+
 pub part-least : (from end : ℕ) (s : List ℕ) → part from (min end (length s)) s ≡ part from end s
 part-least from end s = part-left from (min end (length s)) s ∙ ap (drop from) (take-least end s) ∙ sym (part-left from end s)
 

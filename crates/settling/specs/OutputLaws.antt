@@ -10,21 +10,22 @@ use lib.Seq.{drop-append-le, drop-drop, drop-length}
 use borrow.Author.Tests.{ltb-true, ltb-false, le-leb, ne-eqb}
 use Rattle.records.specs.Changes.{Change, put}
 use Rattle.book.specs.declared.journal.Book.{Book}
-use Rattle.book.specs.Register.{fresh}
+use Rattle.book.specs.Register.{fresh, writeAll}
 use Rattle.book.specs.Meaning.{Load, belongs, load, bookOf}
-use Rattle.book.specs.Feed.{Fed, stopped, feeding, verdict}
+use Rattle.book.specs.Feed.{Fed, stopped, later, feeding, verdict}
 use Rattle.book.specs.FeedPromise.{Ends, Feeds}
 use Rattle.book.specs.LoadLaws.{load-fresh}
 use Rattle.book.specs.PieceLaws.{resumed, Pieces, pieces}
 use Rattle.book.specs.SettleLaws.{feeds-again, feeding-none, fresh-book, settled-is}
 use Rattle.book.specs.StopLaws.{stops, early-short}
-use Rattle.statement.specs.Statement.{Outcome, fitted, statementOf}
-use Rattle.statement.specs.Refusal.{refusalLine, Fits}
+use Rattle.statement.specs.Statement.{Outcome, fitted, Fits}
+use Rattle.statement.specs.Refusal.{refusalLine}
 use Rattle.statement.specs.declared.day.Written.{Written}
-use Rattle.settling.specs.Output.{printed, outputOf}
-use Rattle.settling.specs.Reading.{counted, begun, isOver, atHand, onward, Takes, Stays, Reads, ReadsOn, ordinal, textIn, printing, Prints}
+use Rattle.settling.specs.Output.{printedBy, outputBy}
+use Rattle.settling.specs.Reading.{counted, begun, isOver, atHand, waits, onward, Takes, Waits, Stays, Reads, ReadsOn, ordinal, textIn, printing, Prints}
 use Rattle.settling.specs.Program.{inputOf, Run, start, next, Settles}
-use Rattle.settling.specs.MoveLaws.{put-first}
+use Rattle.settling.specs.MoveLaws.{put-first, take-taken}
+use Rattle.settling.specs.WaitLaws.{loaded-size, feeding-early}
 use Rattle.settling.specs.declared.reading.Reading.{Reading}
 
 counted-more : (a b : ℕ) → counted (counted a + b) ≡ counted (a + b)
@@ -115,6 +116,26 @@ module _ (lent : ℕ) where
       same-reg : record { list = reached s .reg .list; closed = r .book .closed } ≡ reached s .reg
       same-reg = ap (λ (b : Book). record { list = reached s .reg .list; closed = b .closed }) (x .book)
 
+      -- they are the beginning of a record
+      held-on : waits (atHand r (length p) space) ≡ true → (r′ : Reading) (log′ input′ : List ℕ) → Waits r log space (length p) r′ log′ input′ → Stands (s ++ p) r′ log′ input′
+      held-on u r′ log′ input′ y =
+          let g = reached s in
+          let used : length (writeAll (g .reg .list)) ≤ lent = omega (arith, loaded-size (r .book) log (g .reg .list) (x .loaded), x .size) in
+          let f : reached (s ++ p) ≡ later (g .count) (g .taken) (stopped (g .reg) 1) =
+          all ∙ ap (later (g .count) (g .taken)) (feeding-early lent (g .reg) t (sym (ap waits at-hand) ∙ u) used) in
+          let k : reached (s ++ p) .taken ≡ g .taken = ap (λ (a : Fed). a .taken) f ∙ omega arith in
+          let l : t ≡ drop (reached (s ++ p) .taken) (s ++ p) = sym (drop-append-le (g .taken) s p (stops lent fresh s .within)) ∙ ap (λ (n : ℕ). drop n (s ++ p)) (sym k) in
+          let h : r′ .held ≡ length (atHand r (length p) space) = ap (λ (a : Reading). a .held) (y .reading) in
+          record {
+            size = ap length (y .kept) ∙ x .size;
+            book = ap (λ (a : Reading). a .book) (y .reading) ∙ x .book ∙ ap (λ (a : Fed). bookOf (a .reg)) (sym f);
+            loaded = (λ i. load (y .reading i .book) (y .kept i)) ∙ x .loaded ∙ ap (λ (a : Fed). belongs (a .reg .list)) (sym f);
+            count = ap (λ (a : Reading). a .count) (y .reading) ∙ x .count ∙ ap counted (omega (arith, ap (λ (a : Fed). a .count) f));
+            number = ap (λ (a : Reading). a .number) (y .reading) ∙ ap (λ (a : Fed). a .number) (sym f);
+            held = λ e. h ∙ ap length (at-hand ∙ l);
+            bytes = λ e. (λ i. take (h i) (y .rest i)) ∙ take-taken (r .held + length p) space ∙ at-hand ∙ l;
+          }
+
       more : (r′ : Reading) (log′ input′ : List ℕ) → Takes r log space (length p) r′ log′ input′ → Stands (s ++ p) r′ log′ input′
       more r′ log′ input′ y =
           let g = y .fed in
@@ -142,11 +163,12 @@ module _ (lent : ℕ) where
 
   stands-next : (s p : List ℕ) (r : Reading) (log input : List ℕ) → Stands s r log input → (space : List ℕ) → take (r .held + length p) space ≡ take (r .held) input ++ p
       → (r′ : Reading) (log′ input′ : List ℕ) → ReadsOn r log space (length p) r′ log′ input′ → Stands (s ++ p) r′ log′ input′
-  stands-next s p r log input x space q r′ log′ input′ m = go (isOver r) refl (m .reads)
+  stands-next s p r log input x space q r′ log′ input′ m = go (isOver r) refl (waits (atHand r (length p) space)) refl (m .reads)
     where
-      go : (b : Bool) → isOver r ≡ b → Reads b r log space (length p) r′ log′ input′ → Stands (s ++ p) r′ log′ input′
-      go true o y = still s p r log input x space q o r′ log′ input′ y
-      go false o y = more s p r log input x space q o r′ log′ input′ y
+      go : (b : Bool) → isOver r ≡ b → (w : Bool) → waits (atHand r (length p) space) ≡ w → Reads b w r log space (length p) r′ log′ input′ → Stands (s ++ p) r′ log′ input′
+      go true o w u y = still s p r log input x space q o r′ log′ input′ y
+      go false o true u y = held-on s p r log input x space q o u r′ log′ input′ y
+      go false o false u y = more s p r log input x space q o r′ log′ input′ y
 
 -- every run stands for the input that it read, over as many bytes as its log has
 stands : {ps : List (List ℕ)} {r : Reading} {log input : List ℕ} → Run ps r log input → Stands (length log) (inputOf ps) r log input
@@ -183,40 +205,41 @@ front-is t lent left w f h =
     let y : left ≡ put lent 0 t = f .bytes ∙ rw b in
     ap (λ (k : ℕ). take k left) n ∙ ap (take (length t)) y ∙ put-first lent t h
 
-module _ (s : List ℕ) (r : Reading) (log input : List ℕ) (x : Stands 65535 s r log input) (h : length s < 18446744073709551616) where
-  -- the text of the reading is the output
-  text-is : textIn r (reached 65535 s .reg .list) ≡ outputOf s
-  unfolding outputOf
-  text-is = go (reached 65535 s .number) refl ∙ sym (ap printed (settled-is s))
-    where
-      go : (n : ℕ) → reached 65535 s .number ≡ n → textIn r (reached 65535 s .reg .list) ≡ printed (verdict (reached 65535 s .reg) (reached 65535 s .count) n)
-      go zero e = rw (x .number ∙ e)
-      go (suc n) e =
-          let k = stops 65535 fresh s in
-          let o : ordinal r ≡ reached 65535 s .count + 1 = omega (arith, x .count, k .few, k .refused (λ z. omega arith)) in
-          rw (ne-eqb (r .number) 0 (λ z. omega (arith, x .number)), x .number ∙ e) (ap (λ (m : ℕ). refusalLine m (suc n)) o)
-
-  module _ (lent left : List ℕ) (w : Written) (m : Prints r (load (r .book) log) lent left w) where
-    printing-is : printing r (load (r .book) log) lent ≡ fitted (textIn r (reached 65535 s .reg .list)) lent
-    printing-is = ap (λ (y : Load). printing r y lent) (x .loaded) ∙ go (eqb (r .number) 0)
+module _ (t : List Change → List ℕ) (longest : ℕ) where
+  module _ (s : List ℕ) (r : Reading) (log input : List ℕ) (x : Stands 65535 s r log input) (h : length s < 18446744073709551616) where
+    -- the text of the reading is the output
+    text-is : textIn t r (reached 65535 s .reg .list) ≡ outputBy t s
+    unfolding outputBy
+    text-is = go (reached 65535 s .number) refl ∙ sym (ap (printedBy t) (settled-is s))
       where
-        l : List Change
-        l = reached 65535 s .reg .list
+        go : (n : ℕ) → reached 65535 s .number ≡ n → textIn t r (reached 65535 s .reg .list) ≡ printedBy t (verdict (reached 65535 s .reg) (reached 65535 s .count) n)
+        go zero e = rw (x .number ∙ e)
+        go (suc n) e =
+            let k = stops 65535 fresh s in
+            let o : ordinal r ≡ reached 65535 s .count + 1 = omega (arith, x .count, k .few, k .refused (λ z. omega arith)) in
+            rw (ne-eqb (r .number) 0 (λ z. omega (arith, x .number)), x .number ∙ e) (ap (λ (m : ℕ). refusalLine m (suc n)) o)
 
-        go : (b : Bool) → cond b (fitted (statementOf l) lent) (fitted (refusalLine (ordinal r) (r .number)) lent) ≡ fitted (cond b (statementOf l) (refusalLine (ordinal r) (r .number))) lent
-        go true = refl
-        go false = refl
+    module _ (lent left : List ℕ) (w : Written) (m : Prints t longest r (load (r .book) log) lent left w) where
+      printing-is : printing t r (load (r .book) log) lent ≡ fitted (textIn t r (reached 65535 s .reg .list)) lent
+      printing-is = ap (λ (y : Load). printing t r y lent) (x .loaded) ∙ go (eqb (r .number) 0)
+        where
+          l : List Change
+          l = reached 65535 s .reg .list
 
-    settles : Settles s lent left w
-    settles =
-        let p : printing r (load (r .book) log) lent ≡ fitted (outputOf s) lent = printing-is ∙ ap (λ (t : List ℕ). fitted t lent) text-is in
-        let n : length (outputOf s) ≤ 145200 = subst (λ (t : List ℕ). length t ≤ 145200) text-is (m .most (reached 65535 s .reg .list) (x .loaded)) in
-        let f : Fits (outputOf s) lent left w =
-        record { number = m .number ∙ ap (λ (o : Outcome). o .number) p; len = m .len ∙ ap (λ (o : Outcome). o .len) p; bytes = m .bytes ∙ ap (λ (o : Outcome). o .bytes) p } in
-        record { fits = f; most = n; whole = λ k. front-is (outputOf s) lent left w f (omega arith) }
+          go : (b : Bool) → cond b (fitted (t l) lent) (fitted (refusalLine (ordinal r) (r .number)) lent) ≡ fitted (cond b (t l) (refusalLine (ordinal r) (r .number))) lent
+          go true = refl
+          go false = refl
 
--- the theorem: for every list of pieces, from a fresh book over 65,535 bytes, what is written at the end is the output of the whole input
-pub every-input : {ps : List (List ℕ)} {r : Reading} {log input : List ℕ} → Run ps r log input → length log ≡ 65535 → length (inputOf ps) < 18446744073709551616
-    → (lent left : List ℕ) (w : Written) → Prints r (load (r .book) log) lent left w → Settles (inputOf ps) lent left w
-every-input {ps} {r} {log} {input} run e h lent left w m =
-    settles (inputOf ps) r log input (subst (λ (n : ℕ). Stands n (inputOf ps) r log input) e (stands run)) h lent left w m
+      settles : Settles t longest s lent left w
+      settles =
+          let p : printing t r (load (r .book) log) lent ≡ fitted (outputBy t s) lent = printing-is ∙ ap (λ (y : List ℕ). fitted y lent) text-is in
+          let n : length (outputBy t s) ≤ longest = subst (λ (y : List ℕ). length y ≤ longest) text-is (m .most (reached 65535 s .reg .list) (x .loaded)) in
+          let f : Fits (outputBy t s) lent left w =
+          record { number = m .number ∙ ap (λ (o : Outcome). o .number) p; len = m .len ∙ ap (λ (o : Outcome). o .len) p; bytes = m .bytes ∙ ap (λ (o : Outcome). o .bytes) p } in
+          record { fits = f; most = n; whole = λ k. front-is (outputBy t s) lent left w f (omega arith) }
+
+  -- the theorem, of a program that prints the text t: for every list of pieces, from a fresh book over 65,535 bytes, what is written at the end is the output of the whole input
+  pub every-input : {ps : List (List ℕ)} {r : Reading} {log input : List ℕ} → Run ps r log input → length log ≡ 65535 → length (inputOf ps) < 18446744073709551616
+      → (lent left : List ℕ) (w : Written) → Prints t longest r (load (r .book) log) lent left w → Settles t longest (inputOf ps) lent left w
+  every-input {ps} {r} {log} {input} run e h lent left w m =
+      settles (inputOf ps) r log input (subst (λ (n : ℕ). Stands n (inputOf ps) r log input) e (stands run)) h lent left w m

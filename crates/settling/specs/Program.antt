@@ -3,9 +3,10 @@ use mathlib.Core.Path.{_≡_}
 use mathlib.Core.List.{List, [], _∷_, _++_}
 use Prim.Native.Nat.{ℕ, _+_, _≤_}
 use lib.ListN.{length, take}
-use Rattle.statement.specs.Refusal.{Fits}
+use Rattle.records.specs.Changes.{Change}
+use Rattle.statement.specs.Statement.{Fits}
 use Rattle.statement.specs.declared.day.Written.{Written}
-use Rattle.settling.specs.Output.{outputOf}
+use Rattle.settling.specs.Output.{outputBy}
 use Rattle.settling.specs.Reading.{begun, ReadsOn}
 use Rattle.settling.specs.declared.reading.Reading.{Reading}
 
@@ -26,11 +27,11 @@ pub data Run : List (List ℕ) → Reading → List ℕ → List ℕ → Type 0 
 
 -- ---- what is claimed
 
--- of the input s: what a call for the output wrote, from the bytes lent to the bytes left
-pub record Settles (s lent left : List ℕ) (w : Written) : Type 0 where
+-- of the input s, by a program that prints the text t: what a call for the output wrote, from the bytes lent to the bytes left
+pub record Settles (t : List Change → List ℕ) (longest : ℕ) (s lent left : List ℕ) (w : Written) : Type 0 where
   -- it is the output, all of it from the first byte on; 13 where it is longer than what is lent
-  pub fits : Fits (outputOf s) lent left w
-  -- no output is longer than `STATEMENT_MAX`
-  pub most : length (outputOf s) ≤ 145200
+  pub fits : Fits (outputBy t s) lent left w
+  -- no output is longer than this
+  pub most : length (outputBy t s) ≤ longest
   -- so that of so many bytes those that were written are the output
-  pub whole : 145200 ≤ length lent → take (w .len) left ≡ outputOf s
+  pub whole : longest ≤ length lent → take (w .len) left ≡ outputBy t s

@@ -6,6 +6,7 @@ use statement::day::statement;
 use statement::refusal::refusal;
 ghost use mathlib.Core.Path.{_≡_};
 ghost use Rattle.book.specs.Meaning.{load};
+ghost use Rattle.statement.specs.Statement.{statementOf, longestStatement};
 ghost use Rattle.settling.specs.Reading.{ordinal, Prints};
 
 impl Reading {
@@ -19,7 +20,7 @@ impl Reading {
     // Writes from the first lent byte on all that is printed if the input ends here: the statement of the book, or `REF n r`. 13 where it is longer
     // than what is lent; STATEMENT_MAX bytes are enough.
     pub fn output(self, log: &[u8], out: &mut [u8]) -> Written
-        ensures { λ r. ⌜ Prints self (load (self .book) (now (log .entry))) (now (out .entry)) (now (out .exit)) r ⌝ }
+        ensures { λ r. ⌜ Prints statementOf longestStatement self (load (self .book) (now (log .entry))) (now (out .entry)) (now (out .exit)) r ⌝ }
     {
         let book = self.book;
         let number = self.number;

@@ -3,12 +3,13 @@ use book::feed::Fed;
 use book::feed::feed;
 use book::journal::Book;
 use money::refusals::ENDS_EARLY;
+use records::parse::first_change;
 ghost use mathlib.Core.Path.{_≡_};
 ghost use Prim.Native.Nat.{_+_, _≤_, min};
 ghost use lib.ListN.{length, take};
 ghost use Rattle.records.specs.Changes.{put};
 ghost use Rattle.book.specs.FeedPromise.{Feeds};
-ghost use Rattle.settling.specs.Reading.{counted, begun, isOver, part, ReadsOn};
+ghost use Rattle.settling.specs.Reading.{counted, begun, isOver, waits, part, ReadsOn};
 
 // The book so far, and the records that it took; how many bytes of the next one are held, at the front of the input's bytes; and the number
 // of the refusal at which the reading stands, 0 for none. Bytes that end early may still go on.
@@ -46,6 +47,18 @@ fn end_at(held: usize, n: usize, len: usize) -> usize
         return len;
     }
     held + least(n, len - held)
+}
+
+// Whether the bytes up to a place are the beginning of a record, and no more.
+fn waits_at(input: &[u8], end: usize) -> bool
+    requires { ⌜ end ≤ length (now input) ⌝ }
+    ensures { λ r. ⌜ r ≡ waits (take end (now (input .entry))) ⌝ }
+{
+    if end == 0 {
+        return false;
+    }
+    let f = first_change(&input[..end]);
+    f.number == ENDS_EARLY
 }
 
 // Feeds the bytes up to a place.
@@ -94,7 +107,7 @@ impl Reading {
     }
 
     // After a read of n bytes, which stand in the input's bytes behind those that were held: takes the records that are whole, and holds what is
-    // left at the front.
+    // left at the front. The book is not checked for a record that is not whole.
     pub fn read_on(self, log: &mut [u8], input: &mut [u8], n: usize) -> Reading
         ensures { λ r. ⌜ ReadsOn self (now (log .entry)) (now (input .entry)) n r (now (log .exit)) (now (input .exit)) ⌝ }
     {
@@ -103,6 +116,14 @@ impl Reading {
         }
         let end = end_at(self.held, n, input.len());
         let book = self.book;
+        if waits_at(&input[..], end) {
+            return Reading {
+                book,
+                count: self.count,
+                held: end,
+                number: ENDS_EARLY,
+            };
+        }
         let f = feed_front(book, log, &input[..], end);
         let held = to_front(input, f.taken, end);
         let next = f.book;

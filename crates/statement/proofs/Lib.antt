@@ -1,6 +1,3 @@
-pub mod Adding
-pub mod Growing
-pub mod Stating
-pub mod Walking
 pub mod Writing
+pub mod Stating
 pub mod Refusing

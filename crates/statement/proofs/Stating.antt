@@ -1,73 +1,75 @@
 -- What a call for the statement rests on.
 use mathlib.Core.Path.{_≡_, refl, sym, ap, _∙_, subst}
-use mathlib.Core.Logic.{inl, inr}
-use mathlib.Core.Bool.{Bool, cond}
-use mathlib.Core.List.{List, _++_}
+use mathlib.Core.List.{List}
 use Prim.Native.Nat.{ℕ, _+_, _≤_, _<_}
 use native.Mathlib.Omega.{arith}
-use lib.Dec.{leb}
-use lib.ListN.{length, length-append}
-use borrow.Author.Tests.{eq-eqb, ne-eqb, le-leb, lt-leb}
-use Rattle.book.specs.Layer.{Change, Name}
+use lib.ListN.{length, take}
+use borrow.Author.Tests.{le-leb, lt-leb}
+use Rattle.book.specs.Layer.{Change}
 use Rattle.book.specs.declared.journal.Book.{Book}
-use Rattle.book.specs.declared.units.UnitList.{UnitList}
-use Rattle.book.specs.ByName.{namesOf}
-use Rattle.book.specs.Units.{ghKey, named, no, namesIn, unitNames, unitListOf}
-use Rattle.book.specs.Register.{standing}
-use Rattle.book.specs.Meaning.{Load, belongs, astray, load}
-use Rattle.statement.specs.PutLaws.{put, put-more, put-length}
-use Rattle.statement.specs.Statement.{statementOf, Answers}
-use Rattle.statement.specs.Inner.{listOf, listIn, Loaded, Listed, Room, hoursText, unitsText}
-use Rattle.statement.specs.StatementLaws.{statement-text}
+use Rattle.book.specs.declared.answers.DayAmounts.{DayAmounts}
+use Rattle.book.specs.Meaning.{Load, belongs, astray, load, Valid}
+use Rattle.book.specs.LoadLaws.{loaded-valid}
+use Rattle.book.specs.WholeDay.{dayAmounts, dayFrom}
+use Rattle.book.specs.WholeDayLaws.{units-are, number-astray, number-whole}
+use Rattle.statement.specs.Lines.{textOf}
+use Rattle.statement.specs.PutLaws.{put-front}
+use Rattle.statement.specs.Statement.{statementOf, longestStatement, Fits, Answers}
+use Rattle.statement.specs.Inner.{Writes, WritesLines, linesOfDay, FewInAll}
+use Rattle.statement.specs.StatementLaws.{day-text, day-few}
+use Rattle.statement.specs.declared.day.Written.{Written}
+use Rattle.statement.specs.declared.lines.Cursor.{Cursor}
 
--- ---- the names of the units, and whether there are any
+-- ---- a text at the front
 
-named-same : {xs ys : List Name} → named xs ≡ named ys → xs ≡ ys
-named-same e = cc
+pub fits-refused : (t d : List ℕ) → length d < length t → Fits t d d (record { number = 13; len = 0 })
+fits-refused t d h = let x = lt-leb (length t) (length d) h in record { number = rw x; len = rw x; bytes = rw x }
 
-module _ (b : Book) (s : List ℕ) (u : UnitList) (e : unitListOf u ≡ unitNames (load b s)) where
-  answered : u .number ≡ 0 → named (namesIn (u .units)) ≡ unitNames (load b s)
-  answered z = sym (ap (λ (t : Bool). cond t (named (namesIn (u .units))) (no (u .number))) (eq-eqb (u .number) 0 z)) ∙ e
+pub fits-written : {t d e : List ℕ} {n : ℕ} → Writes d 0 t e n → Fits t d e (record { number = 0; len = n })
+fits-written {t} {d} {e} {n} w =
+    let x = le-leb (length t) (length d) (omega (arith, w .room)) in
+    record { number = rw x; len = rw x (omega (arith, w .behind)); bytes = rw x (w .bytes) }
 
-  pub is-loaded : u .number ≡ 0 → Loaded b s
-  unfolding listIn
-  is-loaded z = go (load b s) refl
+-- what was written aside is the text
+pub fits-front : {t a b d e : List ℕ} {n : ℕ} {w : Written} → Writes a 0 t b n → Fits (take n b) d e w → Fits t d e w
+fits-front {t} {a} {b} {d} {e} {n} {w} x f =
+    let k : n ≡ 0 + length t = x .behind in
+    subst (λ (s : List ℕ). Fits s d e w) ((λ i. take (k i) (x .bytes i)) ∙ put-front a 0 t (x .room)) f
+
+-- ---- a day of a book
+
+-- the changes of a book whose day was asked for
+pub record Held (b : Book) (s : List ℕ) (day : DayAmounts) : Type 0 where
+  pub list : List Change
+  pub is : load b s ≡ belongs list
+  pub valid : Valid list
+  pub amounts : day ≡ dayFrom (dayAmounts (belongs list))
+
+module _ (b : Book) (s : List ℕ) (day : DayAmounts) (e : day ≡ dayFrom (dayAmounts (load b s))) where
+  pub held : day .number ≡ 0 → Held b s day
+  held z = go (load b s) refl
     where
-      go : (x : Load) → load b s ≡ x → Loaded b s
-      go (belongs l) q = record { is = q ∙ sym (ap (λ (x : Load). belongs (listOf x)) q) }
-      go astray q = let y : named (namesIn (u .units)) ≡ no 16 = answered z ∙ ap unitNames q in let v : _≡_ {A = ℕ} 0 1 = cc in absurd (omega arith)
+      go : (x : Load) → load b s ≡ x → Held b s day
+      go (belongs l) q = record { list = l; is = q; valid = loaded-valid b s l q; amounts = e ∙ ap (λ (x : Load). dayFrom (dayAmounts x)) q }
+      go astray q = absurd (omega (arith, ap (λ (x : DayAmounts). x .number) (e ∙ ap (λ (x : Load). dayFrom (dayAmounts x)) q), number-astray))
 
-  pub is-listed : u .number ≡ 0 → u .units .n ≤ 512 → Listed (listIn b s) (u .units .names) (u .units .n)
-  is-listed z h = record { few = h; names = named-same (answered z ∙ ap unitNames (is-loaded z .is)) }
-
-  pub is-astray : (u .number ≡ 0 → ⊥) → load b s ≡ astray
+  pub is-astray : (day .number ≡ 0 → ⊥) → load b s ≡ astray
   is-astray z = go (load b s) refl
     where
-      other : no (u .number) ≡ unitNames (load b s)
-      other = sym (ap (λ (t : Bool). cond t (named (namesIn (u .units))) (no (u .number))) (ne-eqb (u .number) 0 z)) ∙ e
-
       go : (x : Load) → load b s ≡ x → load b s ≡ astray
       go astray q = q
-      go (belongs l) q = let y : no (u .number) ≡ named (namesOf ghKey (standing l)) = other ∙ ap unitNames q in let v : _≡_ {A = ℕ} 0 1 = cc in absurd (omega arith)
+      go (belongs l) q = absurd (z (ap (λ (x : DayAmounts). x .number) (e ∙ ap (λ (x : Load). dayFrom (dayAmounts x)) q) ∙ number-whole l))
 
--- ---- lengths and room
+pub few-units : {b : Book} {s : List ℕ} {day : DayAmounts} → Held b s day → day .n ≤ 512
+few-units x = subst (λ (d : DayAmounts). d .n ≤ 512) (sym (x .amounts)) (units-are (x .list) (x .valid) .few)
 
-pub text-size : (l : List Change) → length (statementOf l) ≡ length (hoursText l) + length (unitsText l)
-text-size l = ap length (statement-text l) ∙ length-append (hoursText l) (unitsText l)
+pub few-hours : {b : Book} {s : List ℕ} {day : DayAmounts} → Held b s day → FewInAll (day .hours)
+few-hours x = subst (λ (d : DayAmounts). FewInAll (d .hours)) (sym (x .amounts)) (day-few (x .list) (x .valid))
 
-pub room-hours : (l : List Change) (m : ℕ) → Room 145200 (length (statementOf l)) m → Room 77616 (length (hoursText l)) m
-room-hours l m (inl x) = inl (omega arith)
-room-hours l m (inr x) = inr (omega (arith, text-size l))
-
-pub room-units : (l : List Change) (d : List ℕ) {e : List ℕ} {at : ℕ} → (e ≡ put d 0 (hoursText l)) × (at ≡ length (hoursText l)) × (at ≤ 77616) → Room 145200 (length (statementOf l)) (length d) → Room (at + 67584) (at + length (unitsText l)) (length e)
-room-units l d {e} {at} a r = go r
-  where
-    size : length e ≡ length d
-    size = ap length (a .0) ∙ put-length d 0 (hoursText l)
-
-    go : Room 145200 (length (statementOf l)) (length d) → Room (at + 67584) (at + length (unitsText l)) (length e)
-    go (inl x) = inl (omega (arith, size, a .2))
-    go (inr x) = inr (omega (arith, size, a .1, text-size l))
+-- what is written of it is the statement
+pub stated : {b : Book} {s d e : List ℕ} {day : DayAmounts} {r : Cursor} (x : Held b s day) → WritesLines d (record { at = 0 }) (linesOfDay day) e r → Writes d 0 (statementOf (x .list)) e (r .at)
+stated {b} {s} {d} {e} {day} {r} x w =
+    subst (λ (t : List ℕ). Writes d 0 t e (r .at)) (ap (λ (y : DayAmounts). textOf (linesOfDay y)) (x .amounts) ∙ day-text (x .list) (x .valid)) (w .text)
 
 -- ---- the answers
 
@@ -82,25 +84,11 @@ answers-astray {x} d e = subst (λ (y : Load). Answers y d d (record { number = 
   most = λ l q. let v : _≡_ {A = ℕ} 0 1 = cc in absurd (omega arith);
 })
 
-most-is : (l k : List Change) → length (statementOf l) ≤ 145200 → belongs l ≡ belongs k → length (statementOf k) ≤ 145200
-most-is l k h e = subst (λ (j : List Change). length (statementOf j) ≤ 145200) (same-list e) h
-
-pub answers-refused : {x : Load} (d : List ℕ) (l : List Change) → x ≡ belongs l → length d < length (statementOf l) → length (statementOf l) ≤ 145200 → Answers x d d (record { number = 13; len = 0 })
-answers-refused d l e h m =
-    let t : leb (length (statementOf l)) (length d) ≡ _ = lt-leb (length (statementOf l)) (length d) h in
-    subst (λ (y : Load). Answers y d d (record { number = 13; len = 0 })) (sym e) (record { number = rw t; len = rw t; bytes = rw t; most = λ k q. most-is l k m q })
-
-pub answers-written : {x : Load} {d e g : List ℕ} {at len : ℕ} (l : List Change) → x ≡ belongs l → Room 145200 (length (statementOf l)) (length d)
-    → (e ≡ put d 0 (hoursText l)) × (at ≡ length (hoursText l)) × (at ≤ 77616) → (g ≡ put e at (unitsText l)) × (len ≡ at + length (unitsText l)) × (len ≤ at + 67584) → Answers x d g (record { number = 0; len = len })
-answers-written {x} {d} {e} {g} {at} {len} l q r a b =
-    let size : len ≡ length (statementOf l) = omega (arith, text-size l) in
-    let fits : length (statementOf l) ≤ length d = go r (omega arith) in
-    let t = le-leb (length (statementOf l)) (length d) fits in
-    let place : at ≡ 0 + length (hoursText l) = omega arith in
-    let all : length (hoursText l ++ unitsText l) ≡ length (statementOf l) = ap length (sym (statement-text l)) in
-    let z : g ≡ put d 0 (statementOf l) = b .0 ∙ (λ i. put (a .0 i) (place i) (unitsText l)) ∙ put-more d 0 (hoursText l) (unitsText l) (omega arith) ∙ ap (put d 0) (sym (statement-text l)) in
-    subst (λ (y : Load). Answers y d g (record { number = 0; len = len })) (sym q) (record { number = rw t; len = rw t size; bytes = rw t z; most = λ k p. most-is l k (omega arith) p })
-  where
-    go : Room 145200 (length (statementOf l)) (length d) → length (statementOf l) ≤ 145200 → length (statementOf l) ≤ length d
-    go (inl y) h = omega arith
-    go (inr y) h = y
+pub answers-fitted : {x : Load} {d e : List ℕ} {w : Written} (l : List Change) → x ≡ belongs l → length (statementOf l) ≤ longestStatement → Fits (statementOf l) d e w → Answers x d e w
+answers-fitted {x} {d} {e} {w} l q m f =
+    subst (λ (y : Load). Answers y d e w) (sym q) (record {
+      number = f .number;
+      len = f .len;
+      bytes = f .bytes;
+      most = λ k p. subst (λ (j : List Change). length (statementOf j) ≤ longestStatement) (same-list p) m;
+    })

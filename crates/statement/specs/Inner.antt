@@ -1,92 +1,56 @@
--- What the values that inner functions return say. No definition of 01 stands here. Assumes nothing.
+-- What the values that inner functions take and return say. No definition of 01 stands here. Assumes nothing.
 use mathlib.Core.Path.{_≡_}
-use mathlib.Core.Logic.{_⊎_}
-use mathlib.Core.Bool.{Bool, true, false}
-use mathlib.Core.List.{List, [], _++_}
-use Prim.Native.Nat.{ℕ, _+_, _*_, _≤_, _<_}
-use lib.ListN.{length, take, drop}
-use Rattle.money.specs.Names.{nameOk}
-use Rattle.records.specs.Names.{spell, bytesOf}
-use Rattle.book.specs.Layer.{Name, Change, askUnit, got}
-use Rattle.book.specs.declared.journal.Book.{Book}
-use Rattle.book.specs.Amounts.{priceOf}
-use Rattle.book.specs.ByName.{namesOf}
-use Rattle.book.specs.Units.{ghKey}
-use Rattle.book.specs.Register.{standing, startIn}
-use Rattle.book.specs.Meaning.{Load, belongs, astray, load}
+use mathlib.Core.List.{List, [], _∷_, _++_}
+use Prim.Native.Nat.{ℕ, _+_, _-_, _*_, _≤_, _<_}
+use lib.ListN.{length, take, getD}
+use Rattle.records.specs.Changes.{put}
+use Rattle.book.specs.declared.answers.HourAmounts.{HourAmounts}
+use Rattle.book.specs.declared.answers.UnitAmounts.{UnitAmounts}
+use Rattle.book.specs.declared.answers.DayAmounts.{DayAmounts}
+use Rattle.book.specs.Meaning.{guaranteesReply, chargesReply, dayReply}
+use Rattle.book.specs.WholeDay.{noHour}
 use Rattle.statement.specs.Lines.{textOf}
-use Rattle.statement.specs.Sheets.{linesOf}
-use Rattle.statement.specs.Statement.{hourOf, unitOf, unitKey, hoursTo, eachUnit, statementOf}
-use Rattle.statement.specs.declared.texts.Text.{Text}
+use Rattle.statement.specs.Statement.{hourLines, unitLines, hoursTo}
 use Rattle.statement.specs.declared.lines.Line.{Line}
-use Rattle.statement.specs.declared.sheets.Sheet.{Sheet}
+use Rattle.statement.specs.declared.lines.Cursor.{Cursor}
 
--- ---- texts
+-- ---- writing
 
-abbrev pub shown : Text → List ℕ
-shown t = take (t .len) (t .bytes)
+-- xs were put at a place of the bytes d, and r is the place behind them
+pub record Writes (d : List ℕ) (at : ℕ) (xs e : List ℕ) (r : ℕ) : Type 0 where
+  pub room : at + length xs ≤ length d
+  pub bytes : e ≡ put d at xs
+  pub behind : r ≡ at + length xs
 
--- xs were added behind a text, and the places behind them are as they were
-pub record Added (t r : Text) (xs : List ℕ) : Type 0 where
-  pub bytes : shown r ≡ shown t ++ xs
-  pub len : r .len ≡ t .len + length xs
-  pub behind : drop (r .len) (r .bytes) ≡ drop (r .len) (t .bytes)
+-- the text of lines was put at a cursor, none of them longer than 66 bytes
+pub record WritesLines (d : List ℕ) (c : Cursor) (ls : List Line) (e : List ℕ) (r : Cursor) : Type 0 where
+  pub text : Writes d (c .at) (textOf ls) e (r .at)
+  pub few : length (textOf ls) ≤ 66 * length ls
 
--- ---- sheets
+-- ---- the lines of a day's amounts, as the book hands them over
 
--- lines were added behind a sheet's
-pub record Grown (s r : Sheet) (ls : List Line) : Type 0 where
-  pub lines : linesOf r ≡ linesOf s ++ ls
-  pub n : r .n ≡ s .n + length ls
-  pub fits : length (textOf ls) ≤ 66 * length ls
+abbrev pub linesOfHour : ℕ → HourAmounts → List Line
+linesOfHour h a = hourLines h (guaranteesReply (a .guarantees)) (chargesReply (a .imports)) (chargesReply (a .exports))
 
--- the lines of a sheet, none longer than 66 bytes
-pub record Holds (s : Sheet) (ls : List Line) : Type 0 where
-  pub lines : linesOf s ≡ ls
-  pub n : s .n ≡ length ls
-  pub fits : length (textOf ls) ≤ 66 * length ls
+-- hours 1 to n
+abbrev pub linesOfHours : ℕ → List HourAmounts → List Line
+linesOfHours n hs = hoursTo n (λ (h : ℕ). linesOfHour h (getD hs (h - 1) noHour))
 
--- ---- a book and its bytes
+abbrev pub linesOfUnit : UnitAmounts → List Line
+linesOfUnit u = unitLines (u .name) (dayReply (u .day))
 
-abbrev pub listOf : Load → List Change
-listOf (belongs l) = l
-listOf astray = []
+unfoldable pub linesOfUnits : List UnitAmounts → List Line
+linesOfUnits [] = []
+linesOfUnits (u ∷ us) = linesOfUnit u ++ linesOfUnits us
 
--- the changes that they stand for
-unfoldable pub listIn : Book → List ℕ → List Change
-listIn b s = listOf (load b s)
+abbrev pub linesOfDay : DayAmounts → List Line
+linesOfDay d = linesOfHours 24 (d .hours) ++ linesOfUnits (take (d .n) (d .units))
 
--- they belong together
-pub record Loaded (b : Book) (s : List ℕ) : Type 0 where
-  pub is : load b s ≡ belongs (listIn b s)
+-- an hour has at most 16 `IOG`, an `OFF`, 16 `IFC` and 16 `EFC`
+pub record FewLines (a : HourAmounts) : Type 0 where
+  pub credits : a .guarantees .credits .n ≤ 16
+  pub imports : a .imports .charges .n ≤ 16
+  pub exports : a .exports .charges .n ≤ 16
 
-abbrev pub hourIn : List Change → ℕ → List Line
-hourIn l = hourOf (startIn l) (standing l) (priceOf (standing l))
-
-abbrev pub unitIn : List Change → Name → List Line
-unitIn l = unitOf (standing l) (priceOf (standing l))
-
-unfoldable pub hoursText : List Change → List ℕ
-hoursText l = textOf (hoursTo 24 (hourIn l))
-
-unfoldable pub unitsText : List Change → List ℕ
-unitsText l = textOf (eachUnit (unitIn l) (namesOf ghKey (standing l)))
-
--- the first n names are those of the units
-pub record Listed (l : List Change) (ns : List Name) (n : ℕ) : Type 0 where
-  pub few : n ≤ 512
-  pub names : take n ns ≡ namesOf ghKey (standing l)
-
--- a name that can be asked for
-pub record Askable (n : Name) : Type 0 where
-  pub fine : nameOk n ≡ true
-  pub asked : askUnit (spell (bytesOf n)) ≡ got (unitKey n) []
-
--- enough bytes for the most that there can be, or for what there is
-abbrev pub Room : ℕ → ℕ → ℕ → Type 0
-Room most need have = (most ≤ have) ⊎ (need ≤ have)
-
--- the statement has room, or it has none
-abbrev pub Roomy : List Change → ℕ → Bool → Type 0
-Roomy l have true = Room 145200 (length (statementOf l)) have
-Roomy l have false = (have < length (statementOf l)) × (length (statementOf l) ≤ 145200)
+pub record FewInAll (hs : List HourAmounts) : Type 0 where
+  pub hour : (j : ℕ) → j < 24 → (d : HourAmounts) → FewLines (getD hs j d)

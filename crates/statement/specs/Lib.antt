@@ -3,7 +3,6 @@ pub mod DecimalLaws
 pub mod Lines
 pub mod LineLaws
 pub mod PutLaws
-pub mod Sheets
 pub mod Statement
 pub mod Refusal
 pub mod Inner

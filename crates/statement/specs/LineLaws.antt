@@ -4,12 +4,10 @@ use mathlib.Core.List.{List, [], _∷_, _++_, append-assoc, append-nil}
 use mathlib.Core.Bool.{Bool, true, false, cond}
 use Prim.Native.Nat.{ℕ, _+_, _/_, _%_, _≤_, _<_}
 use native.Mathlib.Omega.{arith}
-use native.Mathlib.Numerals.{add-one}
 use lib.Dec.{eqb, ltb→lt}
 use lib.IntN.{ℤ, pos, negsuc, natAbs}
 use lib.Signed.{_≤ℤ_, _<ℤ_}
-use lib.ListN.{length, take, drop, getD, length-append, length-take, take-append-drop}
-use lib.Seq.{take-suc, take-take}
+use lib.ListN.{length, take, length-append, length-take}
 use Rattle.money.specs.Names.{nameOk}
 use Rattle.money.specs.declared.names.Name.{Name}
 use Rattle.records.specs.Numbers.{pad}
@@ -163,14 +161,3 @@ pub text-append : (xs ys : List Line) → textOf (xs ++ ys) ≡ textOf xs ++ tex
 unfolding textOf
 text-append [] ys = refl
 text-append (x ∷ xs) ys = rw (text-append xs ys, append-assoc)
-
--- one more line of a list
-pub text-more : (ls : List Line) (i : ℕ) (d : Line) → i < length ls → textOf (take (i + 1) ls) ≡ textOf (take i ls) ++ lineBytes (getD ls i d)
-text-more ls i d h = rw (add-one, take-suc ls i d h, text-append (take i ls) (getD ls i d ∷ [])) (ap (λ (xs : List ℕ). textOf (take i ls) ++ xs) (text-one (getD ls i d)))
-
--- the text of fewer lines is no longer
-pub text-fewer : (ls : List Line) (i n : ℕ) → i ≤ n → length (textOf (take i ls)) ≤ length (textOf (take n ls))
-text-fewer ls i n h =
-    let xs : List Line = take n ls in
-    let e : textOf (take i ls) ++ textOf (drop i xs) ≡ textOf xs = ap (λ (ys : List Line). textOf ys ++ textOf (drop i xs)) (sym (take-take i n ls h)) ∙ sym (text-append (take i xs) (drop i xs)) ∙ ap textOf (take-append-drop i xs) in
-    omega (arith, ap length e, length-append (textOf (take i ls)) (textOf (drop i xs)))

@@ -4,16 +4,13 @@ use mathlib.Core.Bool.{Bool, true, false, cond}
 use Prim.Native.Nat.{ℕ, _/_, _%_}
 use lib.Dec.{eqb}
 use lib.IntN.{ℤ, pos, negsuc, natAbs}
-use lib.ListN.{length}
 use Rattle.money.specs.Names.{nameOk}
 use Rattle.money.specs.declared.names.Name.{Name}
-use Rattle.records.specs.Numbers.{pad}
 use Rattle.records.specs.Names.{spell, bytesOf}
 use Rattle.statement.specs.Decimal.{twoDigits, decimal}
 use Rattle.statement.specs.declared.lines.Kind.{Kind}
 use Rattle.statement.specs.declared.lines.Kind.the-variants.{Iog, Off, Ifc, Efc, Pcg, Rev, Err}
 use Rattle.statement.specs.declared.lines.Line.{Line}
-use Rattle.statement.specs.declared.texts.Text.{Text}
 
 -- "hour or `DD`"; `05`: the hour in two digits
 unfoldable pub whenBytes : ℕ → List ℕ
@@ -68,10 +65,6 @@ newline = 10 ∷ []
 -- "Fields: hour or `DD`, kind, written name or `-`, dollars with two decimals"; one space between fields, one newline after each line
 unfoldable pub lineBytes : Line → List ℕ
 lineBytes l = whenBytes (l .hour) ++ space ++ kindBytes (l .kind) ++ space ++ nameBytes (l .name) ++ space ++ figure (l .kind) (l .cents .0) ++ newline
-
--- a line as it is handed over: how many bytes it has, and 66 places, with zeros behind the line
-unfoldable pub textFor : List ℕ → Text
-textFor xs = record { len = length xs; bytes = pad 0 66 xs }
 
 -- the text of lines, one after the other
 unfoldable pub textOf : List Line → List ℕ

@@ -10,12 +10,12 @@ use lib.ListN.{length}
 use Rattle.money.specs.Units.{centsOf}
 use Rattle.money.specs.Refusals.{noSpace, priceMissing, notTogether}
 use Rattle.records.specs.Changes.{put}
-use Rattle.book.specs.Layer.{Key, Name, Rec, Change, Gh, Fi, Fe, noOne}
+use Rattle.book.specs.Layer.{Key, Name, Rec, Change, Fi, Fe, noOne}
 use Rattle.book.specs.declared.answers.NamedAmount.{NamedAmount}
 use Rattle.book.specs.Replies.{Reply, refused, accepted, place, number, guarantees, unitDay, charge}
 use Rattle.book.specs.Amounts.{Price, Charges, charged, no, hourKey, priceOf, guaranteesOf, chargesOf, unitDayOf}
 use Rattle.book.specs.ByName.{namesOf}
-use Rattle.book.specs.Units.{ghKey}
+use Rattle.book.specs.Units.{ghKey, unitKey}
 use Rattle.book.specs.Register.{standing, startIn}
 use Rattle.book.specs.Meaning.{Load, belongs, astray}
 use Rattle.statement.specs.Lines.{textOf}
@@ -82,10 +82,6 @@ unitLines n (guarantees cs o) = unitError n
 unitLines n (unitDay t v) = amountLine 0 Pcg n t ∷ amountLine 0 Rev n v ∷ []
 unitLines n (charge t) = unitError n
 
--- the key of a unit's day: its hour is not used
-abbrev pub unitKey : Name → Key
-unitKey n = record { mark = Gh; hour = 1; name = n }
-
 unfoldable pub unitOf : List Rec → (ℕ → Price) → Name → List Line
 unitOf rs price n = unitLines n (unitDayOf (unitKey n) rs price)
 
@@ -109,7 +105,7 @@ statementLines at rs price = hoursTo 24 (hourOf at rs price) ++ eachUnit (unitOf
 unfoldable pub statementOf : List Change → List ℕ
 statementOf l = textOf (statementLines (startIn l) (standing l) (priceOf (standing l)))
 
--- ---- a call for the statement
+-- ---- a call for a text
 
 -- a number, how many bytes were written, and the lent bytes as they are left
 pub record Outcome : Type 0 where
@@ -121,15 +117,33 @@ pub record Outcome : Type 0 where
 abbrev pub fitted : List ℕ → List ℕ → Outcome
 fitted t out = cond (leb (length t) (length out)) (record { number = 0; len = length t; bytes = put out 0 t }) (record { number = noSpace; len = 0; bytes = out })
 
--- "16 comes before all others, for questions too"
-abbrev pub outcomeOf : Load → List ℕ → Outcome
-outcomeOf astray out = record { number = notTogether; len = 0; bytes = out }
-outcomeOf (belongs l) out = fitted (statementOf l) out
+-- a text that is written from the first lent byte on, from the bytes lent to the bytes left
+pub record Fits (t lent left : List ℕ) (w : Written) : Type 0 where
+  pub number : w .number ≡ fitted t lent .number
+  pub len : w .len ≡ fitted t lent .len
+  pub bytes : left ≡ fitted t lent .bytes
 
--- what the call promises, from the bytes lent to the bytes left
-pub record Answers (x : Load) (lent left : List ℕ) (w : Written) : Type 0 where
-  pub number : w .number ≡ outcomeOf x lent .number
-  pub len : w .len ≡ outcomeOf x lent .len
-  pub bytes : left ≡ outcomeOf x lent .bytes
-  -- 24 hours of at most 49 lines and 512 units of 2, each of at most 66 bytes: no statement is longer than `STATEMENT_MAX`
-  pub most : (l : List Change) → x ≡ belongs l → length (statementOf l) ≤ 145200
+-- the text t of the changes in a book; "16 comes before all others, for questions too"
+abbrev pub outcomeBy : (List Change → List ℕ) → Load → List ℕ → Outcome
+outcomeBy t astray out = record { number = notTogether; len = 0; bytes = out }
+outcomeBy t (belongs l) out = fitted (t l) out
+
+-- what a call for it promises, from the bytes lent to the bytes left
+pub record AnswersBy (t : List Change → List ℕ) (longest : ℕ) (x : Load) (lent left : List ℕ) (w : Written) : Type 0 where
+  pub number : w .number ≡ outcomeBy t x lent .number
+  pub len : w .len ≡ outcomeBy t x lent .len
+  pub bytes : left ≡ outcomeBy t x lent .bytes
+  -- no text is longer than this
+  pub most : (l : List Change) → x ≡ belongs l → length (t l) ≤ longest
+
+-- ---- a call for the statement
+
+abbrev pub outcomeOf : Load → List ℕ → Outcome
+outcomeOf x out = outcomeBy statementOf x out
+
+-- 24 hours of at most 49 lines and 512 units of 2, each of at most 66 bytes: no statement is longer than `STATEMENT_MAX`
+abbrev pub longestStatement : ℕ
+longestStatement = 145200
+
+abbrev pub Answers : Load → List ℕ → List ℕ → Written → Type 0
+Answers x lent left w = AnswersBy statementOf longestStatement x lent left w

@@ -1,19 +1,18 @@
 // The statement of the day that a book holds.
-use crate::hours::hour_sheet;
-use crate::sheets::put_sheet;
-use crate::sheets::sheet_len;
-use crate::units::unit_sheet;
+use crate::bytes::write_front;
+use crate::hours::put_hour;
+use crate::lines::Cursor;
+use crate::units::put_unit;
+use book::answers::DayAmounts;
+use book::answers::HourAmounts;
+use book::answers::UnitAmounts;
 use book::journal::Book;
-use book::units::Units;
-use money::refusals::NO_SPACE;
 use money::refusals::NOT_TOGETHER;
-ghost use mathlib.Core.Path.{_≡_};
-ghost use Prim.Native.Nat.{_+_, _≤_};
-ghost use lib.ListN.{length};
-ghost use Rattle.records.specs.Changes.{put};
+ghost use Prim.Native.Nat.{_+_, _*_, _≤_};
+ghost use lib.ListN.{length, take};
 ghost use Rattle.book.specs.Meaning.{load};
 ghost use Rattle.statement.specs.Statement.{Answers};
-ghost use Rattle.statement.specs.Inner.{Loaded, Listed, Room, Roomy, hoursText, unitsText, listIn};
+ghost use Rattle.statement.specs.Inner.{WritesLines, FewInAll, linesOfHours, linesOfUnits, linesOfDay};
 
 // (24 * 49 + 2 * 512) * 66: 24 hours of at most 49 lines, and 2 lines for each of at most 512 units.
 pub const STATEMENT_MAX: usize = 145200;
@@ -24,104 +23,68 @@ pub struct Written {
     pub len: usize,
 }
 
-fn hours_len(book: Book, log: &[u8]) -> usize
-    requires { ⌜ Loaded book (now log) ⌝ }
-    ensures { λ r. ⌜ (r ≡ length (hoursText (listIn book (now (log .entry))))) × (r ≤ 77616) ⌝ }
+// Writes the hours in turn.
+fn put_hours(out: &mut [u8], c: Cursor, hours: [HourAmounts; 24]) -> Cursor
+    requires { ⌜ FewInAll hours × (c .at + 77616 ≤ length (now out)) ⌝ }
+    ensures { λ r. ⌜ WritesLines (now (out .entry)) c (linesOfHours 24 hours) (now (out .exit)) r × (r .at ≤ c .at + 77616) ⌝ }
 {
-    let mut sum: usize = 0;
-    let mut h: u8 = 0;
+    let mut next = c;
+    let mut h: usize = 0;
     while h < 24 {
-        let s = hour_sheet(book, log, h + 1);
-        sum += sheet_len(s);
+        let a = hours[h];
+        next = put_hour(out, next, h as u8 + 1, a);
         h += 1;
     }
-    sum
+    next
 }
 
-fn units_len(book: Book, log: &[u8], units: Units) -> usize
-    requires { ⌜ Loaded book (now log) ⌝ ∗ ⌜ Listed (listIn book (now log)) (units .names) (units .n) ⌝ }
-    ensures { λ r. ⌜ (r ≡ length (unitsText (listIn book (now (log .entry))))) × (r ≤ 67584) ⌝ }
+// Writes the first n units in turn.
+fn put_units(out: &mut [u8], c: Cursor, units: [UnitAmounts; 512], n: usize) -> Cursor
+    requires { ⌜ (n ≤ 512) × (c .at + 67584 ≤ length (now out)) ⌝ }
+    ensures { λ r. ⌜ WritesLines (now (out .entry)) c (linesOfUnits (take n units)) (now (out .exit)) r × (r .at ≤ c .at + 67584) ⌝ }
 {
-    let n = units.n;
-    let mut sum: usize = 0;
+    let mut next = c;
     let mut i: usize = 0;
     while i < n {
-        let name = units.names[i];
-        let s = unit_sheet(book, log, name);
-        sum += sheet_len(s);
+        let u = units[i];
+        next = put_unit(out, next, u);
         i += 1;
     }
-    sum
+    next
 }
 
-// Writes the hours from the first lent byte on. The place behind them.
-fn put_hours(book: Book, log: &[u8], out: &mut [u8]) -> usize
-    requires { ⌜ Loaded book (now log) ⌝ ∗ ⌜ Room 77616 (length (hoursText (listIn book (now log)))) (length (now out)) ⌝ }
-    ensures { λ r. ⌜ (now (out .exit) ≡ put (now (out .entry)) 0 (hoursText (listIn book (now (log .entry))))) × (r ≡ length (hoursText (listIn book (now (log .entry))))) × (r ≤ 77616) ⌝ }
+// Writes all lines of a day from the first byte on.
+fn put_day(out: &mut [u8], day: DayAmounts) -> Cursor
+    requires { ⌜ (day .n ≤ 512) × FewInAll (day .hours) × (145200 ≤ length (now out)) ⌝ }
+    ensures { λ r. ⌜ WritesLines (now (out .entry)) (record { at = 0 }) (linesOfDay day) (now (out .exit)) r × (r .at ≤ 145200) ⌝ }
 {
-    let mut at: usize = 0;
-    let mut h: u8 = 0;
-    while h < 24 {
-        let s = hour_sheet(book, log, h + 1);
-        at = put_sheet(out, at, s);
-        h += 1;
-    }
-    at
-}
-
-// Writes the units at a place of the lent bytes. The place behind them.
-fn put_units(book: Book, log: &[u8], units: Units, out: &mut [u8], from: usize) -> usize
-    requires { ⌜ Loaded book (now log) ⌝ ∗ ⌜ Listed (listIn book (now log)) (units .names) (units .n) ⌝ ∗ ⌜ from ≤ 77616 ⌝ ∗ ⌜ Room (from + 67584) (from + length (unitsText (listIn book (now log)))) (length (now out)) ⌝ }
-    ensures { λ r. ⌜ (now (out .exit) ≡ put (now (out .entry)) from (unitsText (listIn book (now (log .entry))))) × (r ≡ from + length (unitsText (listIn book (now (log .entry))))) × (r ≤ from + 67584) ⌝ }
-{
-    let n = units.n;
-    let mut at = from;
-    let mut i: usize = 0;
-    while i < n {
-        let name = units.names[i];
-        let s = unit_sheet(book, log, name);
-        at = put_sheet(out, at, s);
-        i += 1;
-    }
-    at
-}
-
-// Whether the statement has room in so many bytes. It is measured where the longest would not have it.
-fn has_room(book: Book, log: &[u8], units: Units, have: usize) -> bool
-    requires { ⌜ Loaded book (now log) ⌝ ∗ ⌜ Listed (listIn book (now log)) (units .names) (units .n) ⌝ }
-    ensures { λ r. ⌜ Roomy (listIn book (now (log .entry))) have r ⌝ }
-{
-    if STATEMENT_MAX <= have {
-        return true;
-    }
-    let hours = hours_len(book, log);
-    let need = hours + units_len(book, log, units);
-    if have < need {
-        return false;
-    }
-    true
+    let hours = day.hours;
+    let units = day.units;
+    let c = put_hours(out, Cursor { at: 0 }, hours);
+    put_units(out, c, units, day.n)
 }
 
 // Writes the statement from the first lent byte on: 13 where it is longer than what is lent, 16 where book and log don't
-// belong together. No statement is longer than STATEMENT_MAX.
+// belong together. No statement is longer than STATEMENT_MAX: where less is lent it is written aside first.
 pub fn statement(book: Book, log: &[u8], out: &mut [u8]) -> Written
     ensures { λ r. ⌜ Answers (load book (now (log .entry))) (now (out .entry)) (now (out .exit)) r ⌝ }
 {
-    let list = book.units(log);
-    if list.number != 0 {
+    let day = book.day(log);
+    if day.number != 0 {
         return Written {
             number: NOT_TOGETHER,
             len: 0,
         };
     }
-    let units = list.units;
-    if has_room(book, log, units, out.len()) {
-        let at = put_hours(book, log, out);
-        let len = put_units(book, log, units, out, at);
-        return Written { number: 0, len };
+    if STATEMENT_MAX <= out.len() {
+        let end = put_day(out, day);
+        return Written {
+            number: 0,
+            len: end.at,
+        };
     }
-    Written {
-        number: NO_SPACE,
-        len: 0,
-    }
+    let mut aside = [0u8; STATEMENT_MAX];
+    let end = put_day(&mut aside, day);
+    let len = end.at;
+    write_front(out, &aside[..len])
 }

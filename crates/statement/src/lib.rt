@@ -1,8 +1,7 @@
-// The statement: the text of its lines, sheets of lines, the lines of a book's day; and the line of a refusal.
+// The statement: its lines and their text, the lines of a book's day; and the line of a refusal.
+mod bytes;
 pub mod day;
 mod hours;
 pub mod lines;
 pub mod refusal;
-pub mod sheets;
-pub mod texts;
 mod units;

@@ -1,20 +1,22 @@
 // The lines of the statement, and their text.
-use crate::texts::Text;
-use crate::texts::no_text;
-use crate::texts::with_byte;
-use crate::texts::with_decimal;
-use crate::texts::with_part;
-use crate::texts::with_three;
-use crate::texts::with_two;
+use crate::bytes::put_byte;
+use crate::bytes::put_decimal;
+use crate::bytes::put_part;
+use crate::bytes::put_three;
+use crate::bytes::put_two;
 use money::names::Name;
 use money::units::Cents;
 use records::names::spell_name;
 ghost use mathlib.Core.Path.{_≡_};
-ghost use Prim.Native.Nat.{_≤_};
+ghost use mathlib.Core.List.{[], _∷_};
+ghost use Prim.Native.Nat.{_+_, _≤_, _<_};
 ghost use lib.IntN.{natAbs};
-ghost use lib.ListN.{length, take};
-ghost use Rattle.statement.specs.Lines.{whenBytes, kindBytes, isNumber, nameBytes, sign, figure, lineBytes, textFor};
-ghost use Rattle.statement.specs.Inner.{Added};
+ghost use lib.ListN.{length};
+ghost use Rattle.statement.specs.Lines.{whenBytes, kindBytes, isNumber, nameBytes, sign, figure};
+ghost use Rattle.statement.specs.Inner.{Writes, WritesLines};
+
+// The bytes of the longest line.
+pub const LINE_MAX: usize = 66;
 
 pub enum Kind {
     Iog,
@@ -34,44 +36,50 @@ pub struct Line {
     pub cents: Cents,
 }
 
-// The hour in two digits, or the day.
-fn with_when(t: Text, hour: u8) -> Text
-    requires { ⌜ t .len ≤ 64 ⌝ }
-    ensures { λ r. ⌜ Added t r (whenBytes hour) ⌝ }
-{
-    if hour == 0 {
-        return with_byte(with_byte(t, b'D'), b'D');
-    }
-    with_two(t, hour)
+// Where the next line is written.
+pub(crate) struct Cursor {
+    pub(crate) at: usize,
 }
 
-fn with_kind(t: Text, kind: Kind) -> Text
-    requires { ⌜ t .len ≤ 63 ⌝ }
-    ensures { λ r. ⌜ Added t r (kindBytes kind) ⌝ }
+// The hour in two digits, or the day.
+fn put_when(out: &mut [u8], at: usize, hour: u8) -> usize
+    requires { ⌜ at + 2 ≤ length (now out) ⌝ }
+    ensures { λ r. ⌜ Writes (now (out .entry)) at (whenBytes hour) (now (out .exit)) r ⌝ }
+{
+    if hour == 0 {
+        let second = put_byte(out, at, b'D');
+        return put_byte(out, second, b'D');
+    }
+    put_two(out, at, hour)
+}
+
+fn put_kind(out: &mut [u8], at: usize, kind: Kind) -> usize
+    requires { ⌜ at + 3 ≤ length (now out) ⌝ }
+    ensures { λ r. ⌜ Writes (now (out .entry)) at (kindBytes kind) (now (out .exit)) r ⌝ }
 {
     match kind {
-        Kind::Iog => with_three(t, b'I', b'O', b'G'),
-        Kind::Off => with_three(t, b'O', b'F', b'F'),
-        Kind::Ifc => with_three(t, b'I', b'F', b'C'),
-        Kind::Efc => with_three(t, b'E', b'F', b'C'),
-        Kind::Pcg => with_three(t, b'P', b'C', b'G'),
-        Kind::Rev => with_three(t, b'R', b'E', b'V'),
-        Kind::Err => with_three(t, b'E', b'R', b'R'),
+        Kind::Iog => put_three(out, at, b'I', b'O', b'G'),
+        Kind::Off => put_three(out, at, b'O', b'F', b'F'),
+        Kind::Ifc => put_three(out, at, b'I', b'F', b'C'),
+        Kind::Efc => put_three(out, at, b'E', b'F', b'C'),
+        Kind::Pcg => put_three(out, at, b'P', b'C', b'G'),
+        Kind::Rev => put_three(out, at, b'R', b'E', b'V'),
+        Kind::Err => put_three(out, at, b'E', b'R', b'R'),
     }
 }
 
 // The name as written, or `-` where there is none.
-fn with_name(t: Text, name: Name) -> Text
-    requires { ⌜ t .len ≤ 30 ⌝ }
-    ensures { λ r. ⌜ Added t r (nameBytes name) ⌝ }
+fn put_name(out: &mut [u8], at: usize, name: Name) -> usize
+    requires { ⌜ at + 36 ≤ length (now out) ⌝ }
+    ensures { λ r. ⌜ Writes (now (out .entry)) at (nameBytes name) (now (out .exit)) r ⌝ }
 {
     let s = spell_name(name);
     if s.number != 0 {
-        return with_byte(t, b'-');
+        return put_byte(out, at, b'-');
     }
     let n = s.len as usize;
     let bytes = s.bytes;
-    with_part(t, &bytes[..n])
+    put_part(out, at, &bytes[..n])
 }
 
 fn is_number(kind: Kind) -> bool
@@ -97,39 +105,46 @@ fn magnitude(amount: Cents) -> u64
     amount.0 as u64
 }
 
-fn with_sign(t: Text, cents: Cents) -> Text
-    requires { ⌜ t .len ≤ 65 ⌝ }
-    ensures { λ r. ⌜ Added t r (sign (cents .0)) ⌝ }
+fn put_sign(out: &mut [u8], at: usize, cents: Cents) -> usize
+    requires { ⌜ at < length (now out) ⌝ }
+    ensures { λ r. ⌜ Writes (now (out .entry)) at (sign (cents .0)) (now (out .exit)) r ⌝ }
 {
     if cents.0 < 0 {
-        return with_byte(t, b'-');
+        return put_byte(out, at, b'-');
     }
-    t
+    at
 }
 
 // Dollars with two decimals, or the number of an `Err`.
-fn with_figure(t: Text, kind: Kind, cents: Cents) -> Text
-    requires { ⌜ t .len ≤ 44 ⌝ }
-    ensures { λ r. ⌜ Added t r (figure kind (cents .0)) × (r .len ≤ 65) ⌝ }
+fn put_figure(out: &mut [u8], at: usize, kind: Kind, cents: Cents) -> usize
+    requires { ⌜ at + 21 ≤ length (now out) ⌝ }
+    ensures { λ r. ⌜ Writes (now (out .entry)) at (figure kind (cents .0)) (now (out .exit)) r × (natAbs (cents .0) ≤ 9223372036854775808) ⌝ }
 {
     let n = magnitude(cents);
-    let s = with_sign(t, cents);
+    let first = put_sign(out, at, cents);
     if is_number(kind) {
-        return with_decimal(s, n);
+        return put_decimal(out, first, n);
     }
-    let d = with_decimal(s, n / 100);
-    let p = with_byte(d, b'.');
-    with_two(p, (n % 100) as u8)
+    let point = put_decimal(out, first, n / 100);
+    let decimals = put_byte(out, point, b'.');
+    put_two(out, decimals, (n % 100) as u8)
 }
 
-pub fn line_text(line: Line) -> Text
-    ensures { λ r. ⌜ (take (r .len) (r .bytes) ≡ lineBytes line) × (r .len ≡ length (lineBytes line)) × (r .len ≤ 66) × (r ≡ textFor (lineBytes line)) ⌝ }
+// Writes the text of a line.
+pub(crate) fn put_line(out: &mut [u8], c: Cursor, line: Line) -> Cursor
+    requires { ⌜ c .at + 66 ≤ length (now out) ⌝ }
+    ensures { λ r. ⌜ WritesLines (now (out .entry)) c (line ∷ []) (now (out .exit)) r × (r .at ≤ c .at + 66) ⌝ }
 {
     let kind = line.kind;
     let name = line.name;
     let cents = line.cents;
-    let when = with_byte(with_when(no_text(), line.hour), b' ');
-    let kinded = with_byte(with_kind(when, kind), b' ');
-    let named = with_byte(with_name(kinded, name), b' ');
-    with_byte(with_figure(named, kind, cents), b'\n')
+    let a = put_when(out, c.at, line.hour);
+    let b = put_byte(out, a, b' ');
+    let d = put_kind(out, b, kind);
+    let e = put_byte(out, d, b' ');
+    let f = put_name(out, e, name);
+    let g = put_byte(out, f, b' ');
+    let h = put_figure(out, g, kind, cents);
+    let at = put_byte(out, h, b'\n');
+    Cursor { at }
 }

@@ -1,38 +1,35 @@
 // The line of a refusal.
+use crate::bytes::put_byte;
+use crate::bytes::put_decimal;
+use crate::bytes::put_three;
+use crate::bytes::write_front;
 use crate::day::Written;
-use crate::sheets::put_text;
-use crate::texts::Text;
-use crate::texts::no_text;
-use crate::texts::with_byte;
-use crate::texts::with_decimal;
-use crate::texts::with_three;
-use money::refusals::NO_SPACE;
+use crate::lines::LINE_MAX;
 ghost use mathlib.Core.Path.{_≡_};
 ghost use Prim.Native.Nat.{_≤_};
-ghost use lib.ListN.{length, take};
-ghost use Rattle.statement.specs.Lines.{textFor};
-ghost use Rattle.statement.specs.Refusal.{refusalLine, Fits};
+ghost use lib.ListN.{length};
+ghost use Rattle.statement.specs.Statement.{Fits};
+ghost use Rattle.statement.specs.Refusal.{refusalLine};
+ghost use Rattle.statement.specs.Inner.{Writes};
 
-fn refusal_text(ordinal: u64, number: u8) -> Text
-    ensures { λ r. ⌜ (take (r .len) (r .bytes) ≡ refusalLine ordinal number) × (r .len ≡ length (refusalLine ordinal number)) × (r .len ≤ 66) × (r ≡ textFor (refusalLine ordinal number)) ⌝ }
+// Writes `REF n r` from the first byte on.
+fn put_refusal(out: &mut [u8], ordinal: u64, number: u8) -> usize
+    requires { ⌜ length (now out) ≡ 66 ⌝ }
+    ensures { λ r. ⌜ Writes (now (out .entry)) 0 (refusalLine ordinal number) (now (out .exit)) r ⌝ }
 {
-    let kind = with_byte(with_three(no_text(), b'R', b'E', b'F'), b' ');
-    let counted = with_byte(with_decimal(kind, ordinal), b' ');
-    with_byte(with_decimal(counted, number as u64), b'\n')
+    let a = put_three(out, 0, b'R', b'E', b'F');
+    let b = put_byte(out, a, b' ');
+    let c = put_decimal(out, b, ordinal);
+    let d = put_byte(out, c, b' ');
+    let e = put_decimal(out, d, number as u64);
+    put_byte(out, e, b'\n')
 }
 
 // Writes `REF n r` from the first lent byte on: 13 where it is longer than what is lent. It never needs more than LINE_MAX bytes.
 pub fn refusal(ordinal: u64, number: u8, out: &mut [u8]) -> Written
     ensures { λ r. ⌜ Fits (refusalLine ordinal number) (now (out .entry)) (now (out .exit)) r × (length (refusalLine ordinal number) ≤ 66) ⌝ }
 {
-    let text = refusal_text(ordinal, number);
-    let need = text.len;
-    if out.len() < need {
-        return Written {
-            number: NO_SPACE,
-            len: 0,
-        };
-    }
-    let len = put_text(out, 0, text);
-    Written { number: 0, len }
+    let mut line = [0u8; LINE_MAX];
+    let len = put_refusal(&mut line, ordinal, number);
+    write_front(out, &line[..len])
 }

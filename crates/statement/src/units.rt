@@ -1,50 +1,26 @@
 // The lines of a unit.
 use crate::hours::amount_line;
-use crate::hours::error_sheet;
+use crate::hours::put_error;
+use crate::lines::Cursor;
 use crate::lines::Kind;
-use crate::sheets::Sheet;
-use crate::sheets::blank;
-use crate::sheets::with_line;
-use book::answers::Answer;
-use book::journal::Book;
-use money::names::Name;
-use money::units::Ticks;
-use records::names::spell_name;
-ghost use mathlib.Core.List.{[], _∷_};
-ghost use Prim.Native.Nat.{_≤_};
-ghost use Rattle.book.specs.Meaning.{replyOf};
-ghost use Rattle.statement.specs.Statement.{amountLine, unitLines};
-ghost use Rattle.statement.specs.Inner.{Holds, Loaded, Askable, unitIn, listIn};
+use crate::lines::put_line;
+use book::answers::UnitAmounts;
+ghost use Prim.Native.Nat.{_+_, _≤_};
+ghost use lib.ListN.{length};
+ghost use Rattle.statement.specs.Inner.{WritesLines, linesOfUnit};
 
-// The day total and the reversal.
-fn day_sheet(name: Name, total: Ticks, reversal: Ticks) -> Sheet
-    ensures { λ r. ⌜ Holds r (amountLine 0 Kind.Pcg name (total .0) ∷ amountLine 0 Kind.Rev name (reversal .0) ∷ []) ⌝ }
+// The day total and the reversal of a unit, or its error.
+pub(crate) fn put_unit(out: &mut [u8], c: Cursor, u: UnitAmounts) -> Cursor
+    requires { ⌜ c .at + 132 ≤ length (now out) ⌝ }
+    ensures { λ r. ⌜ WritesLines (now (out .entry)) c (linesOfUnit u) (now (out .exit)) r × (r .at ≤ c .at + 132) ⌝ }
 {
-    let s = with_line(blank(), amount_line(0, Kind::Pcg, name, total));
-    with_line(s, amount_line(0, Kind::Rev, name, reversal))
-}
-
-fn unit_of(name: Name, a: Answer) -> Sheet
-    ensures { λ r. ⌜ Holds r (unitLines name (replyOf a)) × (r .n ≤ 2) ⌝ }
-{
-    match a {
-        Answer::Accepted => error_sheet(0, name),
-        Answer::Refused(_number) => error_sheet(0, name),
-        Answer::Place(_start, _len) => error_sheet(0, name),
-        Answer::Number(_n) => error_sheet(0, name),
-        Answer::Day(total, reversal) => day_sheet(name, total, reversal),
-        Answer::Charge(_ticks) => error_sheet(0, name),
+    let name = u.name;
+    let day = u.day;
+    if day.number != 0 {
+        return put_error(out, c, 0, name);
     }
-}
-
-// The lines of a unit of the book.
-pub(crate) fn unit_sheet(book: Book, log: &[u8], name: Name) -> Sheet
-    requires { ⌜ Loaded book (now log) ⌝ ∗ ⌜ Askable name ⌝ }
-    ensures { λ r. ⌜ Holds r (unitIn (listIn book (now (log .entry))) name) × (r .n ≤ 2) ⌝ }
-{
-    let s = spell_name(name);
-    let n = s.len as usize;
-    let bytes = s.bytes;
-    let a = book.unit_day(log, &bytes[..n]);
-    unit_of(name, a)
+    let total = day.total;
+    let reversal = day.reversal;
+    let rev = put_line(out, c, amount_line(0, Kind::Pcg, name, total));
+    put_line(out, rev, amount_line(0, Kind::Rev, name, reversal))
 }

@@ -3,9 +3,6 @@ use lib.IntN.{ℤ}
 use borrow.Author.Needs.{needs}
 use Rattle.statement.proofs.hours.amount_line.Statement.{statement}
 use Rattle.statement.proofs.hours.amount_line.Tie as tie
-use Rattle.statement.proofs.hours.amount_line.Reads as reads
-use Rattle.statement.proofs.hours.amount_line.Lts as lts
-use Rattle.money.proofs.units.Ticks.cents.Reads as cents-reads
 
 cents-requires : tie.Need-cents-requires
 cents-requires c κs = search needs

@@ -1,29 +1,44 @@
+use Prim.Native.Nat.{ℕ}
+use mathlib.Core.Path.{sym}
+use lib.Seq.{length-take-le}
+use Rattle.statement.proofs.Stating.{fits-front}
+use Rattle.statement.proofs.Refusing.{refusal-length}
 use native.Mathlib.Omega.{arith}
-use Rattle.statement.specs.Refusal.{refusalLine}
-use Rattle.statement.proofs.Refusing.{fits-refused, fits-written}
 use borrow.Author.Needs.{needs}
 use Rattle.statement.proofs.refusal.refusal.Statement.{statement}
 use Rattle.statement.proofs.refusal.refusal.Tie as tie
-use Rattle.statement.proofs.refusal.refusal.Reads as reads
-use Rattle.statement.proofs.refusal.refusal.Lts as lts
-use Rattle.statement.proofs.refusal.refusal_text.Reads as refusal-text-reads
-use Rattle.statement.proofs.sheets.put_text.Reads as put-text-reads
 
-refusal-text-requires : tie.Need-refusal-text-requires
-refusal-text-requires c κs = search needs
+slice-aggregate-put-refusal : tie.Need-slice-aggregate-put-refusal
+slice-aggregate-put-refusal c = search needs
 
-returns : tie.Need-returns
-returns c = (fits-refused (refusalLine ((c .before .before .before .args) .ordinal) ((c .before .before .before .args) .number)) ((c .before .before .before .args) .out .now) ((c .before .refusal-text) .result .len) ((c .before .refusal-text) .ensures .1) (search needs), omega (arith, (c .before .refusal-text) .ensures .1, (c .before .refusal-text) .ensures .2))
+put-refusal-requires : tie.Need-put-refusal-requires
+put-refusal-requires c κs = search needs
 
-put-text-requires : tie.Need-put-text-requires
-put-text-requires c κs = search needs
+array-share-prefix-line : tie.Need-array-share-prefix-line
+array-share-prefix-line c = search needs
+
+slice-aggregate-write-front : tie.Need-slice-aggregate-write-front
+slice-aggregate-write-front c = sym (length-take-le {A = ℕ} ((c .before .before .before .put-refusal) .result) ((c .before .before .before .put-refusal) .last .0) (omega (arith, (c .before .before .before .put-refusal) .ensures .behind, (c .before .before .before .put-refusal) .ensures .room)))
+
+write-front-requires : tie.Need-write-front-requires
+write-front-requires c κs = search needs
 
 same-length : tie.Need-same-length
 same-length c = search needs
 
-returns-2 : tie.Need-returns-2
-returns-2 c = (fits-written (refusalLine ((c .before .before .before .before .before .before .before .args) .ordinal) ((c .before .before .before .before .before .before .before .args) .number)) ((c .before .before .before .before .before .before .before .args) .out .now) ((c .before .before .before .before .before .refusal-text) .ensures .0) ((c .before .before .before .before .before .refusal-text) .ensures .1) (search needs) ((c .before .before .put-text) .ensures .0) ((c .before .before .put-text) .ensures .1), omega (arith, (c .before .before .before .before .before .refusal-text) .ensures .1, (c .before .before .before .before .before .refusal-text) .ensures .2))
+returns : tie.Need-returns
+returns c =
+    let f = (c .before .before .before .before .before .before .before .before .before .fits) .ordinal in let g = (c .before .before .before .before .before .before .before .before .before .fits) .number in
+    (fits-front ((c .before .before .before .before .before .before .put-refusal) .ensures) ((c .before .before .write-front) .ensures), refusal-length ((c .before .before .before .before .before .before .before .before .before .args) .ordinal) ((c .before .before .before .before .before .before .before .before .before .args) .number) (omega arith) (omega arith))
 
 pub refusal-spec : {M : Type 1} → statement M
 refusal-spec =
-    tie.close (tie.spec refusal-text-requires returns put-text-requires same-length returns-2)
+    tie.close
+    (tie.spec
+    slice-aggregate-put-refusal
+    put-refusal-requires
+    array-share-prefix-line
+    slice-aggregate-write-front
+    write-front-requires
+    same-length
+    returns)

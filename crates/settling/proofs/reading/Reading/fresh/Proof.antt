@@ -3,9 +3,6 @@ use Rattle.book.specs.declared.journal.Book.{Book}
 use borrow.Author.Needs.{needs}
 use Rattle.settling.proofs.reading.Reading.fresh.Statement.{statement}
 use Rattle.settling.proofs.reading.Reading.fresh.Tie as tie
-use Rattle.settling.proofs.reading.Reading.fresh.Reads as reads
-use Rattle.settling.proofs.reading.Reading.fresh.Lts as lts
-use Rattle.book.proofs.journal.Book.fresh.Reads as fresh-reads
 
 fresh-requires : tie.Need-fresh-requires
 fresh-requires c κs = search needs

@@ -1,12 +1,9 @@
-use Rattle.settling.proofs.Taking.{prints-statement, prints-refusal}
+use Rattle.settling.proofs.Taking.{prints-text, prints-refusal}
+use Rattle.statement.specs.Statement.{statementOf, longestStatement}
+use native.Mathlib.Omega.{arith}
 use borrow.Author.Needs.{needs}
 use Rattle.settling.proofs.reading.Reading.output.Statement.{statement}
 use Rattle.settling.proofs.reading.Reading.output.Tie as tie
-use Rattle.settling.proofs.reading.Reading.output.Reads as reads
-use Rattle.settling.proofs.reading.Reading.output.Lts as lts
-use Rattle.settling.proofs.reading.Reading.ordinal.Reads as ordinal-reads
-use Rattle.statement.proofs.day.statement.Reads as statement-reads
-use Rattle.statement.proofs.refusal.refusal.Reads as refusal-reads
 
 statement-requires : tie.Need-statement-requires
 statement-requires c κs = search needs
@@ -15,7 +12,7 @@ same-length : tie.Need-same-length
 same-length c = search needs
 
 returns : tie.Need-returns
-returns c = prints-statement ((c .before .before .before .before .before .before .before .before .args) .self) _ ((c .before .before .before .before .before .before .before .before .args) .out .now) _ ((c .before .before .statement) .result) ((c .before .before .before .before .if1) .taken) ((c .before .before .statement) .ensures)
+returns c = prints-text statementOf longestStatement ((c .before .before .before .before .before .before .before .before .args) .self) _ ((c .before .before .before .before .before .before .before .before .args) .out .now) _ ((c .before .before .statement) .result) ((c .before .before .before .before .if1) .taken) ((c .before .before .statement) .ensures)
 
 ordinal-requires : tie.Need-ordinal-requires
 ordinal-requires c κs = search needs
@@ -27,7 +24,7 @@ same-length-2 : tie.Need-same-length-2
 same-length-2 c = search needs
 
 returns-2 : tie.Need-returns-2
-returns-2 c = prints-refusal ((c .before .before .before .before .before .before .before .before .before .args) .self) _ ((c .before .before .before .before .before .before .before .before .before .args) .out .now) _ ((c .before .before .refusal) .result) ((c .before .before .before .before .ordinal) .result) ((c .before .before .before .before .before .if1) .left) ((c .before .before .before .before .ordinal) .ensures) ((c .before .before .refusal) .ensures)
+returns-2 c = prints-refusal statementOf longestStatement ((c .before .before .before .before .before .before .before .before .before .args) .self) _ ((c .before .before .before .before .before .before .before .before .before .args) .out .now) _ ((c .before .before .refusal) .result) ((c .before .before .before .before .ordinal) .result) (omega arith) ((c .before .before .before .before .before .if1) .left) ((c .before .before .before .before .ordinal) .ensures) ((c .before .before .refusal) .ensures)
 
 pub output-spec : {M : Type 1} → statement M
 output-spec =

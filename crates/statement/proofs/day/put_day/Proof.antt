@@ -1,0 +1,20 @@
+use Rattle.statement.proofs.Writing.{lines-then, lines-size}
+use native.Mathlib.Omega.{arith}
+use borrow.Author.Needs.{needs}
+use Rattle.statement.proofs.day.put_day.Statement.{statement}
+use Rattle.statement.proofs.day.put_day.Tie as tie
+
+put-hours-requires : tie.Need-put-hours-requires
+put-hours-requires c κs = ((c .before .before .before .before .pre) .1, omega (arith, (c .before .before .before .before .pre) .2))
+
+put-units-requires : tie.Need-put-units-requires
+put-units-requires c κs = ((c .before .before .before .before .before .before .before .before .pre) .0, omega (arith, (c .before .before .before .before .before .before .before .before .pre) .2, (c .before .before .before .put-hours) .ensures .1, lines-size ((c .before .before .before .put-hours) .ensures .0)))
+
+same-length : tie.Need-same-length
+same-length c = search needs
+
+returns : tie.Need-returns
+returns c = (lines-then ((c .before .before .before .before .before .before .put-hours) .ensures .0) ((c .before .before .put-units) .ensures .0), omega (arith, (c .before .before .before .before .before .before .put-hours) .ensures .1, (c .before .before .put-units) .ensures .1))
+
+pub put-day-spec : {M : Type 1} → statement M
+put-day-spec = tie.close (tie.spec put-hours-requires put-units-requires same-length returns)

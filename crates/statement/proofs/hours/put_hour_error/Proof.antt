@@ -1,0 +1,23 @@
+use mathlib.Core.Path.{ap}
+use mathlib.Core.List.{[], _∷_}
+use Rattle.money.specs.declared.names.Name.{Name}
+use Rattle.statement.specs.Statement.{errorLine}
+use Rattle.statement.proofs.Writing.{lines-as}
+use borrow.Author.Needs.{needs}
+use Rattle.statement.proofs.hours.put_hour_error.Statement.{statement}
+use Rattle.statement.proofs.hours.put_hour_error.Tie as tie
+
+no-name-requires : tie.Need-no-name-requires
+no-name-requires c κs = search needs
+
+put-error-requires : tie.Need-put-error-requires
+put-error-requires c κs = search needs
+
+same-length : tie.Need-same-length
+same-length c = search needs
+
+returns : tie.Need-returns
+returns c = (lines-as (ap (λ (n : Name). errorLine ((c .before .before .before .before .before .before .args) .hour) n ∷ []) ((c .before .before .before .no-name) .ensures)) ((c .before .before .put-error) .ensures .0), (c .before .before .put-error) .ensures .1)
+
+pub put-hour-error-spec : {M : Type 1} → statement M
+put-hour-error-spec = tie.close (tie.spec no-name-requires put-error-requires same-length returns)

@@ -1,0 +1,41 @@
+use mathlib.Core.Path.{ap, _∙_}
+use Rattle.money.specs.declared.names.Name.{Name}
+use Rattle.statement.specs.Statement.{amountLine}
+use Rattle.statement.specs.declared.lines.Kind.the-variants.{Off}
+use mathlib.Core.List.{[], _∷_}
+use borrow.Author.Tests.{eq-eqb, ne-eqb}
+use Rattle.statement.specs.declared.lines.Line.{Line}
+use Rattle.statement.proofs.Writing.{lines-none, lines-as}
+use native.Mathlib.Omega.{arith}
+use borrow.Author.Needs.{needs}
+use Rattle.statement.proofs.hours.put_offset.Statement.{statement}
+use Rattle.statement.proofs.hours.put_offset.Tie as tie
+
+returns : tie.Need-returns
+returns c = (rw (eq-eqb _ 0 ((c .if1) .taken)) (lines-none ((c .before .before .args) .out .now) ((c .before .before .args) .c) (omega arith)), omega arith)
+
+no-name-requires : tie.Need-no-name-requires
+no-name-requires c κs = search needs
+
+amount-line-requires : tie.Need-amount-line-requires
+amount-line-requires c κs = search needs
+
+put-line-requires : tie.Need-put-line-requires
+put-line-requires c κs = search needs
+
+same-length : tie.Need-same-length
+same-length c = search needs
+
+returns-2 : tie.Need-returns-2
+returns-2 c = (rw (ne-eqb _ 0 ((c .before .before .before .before .before .before .if1) .left)) (lines-as (ap (λ (l : Line). l ∷ []) ((c .before .before .before .amount-line) .ensures ∙ ap (λ (n : Name). amountLine ((c .before .before .before .before .before .before .before .before .args) .hour) Off n ((c .before .before .before .before .before .before .before .before .args) .offset .0)) ((c .before .before .before .before .no-name) .ensures))) ((c .before .before .put-line) .ensures .0)), (c .before .before .put-line) .ensures .1)
+
+pub put-offset-spec : {M : Type 1} → statement M
+put-offset-spec =
+    tie.close
+    (tie.spec
+    returns
+    no-name-requires
+    amount-line-requires
+    put-line-requires
+    same-length
+    returns-2)

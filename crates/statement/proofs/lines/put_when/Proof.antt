@@ -1,0 +1,41 @@
+use Rattle.statement.specs.Lines.{whenBytes}
+use Rattle.statement.proofs.Writing.{writes-then}
+use borrow.Author.Tests.{eq-eqb, ne-eqb}
+use borrow.Author.Needs.{needs}
+use Rattle.statement.proofs.lines.put_when.Statement.{statement}
+use Rattle.statement.proofs.lines.put_when.Tie as tie
+
+put-byte-requires : tie.Need-put-byte-requires
+put-byte-requires c κs = search needs
+
+put-byte-requires-2 : tie.Need-put-byte-requires-2
+put-byte-requires-2 c κs = search needs
+
+same-length : tie.Need-same-length
+same-length c = search needs
+
+returns : tie.Need-returns
+unfolding whenBytes
+returns c = rw (eq-eqb _ 0 ((c .before .before .before .before .before .before .before .before .if1) .taken)) (writes-then ((c .before .before .before .before .before .before .put-byte) .ensures) ((c .before .before .put-byte2) .ensures))
+
+put-two-requires : tie.Need-put-two-requires
+put-two-requires c κs = search needs
+
+same-length-2 : tie.Need-same-length-2
+same-length-2 c = search needs
+
+returns-2 : tie.Need-returns-2
+unfolding whenBytes
+returns-2 c = rw (ne-eqb _ 0 ((c .before .before .before .before .if1) .left)) ((c .before .before .put-two) .ensures)
+
+pub put-when-spec : {M : Type 1} → statement M
+put-when-spec =
+    tie.close
+    (tie.spec
+    put-byte-requires
+    put-byte-requires-2
+    same-length
+    returns
+    put-two-requires
+    same-length-2
+    returns-2)
