@@ -1,3 +1,5 @@
-pub mod Filing
 pub mod Bits
 pub mod Calling
+pub mod Placing
+pub mod Ending
+pub mod Tallying

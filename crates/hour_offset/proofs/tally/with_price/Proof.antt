@@ -1,0 +1,19 @@
+use Rattle.hour_offset.proofs.Placing.{adds-no, adds-price}
+use mathlib.Core.Path.{sym, ap}
+use mathlib.Core.Bool.{Bool, cond}
+use native.Mathlib.Omega.{arith}
+use borrow.Author.Needs.{needs}
+use Rattle.hour_offset.proofs.tally.with_price.Statement.{statement}
+use Rattle.hour_offset.proofs.tally.with_price.Tie as tie
+
+refused-requires : tie.Need-refused-requires
+refused-requires c κs = search needs
+
+returns : tie.Need-returns
+returns c = adds-no _ _ ((c .before .before .args) .t) _ 10 ((c .before .before .pre)) ((c .refused) .ensures) (sym (ap (λ (b : Bool). cond b 10 0) ((c .before .if1) .taken))) (λ q. omega arith)
+
+returns-2 : tie.Need-returns-2
+returns-2 c = adds-price ((c .before .before .before .args) .t) ((c .before .before .before .args) .at) ((c .before .before .before .pre)) ((c .before .before .if1) .left)
+
+pub with-price-spec : {M : Type 1} → statement M
+with-price-spec = tie.close (tie.spec refused-requires returns returns-2)
