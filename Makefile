@@ -14,6 +14,8 @@ SETTLE = target/bin/settle
 ARCHIVE = target/staticlib/libhour_offset.a
 RECORDTEXT = recordtext/target/release/recordtext
 SETTLE_DAY = recordtext/target/release/settle-day
+PEER_SETTLE = peer/target/release/peer-settle
+CALL_STACK = target/call_stack
 
 bin = $(DESTDIR)$(PREFIX)/bin
 include = $(DESTDIR)$(PREFIX)/include
@@ -26,13 +28,17 @@ installed = $(bin)/settle $(bin)/settle-day $(bin)/recordtext \
 	$(man)/man1/settle.1 $(man)/man1/settle-day.1 $(man)/man1/recordtext.1 $(man)/man3/pewatuno_hour_offset.3 \
 	$(man)/man5/pewatuno-records.5 $(man)/man7/pewatuno-amounts.7 $(doc)
 
-.PHONY: help build settle archive recordtext peer sample test bench install uninstall clean
+measure = $(CARGO) run --offline --release --manifest-path bench/Cargo.toml --bin
+costs = $(measure) costs $(SETTLE) $(PEER_SETTLE) $(CALL_STACK)
+
+.PHONY: help build settle archive bridge recordtext peer call-stack sample test bench costs install uninstall clean
 
 help:
 	@echo 'make build      prove and build the program settle and the archive for C, build settle-day and recordtext'
 	@echo 'make sample     prove and build settle, and settle a sample day (SAMPLE=$(SAMPLE); see samples/README.md)'
 	@echo 'make test       run every test, from nothing'
-	@echo 'make bench      hold the proved side against the independent one, and time both'
+	@echo 'make bench      hold the proved side against the independent one, and measure both'
+	@echo 'make costs      measure both: instructions, times, stack'
 	@echo 'make install    install what build made (PREFIX=$(PREFIX), DESTDIR=$(DESTDIR))'
 	@echo 'make uninstall  remove what install put there'
 	@echo 'make clean      remove everything that was built'
@@ -46,11 +52,17 @@ settle:
 archive:
 	$(RT) staticlib hour_offset
 
+bridge:
+	$(RT) staticlib bridge
+
 recordtext:
 	$(CARGO) build --offline --release --manifest-path recordtext/Cargo.toml
 
 peer:
 	$(CARGO) build --offline --release --manifest-path peer/Cargo.toml
+
+call-stack: archive
+	$(CC) -std=c99 -O1 -Wall -Wextra -Iinclude bench/call_stack.c $(ARCHIVE) -pthread -o $(CALL_STACK)
 
 sample: settle recordtext
 	PEWATUNO_SETTLE=$(SETTLE) $(SETTLE_DAY) samples/$(SAMPLE).rec
@@ -58,12 +70,13 @@ sample: settle recordtext
 test:
 	./test
 
-bench: settle peer
-	$(RT) staticlib bridge
-	$(RT) staticlib hour_offset
-	$(CARGO) run --offline --release --manifest-path bench/Cargo.toml --bin bench
-	$(CARGO) run --offline --release --manifest-path bench/Cargo.toml --bin speed
-	bench/settle $(SETTLE) peer/target/release/peer-settle samples/empty.rec samples/ordinary.rec samples/busy.rec
+bench: settle peer bridge archive call-stack
+	$(measure) bench
+	$(measure) speed
+	$(costs)
+
+costs: settle peer bridge archive call-stack
+	$(costs)
 
 # Builds nothing, so that it can run with other rights than the build.
 install:

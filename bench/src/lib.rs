@@ -11,7 +11,12 @@
 //! - [`tally`]: how often each number occurred.
 //! - [`report`]: calls and mismatches as text.
 //! - [`options`], [`run`]: the differential test as a program.
-//! - [`timing`], [`workloads`]: medians of several runs, and the work timed.
+//! - [`timing`], [`callgrind`], [`stack`]: medians of several runs, counted
+//!   instructions, and the least stack.
+//! - [`workloads`]: the calls that are measured.
+//! - [`programs`], [`one_byte`]: the settle programs that are measured, and an
+//!   input of which each read brings one byte.
+//! - [`worst_day`]: the day that costs the proved book most.
 //! - `mock`: the C interface over the peer, with deliberate bugs (feature
 //!   `mock` only).
 
@@ -22,17 +27,22 @@ pub mod answer;
 pub mod beyond;
 pub mod bridge;
 pub mod call;
+pub mod callgrind;
 pub mod compare;
 pub mod draw;
 pub mod generate;
 #[cfg(feature = "mock")]
 pub mod mock;
+pub mod one_byte;
 pub mod options;
 pub mod peer_side;
+pub mod programs;
 pub mod proved_side;
 pub mod report;
 pub mod run;
 pub mod shrink;
+pub mod stack;
 pub mod tally;
 pub mod timing;
 pub mod workloads;
+pub mod worst_day;

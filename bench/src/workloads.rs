@@ -1,8 +1,9 @@
-//! The work that is timed, the same on both sides.
+//! The work that is measured, the same on both sides.
 
 use crate::bridge::{
     self, Layer, Layers, State, GUARANTEE_AMOUNTS, GUARANTEE_SIZES, STATEMENT_MOST,
 };
+use crate::callgrind::counted;
 use crate::generate::sweeps_records::full_unit;
 use crate::peer_side::{self, feed_book};
 use crate::timing::{timed, Pace, Times};
@@ -24,17 +25,26 @@ const DAY: usize = 600;
 pub struct Row {
     /// The work in words.
     pub label: String,
-    /// The times, none where the layer is missing.
+    /// The times, none where the layer is missing and where none are taken.
     pub times: Option<Times>,
 }
 
-/// Which layers there are and how long to take.
+/// What is done with a piece of work.
+#[derive(Clone, Copy)]
+pub enum Measure {
+    /// It is timed on both sides.
+    Times(Pace),
+    /// It is done once for callgrind, by the proved side and then by the peer.
+    Instructions,
+}
+
+/// Which layers there are and what to measure.
 #[derive(Clone, Copy)]
 pub struct Bench {
     /// The proved side's layers.
     pub layers: Layers,
-    /// The pace.
-    pub pace: Pace,
+    /// What is measured.
+    pub measure: Measure,
 }
 
 impl Bench {
@@ -51,19 +61,38 @@ impl Bench {
         }
         assert_eq!(proved(), 0, "the proved side refuses: {label}");
         assert!(peer(), "the peer refuses: {label}");
-        let times = timed(
-            self.pace,
-            || {
-                black_box(proved());
-            },
-            || {
-                black_box(peer());
-            },
-        );
-        Row {
-            label,
-            times: Some(times),
-        }
+        let mut proved = || {
+            black_box(proved());
+        };
+        let mut peer = || {
+            black_box(peer());
+        };
+        let times = match self.measure {
+            Measure::Times(pace) => Some(timed(pace, proved, peer)),
+            Measure::Instructions => {
+                counted(&mut proved);
+                counted(&mut peer);
+                None
+            }
+        };
+        Row { label, times }
+    }
+
+    /// One call of each kind, on books of 512 changes.
+    pub fn calls(self) -> Vec<Row> {
+        vec![
+            self.hour_offset(),
+            self.statement("512 changes", &Kept::of(&filings(512))),
+            self.statement("512 changes, a unit", &Kept::filled(&unit_hours(), 512)),
+            self.amount("a unit's hour, full", &full_unit()),
+            self.unit_day(512),
+            self.full_hour(512),
+            self.charge(512),
+            self.question(512),
+            self.filing(512),
+            self.fed_day(),
+            self.record("GH, full", &full_unit()),
+        ]
     }
 
     /// Reading and writing of each record.
@@ -93,23 +122,23 @@ impl Bench {
 
     /// Amounts of single records.
     pub fn amounts(self) -> Vec<Row> {
+        vec![
+            self.amount("an import, 1 pair", &import(b"A", &[(4000, 100)])),
+            self.amount("an import, 20 pairs", &import(b"A", &twenty(5))),
+            self.amount("a unit's hour, full", &full_unit()),
+            self.amount("a failed import", &failure(b"FI", 5, b"A")),
+        ]
+    }
+
+    fn amount(self, label: &str, record: &[u8]) -> Row {
         let prices = raw::price(5, [3000; 12], 3000);
-        let records = [
-            ("an import, 1 pair", import(b"A", &[(4000, 100)])),
-            ("an import, 20 pairs", import(b"A", &twenty(5))),
-            ("a unit's hour, full", full_unit()),
-            ("a failed import", failure(b"FI", 5, b"A")),
-        ];
-        let rows = records.iter().map(|(label, record)| {
-            let mut amounts = [0];
-            self.row(
-                format!("amount of {label}"),
-                Layer::Amounts,
-                || bridge::amount(black_box(&prices), black_box(record), &mut amounts),
-                || peer_side::amount(black_box(&prices), black_box(record)).is_ok(),
-            )
-        });
-        rows.collect()
+        let mut amounts = [0];
+        self.row(
+            format!("amount of {label}"),
+            Layer::Amounts,
+            || bridge::amount(black_box(&prices), black_box(record), &mut amounts),
+            || peer_side::amount(black_box(&prices), black_box(record)).is_ok(),
+        )
     }
 
     /// One call on books of each size: the last change filed and taken back.
@@ -131,6 +160,23 @@ impl Bench {
                 number | proved.change(4, b"TB")
             },
             || peer.peer_change(last) && peer.peer_change(b"TB"),
+        )
+    }
+
+    /// The last change filed again and again into the book before it, whose
+    /// numbers are left as they are.
+    fn filing(self, size: usize) -> Row {
+        let filings = filings(size);
+        let (last, before) = filings.split_last().expect("a filing");
+        let kept = Kept::of(before);
+        let (state, book) = (kept.state, kept.book());
+        let (mut proved, mut peer) = (kept.bytes.clone(), kept.bytes);
+        let mut numbers = [0; 3];
+        self.row(
+            format!("file change {size}"),
+            Layer::Book,
+            || bridge::change(1, state, &mut numbers, &mut proved, black_box(last)),
+            || book.change(&mut peer, black_box(last)).1.is_ok(),
         )
     }
 
@@ -397,7 +443,7 @@ fn filings(count: usize) -> Vec<Vec<u8>> {
 }
 
 /// The prices of one hour, sixteen imports and sixteen exports.
-fn full_hour() -> Vec<Vec<u8>> {
+pub fn full_hour() -> Vec<Vec<u8>> {
     let mut records = vec![raw::price(5, [3000; 12], 3000)];
     for place in 0..16_u8 {
         let name = RawName::of(&[b'P' - place]);

@@ -2,7 +2,7 @@
 
 use pewatuno_bench::bridge::{self, Layer};
 use pewatuno_bench::timing::{readable, Pace};
-use pewatuno_bench::workloads::{Bench, Row, BOOKS};
+use pewatuno_bench::workloads::{Bench, Measure, Row, BOOKS};
 use std::env;
 use std::process::ExitCode;
 
@@ -20,7 +20,9 @@ fn main() -> ExitCode {
     };
     match bridge::open() {
         Ok(layers) => {
-            print_all(Bench { layers, pace });
+            print_head(pace);
+            let measure = Measure::Times(pace);
+            print_all(Bench { layers, measure });
             match Layer::ALL.into_iter().all(|layer| layers.has(layer)) {
                 true => ExitCode::SUCCESS,
                 false => ExitCode::FAILURE,
@@ -34,7 +36,6 @@ fn main() -> ExitCode {
 }
 
 fn print_all(bench: Bench) {
-    print_head(bench.pace);
     print_rows(&bench.records());
     print_rows(&bench.amounts());
     let changes = bench.changes();
