@@ -13,8 +13,8 @@ use Rattle.book.specs.declared.rows.Seek.{Seek}
 use Rattle.book.specs.declared.places.Spot.{Spot}
 use Rattle.book.specs.declared.places.Places.{Places}
 use Rattle.book.specs.declared.prices.HourPrice.{HourPrice}
-use Rattle.book.specs.Register.{standing, startIn, ask, failureCharge, Reply, refused, answered, stepOf}
-use Rattle.book.specs.Amounts.{Price, hourKey, priceOf, chargeOf, Charges, charged, no, chargesOf}
+use Rattle.book.specs.Register.{standing, ask, failureCharge, Reply, refused, answered, stepOf}
+use Rattle.book.specs.Amounts.{HourPricing, hourKey, priceOf, chargeOf, ChargesReply, charged, no, chargesOf}
 use Rattle.book.specs.ByName.{byName}
 use Rattle.book.specs.Meaning.{Load, belongs, astray, Meets, chargesKeyed, hourCharges}
 use Rattle.book.specs.Places.{spotOf, spots}
@@ -82,15 +82,15 @@ module _ {s rows : List ℕ} {n h : ℕ} {m : Mark} {p : Places} (w : Passed s r
 -- ---- of a key: f is what was sought
 
 module _ {s rows : List ℕ} {n : ℕ} {k : Key} {f : Seek} (ef : Finds s rows n k f) (wk : Wellformed k) where
-  pub key-absent : f .found ≡ false → (l : List Change) → Logged s rows n l → (q : ℕ → Price) → refused 11 ≡ chargeOf k (standing l) q
+  pub key-absent : f .found ≡ false → (l : List Change) → Logged s rows n l → (q : ℕ → HourPricing) → refused 11 ≡ chargeOf k (standing l) q
   key-absent h l g q = charge-absent (begun g) k q (sym (sought ef wk l g .found) ∙ h)
 
   module _ (hf : f .found ≡ true) {p : HourPrice} where
-    pub key-unpriced : p .known ≡ false → (l : List Change) → Logged s rows n l → (q : ℕ → Price) → PriceIs (q (k .hour)) p → refused 15 ≡ chargeOf k (standing l) q
+    pub key-unpriced : p .known ≡ false → (l : List Change) → Logged s rows n l → (q : ℕ → HourPricing) → PriceIs (q (k .hour)) p → refused 15 ≡ chargeOf k (standing l) q
     key-unpriced h l g q w = charge-unpriced (begun g) k q (sym (sought ef wk l g .found) ∙ hf) (unknown-unpriced w h)
 
     pub key-charged : p .known ≡ true → (t : Answer) → t ≡ chargeIn (k .mark) (drop (f .start) s) (p .prices)
-        → (l : List Change) → Logged s rows n l → isFailure (k .mark) ≡ true → (q : ℕ → Price) → PriceIs (q (k .hour)) p → chargeReply t ≡ chargeOf k (standing l) q
+        → (l : List Change) → Logged s rows n l → isFailure (k .mark) ≡ true → (q : ℕ → HourPricing) → PriceIs (q (k .hour)) p → chargeReply t ≡ chargeOf k (standing l) q
     key-charged h t et l g b q w =
         let a = sought ef wk l g in
         ap chargeReply (et ∙ ap (λ (x : ℕ). chargeIn (k .mark) (drop x s) (p .prices)) (a .start hf))
@@ -99,20 +99,20 @@ module _ {s rows : List ℕ} {n : ℕ} {k : Key} {f : Seek} (ef : Finds s rows n
 -- ---- of a mark and hour: p are the places of its failures
 
 module _ {s rows : List ℕ} {n h : ℕ} {m : Mark} {p : Places} (w : Passed s rows n m h p) where
-  pub hour-absent : p .n ≡ 0 → {r : Charges} → r ≡ noCharges 0 → (l : List Change) → Logged s rows n l → (q : ℕ → Price) → r ≡ chargesOf (startIn l) (hourKey m h) (standing l) q
+  pub hour-absent : p .n ≡ 0 → {r : ChargesReply} → r ≡ noCharges 0 → (l : List Change) → Logged s rows n l → (q : ℕ → HourPricing) → r ≡ chargesOf (hourKey m h) (standing l) q
   hour-absent z er l g q = er ∙ charges-absent (begun g) m h q (passed-size w g ∙ z)
 
   module _ (some : p .n ≡ 0 → ⊥) where
     not-none : {l : List Change} → Logged s rows n l → length (byName (hourKey m h) (standing l)) ≡ 0 → ⊥
     not-none g z = some (sym (passed-size w g) ∙ z)
 
-    pub hour-unpriced : {v : HourPrice} → v .known ≡ false → {r : Charges} → r ≡ noCharges 15
-        → (l : List Change) → Logged s rows n l → (q : ℕ → Price) → PriceIs (q h) v → r ≡ chargesOf (startIn l) (hourKey m h) (standing l) q
+    pub hour-unpriced : {v : HourPrice} → v .known ≡ false → {r : ChargesReply} → r ≡ noCharges 15
+        → (l : List Change) → Logged s rows n l → (q : ℕ → HourPricing) → PriceIs (q h) v → r ≡ chargesOf (hourKey m h) (standing l) q
     hour-unpriced e er l g q y = er ∙ charges-unpriced (begun g) m h q (not-none g) (unknown-unpriced y e)
 
     pub hour-charged : {v : HourPrice} → v .known ≡ true → (ts : List Ticks) → take (p .n) ts ≡ chargesIn s m (v .prices) (take (p .n) (p .at))
-        → (l : List Change) → Logged s rows n l → isFailure m ≡ true → (q : ℕ → Price) → PriceIs (q h) v
-        → charged (namedOf (take (p .n) (p .at)) (take (p .n) ts)) ≡ chargesOf (startIn l) (hourKey m h) (standing l) q
+        → (l : List Change) → Logged s rows n l → isFailure m ≡ true → (q : ℕ → HourPricing) → PriceIs (q h) v
+        → charged (namedOf (take (p .n) (p .at)) (take (p .n) ts)) ≡ chargesOf (hourKey m h) (standing l) q
     hour-charged {v} e ts et l g b q y =
         let a = w .are l g in
         ap charged (ap₂ namedOf a (et ∙ ap (chargesIn s m (v .prices)) a)) ∙ charges-found (begun g) m h q b (not-none g) (v .prices) (y .fits e) (known-priced y e)
@@ -150,27 +150,27 @@ pub no-charges-for : (n : ℕ) → (n ≡ 0 → ⊥) → noCharges n ≡ no n
 no-charges-for n z = ap (λ (b : Bool). cond b (charged []) (no n)) (ne-eqb n 0 z)
 
 module _ (m : Mark) (h : ℕ) (d : Load) where
-  pub charges-astray : (c : Charges) → c ≡ noCharges 16 → d ≡ astray → c ≡ hourCharges m h d
+  pub charges-astray : (c : ChargesReply) → c ≡ noCharges 16 → d ≡ astray → c ≡ hourCharges m h d
   charges-astray c ec e = ec ∙ sym (ap (hourCharges m h) e)
 
   module _ (l : List Change) (e : d ≡ belongs l) where
-    pub charges-other : (c : Charges) → c ≡ noCharges 2 → isFailure m ≡ false → c ≡ hourCharges m h d
+    pub charges-other : (c : ChargesReply) → c ≡ noCharges 2 → isFailure m ≡ false → c ≡ hourCharges m h d
     charges-other c ec f = ec ∙ sym (ap (hourCharges m h) e ∙ ap (λ (b : Bool). cond b (chargesKeyed l (askHourOf m h)) (no 2)) f)
 
     module _ (f : isFailure m ≡ true) (r : KeyAnswer) (er : r ≡ keyAnswer (askHourOf m h)) where
       charges-keyed : hourCharges m h d ≡ chargesKeyed l (askHourOf m h)
       charges-keyed = ap (hourCharges m h) e ∙ ap (λ (b : Bool). cond b (chargesKeyed l (askHourOf m h)) (no 2)) f
 
-      pub charges-wrong : (c : Charges) → c ≡ noCharges (r .number) → (r .number ≡ 0 → ⊥) → c ≡ hourCharges m h d
+      pub charges-wrong : (c : ChargesReply) → c ≡ noCharges (r .number) → (r .number ≡ 0 → ⊥) → c ≡ hourCharges m h d
       charges-wrong c ec z = ec ∙ no-charges-for (r .number) z ∙ go (askHourOf m h) er ∙ sym charges-keyed
         where
           go : (a : Asked) → r ≡ keyAnswer a → no (r .number) ≡ chargesKeyed l a
           go (got k t) w = absurd (z (ap (λ (y : KeyAnswer). y .number) w))
           go (bad n) w = ap no (ap (λ (y : KeyAnswer). y .number) w)
 
-      pub charges-at : r .number ≡ 0 → (c : Charges) → c ≡ chargesOf (startIn l) (hourKey m h) (standing l) (priceOf (standing l)) → c ≡ hourCharges m h d
+      pub charges-at : r .number ≡ 0 → (c : ChargesReply) → c ≡ chargesOf (hourKey m h) (standing l) (priceOf (standing l)) → c ≡ hourCharges m h d
       charges-at z c ec = ec ∙ go (askHourOf m h) refl er ∙ sym charges-keyed
         where
-          go : (a : Asked) → askHourOf m h ≡ a → r ≡ keyAnswer a → chargesOf (startIn l) (hourKey m h) (standing l) (priceOf (standing l)) ≡ chargesKeyed l a
-          go (got k t) q w = ap (λ (y : Key). chargesOf (startIn l) y (standing l) (priceOf (standing l))) (sym (hour-asked m h k t q))
+          go : (a : Asked) → askHourOf m h ≡ a → r ≡ keyAnswer a → chargesOf (hourKey m h) (standing l) (priceOf (standing l)) ≡ chargesKeyed l a
+          go (got k t) q w = ap (λ (y : Key). chargesOf y (standing l) (priceOf (standing l))) (sym (hour-asked m h k t q))
           go (bad n) q w = absurd (omega (arith, askHourOf-fault m h n q, sym (ap (λ (y : KeyAnswer). y .number) w) ∙ z))

@@ -15,7 +15,7 @@ use Rattle.book.specs.declared.hours.Day.{Day}
 use Rattle.book.specs.declared.prices.HourPrice.{HourPrice}
 use Rattle.book.specs.declared.prices.PriceTable.{PriceTable}
 use Rattle.book.specs.Register.{standing, ask, dayOf, Reply, refused, unitDay, answered, stepOf, keyed}
-use Rattle.book.specs.Amounts.{Price, priceOf, absent, payable, unitAt, dayTotal, unitDayOf}
+use Rattle.book.specs.Amounts.{HourPricing, priceOf, absent, payable, unitAt, dayTotal, unitDayOf}
 use Rattle.book.specs.Meaning.{load, astray, Meets, dayReply}
 use Rattle.book.specs.Hours.{DayIs}
 use Rattle.book.specs.Prices.{TableOf}
@@ -105,7 +105,7 @@ module _ {s : List ℕ} {l : List Change} (o : Begun s l) (k : Key) (u : Day) (d
   absent-hours : every 24 (λ (j : ℕ). not (placeIn u j .known)) ≡ every 24 (λ (j : ℕ). absent (unitAt k (standing l) j))
   absent-hours = every-ext 24 (λ (j : ℕ). not (placeIn u j .known)) (λ (j : ℕ). absent (unitAt k (standing l) j)) (λ j lt. slots-in o k u du j lt .none)
 
-  module _ (price : ℕ → Price) where
+  module _ (price : ℕ → HourPricing) where
     abbrev priced-day : Bool → Reply
     priced-day b = cond b (unitDay (dayTotal k (standing l) price) (reversal (dayTotal k (standing l) price))) (refused 15)
 

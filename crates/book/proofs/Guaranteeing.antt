@@ -11,12 +11,12 @@ use Rattle.records.specs.Amounts.{noImport}
 use Rattle.money.specs.declared.units.Answer.the-variants.{Amount, Refused}
 use Rattle.book.specs.Layer.{Key, KeyAnswer, Rec, Change, Asked, got, bad, askHourOf, keyAnswer, hour-asked, askHourOf-fault, Im, Ex, HourPrices, Quantity, Ticks, Import, offset, offsetAnswer, offsetEntry, answer-front}
 use Rattle.book.specs.declared.answers.NamedAmount.{NamedAmount}
-use Rattle.book.specs.declared.answers.Amounts.{Amounts}
+use Rattle.book.specs.declared.answers.Credits.{Credits}
 use Rattle.book.specs.declared.places.Places.{Places}
 use Rattle.book.specs.declared.journal.Book.{Book}
 use Rattle.book.specs.declared.prices.HourPrice.{HourPrice}
-use Rattle.book.specs.Register.{standing, startIn, ask, hourGuarantees, guarantees, refused, Reply, answered, stepOf, keyed}
-use Rattle.book.specs.Amounts.{Price, unpriced, hourKey, priceOf, totalsOf, guaranteesAt, guaranteesOf}
+use Rattle.book.specs.Register.{standing, ask, hourGuarantees, guarantees, refused, Reply, answered, stepOf, keyed}
+use Rattle.book.specs.Amounts.{HourPricing, unpriced, hourKey, priceOf, totalsOf, guaranteesAt, guaranteesOf}
 use Rattle.book.specs.ByName.{byName}
 use Rattle.book.specs.Places.{spotOf, spots}
 use Rattle.book.specs.Rows.{Logged}
@@ -43,7 +43,7 @@ worked-offset s is es p w few long entries e ts f =
 
 pub worked-is : (s : List ℕ) (is es : Places) (p : HourPrices) (entries : List Import) → take (is .n) entries ≡ entriesIn s p (spots is)
     → (ticks : List Ticks) → take (is .n) ticks ≡ map entryCredit (take (is .n) entries)
-    → (a : Amounts) → take (a .n) (a .list) ≡ namedOf (spots is) (take (is .n) ticks)
+    → (a : Credits) → take (a .n) (a .list) ≡ namedOf (spots is) (take (is .n) ticks)
     → (t : Ticks) → Amount t ≡ Amount (record { 0 = offset (length (spots is)) (entriesIn s p (spots is)) (p .emp) (totalsIn s (spots es)) })
     → guarantees (take (a .n) (a .list)) (t .0) ≡ workedIn s p (spots is) (spots es)
 worked-is s is es p entries e ticks f a g t h =
@@ -55,28 +55,28 @@ never-refused e = let z : _≡_ {A = ℕ} 0 1 = cc in absurd (omega arith)
 
 -- ---- an hour by the rows: i are the places of its imports
 
-no-imports : (at : Key → ℕ) (rs : List Rec) → length rs ≡ 0 → (q : Price) (es : List Rec) → guarantees [] (pos 0) ≡ guaranteesAt at q rs es
-no-imports at [] e q es = refl
-no-imports at (r ∷ rs) e q es = absurd (omega (arith, e))
+no-imports : (rs : List Rec) → length rs ≡ 0 → (q : HourPricing) (es : List Rec) → guarantees [] (pos 0) ≡ guaranteesAt q rs es
+no-imports [] e q es = refl
+no-imports (r ∷ rs) e q es = absurd (omega (arith, e))
 
-some-unpriced : (at : Key → ℕ) (rs : List Rec) → (length rs ≡ 0 → ⊥) → (es : List Rec) → refused 15 ≡ guaranteesAt at unpriced rs es
-some-unpriced at [] e es = absurd (e refl)
-some-unpriced at (r ∷ rs) e es = refl
+some-unpriced : (rs : List Rec) → (length rs ≡ 0 → ⊥) → (es : List Rec) → refused 15 ≡ guaranteesAt unpriced rs es
+some-unpriced [] e es = absurd (e refl)
+some-unpriced (r ∷ rs) e es = refl
 
 module _ {s rows : List ℕ} {n h : ℕ} {i : Places} (wi : Passed s rows n Im h i) where
-  pub hour-none : i .n ≡ 0 → (l : List Change) → Logged s rows n l → (q : ℕ → Price) → guarantees [] (pos 0) ≡ guaranteesOf (startIn l) (standing l) q h
+  pub hour-none : i .n ≡ 0 → (l : List Change) → Logged s rows n l → (q : ℕ → HourPricing) → guarantees [] (pos 0) ≡ guaranteesOf (standing l) q h
   unfolding guaranteesOf
-  hour-none z l g q = no-imports (startIn l) (byName (hourKey Im h) (standing l)) (passed-size wi g ∙ z) (q h) (byName (hourKey Ex h) (standing l))
+  hour-none z l g q = no-imports (byName (hourKey Im h) (standing l)) (passed-size wi g ∙ z) (q h) (byName (hourKey Ex h) (standing l))
 
   module _ (some : i .n ≡ 0 → ⊥) {p : HourPrice} where
-    pub hour-unpriced : p .known ≡ false → (l : List Change) → Logged s rows n l → (q : ℕ → Price) → PriceIs (q h) p → refused 15 ≡ guaranteesOf (startIn l) (standing l) q h
+    pub hour-unpriced : p .known ≡ false → (l : List Change) → Logged s rows n l → (q : ℕ → HourPricing) → PriceIs (q h) p → refused 15 ≡ guaranteesOf (standing l) q h
     unfolding guaranteesOf
     hour-unpriced t l g q w =
-        some-unpriced (startIn l) (byName (hourKey Im h) (standing l)) (λ e. some (sym (passed-size wi g) ∙ e)) (byName (hourKey Ex h) (standing l))
-        ∙ sym (ap (λ (x : Price). guaranteesAt (startIn l) x (byName (hourKey Im h) (standing l)) (byName (hourKey Ex h) (standing l))) (unknown-unpriced w t))
+        some-unpriced (byName (hourKey Im h) (standing l)) (λ e. some (sym (passed-size wi g) ∙ e)) (byName (hourKey Ex h) (standing l))
+        ∙ sym (ap (λ (x : HourPricing). guaranteesAt x (byName (hourKey Im h) (standing l)) (byName (hourKey Ex h) (standing l))) (unknown-unpriced w t))
 
     -- e are the places of its exports
-    module _ {e : Places} (we : Passed s rows n Ex h e) (t : p .known ≡ true) (l : List Change) (g : Logged s rows n l) (q : ℕ → Price) (w : PriceIs (q h) p) where
+    module _ {e : Places} (we : Passed s rows n Ex h e) (t : p .known ≡ true) (l : List Change) (g : Logged s rows n l) (q : ℕ → HourPricing) (w : PriceIs (q h) p) where
       abbrev ps : HourPrices
       ps = p .prices
 
@@ -102,14 +102,14 @@ module _ {s rows : List ℕ} {n h : ℕ} {i : Places} (wi : Passed s rows n Im h
             ∙ sym (λ j. Amount (record { 0 = offset (count-so j) (entries-so j) (ps .emp) (totals-so j) }));
       }
 
-      pub hour-worked : {r : Reply} → (Workable s ps (spots i) (spots e) → r ≡ workedIn s ps (spots i) (spots e)) → r ≡ guaranteesOf (startIn l) (standing l) q h
+      pub hour-worked : {r : Reply} → (Workable s ps (spots i) (spots e) → r ≡ workedIn s ps (spots i) (spots e)) → r ≡ guaranteesOf (standing l) q h
       unfolding guaranteesOf
       hour-worked f =
           f workable
           ∙ (λ j. guarantees (namedOf (wi .are l g j) (map entryCredit (entries-so j))) (offset (count-so j) (entries-so j) (ps .emp) (totals-so j)))
-          ∙ ap (λ (y : List NamedAmount). guarantees y (offset (length imports) (map (offsetEntry ps) imports) (ps .emp) (totalsOf exports))) (named-are (begun g) ps (hourKey Im h) imports (here (begun g) (hourKey Im h)))
-          ∙ priced-some (startIn l) ps imports exports (λ z. some (sym (passed-size wi g) ∙ z))
-          ∙ sym (ap (λ (x : Price). guaranteesAt (startIn l) x imports exports) (known-priced w t))
+          ∙ ap (λ (y : List NamedAmount). guarantees y (offset (length imports) (map (offsetEntry ps) imports) (ps .emp) (totalsOf exports))) (named-are l ps imports)
+          ∙ priced-some ps imports exports (λ z. some (sym (passed-size wi g) ∙ z))
+          ∙ sym (ap (λ (x : HourPricing). guaranteesAt x imports exports) (known-priced w t))
 
 -- ---- the question
 
@@ -118,7 +118,7 @@ no-guarantees-for n z = ap (λ (b : Bool). cond b (guarantees [] (pos 0)) (refus
 
 module _ (b : Book) (s : List ℕ) (h : ℕ) (x : Loaded b s) (r : KeyAnswer) (e : r ≡ keyAnswer (askHourOf Im h)) where
   abbrev hour-reply : Key → Reply
-  hour-reply k = guaranteesOf (startIn (x .list)) (standing (x .list)) (priceOf (standing (x .list))) (k .hour)
+  hour-reply k = guaranteesOf (standing (x .list)) (priceOf (standing (x .list))) (k .hour)
 
   hour-meets : (y : Reply) → keyed (askHourOf Im h) hour-reply ≡ y → Meets (ask (hourGuarantees h)) b s b y s
   hour-meets y q = leaves-answered _ b s y (step-is (stepOf (ask (hourGuarantees h))) b s x ∙ ap answered q)
@@ -126,7 +126,7 @@ module _ (b : Book) (s : List ℕ) (h : ℕ) (x : Loaded b s) (r : KeyAnswer) (e
   pub hour-wrong : (y : Reply) → y ≡ noGuarantees (r .number) → (r .number ≡ 0 → ⊥) → Meets (ask (hourGuarantees h)) b s b y s
   hour-wrong y ey z = hour-meets y (keyed-wrong (askHourOf Im h) hour-reply r e z ∙ sym (no-guarantees-for (r .number) z) ∙ sym ey)
 
-  pub hour-right : r .number ≡ 0 → (y : Reply) → y ≡ guaranteesOf (startIn (x .list)) (standing (x .list)) (priceOf (standing (x .list))) h → Meets (ask (hourGuarantees h)) b s b y s
+  pub hour-right : r .number ≡ 0 → (y : Reply) → y ≡ guaranteesOf (standing (x .list)) (priceOf (standing (x .list))) h → Meets (ask (hourGuarantees h)) b s b y s
   hour-right z y ey = hour-meets y (go (askHourOf Im h) refl e)
     where
       go : (a : Asked) → askHourOf Im h ≡ a → r ≡ keyAnswer a → keyed a hour-reply ≡ y

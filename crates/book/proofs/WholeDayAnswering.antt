@@ -8,7 +8,7 @@ use lib.ListN.{length, take, drop, getD, set, replicate, length-set, length-map}
 use lib.Seq.{ext-getD, drop-set-lt, drop-drop, getD-take, length-take-le}
 use Rattle.book.specs.Layer.{Name, Change, filed, Gh, Fi, Fe, Padded, Wellformed, good-padded, noOne, pad}
 use Rattle.book.specs.declared.answers.Guarantees.{Guarantees}
-use Rattle.book.specs.declared.answers.Charges as answers
+use Rattle.book.specs.declared.answers.Charges.{Charges}
 use Rattle.book.specs.declared.answers.UnitDay.{UnitDay}
 use Rattle.book.specs.declared.answers.HourAmounts.{HourAmounts}
 use Rattle.book.specs.declared.answers.UnitAmounts.{UnitAmounts}
@@ -16,8 +16,8 @@ use Rattle.book.specs.declared.answers.DayAmounts.{DayAmounts}
 use Rattle.book.specs.declared.units.Units.{Units}
 use Rattle.book.specs.declared.prices.HourPrice.{HourPrice}
 use Rattle.book.specs.declared.prices.PriceTable.{PriceTable}
-use Rattle.book.specs.Register.{standing, startIn}
-use Rattle.book.specs.Amounts.{Price, hourKey, priceOf, guaranteesOf, chargesOf, unitDayOf}
+use Rattle.book.specs.Register.{standing}
+use Rattle.book.specs.Amounts.{HourPricing, hourKey, priceOf, guaranteesOf, chargesOf, unitDayOf}
 use Rattle.book.specs.ByName.{namesOf}
 use Rattle.book.specs.Meaning.{Load, belongs, astray, Valid, guaranteesReply, chargesReply, dayReply}
 use Rattle.book.specs.Units.{ghKey, unitKey, namesIn, Named}
@@ -35,24 +35,24 @@ use Rattle.book.proofs.DayAnswering.{set-below}
 
 -- ---- an hour and a unit, as they are handed back
 
-abbrev hourAt : List Change → (ℕ → Price) → ℕ → HourAmounts
-hourAt l q h = hourFrom (hourReply (startIn l) (standing l) q h)
+abbrev hourAt : List Change → (ℕ → HourPricing) → ℕ → HourAmounts
+hourAt l q h = hourFrom (hourReply (standing l) q h)
 
-abbrev unitAs : List Change → (ℕ → Price) → Name → UnitAmounts
+abbrev unitAs : List Change → (ℕ → HourPricing) → Name → UnitAmounts
 unitAs l q n = unitFrom (unitReply (standing l) q n)
 
 -- ---- an hour
 
-pub hour-blank : {g : Guarantees} {i e : answers.Charges} → guaranteesReply g ≡ noGuarantees 0 → g ≡ guaranteesFrom (guaranteesReply g)
+pub hour-blank : {g : Guarantees} {i e : Charges} → guaranteesReply g ≡ noGuarantees 0 → g ≡ guaranteesFrom (guaranteesReply g)
     → chargesReply i ≡ noCharges 0 → i ≡ chargesFrom (chargesReply i) → chargesReply e ≡ noCharges 0 → e ≡ chargesFrom (chargesReply e)
     → _≡_ {A = HourAmounts} (record { guarantees = g; imports = i; exports = e }) noHour
 hour-blank gr gw ir iw er ew =
     λ k. record { guarantees = (gw ∙ ap guaranteesFrom gr) k; imports = (iw ∙ ap chargesFrom ir) k; exports = (ew ∙ ap chargesFrom er) k }
 
-pub hour-made : (l : List Change) (q : ℕ → Price) (h : ℕ) {g : Guarantees} {i e : answers.Charges}
-    → guaranteesReply g ≡ guaranteesOf (startIn l) (standing l) q h → g ≡ guaranteesFrom (guaranteesReply g)
-    → chargesReply i ≡ chargesOf (startIn l) (hourKey Fi h) (standing l) q → i ≡ chargesFrom (chargesReply i)
-    → chargesReply e ≡ chargesOf (startIn l) (hourKey Fe h) (standing l) q → e ≡ chargesFrom (chargesReply e)
+pub hour-made : (l : List Change) (q : ℕ → HourPricing) (h : ℕ) {g : Guarantees} {i e : Charges}
+    → guaranteesReply g ≡ guaranteesOf (standing l) q h → g ≡ guaranteesFrom (guaranteesReply g)
+    → chargesReply i ≡ chargesOf (hourKey Fi h) (standing l) q → i ≡ chargesFrom (chargesReply i)
+    → chargesReply e ≡ chargesOf (hourKey Fe h) (standing l) q → e ≡ chargesFrom (chargesReply e)
     → _≡_ {A = HourAmounts} (record { guarantees = g; imports = i; exports = e }) (hourAt l q h)
 hour-made l q h gr gw ir iw er ew =
     λ k. record { guarantees = (gw ∙ ap guaranteesFrom gr) k; imports = (iw ∙ ap chargesFrom ir) k; exports = (ew ∙ ap chargesFrom er) k }
@@ -62,14 +62,14 @@ hour-made l q h gr gw ir iw er ew =
 pub record Hours (s rows : List ℕ) (n : ℕ) (t : PriceTable) (row : List HourAmounts) (i : ℕ) : Type 0 where
   pub long : length row ≡ 24
   pub upto : i ≤ 24
-  pub each : (l : List Change) → Logged s rows n l → (q : ℕ → Price) → TableOf q t → (j : ℕ) → j < i → getD row j noHour ≡ hourAt l q (1 + j)
+  pub each : (l : List Change) → Logged s rows n l → (q : ℕ → HourPricing) → TableOf q t → (j : ℕ) → j < i → getD row j noHour ≡ hourAt l q (1 + j)
 
 pub hours-start : (s rows : List ℕ) (n : ℕ) (t : PriceTable) (row : List HourAmounts) → length row ≡ 24 → Hours s rows n t row 0
 hours-start s rows n t row e = record { long = e; upto = omega arith; each = λ l g q w j lt. absurd (not-suc-le-zero lt) }
 
 module _ {s rows : List ℕ} {n : ℕ} {t : PriceTable} {row : List HourAmounts} {i : ℕ} (h : Hours s rows n t row i) where
   pub hours-more : i < 24 → (d : HourPrice) (x : HourAmounts)
-      → ((l : List Change) → Logged s rows n l → (q : ℕ → Price) → PriceIs (q (i + 1)) (getD (t .hours) i d) → x ≡ hourAt l q (i + 1)) → Hours s rows n t (set row i x) (i + 1)
+      → ((l : List Change) → Logged s rows n l → (q : ℕ → HourPricing) → PriceIs (q (i + 1)) (getD (t .hours) i d) → x ≡ hourAt l q (i + 1)) → Hours s rows n t (set row i x) (i + 1)
   hours-more lt d x e =
       let one : i + 1 ≡ 1 + i = omega arith in
       record {
@@ -79,10 +79,10 @@ module _ {s rows : List ℕ} {n : ℕ} {t : PriceTable} {row : List HourAmounts}
             (e l g q (subst (λ (m : ℕ). PriceIs (q m) (getD (t .hours) i d)) (sym one) (w .each i lt d)) ∙ ap (hourAt l q) one);
       }
 
-  pub hours-end : 24 ≤ i → (l : List Change) → Logged s rows n l → (q : ℕ → Price) → TableOf q t → row ≡ dayFrom (wholeOf (startIn l) (standing l) q) .hours
+  pub hours-end : 24 ≤ i → (l : List Change) → Logged s rows n l → (q : ℕ → HourPricing) → TableOf q t → row ≡ dayFrom (wholeOf (standing l) q) .hours
   unfolding wholeHanded
   hours-end le l g q w =
-      let f = hourReply (startIn l) (standing l) q in
+      let f = hourReply (standing l) q in
       let all = pad noHour 24 (map hourFrom (map f (hoursFrom 1 24))) in
       ext-getD noHour row all (h .long ∙ sym (pad-length noHour 24 (map hourFrom (map f (hoursFrom 1 24)))))
       (λ j lt. let in-day : j < 24 = omega (arith, h .long) in h .each l g q w j (omega arith) ∙ sym (hours-at f hourFrom noHour noHour 24 24 1 j in-day (omega arith)))
@@ -92,7 +92,7 @@ module _ {s rows : List ℕ} {n : ℕ} {t : PriceTable} {row : List HourAmounts}
 pub record Dealt (s rows : List ℕ) (n : ℕ) (u : Units) (t : PriceTable) (row : List UnitAmounts) (i : ℕ) : Type 0 where
   pub long : length row ≡ 512
   pub upto : i ≤ u .n
-  pub built : (l : List Change) → Logged s rows n l → (q : ℕ → Price) → TableOf q t → Built (unitAs l q) (u .names) noOne row noUnit i
+  pub built : (l : List Change) → Logged s rows n l → (q : ℕ → HourPricing) → TableOf q t → Built (unitAs l q) (u .names) noOne row noUnit i
   pub behind : drop i row ≡ drop i (pad noUnit 512 [])
 
 pub dealt-start : (s rows : List ℕ) (n : ℕ) (u : Units) (t : PriceTable) (x : UnitAmounts) → x ≡ noUnit → length (replicate 512 x) ≡ 512 → Dealt s rows n u t (replicate 512 x) 0
@@ -100,7 +100,7 @@ dealt-start s rows n u t x e size = record { long = size; upto = omega arith; bu
 
 module _ {s rows : List ℕ} {n : ℕ} {u : Units} {t : PriceTable} {row : List UnitAmounts} {i : ℕ} (h : Dealt s rows n u t row i) (few : u .n ≤ 512) (size : length (u .names) ≡ 512) where
   pub dealt-more : i < u .n → (d : Name) (x : UnitDay)
-      → ((l : List Change) → Logged s rows n l → Gh ≡ Gh → (q : ℕ → Price) → TableOf q t → dayReply x ≡ unitDayOf (unitKey (getD (u .names) i d)) (standing l) q) × (x ≡ unitDayFrom (dayReply x))
+      → ((l : List Change) → Logged s rows n l → Gh ≡ Gh → (q : ℕ → HourPricing) → TableOf q t → dayReply x ≡ unitDayOf (unitKey (getD (u .names) i d)) (standing l) q) × (x ≡ unitDayFrom (dayReply x))
       → Dealt s rows n u t (set row i (record { name = getD (u .names) i d; day = x })) (i + 1)
   dealt-more lt d x e = record {
     long = length-set row i v ∙ h .long;
@@ -113,8 +113,8 @@ module _ {s rows : List ℕ} {n : ℕ} {u : Units} {t : PriceTable} {row : List 
       v : UnitAmounts
       v = record { name = getD (u .names) i d; day = x }
 
-  pub dealt-end : u .n ≤ i → (l : List Change) → Logged s rows n l → namesIn u ≡ namesOf ghKey (standing l) → (q : ℕ → Price) → TableOf q t
-      → row ≡ dayFrom (wholeOf (startIn l) (standing l) q) .units
+  pub dealt-end : u .n ≤ i → (l : List Change) → Logged s rows n l → namesIn u ≡ namesOf ghKey (standing l) → (q : ℕ → HourPricing) → TableOf q t
+      → row ≡ dayFrom (wholeOf (standing l) q) .units
   unfolding wholeHanded
   dealt-end le l g named q w =
       let all : i ≡ u .n = omega (arith, h .upto) in

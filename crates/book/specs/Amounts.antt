@@ -23,27 +23,27 @@ pick k (x ∷ xs) = cond (same k (x .key)) (is x) (pick k xs)
 
 -- ---- the price of an hour
 
-pub data Price : Type 0 where
-  priced : HourPrices → Price
-  unpriced : Price
+pub data HourPricing : Type 0 where
+  priced : HourPrices → HourPricing
+  unpriced : HourPricing
 
 -- a mark and hour, without a name
 abbrev pub hourKey : Mark → ℕ → Key
 hourKey m h = record { mark = m; hour = h; name = noOne }
 
-abbrev pub priceFrom : Pick → Price
+abbrev pub priceFrom : Pick → HourPricing
 priceFrom (is r) = priced (pricesOf r)
 priceFrom nil = unpriced
 
 -- "their hour's `PR`"
-unfoldable pub priceOf : List Rec → ℕ → Price
+unfoldable pub priceOf : List Rec → ℕ → HourPricing
 priceOf rs h = priceFrom (pick (hourKey Pr h) rs)
 
 -- ---- an hour's guarantees
 
--- an import's credit, with the place where its record is written
-abbrev pub creditAt : (Key → ℕ) → HourPrices → Rec → NamedAmount
-creditAt at p r = record { name = r .key .name; start = at (r .key); ticks = record { 0 = creditTicks r p } }
+-- an import's credit, under its name
+abbrev pub creditAt : HourPrices → Rec → NamedAmount
+creditAt p r = record { name = r .key .name; ticks = record { 0 = creditTicks r p } }
 
 -- "sum of all MQSW"
 unfoldable pub exported : List Rec → ℕ → ℕ
@@ -54,20 +54,20 @@ abbrev pub totalsOf : List Rec → List Quantity
 totalsOf es = rowOf 0 12 (exported es)
 
 -- of the imports and exports of the hour; "an hour without imports has offset 0 and needs none"
-abbrev pub guaranteesAt : (Key → ℕ) → Price → List Rec → List Rec → Reply
-guaranteesAt at q [] es = guarantees [] (pos 0)
-guaranteesAt at unpriced (i ∷ rest) es = refused priceMissing
-guaranteesAt at (priced p) (i ∷ rest) es =
-    guarantees (map (creditAt at p) (i ∷ rest)) (offset (length (i ∷ rest)) (map (offsetEntry p) (i ∷ rest)) (p .emp) (totalsOf es))
+abbrev pub guaranteesAt : HourPricing → List Rec → List Rec → Reply
+guaranteesAt q [] es = guarantees [] (pos 0)
+guaranteesAt unpriced (i ∷ rest) es = refused priceMissing
+guaranteesAt (priced p) (i ∷ rest) es =
+    guarantees (map (creditAt p) (i ∷ rest)) (offset (length (i ∷ rest)) (map (offsetEntry p) (i ∷ rest)) (p .emp) (totalsOf es))
 
 -- "`IOG` per import by name"
-unfoldable pub guaranteesOf : (Key → ℕ) → List Rec → (ℕ → Price) → ℕ → Reply
-guaranteesOf at rs price h = guaranteesAt at (price h) (byName (hourKey Im h) rs) (byName (hourKey Ex h) rs)
+unfoldable pub guaranteesOf : List Rec → (ℕ → HourPricing) → ℕ → Reply
+guaranteesOf rs price h = guaranteesAt (price h) (byName (hourKey Im h) rs) (byName (hourKey Ex h) rs)
 
 -- ---- a unit's day
 
 -- what an hour adds: "C1 + C2 - C3 - C4 over all its intervals, plus its start-up amounts (120 ticks a cent)"
-abbrev pub hourTicks : Pick → Price → ℤ
+abbrev pub hourTicks : Pick → HourPricing → ℤ
 hourTicks nil q = pos 0
 hourTicks (is r) unpriced = pos 0
 hourTicks (is r) (priced p) = unitTicks r p +ℤ pos (startCents r * 120)
@@ -77,7 +77,7 @@ absent (is r) = false
 absent nil = true
 
 -- "each `GH` hour" needs its price
-abbrev pub payable : Pick → Price → Bool
+abbrev pub payable : Pick → HourPricing → Bool
 payable nil q = true
 payable (is r) (priced p) = true
 payable (is r) unpriced = false
@@ -87,38 +87,38 @@ abbrev pub unitAt : Key → List Rec → ℕ → Pick
 unitAt k rs j = pick (atHour k (1 + j)) rs
 
 -- "Day total of a unit"
-unfoldable pub dayTotal : Key → List Rec → (ℕ → Price) → ℤ
+unfoldable pub dayTotal : Key → List Rec → (ℕ → HourPricing) → ℤ
 dayTotal k rs price = Σℤ 24 (λ (j : ℕ). hourTicks (unitAt k rs j) (price (1 + j)))
 
 -- "A unit without `GH` gives 11", then 15; "The reversal is max(0, -total)"
-unfoldable pub unitDayOf : Key → List Rec → (ℕ → Price) → Reply
+unfoldable pub unitDayOf : Key → List Rec → (ℕ → HourPricing) → Reply
 unitDayOf k rs price =
     cond (every 24 (λ (j : ℕ). absent (unitAt k rs j))) (refused noSuchKey)
     (cond (every 24 (λ (j : ℕ). payable (unitAt k rs j) (price (1 + j)))) (unitDay (dayTotal k rs price) (reversal (dayTotal k rs price))) (refused priceMissing))
 
 -- ---- failure charges
 
-abbrev pub chargeAt : Pick → Price → Reply
+abbrev pub chargeAt : Pick → HourPricing → Reply
 chargeAt nil q = refused noSuchKey
 chargeAt (is r) unpriced = refused priceMissing
 chargeAt (is r) (priced p) = charge (chargeTicks r p)
 
 -- of a key
-unfoldable pub chargeOf : Key → List Rec → (ℕ → Price) → Reply
+unfoldable pub chargeOf : Key → List Rec → (ℕ → HourPricing) → Reply
 chargeOf k rs price = chargeAt (pick k rs) (price (k .hour))
 
 -- all of a mark and hour by name, for the statement; or a number
-pub data Charges : Type 0 where
-  charged : List NamedAmount → Charges
-  no : ℕ → Charges
+pub data ChargesReply : Type 0 where
+  charged : List NamedAmount → ChargesReply
+  no : ℕ → ChargesReply
 
-abbrev pub chargeLine : (Key → ℕ) → HourPrices → Rec → NamedAmount
-chargeLine at p r = record { name = r .key .name; start = at (r .key); ticks = record { 0 = chargeTicks r p } }
+abbrev pub chargeLine : HourPrices → Rec → NamedAmount
+chargeLine p r = record { name = r .key .name; ticks = record { 0 = chargeTicks r p } }
 
-abbrev pub chargesAt : (Key → ℕ) → Price → List Rec → Charges
-chargesAt at q [] = charged []
-chargesAt at unpriced (f ∷ fs) = no priceMissing
-chargesAt at (priced p) (f ∷ fs) = charged (map (chargeLine at p) (f ∷ fs))
+abbrev pub chargesAt : HourPricing → List Rec → ChargesReply
+chargesAt q [] = charged []
+chargesAt unpriced (f ∷ fs) = no priceMissing
+chargesAt (priced p) (f ∷ fs) = charged (map (chargeLine p) (f ∷ fs))
 
-unfoldable pub chargesOf : (Key → ℕ) → Key → List Rec → (ℕ → Price) → Charges
-chargesOf at k rs price = chargesAt at (price (k .hour)) (byName k rs)
+unfoldable pub chargesOf : Key → List Rec → (ℕ → HourPricing) → ChargesReply
+chargesOf k rs price = chargesAt (price (k .hour)) (byName k rs)

@@ -11,8 +11,8 @@ use borrow.Author.Tests.{le-ltb}
 use Rattle.book.specs.Layer.{Key, Rec, Change, Im, Ex, Input, fine, fault, parse, begins, takeBackBytes, closeBytes, Asked, got, bad, askHourOf, askHourOf-fault, parse-fault, Unread}
 use Rattle.book.specs.declared.journal.Book.{Book}
 use Rattle.book.specs.ByName.{byName}
-use Rattle.book.specs.Amounts.{Price, priced, unpriced, hourKey, priceOf, guaranteesAt, guaranteesOf}
-use Rattle.book.specs.Register.{Reg, standing, startIn, Question, hourGuarantees, keyed, asking, Call, file, change, ask, answer, Reply, refused, Step, answered, becomes, stepOf, called, listed, judged, takenBack, closing, shorter, unless-closed, bareTakeBack, bareClose, refusal, writeAll}
+use Rattle.book.specs.Amounts.{HourPricing, priced, unpriced, hourKey, priceOf, guaranteesAt, guaranteesOf}
+use Rattle.book.specs.Register.{Reg, standing, Question, hourGuarantees, keyed, asking, Call, file, change, ask, answer, Reply, refused, Step, answered, becomes, stepOf, called, listed, judged, takenBack, closing, shorter, unless-closed, bareTakeBack, bareClose, refusal, writeAll}
 use Rattle.book.specs.Meaning.{Load, belongs, astray, load, Valid, After, bookOf, leaving, stepped, outcome, Meets}
 use Rattle.book.specs.ReplayLaws.{outcome-is}
 
@@ -136,15 +136,15 @@ pub guarantees-fault : (h lent : ℕ) (g : Reg) (n : ℕ) → answer (hourGuaran
 unfolding guaranteesOf
 guarantees-fault h lent g n = go (askHourOf Im h) refl
   where
-    worked : (at : Key → ℕ) (p : Price) (is es : List Rec) → guaranteesAt at p is es ≡ refused n → 0 < n
-    worked at p [] es e = let z : _≡_ {A = ℕ} 0 1 = cc in absurd (omega arith)
-    worked at unpriced (i ∷ is) es e = let q : 15 ≡ n = cc in omega arith
-    worked at (priced p) (i ∷ is) es e = let z : _≡_ {A = ℕ} 0 1 = cc in absurd (omega arith)
+    worked : (p : HourPricing) (is es : List Rec) → guaranteesAt p is es ≡ refused n → 0 < n
+    worked p [] es e = let z : _≡_ {A = ℕ} 0 1 = cc in absurd (omega arith)
+    worked unpriced (i ∷ is) es e = let q : 15 ≡ n = cc in omega arith
+    worked (priced p) (i ∷ is) es e = let z : _≡_ {A = ℕ} 0 1 = cc in absurd (omega arith)
 
-    go : (x : Asked) → askHourOf Im h ≡ x → keyed x (λ (k : Key). guaranteesOf (startIn (g .list)) (standing (g .list)) (priceOf (standing (g .list))) (k .hour)) ≡ refused n → 0 < n
+    go : (x : Asked) → askHourOf Im h ≡ x → keyed x (λ (k : Key). guaranteesOf (standing (g .list)) (priceOf (standing (g .list))) (k .hour)) ≡ refused n → 0 < n
     go (bad m) e q = let z : m ≡ n = cc in omega (arith, askHourOf-fault Im h m e)
     go (got k t) e q =
-        worked (startIn (g .list)) (priceOf (standing (g .list)) (k .hour)) (byName (hourKey Im (k .hour)) (standing (g .list))) (byName (hourKey Ex (k .hour)) (standing (g .list))) q
+        worked (priceOf (standing (g .list)) (k .hour)) (byName (hourKey Im (k .hour)) (standing (g .list))) (byName (hourKey Ex (k .hour)) (standing (g .list))) q
 
 -- ---- "book and lent bytes don't belong together": 16 to any call, which changes nothing
 

@@ -8,8 +8,9 @@ use native.Mathlib.Nat.{not-suc-le-zero, le-of-suc-le-suc}
 use lib.ListN.{length, drop, getD}
 use Rattle.money.specs.Refusals.{noSuchKey, priceMissing}
 use Rattle.book.specs.Layer.{Key, Rec, Change, Mark, HourPrices, PricesFit, Ticks, isFailure, hour-parts, chargeIn, chargeTicks, Amount, charge-written}
-use Rattle.book.specs.Register.{standing, startIn, refused}
-use Rattle.book.specs.Amounts.{Pick, Price, priced, unpriced, hourKey, chargeAt, chargeOf, charged, no, chargeLine, chargesAt, chargesOf}
+use Rattle.book.specs.declared.answers.NamedAmount.{NamedAmount}
+use Rattle.book.specs.Register.{standing, refused}
+use Rattle.book.specs.Amounts.{Pick, HourPricing, priced, unpriced, hourKey, chargeAt, chargeOf, charged, no, chargeLine, chargesAt, chargesOf}
 use Rattle.book.specs.ByName.{byName}
 use Rattle.book.specs.Tables.{survey}
 use Rattle.book.specs.Places.{spotOf}
@@ -32,22 +33,22 @@ charge-at p f m b x r w e = ap₂ (λ (a : Mark) (u : List ℕ). chargeIn a u p)
 
 -- ---- a list of failures: no price is needed for none
 
-at-none : (at : Key → ℕ) (q : Price) (fs : List Rec) → length fs ≡ 0 → charged [] ≡ chargesAt at q fs
-at-none at q [] e = refl
-at-none at q (f ∷ fs) e = absurd (omega arith)
+at-none : (q : HourPricing) (fs : List Rec) → length fs ≡ 0 → charged [] ≡ chargesAt q fs
+at-none q [] e = refl
+at-none q (f ∷ fs) e = absurd (omega arith)
 
-at-unpriced : (at : Key → ℕ) (fs : List Rec) → (length fs ≡ 0 → ⊥) → no priceMissing ≡ chargesAt at unpriced fs
-at-unpriced at [] h = absurd (h refl)
-at-unpriced at (f ∷ fs) h = refl
+at-unpriced : (fs : List Rec) → (length fs ≡ 0 → ⊥) → no priceMissing ≡ chargesAt unpriced fs
+at-unpriced [] h = absurd (h refl)
+at-unpriced (f ∷ fs) h = refl
 
-at-priced : (at : Key → ℕ) (p : HourPrices) (fs : List Rec) → (length fs ≡ 0 → ⊥) → charged (map (chargeLine at p) fs) ≡ chargesAt at (priced p) fs
-at-priced at p [] h = absurd (h refl)
-at-priced at p (f ∷ fs) h = refl
+at-priced : (p : HourPrices) (fs : List Rec) → (length fs ≡ 0 → ⊥) → charged (map (chargeLine p) fs) ≡ chargesAt (priced p) fs
+at-priced p [] h = absurd (h refl)
+at-priced p (f ∷ fs) h = refl
 
 module _ {s : List ℕ} {l : List Change} (o : Begun s l) where
   -- ---- of a key
 
-  module _ (k : Key) (q : ℕ → Price) where
+  module _ (k : Key) (q : ℕ → HourPricing) where
     pub charge-absent : survey k l .found ≡ false → refused noSuchKey ≡ chargeOf k (standing l) q
     unfolding chargeOf
     charge-absent e = sym (ap (λ (x : Pick). chargeAt x (q (k .hour))) (none-at o k e))
@@ -71,28 +72,27 @@ module _ {s : List ℕ} {l : List Change} (o : Begun s l) where
   charges-are p f k b (r ∷ rs) (also c a) =
       ap₂ _∷_ (ap ticksOf (charge-at p f (k .mark) b (survey (r .key) l .start) r (c .0 .at) (hour-parts k (r .key) (c .1) .0))) (charges-are p f k b rs a)
 
-  named-are : (p : HourPrices) (k : Key) (rs : List Rec) → All (Here o k) rs → namedOf (map (spotOf l) rs) (map (ticksAt p) rs) ≡ map (chargeLine (startIn l) p) rs
+  named-are : (p : HourPrices) (rs : List Rec) → namedOf (map (spotOf l) rs) (map (ticksAt p) rs) ≡ map (chargeLine p) rs
   unfolding namedOf
-  named-are p k [] a = refl
-  named-are p k (r ∷ rs) (also c a) =
-      ap₂ _∷_ (ap (λ (x : ℕ). record { name = r .key .name; start = x; ticks = ticksAt p r }) (sym (c .0 .start))) (named-are p k rs a)
+  named-are p [] = refl
+  named-are p (r ∷ rs) = ap (λ (x : List NamedAmount). chargeLine p r ∷ x) (named-are p rs)
 
-  module _ (m : Mark) (h : ℕ) (q : ℕ → Price) where
-    pub charges-absent : length (byName (hourKey m h) (standing l)) ≡ 0 → charged [] ≡ chargesOf (startIn l) (hourKey m h) (standing l) q
+  module _ (m : Mark) (h : ℕ) (q : ℕ → HourPricing) where
+    pub charges-absent : length (byName (hourKey m h) (standing l)) ≡ 0 → charged [] ≡ chargesOf (hourKey m h) (standing l) q
     unfolding chargesOf
-    charges-absent e = at-none (startIn l) (q h) (byName (hourKey m h) (standing l)) e
+    charges-absent e = at-none (q h) (byName (hourKey m h) (standing l)) e
 
-    pub charges-unpriced : (length (byName (hourKey m h) (standing l)) ≡ 0 → ⊥) → q h ≡ unpriced → no priceMissing ≡ chargesOf (startIn l) (hourKey m h) (standing l) q
+    pub charges-unpriced : (length (byName (hourKey m h) (standing l)) ≡ 0 → ⊥) → q h ≡ unpriced → no priceMissing ≡ chargesOf (hourKey m h) (standing l) q
     unfolding chargesOf
     charges-unpriced z e =
-        at-unpriced (startIn l) (byName (hourKey m h) (standing l)) z ∙ sym (ap (λ (x : Price). chargesAt (startIn l) x (byName (hourKey m h) (standing l))) e)
+        at-unpriced (byName (hourKey m h) (standing l)) z ∙ sym (ap (λ (x : HourPricing). chargesAt x (byName (hourKey m h) (standing l))) e)
 
     pub charges-found : isFailure m ≡ true → (length (byName (hourKey m h) (standing l)) ≡ 0 → ⊥) → (p : HourPrices) → PricesFit p → q h ≡ priced p
-        → let xs = map (spotOf l) (byName (hourKey m h) (standing l)) in charged (namedOf xs (chargesIn s m p xs)) ≡ chargesOf (startIn l) (hourKey m h) (standing l) q
+        → let xs = map (spotOf l) (byName (hourKey m h) (standing l)) in charged (namedOf xs (chargesIn s m p xs)) ≡ chargesOf (hourKey m h) (standing l) q
     unfolding chargesOf
     charges-found b z p f e =
         let k = hourKey m h in
         let rs = byName k (standing l) in
-        ap charged (ap (namedOf (map (spotOf l) rs)) (charges-are p f k b rs (here o k)) ∙ named-are p k rs (here o k))
-        ∙ at-priced (startIn l) p rs z
-        ∙ sym (ap (λ (x : Price). chargesAt (startIn l) x rs) e)
+        ap charged (ap (namedOf (map (spotOf l) rs)) (charges-are p f k b rs (here o k)) ∙ named-are p rs)
+        ∙ at-priced p rs z
+        ∙ sym (ap (λ (x : HourPricing). chargesAt x rs) e)

@@ -12,7 +12,7 @@ use Rattle.book.specs.declared.hours.HourPlace.{HourPlace}
 use Rattle.book.specs.declared.hours.Day.{Day}
 use Rattle.book.specs.declared.prices.PriceTable.{PriceTable}
 use Rattle.book.specs.Register.{standing, unitDay}
-use Rattle.book.specs.Amounts.{Pick, is, nil, pick, Price, hourTicks, absent, payable, unitAt, dayTotal}
+use Rattle.book.specs.Amounts.{Pick, is, nil, pick, HourPricing, hourTicks, absent, payable, unitAt, dayTotal}
 use Rattle.book.specs.Tables.{survey}
 use Rattle.book.specs.Hours.{PlaceIs, DayIs}
 use Rattle.book.specs.Prices.{PriceIs, TableOf}
@@ -37,7 +37,7 @@ module _ {s : List ℕ} {l : List Change} (o : Begun s l) where
   pub slots-in : (k : Key) (d : Day) → DayIs k l d → (j : ℕ) → j < 24 → Slot (atHour k (1 + j)) (placeIn d j)
   slots-in k d h j lt = slot-is (atHour k (1 + j)) (placeIn d j) (h .each j lt noPlace)
 
-  module _ (k : Key) (marked : k .mark ≡ Gh) (u : Day) (du : DayIs k l u) (price : ℕ → Price) (t : PriceTable) (dt : TableOf price t) where
+  module _ (k : Key) (marked : k .mark ≡ Gh) (u : Day) (du : DayIs k l u) (price : ℕ → HourPricing) (t : PriceTable) (dt : TableOf price t) where
     price-at : (j : ℕ) → j < 24 → PriceIs (price (1 + j)) (priceFor t j)
     price-at j lt = dt .each j lt noPrice
 

@@ -6,26 +6,37 @@ use lib.IntN.{ℤ}
 use lib.ListN.{length}
 use Rattle.book.specs.Layer.{Name, noOne, noTicks, pad}
 use Rattle.book.specs.declared.answers.NamedAmount.{NamedAmount}
-use Rattle.book.specs.declared.answers.Amounts.{Amounts}
-use Rattle.book.specs.declared.answers.Charges as answers
+use Rattle.book.specs.declared.answers.Credits.{Credits}
+use Rattle.book.specs.declared.answers.ChargeList.{ChargeList}
+use Rattle.book.specs.declared.answers.Charges.{Charges}
 use Rattle.book.specs.declared.answers.Guarantees.{Guarantees}
 use Rattle.book.specs.declared.answers.UnitDay.{UnitDay}
 use Rattle.book.specs.declared.units.Units.{Units}
 use Rattle.book.specs.declared.units.UnitList.{UnitList}
 use Rattle.book.specs.Replies.{Reply, refused, accepted, place, number, guarantees, unitDay, charge}
-use Rattle.book.specs.Amounts.{Charges, charged, no}
+use Rattle.book.specs.Amounts.{ChargesReply, charged, no}
 use Rattle.book.specs.Units.{NameList, named, no as unlisted}
 
--- ---- amounts by name, in 16 places
+-- ---- credits and charges by name
+
+-- "hour holds 16 of that mark": the most credits, and the most charges of a mark, that an hour has
+abbrev pub maxCredits : ℕ
+maxCredits = 16
+
+abbrev pub maxCharges : ℕ
+maxCharges = 16
 
 abbrev pub noAmount : NamedAmount
-noAmount = record { name = noOne; start = 0; ticks = noTicks }
+noAmount = record { name = noOne; ticks = noTicks }
 
-unfoldable pub amountsOf : List NamedAmount → Amounts
-amountsOf xs = record { n = length xs; list = pad noAmount 16 xs }
+unfoldable pub creditsOf : List NamedAmount → Credits
+creditsOf xs = record { n = length xs; list = pad noAmount maxCredits xs }
+
+unfoldable pub chargeListOf : List NamedAmount → ChargeList
+chargeListOf xs = record { n = length xs; list = pad noAmount maxCharges xs }
 
 abbrev pub hourHanded : ℕ → List NamedAmount → ℤ → Guarantees
-hourHanded n cs o = record { number = n; credits = amountsOf cs; offset = record { 0 = o } }
+hourHanded n cs o = record { number = n; credits = creditsOf cs; offset = record { 0 = o } }
 
 -- an hour's guarantees; no other reply is one of theirs
 abbrev pub guaranteesFrom : Reply → Guarantees
@@ -37,9 +48,9 @@ guaranteesFrom (number n) = hourHanded 0 [] (noTicks .0)
 guaranteesFrom (unitDay t v) = hourHanded 0 [] (noTicks .0)
 guaranteesFrom (charge t) = hourHanded 0 [] (noTicks .0)
 
-abbrev pub chargesFrom : Charges → answers.Charges
-chargesFrom (charged cs) = record { number = 0; charges = amountsOf cs }
-chargesFrom (no n) = record { number = n; charges = amountsOf [] }
+abbrev pub chargesFrom : ChargesReply → Charges
+chargesFrom (charged cs) = record { number = 0; charges = chargeListOf cs }
+chargesFrom (no n) = record { number = n; charges = chargeListOf [] }
 
 -- ---- a unit's day
 

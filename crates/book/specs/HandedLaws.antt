@@ -9,7 +9,7 @@ use lib.ListN.{length, take, drop, replicate}
 use borrow.Author.Tests.{ne-eqb}
 use Rattle.book.specs.Layer.{Mark, noTicks, pad}
 use Rattle.book.specs.declared.journal.Book.{Book}
-use Rattle.book.specs.declared.answers.Charges as answers
+use Rattle.book.specs.declared.answers.Charges.{Charges}
 use Rattle.book.specs.declared.answers.Guarantees.{Guarantees}
 use Rattle.book.specs.declared.answers.UnitDay.{UnitDay}
 use Rattle.book.specs.declared.units.UnitList.{UnitList}
@@ -32,7 +32,7 @@ pub day-settled : (b : Book) (s name : List ℕ) (r r′ : UnitDay)
     → r ≡ r′
 day-settled b s name r r′ m e m′ e′ = e ∙ ap unitDayFrom (m .answer ∙ sym (m′ .answer)) ∙ sym e′
 
-pub charges-settled : (b : Book) (s : List ℕ) (mark : Mark) (h : ℕ) (r r′ : answers.Charges)
+pub charges-settled : (b : Book) (s : List ℕ) (mark : Mark) (h : ℕ) (r r′ : Charges)
     → chargesReply r ≡ hourCharges mark h (load b s) → r ≡ chargesFrom (chargesReply r)
     → chargesReply r′ ≡ hourCharges mark h (load b s) → r′ ≡ chargesFrom (chargesReply r′)
     → r ≡ r′

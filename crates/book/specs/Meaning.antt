@@ -11,10 +11,10 @@ use Rattle.book.specs.declared.journal.Book.{Book}
 use Rattle.book.specs.declared.answers.Answer.{Answer}
 use Rattle.book.specs.declared.answers.Answer.the-variants.{Accepted, Refused, Place, Number, Charge}
 use Rattle.book.specs.declared.answers.Guarantees.{Guarantees}
-use Rattle.book.specs.declared.answers.Charges as answers
+use Rattle.book.specs.declared.answers.Charges.{Charges}
 use Rattle.book.specs.declared.answers.UnitDay.{UnitDay}
-use Rattle.book.specs.Amounts.{Charges, charged, no, chargesOf, priceOf}
-use Rattle.book.specs.Register.{Reg, standing, startIn, Call, Step, answered, becomes, stepOf, writeAll, refusal, Reply, refused, accepted, place, number, guarantees, unitDay, charge}
+use Rattle.book.specs.Amounts.{ChargesReply, charged, no, chargesOf, priceOf}
+use Rattle.book.specs.Register.{Reg, standing, Call, Step, answered, becomes, stepOf, writeAll, refusal, Reply, refused, accepted, place, number, guarantees, unitDay, charge}
 
 -- ---- which changes a book and its bytes stand for
 
@@ -102,14 +102,14 @@ dayReply d = cond (eqb (d .number) 0) (unitDay (d .total .0) (d .reversal .0)) (
 
 -- ---- the charges of a mark and hour
 
-abbrev pub chargesKeyed : List Change → Asked → Charges
+abbrev pub chargesKeyed : List Change → Asked → ChargesReply
 chargesKeyed l (bad n) = no n
-chargesKeyed l (got k t) = chargesOf (startIn l) k (standing l) (priceOf (standing l))
+chargesKeyed l (got k t) = chargesOf k (standing l) (priceOf (standing l))
 
 -- 16, then 2, 3, then 15 where failures stand
-abbrev pub hourCharges : Mark → ℕ → Load → Charges
+abbrev pub hourCharges : Mark → ℕ → Load → ChargesReply
 hourCharges m h astray = no notTogether
 hourCharges m h (belongs l) = cond (isFailure m) (chargesKeyed l (askHourOf m h)) (no unknownMark)
 
-abbrev pub chargesReply : answers.Charges → Charges
+abbrev pub chargesReply : Charges → ChargesReply
 chargesReply c = cond (eqb (c .number) 0) (charged (take (c .charges .n) (c .charges .list))) (no (c .number))

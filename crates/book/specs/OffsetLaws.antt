@@ -160,13 +160,13 @@ offset-given l v h p f fi fe =
         (λ t. t)
 
 -- a list of imports that is not empty is worked at its price
-pub priced-some : (at : Key → ℕ) (p : HourPrices) (is es : List Rec) → (length is ≡ 0 → ⊥)
-    → guarantees (map (creditAt at p) is) (offset (length is) (map (offsetEntry p) is) (p .emp) (totalsOf es)) ≡ guaranteesAt at (priced p) is es
-priced-some at p [] es h = absurd (h refl)
-priced-some at p (i ∷ is) es h = refl
+pub priced-some : (p : HourPrices) (is es : List Rec) → (length is ≡ 0 → ⊥)
+    → guarantees (map (creditAt p) is) (offset (length is) (map (offsetEntry p) is) (p .emp) (totalsOf es)) ≡ guaranteesAt (priced p) is es
+priced-some p [] es h = absurd (h refl)
+priced-some p (i ∷ is) es h = refl
 
 -- an hour's guarantees are those of its imports and exports by name, at its `PR`
-pub guarantees-hour : (at : Key → ℕ) (rs : List Rec) (h : ℕ)
-    → guaranteesOf at rs (priceOf rs) h ≡ guaranteesAt at (priceFrom (pick (hourKey Pr h) rs)) (byName (hourKey Im h) rs) (byName (hourKey Ex h) rs)
+pub guarantees-hour : (rs : List Rec) (h : ℕ)
+    → guaranteesOf rs (priceOf rs) h ≡ guaranteesAt (priceFrom (pick (hourKey Pr h) rs)) (byName (hourKey Im h) rs) (byName (hourKey Ex h) rs)
 unfolding guaranteesOf priceOf
-guarantees-hour at rs h = refl
+guarantees-hour rs h = refl

@@ -7,7 +7,7 @@ use mathlib.Core.Bool.{Bool, true, false, cond}
 use Rattle.laws.specs.Sums.{Σℤ-ext, every-ext}
 use Rattle.book.specs.Layer.{Key, Rec, Im, Ex, Pr, same, sameHour, same-left, sameHour-same, nameOf, nameBefore, names-apart, name-trans, name-tri, name-self, reversal, atHour}
 use Rattle.book.specs.Register.{stands, refused, unitDay}
-use Rattle.book.specs.Amounts.{Pick, is, pick, Price, priceFrom, priceOf, hourKey, guaranteesAt, guaranteesOf, hourTicks, absent, payable, unitAt, dayTotal, unitDayOf, chargeAt, chargeOf, chargesAt, chargesOf}
+use Rattle.book.specs.Amounts.{Pick, is, pick, HourPricing, priceFrom, priceOf, hourKey, guaranteesAt, guaranteesOf, hourTicks, absent, payable, unitAt, dayTotal, unitDayOf, chargeAt, chargeOf, chargesAt, chargesOf}
 use Rattle.book.specs.ByName.{inOrder, byName}
 use Rattle.book.specs.RegisterLaws.{by-test, true≠false, same-turned, Once}
 
@@ -123,11 +123,11 @@ module _ {xs ys : List Rec} (p : Reordered xs ys) (s : Once xs) where
   unfolding priceOf
   price-any-order h = ap priceFrom (pick-same (hourKey Pr h) p s)
 
-  pub guarantees-any-order : (at : Key → ℕ) (price : ℕ → Price) (h : ℕ) → guaranteesOf at xs price h ≡ guaranteesOf at ys price h
+  pub guarantees-any-order : (price : ℕ → HourPricing) (h : ℕ) → guaranteesOf xs price h ≡ guaranteesOf ys price h
   unfolding guaranteesOf
-  guarantees-any-order at price h = ap₂ (guaranteesAt at (price h)) (by-name-same (hourKey Im h) p s) (by-name-same (hourKey Ex h) p s)
+  guarantees-any-order price h = ap₂ (guaranteesAt (price h)) (by-name-same (hourKey Im h) p s) (by-name-same (hourKey Ex h) p s)
 
-  pub day-any-order : (k : Key) (price : ℕ → Price) → unitDayOf k xs price ≡ unitDayOf k ys price
+  pub day-any-order : (k : Key) (price : ℕ → HourPricing) → unitDayOf k xs price ≡ unitDayOf k ys price
   unfolding unitDayOf dayTotal
   day-any-order k price =
       let e : (j : ℕ) → unitAt k xs j ≡ unitAt k ys j = λ j. pick-same (atHour k (1 + j)) p s in
@@ -136,10 +136,10 @@ module _ {xs ys : List Rec} (p : Reordered xs ys) (s : Once xs) where
       let b = every-ext 24 (λ (j : ℕ). payable (unitAt k xs j) (price (1 + j))) (λ (j : ℕ). payable (unitAt k ys j) (price (1 + j))) (λ j lt. ap (λ (x : Pick). payable x (price (1 + j))) (e j)) in
       (λ i. cond (a i) (refused 11) (cond (b i) (unitDay (t i) (reversal (t i))) (refused 15)))
 
-  pub charge-any-order : (k : Key) (price : ℕ → Price) → chargeOf k xs price ≡ chargeOf k ys price
+  pub charge-any-order : (k : Key) (price : ℕ → HourPricing) → chargeOf k xs price ≡ chargeOf k ys price
   unfolding chargeOf
   charge-any-order k price = ap (λ (x : Pick). chargeAt x (price (k .hour))) (pick-same k p s)
 
-  pub charges-any-order : (at : Key → ℕ) (k : Key) (price : ℕ → Price) → chargesOf at k xs price ≡ chargesOf at k ys price
+  pub charges-any-order : (k : Key) (price : ℕ → HourPricing) → chargesOf k xs price ≡ chargesOf k ys price
   unfolding chargesOf
-  charges-any-order at k price = ap (chargesAt at (price (k .hour))) (by-name-same k p s)
+  charges-any-order k price = ap (chargesAt (price (k .hour))) (by-name-same k p s)

@@ -9,6 +9,10 @@ use Rattle.book.specs.declared.places.Spot.{Spot}
 use Rattle.book.specs.declared.places.Places.{Places}
 use Rattle.book.specs.Tables.{Survey, survey}
 
+-- "hour holds 16 of that mark"
+abbrev pub maxPlaces : ℕ
+maxPlaces = 16
+
 -- the length of the mark before a corrected record
 abbrev pub leadLength : ℕ → ℕ
 leadLength kind = cond (eqb kind 2) 2 0

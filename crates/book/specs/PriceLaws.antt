@@ -6,7 +6,7 @@ use mathlib.Core.Bool.{Bool, true, false, cond}
 use Rattle.book.specs.Layer.{Rec, Change, Pr, PricesFit, pricesOf, pricesIn, prices-there, standing-prices}
 use Rattle.book.specs.declared.prices.HourPrice.{HourPrice}
 use Rattle.book.specs.Register.{standing}
-use Rattle.book.specs.Amounts.{Price, priced, unpriced, hourKey, priceFrom, priceOf}
+use Rattle.book.specs.Amounts.{HourPricing, priced, unpriced, hourKey, priceFrom, priceOf}
 use Rattle.book.specs.Tables.{survey}
 use Rattle.book.specs.Prices.{PriceIs, priceAt}
 use Rattle.book.specs.Worked.{Begun}
@@ -24,10 +24,10 @@ pub price-unknown : {p : HourPrice} → p .known ≡ false → PriceIs unpriced 
 price-unknown {p} h = record { is = ap (λ (b : Bool). cond b (priced (p .prices)) unpriced) h; fits = λ t. true≠false t h }
 
 -- what an entry says of the price that it holds
-pub known-priced : {q : Price} {p : HourPrice} → PriceIs q p → p .known ≡ true → q ≡ priced (p .prices)
+pub known-priced : {q : HourPricing} {p : HourPrice} → PriceIs q p → p .known ≡ true → q ≡ priced (p .prices)
 known-priced {p = p} w t = sym (w .is) ∙ ap (λ (b : Bool). cond b (priced (p .prices)) unpriced) t
 
-pub unknown-unpriced : {q : Price} {p : HourPrice} → PriceIs q p → p .known ≡ false → q ≡ unpriced
+pub unknown-unpriced : {q : HourPricing} {p : HourPrice} → PriceIs q p → p .known ≡ false → q ≡ unpriced
 unknown-unpriced {p = p} w t = sym (w .is) ∙ ap (λ (b : Bool). cond b (priced (p .prices)) unpriced) t
 
 module _ {s : List ℕ} {l : List Change} (o : Begun s l) (h : ℕ) where
@@ -35,8 +35,8 @@ module _ {s : List ℕ} {l : List Change} (o : Begun s l) (h : ℕ) where
   unfolding priceOf
   price-found t =
       let f = found-at o (hourKey Pr h) t in
-      subst⁻¹ (λ (q : Price). PriceIs q (priceAt s (survey (hourKey Pr h) l .start))) (ap priceFrom (f .picked)) (price-written (f .at) (sym (f .mark)))
+      subst⁻¹ (λ (q : HourPricing). PriceIs q (priceAt s (survey (hourKey Pr h) l .start))) (ap priceFrom (f .picked)) (price-written (f .at) (sym (f .mark)))
 
   pub price-gone : survey (hourKey Pr h) l .found ≡ false → {p : HourPrice} → p .known ≡ false → PriceIs (priceOf (standing l) h) p
   unfolding priceOf
-  price-gone t {p} k = subst⁻¹ (λ (q : Price). PriceIs q p) (ap priceFrom (none-at o (hourKey Pr h) t)) (price-unknown k)
+  price-gone t {p} k = subst⁻¹ (λ (q : HourPricing). PriceIs q p) (ap priceFrom (none-at o (hourKey Pr h) t)) (price-unknown k)

@@ -8,20 +8,20 @@ use lib.Dec.{ltb}
 use Rattle.book.specs.Layer.{PricesFit, pricesIn}
 use Rattle.book.specs.declared.prices.HourPrice.{HourPrice}
 use Rattle.book.specs.declared.prices.PriceTable.{PriceTable}
-use Rattle.book.specs.Amounts.{Price, priced, unpriced}
+use Rattle.book.specs.Amounts.{HourPricing, priced, unpriced}
 use Rattle.book.specs.Rows.{rowLive, rowSlot}
 
 -- the price that an entry holds
-abbrev pub priceIn : HourPrice → Price
+abbrev pub priceIn : HourPrice → HourPricing
 priceIn p = cond (p .known) (priced (p .prices)) unpriced
 
 -- an entry holds a price; prices that are known are within the range of a record's
-pub record PriceIs (q : Price) (p : HourPrice) : Type 0 where
+pub record PriceIs (q : HourPricing) (p : HourPrice) : Type 0 where
   pub is : priceIn p ≡ q
   pub fits : p .known ≡ true → PricesFit (p .prices)
 
 -- each hour's at its place, the first at 0
-pub record TableOf (price : ℕ → Price) (t : PriceTable) : Type 0 where
+pub record TableOf (price : ℕ → HourPricing) (t : PriceTable) : Type 0 where
   pub size : length (t .hours) ≡ 24
   pub each : (j : ℕ) → j < 24 → (d : HourPrice) → PriceIs (price (1 + j)) (getD (t .hours) j d)
 

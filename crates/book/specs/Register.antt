@@ -125,19 +125,6 @@ unfoldable pub placeOf : Key → List Change → Reply
 placeOf k [] = refused noSuchKey
 placeOf k (c ∷ l) = cond (same k (keyOf c)) (written c (length (writeAll l))) (placeOf k l)
 
--- where the record of a key is written
-abbrev pub startFrom : Reply → ℕ
-startFrom (refused n) = 0
-startFrom accepted = 0
-startFrom (place start len) = start
-startFrom (number n) = 0
-startFrom (guarantees cs o) = 0
-startFrom (unitDay t v) = 0
-startFrom (charge t) = 0
-
-unfoldable pub startIn : List Change → Key → ℕ
-startIn l k = startFrom (placeOf k l)
-
 -- "the record of a key .., counts by mark and hour, free bytes, an hour's guarantees, a unit's day, a failure charge": mark, hour and spelled name as they are lent
 pub data Question : Type 0 where
   recordOf : List ℕ → ℕ → List ℕ → Question
@@ -157,7 +144,7 @@ abbrev pub answer : Question → ℕ → Reg → Reply
 answer (recordOf m h n) lent g = keyed (keyAsked m h n) (λ k. placeOf k (g .list))
 answer (countOf m h) lent g = keyed (askHour m h) (λ k. number (count k (standing (g .list))))
 answer freeBytes lent g = number (capped lent - length (writeAll (g .list)))
-answer (hourGuarantees h) lent g = keyed (askHourOf Im h) (λ (k : Key). guaranteesOf (startIn (g .list)) (standing (g .list)) (priceOf (standing (g .list))) (k .hour))
+answer (hourGuarantees h) lent g = keyed (askHourOf Im h) (λ (k : Key). guaranteesOf (standing (g .list)) (priceOf (standing (g .list))) (k .hour))
 answer (dayOf n) lent g = keyed (askUnit n) (λ (k : Key). unitDayOf k (standing (g .list)) (priceOf (standing (g .list))))
 answer (failureCharge m h n) lent g = keyed (askFailure m h n) (λ (k : Key). chargeOf k (standing (g .list)) (priceOf (standing (g .list))))
 

@@ -8,14 +8,14 @@ use native.Mathlib.Nat.{not-suc-le-zero, le-of-suc-le-suc}
 use lib.ListN.{length, drop, getD, take-append-drop}
 use lib.Seq.{drop-append-le}
 use Rattle.book.specs.Layer.{Key, Name, Rec, Change, filed, corrected, withdrawn, write, Good, good-co, same, sameHour, same-refl, same-alike, nameOf, nameBefore, names-apart, sameHour-same, keyAsked, got, markBytes, askBytes, asked}
-use Rattle.book.specs.Register.{writeAll, without, standing, stands, place, refused, startFrom, startIn}
+use Rattle.book.specs.Register.{writeAll, without, standing, stands}
 use Rattle.book.specs.Amounts.{is, nil, pick}
 use Rattle.book.specs.ByName.{inOrder, byName, addName, sameMark, namesOf}
 use Rattle.book.specs.Meaning.{Valid}
 use Rattle.book.specs.Tables.{survey}
 use Rattle.book.specs.Worked.{Begun}
 use Rattle.book.specs.RegisterLaws.{by-test, true≠false, same-turned, survey-found, Once, valid-new, once-standing}
-use Rattle.book.specs.PlaceLaws.{survey-written, survey-place, pick-none}
+use Rattle.book.specs.PlaceLaws.{survey-written, pick-none}
 
 -- ---- a property of all of a list
 
@@ -106,14 +106,12 @@ pub record Found (s : List ℕ) (l : List Change) (k : Key) : Type 0 where
   pub picked : pick k (standing l) ≡ is what
   pub mark : k .mark ≡ what .key .mark
   pub at : At s (survey k l .start) what
-  pub start : startIn l k ≡ survey k l .start
 
 module _ {s : List ℕ} {l : List Change} (o : Begun s l) where
   whole : s ≡ writeAll l ++ drop (length (writeAll l)) s
   whole = sym (take-append-drop (length (writeAll l)) s) ∙ ap (λ (x : List ℕ). x ++ drop (length (writeAll l)) s) (o .bytes)
 
   pub found-at : (k : Key) → survey k l .found ≡ true → Found s l k
-  unfolding startIn
   found-at k h =
       let w = survey-written k l h in
       let st = survey k l .start in
@@ -133,7 +131,6 @@ module _ {s : List ℕ} {l : List Change} (o : Begun s l) where
               ∙ append-assoc (write (filed (w .what))) tail v;
           good = all-pick k (w .what) (standing-good l (o .valid)) (w .stands-so);
         };
-        start = ap startFrom (survey-place k l ∙ ap (λ (b : Bool). cond b (place st ln) (refused 11)) h);
       }
 
   pub none-at : (k : Key) → survey k l .found ≡ false → pick k (standing l) ≡ nil
@@ -147,14 +144,13 @@ module _ {s : List ℕ} {l : List Change} (o : Begun s l) where
   -- every standing record is where the survey says
   pub record Stands (r : Rec) : Type 0 where
     pub at : At s (survey (r .key) l .start) r
-    pub start : startIn l (r .key) ≡ survey (r .key) l .start
 
   standing-at : (r : Rec) → pick (r .key) (standing l) ≡ is r → Stands r
   standing-at r e =
       let f = found-at (r .key) (picked-found (r .key) r e) in
       let q : is (f .what) ≡ is r = sym (f .picked) ∙ e in
       let p : f .what ≡ r = cc in
-      record { at = subst (At s (survey (r .key) l .start)) p (f .at); start = f .start }
+      record { at = subst (At s (survey (r .key) l .start)) p (f .at) }
 
   pub all-stand : All Stands (standing l)
   all-stand = all-map standing-at (own-pick (standing l) (once-standing l (valid-new l (o .valid))))

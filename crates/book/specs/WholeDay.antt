@@ -3,13 +3,13 @@ use Prim.Native.Nat.{ℕ, zero, suc, _+_}
 use mathlib.Core.List.{List, [], _∷_, map}
 use lib.ListN.{length}
 use Rattle.money.specs.Refusals.{notTogether}
-use Rattle.book.specs.Layer.{Key, Name, Rec, Fi, Fe, noOne, noTicks, pad}
+use Rattle.book.specs.Layer.{Name, Rec, Fi, Fe, noOne, noTicks, pad}
 use Rattle.book.specs.declared.answers.HourAmounts.{HourAmounts}
 use Rattle.book.specs.declared.answers.UnitAmounts.{UnitAmounts}
 use Rattle.book.specs.declared.answers.DayAmounts.{DayAmounts}
-use Rattle.book.specs.Amounts.{Price, Charges, charged, hourKey, priceOf, guaranteesOf, chargesOf, unitDayOf}
+use Rattle.book.specs.Amounts.{HourPricing, ChargesReply, charged, hourKey, priceOf, guaranteesOf, chargesOf, unitDayOf}
 use Rattle.book.specs.ByName.{namesOf}
-use Rattle.book.specs.Register.{Reply, standing, startIn}
+use Rattle.book.specs.Register.{Reply, standing}
 use Rattle.book.specs.Meaning.{Load, belongs, astray}
 use Rattle.book.specs.Units.{ghKey, unitKey}
 use Rattle.book.specs.Handed.{hourHanded, guaranteesFrom, chargesFrom, dayHanded, unitDayFrom}
@@ -17,18 +17,18 @@ use Rattle.book.specs.Handed.{hourHanded, guaranteesFrom, chargesFrom, d
 -- an hour: its guarantees, its charges of failed imports and those of failed exports
 pub record HourReply : Type 0 where
   pub guaranteed : Reply
-  pub imports : Charges
-  pub exports : Charges
+  pub imports : ChargesReply
+  pub exports : ChargesReply
 
-abbrev pub hourReply : (Key → ℕ) → List Rec → (ℕ → Price) → ℕ → HourReply
-hourReply at rs price h = record { guaranteed = guaranteesOf at rs price h; imports = chargesOf at (hourKey Fi h) rs price; exports = chargesOf at (hourKey Fe h) rs price }
+abbrev pub hourReply : List Rec → (ℕ → HourPricing) → ℕ → HourReply
+hourReply rs price h = record { guaranteed = guaranteesOf rs price h; imports = chargesOf (hourKey Fi h) rs price; exports = chargesOf (hourKey Fe h) rs price }
 
 -- a unit: its name, and its day
 pub record UnitReply : Type 0 where
   pub name : Name
   pub day : Reply
 
-abbrev pub unitReply : List Rec → (ℕ → Price) → Name → UnitReply
+abbrev pub unitReply : List Rec → (ℕ → HourPricing) → Name → UnitReply
 unitReply rs price n = record { name = n; day = unitDayOf (unitKey n) rs price }
 
 -- the n hours from h on
@@ -42,13 +42,13 @@ pub data WholeDay : Type 0 where
   no : ℕ → WholeDay
 
 -- of standing records, at a price of each hour: hours 1 to 24, and the units by name
-abbrev pub wholeOf : (Key → ℕ) → List Rec → (ℕ → Price) → WholeDay
-wholeOf at rs price = whole (map (hourReply at rs price) (hoursFrom 1 24)) (map (unitReply rs price) (namesOf ghKey rs))
+abbrev pub wholeOf : List Rec → (ℕ → HourPricing) → WholeDay
+wholeOf rs price = whole (map (hourReply rs price) (hoursFrom 1 24)) (map (unitReply rs price) (namesOf ghKey rs))
 
 -- 16, or the day
 abbrev pub dayAmounts : Load → WholeDay
 dayAmounts astray = no notTogether
-dayAmounts (belongs l) = wholeOf (startIn l) (standing l) (priceOf (standing l))
+dayAmounts (belongs l) = wholeOf (standing l) (priceOf (standing l))
 
 -- ---- the struct that a day is handed back in; nothing of it is free
 

@@ -13,52 +13,60 @@ use Rattle.book.specs.declared.answers.NamedAmount.{NamedAmount}
 use Rattle.book.specs.declared.answers.HourAmounts.{HourAmounts}
 use Rattle.book.specs.declared.answers.UnitAmounts.{UnitAmounts}
 use Rattle.book.specs.declared.answers.DayAmounts.{DayAmounts}
-use Rattle.book.specs.Amounts.{Price, priced, unpriced, Charges, charged, hourKey, priceOf, creditAt, chargeLine, guaranteesAt, guaranteesOf, chargesAt, chargesOf, absent, payable, unitAt, dayTotal, unitDayOf}
+use Rattle.book.specs.Amounts.{HourPricing, priced, unpriced, ChargesReply, charged, hourKey, priceOf, creditAt, chargeLine, guaranteesAt, guaranteesOf, chargesAt, chargesOf, absent, payable, unitAt, dayTotal, unitDayOf}
 use Rattle.book.specs.ByName.{byName, namesOf}
-use Rattle.book.specs.Register.{Reply, refused, guarantees, unitDay, standing, startIn}
+use Rattle.book.specs.Register.{Reply, refused, guarantees, unitDay, standing}
 use Rattle.book.specs.Meaning.{belongs, astray, Valid, guaranteesReply, chargesReply, dayReply}
 use Rattle.book.specs.Units.{ghKey, unitKey}
-use Rattle.book.specs.Handed.{noAmount, amountsOf, guaranteesFrom, chargesFrom, unitDayFrom}
+use Rattle.book.specs.Handed.{maxCredits, maxCharges, noAmount, creditsOf, chargeListOf, guaranteesFrom, chargesFrom, unitDayFrom}
 use Rattle.book.specs.HandedLaws.{pad-take}
 use Rattle.book.specs.ValidLaws.{by-name-few, names-few}
 use Rattle.book.specs.WholeDay.{hourReply, unitReply, hoursFrom, dayAmounts, hourFrom, unitFrom, noHour, noUnit, wholeHanded, dayFrom}
 
 -- ---- what is handed back is what was answered
 
-amounts-back : (cs : List NamedAmount) → length cs ≤ 16 → take (amountsOf cs .n) (amountsOf cs .list) ≡ cs
-unfolding amountsOf
-amounts-back cs few = pad-take noAmount 16 cs few
+given-back : (cs : List NamedAmount) → length cs ≤ maxCredits → take (creditsOf cs .n) (creditsOf cs .list) ≡ cs
+unfolding creditsOf
+given-back cs few = pad-take noAmount maxCredits cs few
 
-amounts-few : (cs : List NamedAmount) → amountsOf cs .n ≡ length cs
-unfolding amountsOf
-amounts-few cs = refl
+given-few : (cs : List NamedAmount) → creditsOf cs .n ≡ length cs
+unfolding creditsOf
+given-few cs = refl
+
+listed-back : (cs : List NamedAmount) → length cs ≤ maxCharges → take (chargeListOf cs .n) (chargeListOf cs .list) ≡ cs
+unfolding chargeListOf
+listed-back cs few = pad-take noAmount maxCharges cs few
+
+listed-few : (cs : List NamedAmount) → chargeListOf cs .n ≡ length cs
+unfolding chargeListOf
+listed-few cs = refl
 
 record GuaranteesBack (r : Reply) : Type 0 where
   is : guaranteesReply (guaranteesFrom r) ≡ r
-  few : guaranteesFrom r .credits .n ≤ 16
+  few : guaranteesFrom r .credits .n ≤ maxCredits
 
-credits-back : (cs : List NamedAmount) (o : ℤ) → length cs ≤ 16 → GuaranteesBack (guarantees cs o)
-credits-back cs o few = record { is = ap (λ (x : List NamedAmount). guarantees x o) (amounts-back cs few); few = omega (arith, amounts-few cs) }
+credits-back : (cs : List NamedAmount) (o : ℤ) → length cs ≤ maxCredits → GuaranteesBack (guarantees cs o)
+credits-back cs o few = record { is = ap (λ (x : List NamedAmount). guarantees x o) (given-back cs few); few = omega (arith, given-few cs) }
 
-guarantees-at : (at : Key → ℕ) (q : Price) (is es : List Rec) → length is ≤ 16 → GuaranteesBack (guaranteesAt at q is es)
-guarantees-at at q [] es few = credits-back [] _ few
-guarantees-at at unpriced (i ∷ rest) es few = record { is = refl; few = omega (arith, amounts-few []) }
-guarantees-at at (priced p) (i ∷ rest) es few = credits-back (map (creditAt at p) (i ∷ rest)) _ (omega (arith, length-map (i ∷ rest) (creditAt at p)))
+guarantees-at : (q : HourPricing) (is es : List Rec) → length is ≤ maxCredits → GuaranteesBack (guaranteesAt q is es)
+guarantees-at q [] es few = credits-back [] _ few
+guarantees-at unpriced (i ∷ rest) es few = record { is = refl; few = omega (arith, given-few []) }
+guarantees-at (priced p) (i ∷ rest) es few = credits-back (map (creditAt p) (i ∷ rest)) _ (omega (arith, length-map (i ∷ rest) (creditAt p)))
 
-record ChargesBack (c : Charges) : Type 0 where
+record ChargesBack (c : ChargesReply) : Type 0 where
   is : chargesReply (chargesFrom c) ≡ c
-  few : chargesFrom c .charges .n ≤ 16
+  few : chargesFrom c .charges .n ≤ maxCharges
 
-lines-back : (cs : List NamedAmount) → length cs ≤ 16 → ChargesBack (charged cs)
-lines-back cs few = record { is = ap charged (amounts-back cs few); few = omega (arith, amounts-few cs) }
+lines-back : (cs : List NamedAmount) → length cs ≤ maxCharges → ChargesBack (charged cs)
+lines-back cs few = record { is = ap charged (listed-back cs few); few = omega (arith, listed-few cs) }
 
-charges-at : (at : Key → ℕ) (q : Price) (fs : List Rec) → length fs ≤ 16 → ChargesBack (chargesAt at q fs)
-charges-at at q [] few = lines-back [] few
-charges-at at unpriced (f ∷ fs) few = record { is = refl; few = omega (arith, amounts-few []) }
-charges-at at (priced p) (f ∷ fs) few = lines-back (map (chargeLine at p) (f ∷ fs)) (omega (arith, length-map (f ∷ fs) (chargeLine at p)))
+charges-at : (q : HourPricing) (fs : List Rec) → length fs ≤ maxCharges → ChargesBack (chargesAt q fs)
+charges-at q [] few = lines-back [] few
+charges-at unpriced (f ∷ fs) few = record { is = refl; few = omega (arith, listed-few []) }
+charges-at (priced p) (f ∷ fs) few = lines-back (map (chargeLine p) (f ∷ fs)) (omega (arith, length-map (f ∷ fs) (chargeLine p)))
 
 -- a unit's day by its name
-pub day-back : (k : Key) (rs : List Rec) (price : ℕ → Price) → dayReply (unitDayFrom (unitDayOf k rs price)) ≡ unitDayOf k rs price
+pub day-back : (k : Key) (rs : List Rec) (price : ℕ → HourPricing) → dayReply (unitDayFrom (unitDayOf k rs price)) ≡ unitDayOf k rs price
 unfolding unitDayOf
 day-back k rs price = go (every 24 (λ (j : ℕ). absent (unitAt k rs j))) (every 24 (λ (j : ℕ). payable (unitAt k rs j) (price (1 + j)))) (dayTotal k rs price)
   where
@@ -71,25 +79,24 @@ day-back k rs price = go (every 24 (λ (j : ℕ). absent (unitAt k rs j))) (ever
 
 -- the amounts of hour h of the list l
 pub record HourIs (l : List Change) (h : ℕ) (x : HourAmounts) : Type 0 where
-  pub guaranteed : guaranteesReply (x .guarantees) ≡ guaranteesOf (startIn l) (standing l) (priceOf (standing l)) h
-  pub imports : chargesReply (x .imports) ≡ chargesOf (startIn l) (hourKey Fi h) (standing l) (priceOf (standing l))
-  pub exports : chargesReply (x .exports) ≡ chargesOf (startIn l) (hourKey Fe h) (standing l) (priceOf (standing l))
-  pub few-credits : x .guarantees .credits .n ≤ 16
-  pub few-imports : x .imports .charges .n ≤ 16
-  pub few-exports : x .exports .charges .n ≤ 16
+  pub guaranteed : guaranteesReply (x .guarantees) ≡ guaranteesOf (standing l) (priceOf (standing l)) h
+  pub imports : chargesReply (x .imports) ≡ chargesOf (hourKey Fi h) (standing l) (priceOf (standing l))
+  pub exports : chargesReply (x .exports) ≡ chargesOf (hourKey Fe h) (standing l) (priceOf (standing l))
+  pub few-credits : x .guarantees .credits .n ≤ maxCredits
+  pub few-imports : x .imports .charges .n ≤ maxCharges
+  pub few-exports : x .exports .charges .n ≤ maxCharges
 
 -- hour h of the list l, as it is handed back
 abbrev pub hourIn : List Change → ℕ → HourAmounts
-hourIn l h = hourFrom (hourReply (startIn l) (standing l) (priceOf (standing l)) h)
+hourIn l h = hourFrom (hourReply (standing l) (priceOf (standing l)) h)
 
 hour-fits : (l : List Change) → Valid l → (h : ℕ) → HourIs l h (hourIn l h)
 unfolding guaranteesOf chargesOf
 hour-fits l v h =
-    let at = startIn l in
     let price = priceOf (standing l) h in
-    let g = guarantees-at at price (byName (hourKey Im h) (standing l)) (byName (hourKey Ex h) (standing l)) (by-name-few (hourKey Im h) l v) in
-    let i = charges-at at price (byName (hourKey Fi h) (standing l)) (by-name-few (hourKey Fi h) l v) in
-    let e = charges-at at price (byName (hourKey Fe h) (standing l)) (by-name-few (hourKey Fe h) l v) in
+    let g = guarantees-at price (byName (hourKey Im h) (standing l)) (byName (hourKey Ex h) (standing l)) (by-name-few (hourKey Im h) l v) in
+    let i = charges-at price (byName (hourKey Fi h) (standing l)) (by-name-few (hourKey Fi h) l v) in
+    let e = charges-at price (byName (hourKey Fe h) (standing l)) (by-name-few (hourKey Fe h) l v) in
     record { guaranteed = g .is; imports = i .is; exports = e .is; few-credits = g .few; few-imports = i .few; few-exports = e .few }
 
 -- the j-th of n hours from h on
@@ -105,7 +112,7 @@ hours-at f g z d (suc n) (suc m) h (suc j) lt le =
 pub hour-is : (l : List Change) → Valid l → (j : ℕ) → j < 24 → (d : HourAmounts) → HourIs l (1 + j) (getD (dayFrom (dayAmounts (belongs l)) .hours) j d)
 unfolding wholeHanded
 hour-is l v j lt d =
-    subst (HourIs l (1 + j)) (sym (hours-at (hourReply (startIn l) (standing l) (priceOf (standing l))) hourFrom noHour d 24 24 1 j lt (omega arith))) (hour-fits l v (1 + j))
+    subst (HourIs l (1 + j)) (sym (hours-at (hourReply (standing l) (priceOf (standing l))) hourFrom noHour d 24 24 1 j lt (omega arith))) (hour-fits l v (1 + j))
 
 -- ---- the units
 

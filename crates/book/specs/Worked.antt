@@ -15,9 +15,10 @@ use Rattle.book.specs.declared.prices.PriceTable.{PriceTable}
 use Rattle.book.specs.declared.places.Spot.{Spot}
 use Rattle.book.specs.declared.places.Places.{Places}
 use Rattle.book.specs.Register.{writeAll, Reply, refused, guarantees, unitDay, charge}
-use Rattle.book.specs.Amounts.{Charges, charged, no}
+use Rattle.book.specs.Amounts.{ChargesReply, charged, no}
 use Rattle.book.specs.Meaning.{Valid}
 use Rattle.book.specs.Rows.{Logged}
+use Rattle.book.specs.Places.{maxPlaces}
 
 -- ---- lent bytes that begin with changes as written, which can be played
 
@@ -36,7 +37,7 @@ abbrev pub noSpot : Spot
 noSpot = record { name = record { len = 0; bytes = [] }; start = 0 }
 
 pub record Inside (s : List ℕ) (p : Places) : Type 0 where
-  pub few : p .n ≤ 16
+  pub few : p .n ≤ maxPlaces
   pub each : (i : ℕ) → i < p .n → getD (p .at) i noSpot .start ≤ length s
 
 abbrev pub entryAt : List ℕ → HourPrices → Spot → Import
@@ -59,7 +60,7 @@ totalsIn s xs = totalsFrom (replicate 12 noQuantity) s xs
 unfoldable pub namedOf : List Spot → List Ticks → List NamedAmount
 namedOf [] ts = []
 namedOf (x ∷ xs) [] = []
-namedOf (x ∷ xs) (t ∷ ts) = record { name = x .name; start = x .start; ticks = t } ∷ namedOf xs ts
+namedOf (x ∷ xs) (t ∷ ts) = record { name = x .name; ticks = t } ∷ namedOf xs ts
 
 abbrev pub workedIn : List ℕ → HourPrices → List Spot → List Spot → Reply
 workedIn s p xs ys = guarantees (namedOf xs (map entryCredit (entriesIn s p xs))) (offset (length xs) (entriesIn s p xs) (p .emp) (totalsIn s ys))
@@ -72,7 +73,7 @@ pub record Workable (s : List ℕ) (p : HourPrices) (xs ys : List Spot) : Type 0
 abbrev pub noGuarantees : ℕ → Reply
 noGuarantees n = cond (eqb n 0) (guarantees [] (pos 0)) (refused n)
 
-abbrev pub noCharges : ℕ → Charges
+abbrev pub noCharges : ℕ → ChargesReply
 noCharges n = cond (eqb n 0) (charged []) (no n)
 
 -- the ticks of an amount: no charge of a standing record is refused, so that 0 is never taken

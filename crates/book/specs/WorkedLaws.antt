@@ -1,21 +1,27 @@
 -- What is worked from the places is what 01's formulas give for the standing records.
 use Prim.Native.Nat.{ℕ, _≤_, _<_}
-use mathlib.Core.Path.{_≡_, refl, sym, ap, ap₂, _∙_, subst}
+use mathlib.Core.Path.{_≡_, refl, sym, ap, _∙_, subst}
 use mathlib.Core.List.{List, [], _∷_, map}
 use mathlib.Core.Bool.{true}
 use native.Mathlib.Omega.{arith}
 use lib.ListN.{length, getD, length-map}
 use lib.Seq.{getD-take, length-take-le}
-use Rattle.book.specs.Layer.{Key, Rec, Change, HourPrices, PricesFit, Im, Ex, totalsWithIn, totals-written, entry, offsetEntry, offsetEntryIn, EntryAnswer, TotalsAnswer, entry-view, creditTicks, sameHour, hour-parts}
+use Rattle.book.specs.Layer.{Key, Rec, Change, HourPrices, PricesFit, Im, Ex, totalsWithIn, totals-written, entry, offsetEntry, offsetEntryIn, EntryAnswer, TotalsAnswer, entry-view, sameHour, hour-parts}
+use Rattle.book.specs.declared.answers.NamedAmount.{NamedAmount}
 use Rattle.book.specs.declared.places.Spot.{Spot}
 use Rattle.book.specs.declared.places.Places.{Places}
-use Rattle.book.specs.Register.{standing, startIn}
+use Rattle.book.specs.Register.{standing}
 use Rattle.book.specs.Amounts.{hourKey, creditAt, totalsOf}
 use Rattle.book.specs.ByName.{byName}
 use Rattle.book.specs.Places.{spotOf, spots}
 use Rattle.book.specs.Worked.{Begun, noSpot, Inside, entryAt, entriesIn, entryCredit, totalsIn, namedOf}
-use Rattle.book.specs.StandLaws.{All, also, all-map, all-at, Stands, all-stand, all-by-name}
+use Rattle.book.specs.StandLaws.{All, all-map, all-at, Stands, all-stand, all-by-name}
 use Rattle.book.specs.OffsetLaws.{getD-mapped, each-own, entries-at, Adds, totals-at}
+
+pub named-are : (l : List Change) (p : HourPrices) (rs : List Rec) → namedOf (map (spotOf l) rs) (map entryCredit (map (offsetEntry p) rs)) ≡ map (creditAt p) rs
+unfolding namedOf
+named-are l p [] = refl
+named-are l p (r ∷ rs) = ap (λ (x : List NamedAmount). creditAt p r ∷ x) (named-are l p rs)
 
 module _ {s : List ℕ} {l : List Change} (o : Begun s l) where
   -- the standing records of a mark and hour: each at its place, of that mark
@@ -48,7 +54,7 @@ module _ {s : List ℕ} {l : List Change} (o : Begun s l) where
           sym (getD-take (p .n) (p .at) i noSpot h) ∙ ap (λ (x : List Spot). getD x i noSpot) e ∙ getD-mapped (spotOf l) rs i none noSpot (omega (arith, size)) in
           subst (λ (x : Spot). x .start ≤ length s) (sym q) (all-at (here k) none i (omega (arith, size)) .0 .at .inside)
 
-  -- ---- entries, credits
+  -- ---- entries
 
   pub entries-are : (p : HourPrices) → PricesFit p → (h : ℕ) (rs : List Rec) → All (Here (hourKey Im h)) rs → entriesIn s p (map (spotOf l) rs) ≡ map (offsetEntry p) rs
   entries-are p f h rs a = entries-at s p (each-own (spotOf l) (all-map at a))
@@ -58,12 +64,6 @@ module _ {s : List ℕ} {l : List Change} (o : Begun s l) where
           let w = b .0 .at in
           ap (λ (x : List ℕ). offsetEntryIn x p .entry) (w .bytes)
           ∙ ap (λ (a : EntryAnswer). a .entry) (entry-view r p (w .rest) (w .good) (sym (hour-parts (hourKey Im h) (r .key) (b .1) .0)) f)
-
-  pub named-are : (p : HourPrices) (k : Key) (rs : List Rec) → All (Here k) rs → namedOf (map (spotOf l) rs) (map entryCredit (map (offsetEntry p) rs)) ≡ map (creditAt (startIn l) p) rs
-  unfolding namedOf
-  named-are p k [] a = refl
-  named-are p k (r ∷ rs) (also b a) =
-      ap₂ _∷_ (ap (λ (x : ℕ). record { name = r .key .name; start = x; ticks = record { 0 = creditTicks r p } }) (sym (b .0 .start))) (named-are p k rs a)
 
   -- ---- export totals
 

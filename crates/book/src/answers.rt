@@ -2,9 +2,11 @@
 use crate::journal::Book;
 use money::names::Name;
 use money::units::Ticks;
+use records::names::no_name;
 ghost use mathlib.Core.Path.{_≡_};
 ghost use Rattle.book.specs.Meaning.{replyOf};
 ghost use Rattle.book.specs.Tables.{replied};
+ghost use Rattle.book.specs.Handed.{noAmount};
 
 pub enum Answer {
     Accepted,
@@ -33,30 +35,50 @@ pub struct Done {
     pub answer: Answer,
 }
 
-// An amount, the decoded name that it belongs to, and where its record is written.
+// The most credits and the most charges of an hour: as many as it holds records of a mark.
+pub const CREDITS_MAX: usize = 16;
+pub const CHARGES_MAX: usize = 16;
+
+// An amount, and the decoded name that it belongs to.
 pub struct NamedAmount {
     pub name: Name,
-    pub start: usize,
     pub ticks: Ticks,
 }
 
-// Amounts by name: the first n of the list.
-pub struct Amounts {
+// Credits by name: the first n of the list.
+pub struct Credits {
     pub n: usize,
-    pub list: [NamedAmount; 16],
+    pub list: [NamedAmount; CREDITS_MAX],
+}
+
+// Charges by name: the first n of the list.
+pub struct ChargeList {
+    pub n: usize,
+    pub list: [NamedAmount; CHARGES_MAX],
+}
+
+// What stands behind the last amount of a list.
+pub(crate) fn no_amount() -> NamedAmount
+    ensures { λ r. ⌜ r ≡ noAmount ⌝ }
+{
+    let name = no_name();
+    NamedAmount {
+        name,
+        ticks: Ticks(0),
+    }
 }
 
 // The credits of an hour's imports and its wheel offset, or the number of a refusal.
 pub struct Guarantees {
     pub number: u8,
-    pub credits: Amounts,
+    pub credits: Credits,
     pub offset: Ticks,
 }
 
 // The charges of an hour's failures of one mark, or the number of a refusal.
 pub struct Charges {
     pub number: u8,
-    pub charges: Amounts,
+    pub charges: ChargeList,
 }
 
 // A unit's day total and its reversal, or the number of a refusal.

@@ -27,7 +27,7 @@ ghost use Rattle.laws.specs.Sums.{every};
 ghost use Rattle.book.specs.Layer.{Change, Gh, Wellformed};
 ghost use Rattle.book.specs.Register.{standing, ask, dayOf, refused};
 ghost use Rattle.book.specs.Meaning.{Meets, dayReply};
-ghost use Rattle.book.specs.Amounts.{Price, unitDayOf};
+ghost use Rattle.book.specs.Amounts.{HourPricing, unitDayOf};
 ghost use Rattle.book.specs.Rows.{Log, Logged};
 ghost use Rattle.book.specs.Prices.{TableOf};
 ghost use Rattle.book.specs.Handed.{unitDayFrom};
@@ -152,7 +152,7 @@ pub(crate) fn of_unit(
     table: PriceTable,
 ) -> UnitDay
     requires { ⌜ Log (now log) (now rows) n ⌝ ∗ ⌜ Wellformed key ⌝ }
-    ensures { λ r. ⌜ ((l : List Change) → Logged (now (log .entry)) (now (rows .entry)) n l → key .mark ≡ Gh → (price : ℕ → Price) → TableOf price table → dayReply r ≡ unitDayOf key (standing l) price) × (r ≡ unitDayFrom (dayReply r)) ⌝ }
+    ensures { λ r. ⌜ ((l : List Change) → Logged (now (log .entry)) (now (rows .entry)) n l → key .mark ≡ Gh → (price : ℕ → HourPricing) → TableOf price table → dayReply r ≡ unitDayOf key (standing l) price) × (r ≡ unitDayFrom (dayReply r)) ⌝ }
 {
     let units = hours::day_in(log, rows, n, key);
     if nowhere(units) {

@@ -1,8 +1,10 @@
 // Failure charges.
 use crate::answers::Answer;
+use crate::answers::CHARGES_MAX;
+use crate::answers::ChargeList;
 use crate::answers::Charges;
-use crate::guarantees::named;
-use crate::guarantees::no_amounts;
+use crate::answers::NamedAmount;
+use crate::answers::no_amount;
 use crate::journal::Book;
 use crate::places;
 use crate::places::Places;
@@ -25,15 +27,16 @@ use records::marks::Mark;
 use records::marks::is_failure;
 ghost use mathlib.Core.Path.{_≡_};
 ghost use mathlib.Core.Bool.{true};
-ghost use mathlib.Core.List.{List};
+ghost use mathlib.Core.List.{List, []};
 ghost use lib.ListN.{take};
 ghost use Prim.Native.Nat.{ℕ, _≤_, _<_};
 ghost use Rattle.book.specs.Layer.{Change, isFailure, Wellformed};
-ghost use Rattle.book.specs.Register.{standing, startIn, ask, failureCharge};
+ghost use Rattle.book.specs.Register.{standing, ask, failureCharge};
 ghost use Rattle.book.specs.Meaning.{Meets, replyOf, load, chargesReply, hourCharges};
-ghost use Rattle.book.specs.Amounts.{Price, hourKey, chargeOf, chargesOf};
-ghost use Rattle.book.specs.Handed.{chargesFrom};
-ghost use Rattle.book.specs.Worked.{Inside, ticksOf, chargeReply, chargesIn, noCharges};
+ghost use Rattle.book.specs.Amounts.{HourPricing, hourKey, chargeOf, chargesOf};
+ghost use Rattle.book.specs.Handed.{maxCharges, chargeListOf, chargesFrom};
+ghost use Rattle.book.specs.Worked.{Inside, ticksOf, chargeReply, chargesIn, namedOf, noCharges};
+ghost use Rattle.book.specs.Places.{maxPlaces};
 ghost use Rattle.book.specs.Rows.{Log, Logged};
 ghost use Rattle.book.specs.Prices.{PriceIs};
 
@@ -49,7 +52,7 @@ fn answer_of(a: Charged) -> Answer
 // By the rows of n changes, for a key, at a price of its hour.
 pub(crate) fn of_key(log: &[u8], rows: &[u32; 512], n: usize, key: Key, price: HourPrice) -> Answer
     requires { ⌜ Log (now log) (now rows) n ⌝ ∗ ⌜ Wellformed key ⌝ }
-    ensures { λ r. ⌜ ((l : List Change) → Logged (now (log .entry)) (now (rows .entry)) n l → isFailure (key .mark) ≡ true → (q : ℕ → Price) → PriceIs (q (key .hour)) price → replyOf r ≡ chargeOf key (standing l) q) ⌝ }
+    ensures { λ r. ⌜ ((l : List Change) → Logged (now (log .entry)) (now (rows .entry)) n l → isFailure (key .mark) ≡ true → (q : ℕ → HourPricing) → PriceIs (q (key .hour)) price → replyOf r ≡ chargeOf key (standing l) q) ⌝ }
 {
     let f = find_in(log, rows, n, n, key);
     if f.found {
@@ -75,11 +78,11 @@ fn ticks_of(a: Charged) -> Ticks
 }
 
 // The charges of the failures at the places.
-fn charges_at(log: &[u8], p: Places, mark: Mark, prices: HourPrices) -> [Ticks; 16]
+fn charges_at(log: &[u8], p: Places, mark: Mark, prices: HourPrices) -> [Ticks; CHARGES_MAX]
     requires { ⌜ Inside (now log) p ⌝ }
     ensures { λ r. ⌜ take (p .n) r ≡ chargesIn (now (log .entry)) mark prices (take (p .n) (p .at)) ⌝ }
 {
-    let mut ticks = [Ticks(0); 16];
+    let mut ticks = [Ticks(0); CHARGES_MAX];
     let mut i: usize = 0;
     while i < p.n {
         let x = p.at[i];
@@ -91,10 +94,38 @@ fn charges_at(log: &[u8], p: Places, mark: Mark, prices: HourPrices) -> [Ticks; 
     ticks
 }
 
-pub(crate) fn no_charges(number: u8) -> Charges
-    ensures { λ r. ⌜ (chargesReply r ≡ noCharges number) × (r .charges .n ≤ 16) × (r ≡ chargesFrom (chargesReply r)) ⌝ }
+fn no_charge_list() -> ChargeList
+    ensures { λ r. ⌜ r ≡ chargeListOf [] ⌝ }
 {
-    let charges = no_amounts();
+    let none = no_amount();
+    ChargeList {
+        n: 0,
+        list: [none; CHARGES_MAX],
+    }
+}
+
+// The charges of the records at the places, with their names.
+fn named_charges(p: Places, ticks: [Ticks; CHARGES_MAX]) -> ChargeList
+    requires { ⌜ p .n ≤ maxPlaces ⌝ }
+    ensures { λ r. ⌜ (take (r .n) (r .list) ≡ namedOf (take (p .n) (p .at)) (take (p .n) ticks)) × (r .n ≤ maxCharges) × (r ≡ chargeListOf (take (r .n) (r .list))) ⌝ }
+{
+    let mut a = no_charge_list();
+    let mut i: usize = 0;
+    while i < p.n {
+        let x = p.at[i];
+        let t = ticks[i];
+        let name = x.name;
+        a.list[i] = NamedAmount { name, ticks: t };
+        i = i + 1;
+    }
+    a.n = p.n;
+    a
+}
+
+pub(crate) fn no_charges(number: u8) -> Charges
+    ensures { λ r. ⌜ (chargesReply r ≡ noCharges number) × (r .charges .n ≤ maxCharges) × (r ≡ chargesFrom (chargesReply r)) ⌝ }
+{
+    let charges = no_charge_list();
     Charges { number, charges }
 }
 
@@ -108,7 +139,7 @@ pub(crate) fn of_hour(
     price: HourPrice,
 ) -> Charges
     requires { ⌜ Log (now log) (now rows) n ⌝ ∗ ⌜ hour < 32 ⌝ }
-    ensures { λ r. ⌜ ((l : List Change) → Logged (now (log .entry)) (now (rows .entry)) n l → isFailure mark ≡ true → (q : ℕ → Price) → PriceIs (q hour) price → chargesReply r ≡ chargesOf (startIn l) (hourKey mark hour) (standing l) q) × (r .charges .n ≤ 16) × (r ≡ chargesFrom (chargesReply r)) ⌝ }
+    ensures { λ r. ⌜ ((l : List Change) → Logged (now (log .entry)) (now (rows .entry)) n l → isFailure mark ≡ true → (q : ℕ → HourPricing) → PriceIs (q hour) price → chargesReply r ≡ chargesOf (hourKey mark hour) (standing l) q) × (r .charges .n ≤ maxCharges) × (r ≡ chargesFrom (chargesReply r)) ⌝ }
 {
     let failures = places::gather_rows(log, rows, n, key_of(mark, hour));
     if failures.n == 0 {
@@ -117,7 +148,7 @@ pub(crate) fn of_hour(
     if price.known {
         let prices = price.prices;
         let ticks = charges_at(log, failures, mark, prices);
-        let charges = named(failures, ticks);
+        let charges = named_charges(failures, ticks);
         return Charges { number: 0, charges };
     }
     no_charges(PRICE_MISSING)
@@ -144,7 +175,7 @@ impl Book {
 
     // The charges of an hour's failed imports (FI) or exports (FE), by name.
     pub fn charges(self, log: &[u8], mark: Mark, hour: u8) -> Charges
-        ensures { λ r. ⌜ (chargesReply r ≡ hourCharges mark hour (load self (now (log .entry)))) × (r .charges .n ≤ 16) × (r ≡ chargesFrom (chargesReply r)) ⌝ }
+        ensures { λ r. ⌜ (chargesReply r ≡ hourCharges mark hour (load self (now (log .entry)))) × (r .charges .n ≤ maxCharges) × (r ≡ chargesFrom (chargesReply r)) ⌝ }
     {
         let mut rows = [0u32; 512];
         if self.check_rows(log, &mut rows) {

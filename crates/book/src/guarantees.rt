@@ -1,7 +1,9 @@
 // An hour's guarantees and its wheel offset.
-use crate::answers::Amounts;
+use crate::answers::CREDITS_MAX;
+use crate::answers::Credits;
 use crate::answers::Guarantees;
 use crate::answers::NamedAmount;
+use crate::answers::no_amount;
 use crate::journal::Book;
 use crate::places;
 use crate::places::Places;
@@ -20,29 +22,28 @@ use records::keys::hour_key;
 use records::keys::key_of;
 use records::layouts::HourPrices;
 use records::marks::Mark;
-use records::names::no_name;
 ghost use mathlib.Core.Path.{_≡_};
 ghost use mathlib.Core.List.{List, [], map};
 ghost use lib.ListN.{take};
 ghost use Prim.Native.Nat.{ℕ, _≤_, _<_};
 ghost use Rattle.book.specs.Layer.{Change};
-ghost use Rattle.book.specs.Register.{standing, startIn, ask, hourGuarantees};
+ghost use Rattle.book.specs.Register.{standing, ask, hourGuarantees};
 ghost use Rattle.book.specs.Meaning.{Meets, guaranteesReply};
-ghost use Rattle.book.specs.Amounts.{Price, guaranteesOf};
-ghost use Rattle.book.specs.Handed.{amountsOf, guaranteesFrom};
+ghost use Rattle.book.specs.Amounts.{HourPricing, guaranteesOf};
+ghost use Rattle.book.specs.Handed.{maxCredits, creditsOf, guaranteesFrom};
 ghost use Rattle.book.specs.Worked.{Inside, entriesIn, totalsIn, entryCredit, namedOf, noGuarantees, Workable, workedIn};
-ghost use Rattle.book.specs.Places.{spots};
+ghost use Rattle.book.specs.Places.{maxPlaces, spots};
 ghost use Rattle.book.specs.Rows.{Log, Logged};
 ghost use Rattle.book.specs.Prices.{PriceIs};
 
 // The offset's entries of the imports at the places.
-fn entries_at(log: &[u8], p: Places, prices: HourPrices) -> [Import; 16]
+fn entries_at(log: &[u8], p: Places, prices: HourPrices) -> [Import; CREDITS_MAX]
     requires { ⌜ Inside (now log) p ⌝ }
     ensures { λ r. ⌜ take (p .n) r ≡ entriesIn (now (log .entry)) prices (take (p .n) (p .at)) ⌝ }
 {
     let blank = offset_entry(&log[..0], prices);
     let none = blank.entry;
-    let mut entries = [none; 16];
+    let mut entries = [none; CREDITS_MAX];
     let mut i: usize = 0;
     while i < p.n {
         let x = p.at[i];
@@ -73,11 +74,11 @@ fn totals_at(log: &[u8], p: Places) -> [Quantity; 12]
     sums
 }
 
-fn credits_of(entries: [Import; 16], n: usize) -> [Ticks; 16]
-    requires { ⌜ n ≤ 16 ⌝ }
+fn credits_of(entries: [Import; CREDITS_MAX], n: usize) -> [Ticks; CREDITS_MAX]
+    requires { ⌜ n ≤ maxCredits ⌝ }
     ensures { λ r. ⌜ take n r ≡ map entryCredit (take n entries) ⌝ }
 {
-    let mut ticks = [Ticks(0); 16];
+    let mut ticks = [Ticks(0); CREDITS_MAX];
     let mut i: usize = 0;
     while i < n {
         let e = entries[i];
@@ -88,38 +89,28 @@ fn credits_of(entries: [Import; 16], n: usize) -> [Ticks; 16]
     ticks
 }
 
-pub(crate) fn no_amounts() -> Amounts
-    ensures { λ r. ⌜ r ≡ amountsOf [] ⌝ }
+fn no_credits() -> Credits
+    ensures { λ r. ⌜ r ≡ creditsOf [] ⌝ }
 {
-    let name = no_name();
-    let none = NamedAmount {
-        name,
-        start: 0,
-        ticks: Ticks(0),
-    };
-    Amounts {
+    let none = no_amount();
+    Credits {
         n: 0,
-        list: [none; 16],
+        list: [none; CREDITS_MAX],
     }
 }
 
-// The amounts of the records at the places, with their names.
-pub(crate) fn named(p: Places, ticks: [Ticks; 16]) -> Amounts
-    requires { ⌜ p .n ≤ 16 ⌝ }
-    ensures { λ r. ⌜ (take (r .n) (r .list) ≡ namedOf (take (p .n) (p .at)) (take (p .n) ticks)) × (r .n ≤ 16) × (r ≡ amountsOf (take (r .n) (r .list))) ⌝ }
+// The credits of the records at the places, with their names.
+fn named_credits(p: Places, ticks: [Ticks; CREDITS_MAX]) -> Credits
+    requires { ⌜ p .n ≤ maxPlaces ⌝ }
+    ensures { λ r. ⌜ (take (r .n) (r .list) ≡ namedOf (take (p .n) (p .at)) (take (p .n) ticks)) × (r .n ≤ maxCredits) × (r ≡ creditsOf (take (r .n) (r .list))) ⌝ }
 {
-    let mut a = no_amounts();
+    let mut a = no_credits();
     let mut i: usize = 0;
     while i < p.n {
         let x = p.at[i];
         let t = ticks[i];
         let name = x.name;
-        let start = x.start;
-        a.list[i] = NamedAmount {
-            name,
-            start,
-            ticks: t,
-        };
+        a.list[i] = NamedAmount { name, ticks: t };
         i = i + 1;
     }
     a.n = p.n;
@@ -127,9 +118,9 @@ pub(crate) fn named(p: Places, ticks: [Ticks; 16]) -> Amounts
 }
 
 pub(crate) fn no_guarantees(number: u8) -> Guarantees
-    ensures { λ r. ⌜ (guaranteesReply r ≡ noGuarantees number) × (r .credits .n ≤ 16) × (r ≡ guaranteesFrom (guaranteesReply r)) ⌝ }
+    ensures { λ r. ⌜ (guaranteesReply r ≡ noGuarantees number) × (r .credits .n ≤ maxCredits) × (r ≡ guaranteesFrom (guaranteesReply r)) ⌝ }
 {
-    let credits = no_amounts();
+    let credits = no_credits();
     Guarantees {
         number,
         credits,
@@ -140,7 +131,7 @@ pub(crate) fn no_guarantees(number: u8) -> Guarantees
 // Of the imports and exports at the places, at their hour's prices.
 fn worked(log: &[u8], imports: Places, exports: Places, prices: HourPrices) -> Guarantees
     requires { ⌜ Inside (now log) imports ⌝ ∗ ⌜ Inside (now log) exports ⌝ }
-    ensures { λ r. ⌜ (Workable (now (log .entry)) prices (spots imports) (spots exports) → guaranteesReply r ≡ workedIn (now (log .entry)) prices (spots imports) (spots exports)) × (r .credits .n ≤ 16) × (r ≡ guaranteesFrom (guaranteesReply r)) ⌝ }
+    ensures { λ r. ⌜ (Workable (now (log .entry)) prices (spots imports) (spots exports) → guaranteesReply r ≡ workedIn (now (log .entry)) prices (spots imports) (spots exports)) × (r .credits .n ≤ maxCredits) × (r ≡ guaranteesFrom (guaranteesReply r)) ⌝ }
 {
     let entries = entries_at(log, imports, prices);
     let totals = totals_at(log, exports);
@@ -148,7 +139,7 @@ fn worked(log: &[u8], imports: Places, exports: Places, prices: HourPrices) -> G
     match a {
         Answer::Amount(offset) => {
             let ticks = credits_of(entries, imports.n);
-            let credits = named(imports, ticks);
+            let credits = named_credits(imports, ticks);
             Guarantees {
                 number: 0,
                 credits,
@@ -168,7 +159,7 @@ pub(crate) fn of_hour(
     price: HourPrice,
 ) -> Guarantees
     requires { ⌜ Log (now log) (now rows) n ⌝ ∗ ⌜ hour < 32 ⌝ }
-    ensures { λ r. ⌜ ((l : List Change) → Logged (now (log .entry)) (now (rows .entry)) n l → (q : ℕ → Price) → PriceIs (q hour) price → guaranteesReply r ≡ guaranteesOf (startIn l) (standing l) q hour) × (r .credits .n ≤ 16) × (r ≡ guaranteesFrom (guaranteesReply r)) ⌝ }
+    ensures { λ r. ⌜ ((l : List Change) → Logged (now (log .entry)) (now (rows .entry)) n l → (q : ℕ → HourPricing) → PriceIs (q hour) price → guaranteesReply r ≡ guaranteesOf (standing l) q hour) × (r .credits .n ≤ maxCredits) × (r ≡ guaranteesFrom (guaranteesReply r)) ⌝ }
 {
     let imports = places::gather_rows(log, rows, n, key_of(Mark::Im, hour));
     if imports.n == 0 {
@@ -185,7 +176,7 @@ pub(crate) fn of_hour(
 impl Book {
     // The credit of each import of an hour by name, and the wheel offset.
     pub fn guarantees(self, log: &[u8], hour: u8) -> Guarantees
-        ensures { λ r. ⌜ Meets (ask (hourGuarantees hour)) self (now (log .entry)) self (guaranteesReply r) (now (log .entry)) × (r .credits .n ≤ 16) × (r ≡ guaranteesFrom (guaranteesReply r)) ⌝ }
+        ensures { λ r. ⌜ Meets (ask (hourGuarantees hour)) self (now (log .entry)) self (guaranteesReply r) (now (log .entry)) × (r .credits .n ≤ maxCredits) × (r ≡ guaranteesFrom (guaranteesReply r)) ⌝ }
     {
         let mut rows = [0u32; 512];
         if self.check_rows(log, &mut rows) {

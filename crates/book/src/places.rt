@@ -15,7 +15,7 @@ ghost use Rattle.book.specs.Layer.{Change};
 ghost use Rattle.book.specs.Register.{standing};
 ghost use Rattle.book.specs.ByName.{byName};
 ghost use Rattle.book.specs.Rows.{rowPlace, keyAt, Log, Logged};
-ghost use Rattle.book.specs.Places.{spotOf, putSpot, spots};
+ghost use Rattle.book.specs.Places.{maxPlaces, spotOf, putSpot, spots};
 
 // A standing record's decoded name, and where it is written.
 pub struct Spot {
@@ -23,15 +23,18 @@ pub struct Spot {
     pub start: usize,
 }
 
+// An hour holds no more records of a mark.
+pub const PLACES_MAX: usize = 16;
+
 // Standing records, by decoded name in byte order: the first n of `at`.
 pub struct Places {
     pub n: usize,
-    pub at: [Spot; 16],
+    pub at: [Spot; PLACES_MAX],
 }
 
 // The first place whose name comes after the spot's, n where none does.
 fn slot_for(p: Places, s: Spot) -> usize
-    requires { ⌜ p .n ≤ 16 ⌝ }
+    requires { ⌜ p .n ≤ maxPlaces ⌝ }
     ensures { λ r. ⌜ (r ≤ p .n) × (putSpot s (spots p) ≡ take r (spots p) ++ (s ∷ drop r (spots p))) ⌝ }
 {
     let n = p.n;
@@ -48,7 +51,7 @@ fn slot_for(p: Places, s: Spot) -> usize
 
 // With the spot at j, and those from there on one place further.
 fn inserted(p: Places, j: usize, s: Spot) -> Places
-    requires { ⌜ (j ≤ p .n) × (p .n < 16) ⌝ }
+    requires { ⌜ (j ≤ p .n) × (p .n < maxPlaces) ⌝ }
     ensures { λ r. ⌜ (r .n ≡ p .n + 1) × (spots r ≡ take j (spots p) ++ (s ∷ drop j (spots p))) ⌝ }
 {
     let mut next = p;
@@ -71,7 +74,7 @@ fn no_spots() -> Places
     let blank = Spot { name, start: 0 };
     Places {
         n: 0,
-        at: [blank; 16],
+        at: [blank; PLACES_MAX],
     }
 }
 
@@ -86,8 +89,8 @@ pub(crate) fn name_at(log: &[u8], start: usize) -> Name
 
 // With the record of a row, before the first whose name comes after its own.
 fn with_row(log: &[u8], p: Places, row: u32) -> Places
-    requires { ⌜ (p .n < 16) × (rowPlace row ≤ length (now log)) ⌝ }
-    ensures { λ r. ⌜ (r .n ≤ 16) × (spots r ≡ putSpot (record { name = keyAt (now (log .entry)) (rowPlace row) .name; start = rowPlace row }) (spots p)) ⌝ }
+    requires { ⌜ (p .n < maxPlaces) × (rowPlace row ≤ length (now log)) ⌝ }
+    ensures { λ r. ⌜ (r .n ≤ maxPlaces) × (spots r ≡ putSpot (record { name = keyAt (now (log .entry)) (rowPlace row) .name; start = rowPlace row }) (spots p)) ⌝ }
 {
     let start = place_in(row);
     let name = name_at(log, start);
@@ -99,7 +102,7 @@ fn with_row(log: &[u8], p: Places, row: u32) -> Places
 // By the rows of n changes, for the key's mark and hour.
 pub(crate) fn gather_rows(log: &[u8], rows: &[u32; 512], n: usize, key: Key) -> Places
     requires { ⌜ Log (now log) (now rows) n ⌝ ∗ ⌜ key .hour < 32 ⌝ }
-    ensures { λ r. ⌜ ((l : List Change) → Logged (now (log .entry)) (now (rows .entry)) n l → take (r .n) (r .at) ≡ map (spotOf l) (byName key (standing l))) × (r .n ≤ 16) ⌝ }
+    ensures { λ r. ⌜ ((l : List Change) → Logged (now (log .entry)) (now (rows .entry)) n l → take (r .n) (r .at) ≡ map (spotOf l) (byName key (standing l))) × (r .n ≤ maxPlaces) ⌝ }
 {
     let slot = hour_slot(key);
     let mut p = no_spots();

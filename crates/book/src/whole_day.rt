@@ -24,9 +24,9 @@ ghost use mathlib.Core.Path.{_≡_};
 ghost use mathlib.Core.List.{List};
 ghost use Prim.Native.Nat.{ℕ, _<_};
 ghost use Rattle.book.specs.Layer.{Change};
-ghost use Rattle.book.specs.Register.{standing, startIn};
+ghost use Rattle.book.specs.Register.{standing};
 ghost use Rattle.book.specs.Meaning.{load};
-ghost use Rattle.book.specs.Amounts.{Price};
+ghost use Rattle.book.specs.Amounts.{HourPricing};
 ghost use Rattle.book.specs.ByName.{namesOf};
 ghost use Rattle.book.specs.Rows.{Log, Logged};
 ghost use Rattle.book.specs.Prices.{PriceIs, TableOf};
@@ -50,7 +50,7 @@ fn no_hour() -> HourAmounts
 // By the rows of n changes, at a price of the hour.
 fn hour_of(log: &[u8], rows: &[u32; 512], n: usize, hour: u8, price: HourPrice) -> HourAmounts
     requires { ⌜ Log (now log) (now rows) n ⌝ ∗ ⌜ hour < 32 ⌝ }
-    ensures { λ r. ⌜ ((l : List Change) → Logged (now (log .entry)) (now (rows .entry)) n l → (q : ℕ → Price) → PriceIs (q hour) price → r ≡ hourFrom (hourReply (startIn l) (standing l) q hour)) ⌝ }
+    ensures { λ r. ⌜ ((l : List Change) → Logged (now (log .entry)) (now (rows .entry)) n l → (q : ℕ → HourPricing) → PriceIs (q hour) price → r ≡ hourFrom (hourReply (standing l) q hour)) ⌝ }
 {
     let guarantees = guarantees::of_hour(log, rows, n, hour, price);
     let imports = failures::of_hour(log, rows, n, Mark::Fi, hour, price);
@@ -65,7 +65,7 @@ fn hour_of(log: &[u8], rows: &[u32; 512], n: usize, hour: u8, price: HourPrice) 
 // Hours 1 to 24, at the prices of a table.
 fn hours_of(log: &[u8], rows: &[u32; 512], n: usize, table: PriceTable) -> [HourAmounts; 24]
     requires { ⌜ Log (now log) (now rows) n ⌝ }
-    ensures { λ r. ⌜ ((l : List Change) → Logged (now (log .entry)) (now (rows .entry)) n l → (q : ℕ → Price) → TableOf q table → r ≡ dayFrom (wholeOf (startIn l) (standing l) q) .hours) ⌝ }
+    ensures { λ r. ⌜ ((l : List Change) → Logged (now (log .entry)) (now (rows .entry)) n l → (q : ℕ → HourPricing) → TableOf q table → r ≡ dayFrom (wholeOf (standing l) q) .hours) ⌝ }
 {
     let none = no_hour();
     let mut hours = [none; 24];
@@ -101,7 +101,7 @@ fn units_of(
     table: PriceTable,
 ) -> [UnitAmounts; 512]
     requires { ⌜ Log (now log) (now rows) n ⌝ ∗ ⌜ Named u ⌝ }
-    ensures { λ r. ⌜ ((l : List Change) → Logged (now (log .entry)) (now (rows .entry)) n l → namesIn u ≡ namesOf ghKey (standing l) → (q : ℕ → Price) → TableOf q table → r ≡ dayFrom (wholeOf (startIn l) (standing l) q) .units) ⌝ }
+    ensures { λ r. ⌜ ((l : List Change) → Logged (now (log .entry)) (now (rows .entry)) n l → namesIn u ≡ namesOf ghKey (standing l) → (q : ℕ → HourPricing) → TableOf q table → r ≡ dayFrom (wholeOf (standing l) q) .units) ⌝ }
 {
     let none = no_unit();
     let mut units = [none; 512];

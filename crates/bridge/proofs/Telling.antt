@@ -2,20 +2,24 @@
 use mathlib.Core.Path.{_≡_, refl, sym, ap, _∙_}
 use mathlib.Core.Bool.{Bool, true, false, cond}
 use mathlib.Core.List.{List, [], _∷_, map}
-use Prim.Native.Nat.{ℕ, suc, _+_, _-_, _<_, _≤_}
+use Prim.Native.Nat.{ℕ, suc, _+_, _<_, _≤_}
 use native.Mathlib.Omega.{arith}
 use lib.Dec.{eqb}
 use borrow.Author.Tests.{ne-eqb}
 use lib.IntN.{ℤ, pos}
-use lib.ListN.{length, getD, take, drop, drop-of-length-le, length-drop, length-map}
-use lib.Seq.{drop-cons, getD-take, length-take-le, take-all}
-use Rattle.money.specs.Names.{nameOf, nameBefore, sameName}
+use lib.ListN.{length, getD, take, drop, drop-of-length-le, length-map}
+use lib.Seq.{drop-cons, getD-take, length-take-le}
+use Rattle.money.specs.Names.{nameOf, nameOk, nameBefore, sameName}
 use Rattle.money.specs.declared.names.Name.{Name}
 use Rattle.money.specs.declared.units.Answer.{Answer}
 use Rattle.money.specs.declared.units.Answer.the-variants.{Amount, Refused}
-use Rattle.records.specs.Names.{decodeName, held}
+use Rattle.records.specs.Names.{decodeName, held, spellingOf}
+use Rattle.records.specs.BookLaws.{spelling-none}
+use Rattle.records.specs.declared.names.Spelling.{Spelling}
+use Rattle.statement.specs.LineLaws.{spells}
 use Rattle.records.specs.Keys.{nameAnswer}
 use Rattle.records.specs.declared.keys.NameAnswer.{NameAnswer}
+use Rattle.book.specs.declared.journal.Book.{Book}
 use Rattle.book.specs.declared.answers.NamedAmount.{NamedAmount}
 use Rattle.bridge.specs.Bridge.{stored, told, orderOf, creditSizes, creditsSizes, creditsAmounts, answerNumber, ticksTold}
 
@@ -54,41 +58,50 @@ unmapped X Y f l n p = sym (length-map l f) ∙ p
 
 -- what stands past the end of a list: never met
 abbrev pub noAmount : NamedAmount
-noAmount = record { name = record { len = 0; bytes = [] }; start = 0; ticks = record { 0 = pos 0 } }
+noAmount = record { name = record { len = 0; bytes = [] }; ticks = record { 0 = pos 0 } }
 
-module _ (lent : List ℕ) (n : ℕ) (list : List NamedAmount) (sizes₀ : List ℕ) (amounts₀ : List ℤ) where
+module _ (b : Book) (lent : List ℕ) (h n : ℕ) (list : List NamedAmount) (sizes₀ : List ℕ) (amounts₀ : List ℤ) where
   -- what is still to be told after the first i
   pub record Telling (i : ℕ) (sizes : List ℕ) (amounts : List ℤ) : Type 0 where
-    pub sizes-are : creditsSizes lent i (drop i (take n list)) sizes ≡ creditsSizes lent 0 (take n list) sizes₀
+    pub sizes-are : creditsSizes b lent h i (drop i (take n list)) sizes ≡ creditsSizes b lent h 0 (take n list) sizes₀
     pub amounts-are : creditsAmounts i (drop i (take n list)) amounts ≡ creditsAmounts 0 (take n list) amounts₀
 
   pub none-told : Telling 0 sizes₀ amounts₀
   none-told = record { sizes-are = refl; amounts-are = refl }
 
   pub one-told : {i : ℕ} {sizes sizes′ : List ℕ} {amounts amounts′ : List ℤ} → Telling i sizes amounts → i < n → n ≤ length list
-      → sizes′ ≡ creditSizes lent i (getD list i noAmount) sizes → amounts′ ≡ stored amounts (i + 1) (getD list i noAmount .ticks .0) → Telling (i + 1) sizes′ amounts′
+      → sizes′ ≡ creditSizes b lent h i (getD list i noAmount) sizes → amounts′ ≡ stored amounts (i + 1) (getD list i noAmount .ticks .0) → Telling (i + 1) sizes′ amounts′
   unfolding creditsSizes creditsAmounts
-  one-told {i = i} {sizes = sizes} {amounts = amounts} t h long e f =
+  one-told {i = i} {sizes = sizes} {amounts = amounts} t lt long e f =
       let cs = take n list in
       let c = getD list i noAmount in
       let k : i + 1 ≡ suc i = omega arith in
       let p : drop i cs ≡ c ∷ drop (i + 1) cs =
-      drop-cons cs i noAmount (omega (arith, length-take-le n list long)) ∙ ap (λ (x : NamedAmount). x ∷ drop (suc i) cs) (getD-take n list i noAmount h) ∙ ap (λ (m : ℕ). c ∷ drop m cs) (sym k) in
+      drop-cons cs i noAmount (omega (arith, length-take-le n list long)) ∙ ap (λ (x : NamedAmount). x ∷ drop (suc i) cs) (getD-take n list i noAmount lt) ∙ ap (λ (m : ℕ). c ∷ drop m cs) (sym k) in
       record {
-        sizes-are = ap (creditsSizes lent (i + 1) (drop (i + 1) cs)) e ∙ sym (ap (λ (x : List NamedAmount). creditsSizes lent i x sizes) p) ∙ t .sizes-are;
+        sizes-are = ap (creditsSizes b lent h (i + 1) (drop (i + 1) cs)) e ∙ sym (ap (λ (x : List NamedAmount). creditsSizes b lent h i x sizes) p) ∙ t .sizes-are;
         amounts-are = ap (creditsAmounts (i + 1) (drop (i + 1) cs)) f ∙ sym (ap (λ (x : List NamedAmount). creditsAmounts i x amounts) p) ∙ t .amounts-are;
       }
 
   pub all-told : {i : ℕ} {sizes : List ℕ} {amounts : List ℤ} → Telling i sizes amounts → n ≤ i → n ≤ length list
-      → (sizes ≡ creditsSizes lent 0 (take n list) sizes₀) × (amounts ≡ creditsAmounts 0 (take n list) amounts₀)
+      → (sizes ≡ creditsSizes b lent h 0 (take n list) sizes₀) × (amounts ≡ creditsAmounts 0 (take n list) amounts₀)
   unfolding creditsSizes creditsAmounts
-  all-told {i = i} {sizes = sizes} {amounts = amounts} t h long =
+  all-told {i = i} {sizes = sizes} {amounts = amounts} t le long =
       let p : drop i (take n list) ≡ [] = drop-of-length-le (take n list) {i = i} (omega (arith, length-take-le n list long)) in
-      (sym (ap (λ (x : List NamedAmount). creditsSizes lent i x sizes) p) ∙ t .sizes-are, sym (ap (λ (x : List NamedAmount). creditsAmounts i x amounts) p) ∙ t .amounts-are)
+      (sym (ap (λ (x : List NamedAmount). creditsSizes b lent h i x sizes) p) ∙ t .sizes-are, sym (ap (λ (x : List NamedAmount). creditsAmounts i x amounts) p) ∙ t .amounts-are)
 
--- a part to the end is what is left
-pub to-end : (q : ℕ) (s : List ℕ) → take (length s - q) (drop q s) ≡ drop q s
-to-end q s = take-all (length s - q) (drop q s) (omega (arith, length-drop q s))
+-- ---- a name as it is written
+
+pub record Fits (s : Spelling) : Type 0 where
+  pub within : s .len ≤ length (s .bytes)
+  pub all : s .len ≡ length (take (s .len) (s .bytes))
+
+pub fits : (n : Name) (s : Spelling) → s ≡ spellingOf n → Fits s
+fits n s e = go (nameOk n) refl
+  where
+    go : (b : Bool) → nameOk n ≡ b → Fits s
+    go true h = let f = spells n s h e in record { within = f .within; all = f .all }
+    go false h = let q = e ∙ spelling-none n h in rw q (record { within = omega arith; all = refl })
 
 -- ---- an amount
 

@@ -5,23 +5,24 @@ use mathlib.Core.List.{List, [], _∷_}
 use Prim.Native.Nat.{ℕ, _+_, _*_, _%_}
 use lib.Dec.{ltb, eqb}
 use lib.IntN.{ℤ}
-use lib.ListN.{length, getD, set, take, drop}
+use lib.ListN.{length, getD, set, take}
 use Rattle.laws.specs.Sums.{orElse}
-use Rattle.records.specs.Names.{decodeName, held}
+use Rattle.records.specs.Names.{decodeName, held, spellingOf}
 use Rattle.records.specs.Keys.{nameAnswer}
 use Rattle.money.specs.Names.{nameOf, nameBefore, sameName}
 use Rattle.money.specs.Refusals.{endsEarly, unknownMark, notTogether}
 use Rattle.money.specs.declared.names.Name.{Name}
 use Rattle.money.specs.declared.units.Answer.{Answer}
 use Rattle.money.specs.declared.units.Answer.the-variants.{Amount, Refused}
-use Rattle.records.specs.declared.marks.Mark.the-variants.{Fi, Fe}
+use Rattle.records.specs.declared.marks.Mark.the-variants.{Im, Fi, Fe}
+use Rattle.records.specs.Marks.{markBytes}
 use Rattle.records.specs.Views.{pricesIn}
 use Rattle.records.specs.Amounts.{creditIn, unitAmountIn, chargeIn}
-use Rattle.records.specs.Changes.{begins, parsedOf, parse, parseAny, entryOf, putNumber, putBytes, bare, takeBackBytes, closeBytes, viewOf, scan}
+use Rattle.records.specs.Changes.{begins, parsedOf, parse, parseAny, entryOf, putNumber, putBytes, bare, takeBackBytes, closeBytes}
 use Rattle.book.specs.declared.journal.Book.{Book}
 use Rattle.book.specs.declared.answers.NamedAmount.{NamedAmount}
 use Rattle.book.specs.declared.feed.Fed.{Fed}
-use Rattle.book.specs.Register.{Call, ask, Question, Reply, refused, accepted, place, number, guarantees, unitDay, charge, stepOf, writeAll}
+use Rattle.book.specs.Register.{Call, ask, Question, recordOf, Reply, refused, accepted, place, number, guarantees, unitDay, charge, stepOf, writeAll}
 use Rattle.book.specs.Meaning.{outcome, bookOf, Load, belongs, astray, load}
 use Rattle.book.specs.Layer.{Change}
 use Rattle.book.specs.Tables.{replied}
@@ -139,31 +140,45 @@ amountsTold (guarantees cs o) row = row
 amountsTold (unitDay t v) row = stored (stored row 0 t) 1 v
 amountsTold (charge t) row = stored row 0 t
 
--- the length of the change that is written from a place on
-abbrev pub writtenLen : List ℕ → ℕ → ℕ
-writtenLen lent start = cond (ltb (length lent) start) 0 (viewOf (scan (drop start lent)) .len)
+-- the bytes of a name as it is written
+abbrev pub spelledBytes : Name → List ℕ
+spelledBytes n = take (spellingOf n .len) (spellingOf n .bytes)
 
--- an hour's guarantees: the number of imports, then start and length of each, import i counted from 0
-abbrev pub creditSizes : List ℕ → ℕ → NamedAmount → List ℕ → List ℕ
-creditSizes lent i c row = stored (stored row (2 * i + 1) (c .start)) (2 * i + 2) (writtenLen lent (c .start))
+-- the record of an hour's import, asked for by its name
+unfoldable pub importPlace : Book → List ℕ → ℕ → Name → Reply
+importPlace b lent h n = outcome (stepOf (ask (recordOf (markBytes Im) h (spelledBytes n)))) b lent .answer
 
-unfoldable pub creditsSizes : List ℕ → ℕ → List NamedAmount → List ℕ → List ℕ
-creditsSizes lent i [] row = row
-creditsSizes lent i (c ∷ cs) row = creditsSizes lent (i + 1) cs (creditSizes lent i c row)
+-- start and length of the record of import i, counted from 0
+abbrev pub placeTold : ℕ → Reply → List ℕ → List ℕ
+placeTold i (refused n) row = row
+placeTold i accepted row = row
+placeTold i (place start len) row = stored (stored row (2 * i + 1) start) (2 * i + 2) len
+placeTold i (number n) row = row
+placeTold i (guarantees cs o) row = row
+placeTold i (unitDay t v) row = row
+placeTold i (charge t) row = row
+
+-- an hour's guarantees: the number of imports, then start and length of each
+abbrev pub creditSizes : Book → List ℕ → ℕ → ℕ → NamedAmount → List ℕ → List ℕ
+creditSizes b lent h i c row = placeTold i (importPlace b lent h (c .name)) row
+
+unfoldable pub creditsSizes : Book → List ℕ → ℕ → ℕ → List NamedAmount → List ℕ → List ℕ
+creditsSizes b lent h i [] row = row
+creditsSizes b lent h i (c ∷ cs) row = creditsSizes b lent h (i + 1) cs (creditSizes b lent h i c row)
 
 -- and the offset, then each credit
 unfoldable pub creditsAmounts : ℕ → List NamedAmount → List ℤ → List ℤ
 creditsAmounts i [] row = row
 creditsAmounts i (c ∷ cs) row = creditsAmounts (i + 1) cs (stored row (i + 1) (c .ticks .0))
 
-abbrev pub hourSizes : List ℕ → Reply → List ℕ → List ℕ
-hourSizes lent (refused n) row = row
-hourSizes lent accepted row = row
-hourSizes lent (place start len) row = row
-hourSizes lent (number n) row = row
-hourSizes lent (guarantees cs o) row = creditsSizes lent 0 cs (stored row 0 (length cs))
-hourSizes lent (unitDay t v) row = row
-hourSizes lent (charge t) row = row
+abbrev pub hourSizes : Book → List ℕ → ℕ → Reply → List ℕ → List ℕ
+hourSizes b lent h (refused n) row = row
+hourSizes b lent h accepted row = row
+hourSizes b lent h (place start len) row = row
+hourSizes b lent h (number n) row = row
+hourSizes b lent h (guarantees cs o) row = creditsSizes b lent h 0 cs (stored row 0 (length cs))
+hourSizes b lent h (unitDay t v) row = row
+hourSizes b lent h (charge t) row = row
 
 abbrev pub hourAmounts : Reply → List ℤ → List ℤ
 hourAmounts (refused n) row = row

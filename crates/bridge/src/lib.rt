@@ -1,8 +1,8 @@
 // The proved crates over numbers and slices, for a program in another language that holds them against its own. A slice is a
 // pointer and a count. Each function answers 0 or the number of the refusal, and promises what it leaves in every lent place: at a
 // refusal what stood there.
-use book::answers::Amounts;
 use book::answers::Answer as Said;
+use book::answers::Credits;
 use book::answers::Guarantees;
 use book::answers::NamedAmount;
 use book::answers::UnitDay;
@@ -10,6 +10,7 @@ use book::answers::refusal_in;
 use book::feed::feed;
 use book::journal::Book;
 use demands::make_change;
+use money::names::Name;
 use money::names::name_before;
 use money::names::same_name;
 use money::refusals::ENDS_EARLY;
@@ -24,12 +25,12 @@ use records::leads::bears;
 use records::marks::FILED;
 use records::marks::Mark;
 use records::marks::WITHDRAWN;
+use records::names::spell_name;
 use records::parse::first_change;
 use records::parse::parse_any;
 use records::parse::parse_change;
 use records::parse::parse_close;
 use records::parse::parse_take_back;
-use records::scan::peek;
 use records::views::prices_of;
 use records::writing::put;
 use statement::day::statement;
@@ -42,10 +43,11 @@ ghost use Rattle.records.specs.Changes.{parse, parsedOf, putNumber, putBytes, e
 ghost use Rattle.book.specs.Register.{recordOf, countOf, freeBytes, hourGuarantees, dayOf, failureCharge};
 ghost use Rattle.book.specs.Meaning.{replyOf, guaranteesReply, dayReply};
 ghost use Rattle.book.specs.Tables.{replied};
+ghost use Rattle.book.specs.Handed.{maxCredits};
 ghost use Rattle.bridge.specs.Bridge.{stored, told, compareNumber, orderOf, anyNumber, anySize, anyBytes, writeNumber, writeSize, writeBytes};
 ghost use Rattle.bridge.specs.Bridge.{filingNumber, hasAmount, amountIn, answerNumber, amountNumber, ticksTold, amountTold};
 ghost use Rattle.bridge.specs.Bridge.{noBook, bookFrom, bookIn, flagOf, handedBack, methodIn, hourIn, Changed};
-ghost use Rattle.bridge.specs.Bridge.{asked, sizesTold, amountsTold, writtenLen, creditSizes, creditsSizes, creditsAmounts, hourSizes, hourAmounts};
+ghost use Rattle.bridge.specs.Bridge.{asked, sizesTold, amountsTold, importPlace, placeTold, creditSizes, creditsSizes, creditsAmounts, hourSizes, hourAmounts};
 ghost use Rattle.bridge.specs.Bridge.{feedIn, feedState, feedSizes, FeedBytes, statementIn};
 ghost use Rattle.demands.specs.Script.{changeOf};
 
@@ -435,32 +437,62 @@ pub extern "C" fn pewatuno_free(state: &[u64], lent: &[u8], sizes: &mut [u64]) -
 
 // ---- the book's questions for amounts
 
-// The length of the change that is written from start on.
-fn written_len(lent: &[u8], start: usize) -> usize
-    ensures { λ r. ⌜ r ≡ writtenLen (now (lent .entry)) start ⌝ }
+// Where the record of an hour's import i starts, counted from 0, and its length.
+fn tell_place(i: usize, a: Said, sizes: &mut [u64])
+    requires { ⌜ i ≤ maxCredits ⌝ }
+    ensures { λ r. ⌜ now (sizes .exit) ≡ placeTold i (replyOf a) (now (sizes .entry)) ⌝ }
 {
-    if lent.len() < start {
-        return 0;
+    match a {
+        Said::Refused(_n) => {}
+        Said::Accepted => {}
+        Said::Place(start, len) => {
+            set(sizes, 2 * i + 1, start as u64);
+            set(sizes, 2 * i + 2, len as u64);
+        }
+        Said::Number(_n) => {}
+        Said::Charge(_t) => {}
     }
-    peek(&lent[start..]).len
 }
 
-// The place of an hour's import i, counted from 0, and its credit.
-fn tell_credit(lent: &[u8], i: usize, c: NamedAmount, sizes: &mut [u64], amounts: &mut [i64])
-    requires { ⌜ i ≤ 16 ⌝ }
-    ensures { λ r. ⌜ now (sizes .exit) ≡ creditSizes (now (lent .entry)) i c (now (sizes .entry)) ⌝ }
+// The record of an hour's import, by its decoded name.
+fn place_of(b: Book, lent: &[u8], hour: u8, name: Name) -> Said
+    ensures { λ r. ⌜ replyOf r ≡ importPlace b (now (lent .entry)) hour name ⌝ }
+{
+    let s = spell_name(name);
+    let n = s.len as usize;
+    let bytes = s.bytes;
+    let mark = [b'I', b'M'];
+    b.record_of(lent, &mark[..], hour, &bytes[..n])
+}
+
+// The place of an hour's import i, and its credit.
+fn tell_credit(
+    b: Book,
+    lent: &[u8],
+    hour: u8,
+    i: usize,
+    c: NamedAmount,
+    sizes: &mut [u64],
+    amounts: &mut [i64],
+)
+    requires { ⌜ i ≤ maxCredits ⌝ }
+    ensures { λ r. ⌜ now (sizes .exit) ≡ creditSizes b (now (lent .entry)) hour i c (now (sizes .entry)) ⌝ }
     ensures { λ r. ⌜ now (amounts .exit) ≡ stored (now (amounts .entry)) (i + 1) (c .ticks .0) ⌝ }
 {
-    let start = c.start;
-    let len = written_len(lent, start);
-    set(sizes, 2 * i + 1, start as u64);
-    set(sizes, 2 * i + 2, len as u64);
+    tell_place(i, place_of(b, lent, hour, c.name), sizes);
     set_amount(amounts, i + 1, c.ticks);
 }
 
-fn tell_credits(lent: &[u8], a: Amounts, sizes: &mut [u64], amounts: &mut [i64])
-    requires { ⌜ a .n ≤ 16 ⌝ }
-    ensures { λ r. ⌜ now (sizes .exit) ≡ creditsSizes (now (lent .entry)) 0 (take (a .n) (a .list)) (stored (now (sizes .entry)) 0 (a .n)) ⌝ }
+fn tell_credits(
+    b: Book,
+    lent: &[u8],
+    hour: u8,
+    a: Credits,
+    sizes: &mut [u64],
+    amounts: &mut [i64],
+)
+    requires { ⌜ a .n ≤ maxCredits ⌝ }
+    ensures { λ r. ⌜ now (sizes .exit) ≡ creditsSizes b (now (lent .entry)) hour 0 (take (a .n) (a .list)) (stored (now (sizes .entry)) 0 (a .n)) ⌝ }
     ensures { λ r. ⌜ now (amounts .exit) ≡ creditsAmounts 0 (take (a .n) (a .list)) (now (amounts .entry)) ⌝ }
 {
     let n = a.n;
@@ -468,15 +500,22 @@ fn tell_credits(lent: &[u8], a: Amounts, sizes: &mut [u64], amounts: &mut [i64])
     let mut i: usize = 0;
     while i < n {
         let c = a.list[i];
-        tell_credit(lent, i, c, sizes, amounts);
+        tell_credit(b, lent, hour, i, c, sizes, amounts);
         i += 1;
     }
 }
 
-fn tell_guarantees(lent: &[u8], g: Guarantees, sizes: &mut [u64], amounts: &mut [i64]) -> u32
-    requires { ⌜ g .credits .n ≤ 16 ⌝ }
+fn tell_guarantees(
+    b: Book,
+    lent: &[u8],
+    hour: u8,
+    g: Guarantees,
+    sizes: &mut [u64],
+    amounts: &mut [i64],
+) -> u32
+    requires { ⌜ g .credits .n ≤ maxCredits ⌝ }
     ensures { λ r. ⌜ r ≡ replied (guaranteesReply g) ⌝ }
-    ensures { λ r. ⌜ now (sizes .exit) ≡ hourSizes (now (lent .entry)) (guaranteesReply g) (now (sizes .entry)) ⌝ }
+    ensures { λ r. ⌜ now (sizes .exit) ≡ hourSizes b (now (lent .entry)) hour (guaranteesReply g) (now (sizes .entry)) ⌝ }
     ensures { λ r. ⌜ now (amounts .exit) ≡ hourAmounts (guaranteesReply g) (now (amounts .entry)) ⌝ }
 {
     let n = g.number;
@@ -484,7 +523,7 @@ fn tell_guarantees(lent: &[u8], g: Guarantees, sizes: &mut [u64], amounts: &mut 
         return n as u32;
     }
     set_amount(amounts, 0, g.offset);
-    tell_credits(lent, g.credits, sizes, amounts);
+    tell_credits(b, lent, hour, g.credits, sizes, amounts);
     0
 }
 
@@ -498,11 +537,12 @@ pub extern "C" fn pewatuno_guarantees(
     amounts: &mut [i64],
 ) -> u32
     ensures { λ r. ⌜ r ≡ replied (asked (hourGuarantees (hourIn hour)) (now (state .entry)) (now (lent .entry))) ⌝ }
-    ensures { λ r. ⌜ now (sizes .exit) ≡ hourSizes (now (lent .entry)) (asked (hourGuarantees (hourIn hour)) (now (state .entry)) (now (lent .entry))) (now (sizes .entry)) ⌝ }
+    ensures { λ r. ⌜ now (sizes .exit) ≡ hourSizes (bookIn (now (state .entry))) (now (lent .entry)) (hourIn hour) (asked (hourGuarantees (hourIn hour)) (now (state .entry)) (now (lent .entry))) (now (sizes .entry)) ⌝ }
     ensures { λ r. ⌜ now (amounts .exit) ≡ hourAmounts (asked (hourGuarantees (hourIn hour)) (now (state .entry)) (now (lent .entry))) (now (amounts .entry)) ⌝ }
 {
     let b = book_in(state);
-    tell_guarantees(lent, b.guarantees(lent, hour_of(hour)), sizes, amounts)
+    let h = hour_of(hour);
+    tell_guarantees(b, lent, h, b.guarantees(lent, h), sizes, amounts)
 }
 
 fn tell_amounts(amounts: &mut [i64], a: Said) -> u32

@@ -15,8 +15,8 @@ use Rattle.records.specs.Changes.{Good}
 use Rattle.book.specs.Layer.{Key, Rec, Change, write, scan-got, Im, Ex, Asked, HourPrices, offsetEntry, reversal}
 use Rattle.book.specs.declared.journal.Book.{Book}
 use Rattle.book.specs.ByName.{byName}
-use Rattle.book.specs.Amounts.{Pick, is, Price, priced, priceOf, hourKey, creditAt, totalsOf, unitAt, absent, payable, guaranteesAt, guaranteesOf, unitDayOf, dayTotal, chargeAt, chargeOf}
-use Rattle.book.specs.Register.{Reg, standing, startIn, writeAll, keyed, asking, ask, Question, hourGuarantees, dayOf, failureCharge, answer, Reply, refused, guarantees, unitDay}
+use Rattle.book.specs.Amounts.{Pick, is, HourPricing, priced, priceOf, hourKey, creditAt, totalsOf, unitAt, absent, payable, guaranteesAt, guaranteesOf, unitDayOf, dayTotal, chargeAt, chargeOf}
+use Rattle.book.specs.Register.{Reg, standing, writeAll, keyed, asking, ask, Question, hourGuarantees, dayOf, failureCharge, answer, Reply, refused, guarantees, unitDay}
 use Rattle.book.specs.Meaning.{Load, belongs, load, leaving, stepped, outcome, Meets}
 use Rattle.book.specs.LoadLaws.{loaded-from}
 use Rattle.demands.specs.Checks.{first, checksOver, keyFirst, dayChecks, _gives_}
@@ -32,7 +32,7 @@ module _ (b : Book) (s : List ℕ) (l : List Change) (e : load b s ≡ belongs l
   told-is q b′ r s′ m = m .answer ∙ ap (λ (x : Load). leaving b s (stepped (asking q) b s x) .answer) e
 
   hour-is : (p : HourPrices) (im es : List Rec)
-      → guaranteesAt (startIn l) (priced p) im es ≡ guarantees (map (creditAt (startIn l) p) im) (offset (length im) (map (offsetEntry p) im) (p .emp) (totalsOf es))
+      → guaranteesAt (priced p) im es ≡ guarantees (map (creditAt p) im) (offset (length im) (map (offsetEntry p) im) (p .emp) (totalsOf es))
   unfolding offset Σℤ
   hour-is p [] es = refl
   hour-is p (i ∷ im) es = refl
@@ -55,13 +55,13 @@ module _ (b : Book) (s : List ℕ) (l : List Change) (e : load b s ≡ belongs l
   amounts = record {
     hour = λ h k t f p q b′ r s′ m.
         told-is (hourGuarantees h) b′ r s′ m
-        ∙ ap (λ (x : Asked). keyed x (λ (j : Key). guaranteesOf (startIn l) (standing l) (priceOf (standing l)) (j .hour))) f
-        ∙ ap (λ (x : Price). guaranteesAt (startIn l) x (byName (hourKey Im (k .hour)) (standing l)) (byName (hourKey Ex (k .hour)) (standing l))) q
+        ∙ ap (λ (x : Asked). keyed x (λ (j : Key). guaranteesOf (standing l) (priceOf (standing l)) (j .hour))) f
+        ∙ ap (λ (x : HourPricing). guaranteesAt x (byName (hourKey Im (k .hour)) (standing l)) (byName (hourKey Ex (k .hour)) (standing l))) q
         ∙ hour-is p (byName (hourKey Im (k .hour)) (standing l)) (byName (hourKey Ex (k .hour)) (standing l));
     no-imports = λ h k t f z b′ r s′ m.
         told-is (hourGuarantees h) b′ r s′ m
-        ∙ ap (λ (x : Asked). keyed x (λ (j : Key). guaranteesOf (startIn l) (standing l) (priceOf (standing l)) (j .hour))) f
-        ∙ ap (λ (x : List Rec). guaranteesAt (startIn l) (priceOf (standing l) (k .hour)) x (byName (hourKey Ex (k .hour)) (standing l))) z;
+        ∙ ap (λ (x : Asked). keyed x (λ (j : Key). guaranteesOf (standing l) (priceOf (standing l)) (j .hour))) f
+        ∙ ap (λ (x : List Rec). guaranteesAt (priceOf (standing l) (k .hour)) x (byName (hourKey Ex (k .hour)) (standing l))) z;
     day = λ n k t f z b′ r s′ m.
         told-is (dayOf n) b′ r s′ m
         ∙ ap (λ (x : Asked). keyed x (λ (j : Key). unitDayOf j (standing l) (priceOf (standing l)))) f
@@ -70,7 +70,7 @@ module _ (b : Book) (s : List ℕ) (l : List Change) (e : load b s ≡ belongs l
         told-is (failureCharge m h n) b′ r s′ w
         ∙ ap (λ (y : Asked). keyed y (λ (j : Key). chargeOf j (standing l) (priceOf (standing l)))) f
         ∙ ap (λ (y : Pick). chargeAt y (priceOf (standing l) (k .hour))) u
-        ∙ ap (λ (y : Price). chargeAt (is x) y) q;
+        ∙ ap (λ (y : HourPricing). chargeAt (is x) y) q;
   }
 
 -- the theorem

@@ -9,8 +9,8 @@ use Rattle.book.specs.Layer.{Change, HourPrices, Mark, Rec, got, askHourOf, isF
 use Rattle.book.specs.ByName.{byName}
 use Rattle.book.specs.declared.journal.Book.{Book}
 use Rattle.book.specs.declared.feed.Fed.{Fed}
-use Rattle.book.specs.Amounts.{Charges, charged, chargeLine, chargeOf, hourKey, priceOf, priced}
-use Rattle.book.specs.Register.{Reg, standing, startIn, writeAll, change, Reply, refused, accepted, charge, Step, answered, becomes, called, Turn, run, told}
+use Rattle.book.specs.Amounts.{ChargesReply, charged, chargeLine, chargeOf, hourKey, priceOf, priced}
+use Rattle.book.specs.Register.{Reg, standing, writeAll, change, Reply, refused, accepted, charge, Step, answered, becomes, called, Turn, run, told}
 use Rattle.book.specs.Meaning.{belongs, load, bookOf}
 use Rattle.book.specs.Feed.{firstRecord}
 use Rattle.book.specs.Session.{Session}
@@ -60,7 +60,7 @@ abbrev pub AsAsked : List Change → HourPrices → Rec → Type 0
 AsAsked l p r = chargeOf (r .key) (standing l) (priceOf (standing l)) ≡ charge (chargeTicks r p)
 
 -- the charges of a mark and hour with its `PR`: one for each failure that stands, by name
-pub record ChargesByKey (b : Book) (s : List ℕ) (m : Mark) (h : ℕ) (c : Charges) : Type 0 where
+pub record ChargesByKey (b : Book) (s : List ℕ) (m : Mark) (h : ℕ) (c : ChargesReply) : Type 0 where
   pub lines : (l : List Change) → load b s ≡ belongs l → isFailure m ≡ true → askHourOf m h ≡ got (hourKey m h) [] → (p : HourPrices) → priceOf (standing l) h ≡ priced p
-      → c ≡ charged (map (chargeLine (startIn l) p) (byName (hourKey m h) (standing l)))
+      → c ≡ charged (map (chargeLine p) (byName (hourKey m h) (standing l)))
   pub each : (l : List Change) → load b s ≡ belongs l → (p : HourPrices) → priceOf (standing l) h ≡ priced p → All (AsAsked l p) (byName (hourKey m h) (standing l))

@@ -9,8 +9,8 @@ use Rattle.book.specs.Layer.{Change, HourPrices, Mark, Rec, Asked, got, askHour
 use Rattle.book.specs.ByName.{byName}
 use Rattle.book.specs.declared.journal.Book.{Book}
 use Rattle.book.specs.declared.feed.Fed.{Fed as Result}
-use Rattle.book.specs.Amounts.{Pick, is, pick, Price, Charges, charged, no, chargeLine, chargesAt, chargesOf, chargeAt, chargeOf, hourKey, priceOf, priced}
-use Rattle.book.specs.Register.{Reg, standing, startIn, writeAll, change, Reply, refused, accepted, Step, answered, becomes, called, after, reply, Turn, run, told}
+use Rattle.book.specs.Amounts.{Pick, is, pick, HourPricing, ChargesReply, charged, no, chargeLine, chargesAt, chargesOf, chargeAt, chargeOf, hourKey, priceOf, priced}
+use Rattle.book.specs.Register.{Reg, standing, writeAll, change, Reply, refused, accepted, Step, answered, becomes, called, after, reply, Turn, run, told}
 use Rattle.book.specs.Meaning.{Load, belongs, load, bookOf, chargesKeyed, hourCharges, Valid}
 use Rattle.book.specs.Tables.{replied}
 use Rattle.book.specs.Feed.{firstRecord, Fed, stopped, later, onward, fed, feeding}
@@ -105,7 +105,7 @@ read-as-calls b s input r s′ f ts rs held σ h =
 
 -- ---- `charges`
 
-lines-are : (l : List Change) (p : HourPrices) (rs : List Rec) → chargesAt (startIn l) (priced p) rs ≡ charged (map (chargeLine (startIn l) p) rs)
+lines-are : (p : HourPrices) (rs : List Rec) → chargesAt (priced p) rs ≡ charged (map (chargeLine p) rs)
 lines-are l p [] = refl
 lines-are l p (r ∷ rs) = refl
 
@@ -114,16 +114,16 @@ module _ (m : Mark) (h : ℕ) (l : List Change) (p : HourPrices) (e : priceOf (s
   unfolding chargeOf
   as-asked r w =
       ap (λ (x : Pick). chargeAt x (priceOf (standing l) (r .key .hour))) (w .0)
-      ∙ ap (λ (x : Price). chargeAt (is r) x) (ap (priceOf (standing l)) (sym (hour-parts (hourKey m h) (r .key) (w .1) .1)) ∙ e)
+      ∙ ap (λ (x : HourPricing). chargeAt (is r) x) (ap (priceOf (standing l)) (sym (hour-parts (hourKey m h) (r .key) (w .1) .1)) ∙ e)
 
   all-asked : New l → All (AsAsked l p) (byName (hourKey m h) (standing l))
   all-asked w = all-map as-asked (all-by-name (hourKey m h) (own-pick (standing l) (once-standing l w)))
 
-pub charges-by-key : (b : Book) (s : List ℕ) (m : Mark) (h : ℕ) (c : Charges) → c ≡ hourCharges m h (load b s) → ChargesByKey b s m h c
+pub charges-by-key : (b : Book) (s : List ℕ) (m : Mark) (h : ℕ) (c : ChargesReply) → c ≡ hourCharges m h (load b s) → ChargesByKey b s m h c
 unfolding chargesOf
 charges-by-key b s m h c w = record {
   lines = λ l e f a p q.
       w ∙ ap (hourCharges m h) e ∙ ap (λ (x : Bool). cond x (chargesKeyed l (askHourOf m h)) (no 2)) f ∙ ap (chargesKeyed l) a
-      ∙ ap (λ (x : Price). chargesAt (startIn l) x (byName (hourKey m h) (standing l))) q ∙ lines-are l p (byName (hourKey m h) (standing l));
+      ∙ ap (λ (x : HourPricing). chargesAt x (byName (hourKey m h) (standing l))) q ∙ lines-are p (byName (hourKey m h) (standing l));
   each = λ l e p q. all-asked m h l p q (valid-new l (loaded-valid b s l e));
 }

@@ -15,7 +15,7 @@ use Rattle.book.specs.Layer.{Key, Rec, Change, fine, parse, write, Scan, seen, 
 use Rattle.book.specs.ByName.{byName}
 use Rattle.book.specs.declared.journal.Book.{Book}
 use Rattle.book.specs.Amounts.{pick, is, priced, priceOf, hourKey, creditAt, totalsOf, unitAt, hourTicks}
-use Rattle.book.specs.Register.{Reg, standing, capped, writeAll, startIn, Call, file, correct, withdraw, takeBack, close, change, ask, becomes, stepOf, Turn, run, told}
+use Rattle.book.specs.Register.{Reg, standing, capped, writeAll, Call, file, correct, withdraw, takeBack, close, change, ask, becomes, stepOf, Turn, run, told}
 use Rattle.book.specs.Register.{Question, recordOf, freeBytes, hourGuarantees, dayOf, failureCharge, answer, Reply, refused, accepted, place, number, guarantees, unitDay, charge}
 use Rattle.book.specs.Meaning.{belongs, load, bookOf, outcome, Meets}
 use Rattle.book.specs.Session.{Session, next, Undo, Shows}
@@ -83,7 +83,7 @@ pub record Amounts (b : Book) (s : List ℕ) (l : List Change) : Type 0 where
   -- "an hour's guarantees": the credit of each import by name, and the offset. "All imports take part, those of credit 0 too."
   pub hour : (h : ℕ) (k : Key) (t : List ℕ) → askHourOf Im h ≡ got k t → (p : HourPrices) → priceOf (standing l) (k .hour) ≡ priced p
       → (b′ : Book) (r : Reply) (s′ : List ℕ) → Meets (ask (hourGuarantees h)) b s b′ r s′
-      → r ≡ guarantees (map (creditAt (startIn l) p) (byName (hourKey Im (k .hour)) (standing l)))
+      → r ≡ guarantees (map (creditAt p) (byName (hourKey Im (k .hour)) (standing l)))
       (offset (length (byName (hourKey Im (k .hour)) (standing l))) (map (offsetEntry p) (byName (hourKey Im (k .hour)) (standing l))) (p .emp) (totalsOf (byName (hourKey Ex (k .hour)) (standing l))))
   -- "an hour without imports has offset 0 and needs none"
   pub no-imports : (h : ℕ) (k : Key) (t : List ℕ) → askHourOf Im h ≡ got k t → byName (hourKey Im (k .hour)) (standing l) ≡ []

@@ -1,8 +1,9 @@
 // The machine link between the three demands (specs/Demands.antt) and the book's methods: one function that makes any call of the register
 // by the book's own method. It promises demands 1 and 3 of that call, so it is proved only while every method keeps its own promise whole.
-use book::answers::Amounts;
 use book::answers::Answer;
+use book::answers::CREDITS_MAX;
 use book::answers::Charges;
+use book::answers::Credits;
 use book::answers::Done;
 use book::answers::Guarantees;
 use book::answers::NamedAmount;
@@ -84,12 +85,11 @@ fn no_guarantees() -> Guarantees
     let name = no_name();
     let none = NamedAmount {
         name,
-        start: 0,
         ticks: Ticks(0),
     };
-    let credits = Amounts {
+    let credits = Credits {
         n: 0,
-        list: [none; 16],
+        list: [none; CREDITS_MAX],
     };
     Guarantees {
         number: 0,

@@ -21,8 +21,8 @@ use Rattle.records.specs.declared.amounts.TotalsAnswer.{TotalsAnswer}
 use Rattle.records.specs.declared.layouts.HourPrices.{HourPrices}
 use Rattle.records.specs.declared.marks.Mark.the-variants.{Pr, Im, Ex}
 use Rattle.book.specs.declared.places.Spot.{Spot}
-use Rattle.book.specs.Register.{standing, startIn, Reply, refused, guarantees, keyed, hourGuarantees, answer}
-use Rattle.book.specs.Amounts.{Pick, is, nil, pick, Price, priced, unpriced, hourKey, priceFrom, priceOf, totalsOf, guaranteesAt, guaranteesOf}
+use Rattle.book.specs.Register.{standing, Reply, refused, guarantees, keyed, hourGuarantees, answer}
+use Rattle.book.specs.Amounts.{Pick, is, nil, pick, HourPricing, priced, unpriced, hourKey, priceFrom, priceOf, totalsOf, guaranteesAt, guaranteesOf}
 use Rattle.book.specs.ByName.{byName}
 use Rattle.book.specs.FilingLaws.{none-named}
 use Rattle.book.specs.OffsetLaws.{All, all-pick, pick-key, standing-good, Each, each-length, each-with, entries-at, Adds, totals-at, InHour, in-hour, offset-given, priced-some, guarantees-hour}
@@ -49,13 +49,13 @@ totals-read s h e a few = totals-at s (each-with read e a) few
 
 -- ---- the end
 
-no-imports : (at : Key → ℕ) (q : Price) (rs es : List Rec) → length rs ≡ 0 → guarantees [] (pos 0) ≡ guaranteesAt at q rs es
-no-imports at q [] es e = refl
-no-imports at q (r ∷ rs) es e = absurd (omega (arith, e))
+no-imports : (q : HourPricing) (rs es : List Rec) → length rs ≡ 0 → guarantees [] (pos 0) ≡ guaranteesAt q rs es
+no-imports q [] es e = refl
+no-imports q (r ∷ rs) es e = absurd (omega (arith, e))
 
-no-price : (at : Key → ℕ) (rs es : List Rec) → (length rs ≡ 0 → ⊥) → refused 15 ≡ guaranteesAt at unpriced rs es
-no-price at [] es e = absurd (e refl)
-no-price at (r ∷ rs) es e = refl
+no-price : (rs es : List Rec) → (length rs ≡ 0 → ⊥) → refused 15 ≡ guaranteesAt unpriced rs es
+no-price [] es e = absurd (e refl)
+no-price (r ∷ rs) es e = refl
 
 module _ (s : List ℕ) (o : ℕ) (l : List Change) (h : Sheet) (b : Booked s o l h) where
   abbrev imports : List Rec
@@ -73,12 +73,12 @@ module _ (s : List ℕ) (o : ℕ) (l : List Change) (h : Sheet) (b : Booked s o 
   by-tests x y e f = ap₂ (λ (x y : Bool). cond x (Amount (record { 0 = pos 0 })) (cond y (workedAt s (pricesIn (drop (h .price) s)) h) (Refused 15))) e f
 
   abbrev said : Pick → Answer
-  said q = answerOf (offsetIn (guaranteesAt (startIn l) (priceFrom q) imports exports))
+  said q = answerOf (offsetIn (guaranteesAt (priceFrom q) imports exports))
 
   none-said : length imports ≡ 0 → (q : Pick) → endOf s h ≡ said q
   none-said e q =
       by-tests true (h .priced) (eq-eqb (length (h .imports)) 0 (size ∙ e)) refl
-      ∙ ap (λ (r : Reply). answerOf (offsetIn r)) (no-imports (startIn l) (priceFrom q) imports exports e)
+      ∙ ap (λ (r : Reply). answerOf (offsetIn r)) (no-imports (priceFrom q) imports exports e)
 
   module _ (some : length imports ≡ 0 → ⊥) where
     test : eqb (length (h .imports)) 0 ≡ false
@@ -87,7 +87,7 @@ module _ (s : List ℕ) (o : ℕ) (l : List Change) (h : Sheet) (b : Booked s o 
     some-said : (q : Pick) → pick (hourKey Pr o) (standing l) ≡ q → Priced s (h .priced) (h .price) q → endOf s h ≡ said q
     some-said nil e w =
         by-tests false false test w
-        ∙ ap (λ (r : Reply). answerOf (offsetIn r)) (no-price (startIn l) imports exports some)
+        ∙ ap (λ (r : Reply). answerOf (offsetIn r)) (no-price imports exports some)
     some-said (is r) e w =
         let mk : r .key .mark ≡ Pr = sym (same-alike (hourKey Pr o) (r .key) (pick-key (hourKey Pr o) (standing l) r e) .mark) in
         let good : Good (filed r) = all-pick (hourKey Pr o) r (standing-good l (b .valid)) e in
@@ -98,10 +98,10 @@ module _ (s : List ℕ) (o : ℕ) (l : List Change) (h : Sheet) (b : Booked s o 
         ∙ ap (λ (x : HourPrices). workedAt s x h) read
         ∙ (λ i. offsetAnswer (size i) (entries-read s p f o (b .imports) (in-hour (hourKey Im o) l (b .valid)) i) (p .emp) (totals-read s o (b .exports) (in-hour (hourKey Ex o) l (b .valid)) (omega (arith, each-length (b .exports), b .few-exports)) i))
         ∙ offset-given l (b .valid) o p f (omega (arith, size, b .few-imports)) (omega (arith, each-length (b .exports), b .few-exports))
-        ∙ ap (λ (r : Reply). answerOf (offsetIn r)) (priced-some (startIn l) p imports exports some)
+        ∙ ap (λ (r : Reply). answerOf (offsetIn r)) (priced-some p imports exports some)
 
-  hour-said : endOf s h ≡ answerOf (offsetIn (guaranteesOf (startIn l) (standing l) (priceOf (standing l)) o))
-  hour-said = go (length imports) refl ∙ ap (λ (r : Reply). answerOf (offsetIn r)) (sym (guarantees-hour (startIn l) (standing l) o))
+  hour-said : endOf s h ≡ answerOf (offsetIn (guaranteesOf (standing l) (priceOf (standing l)) o))
+  hour-said = go (length imports) refl ∙ ap (λ (r : Reply). answerOf (offsetIn r)) (sym (guarantees-hour (standing l) o))
     where
       go : (n : ℕ) → length imports ≡ n → endOf s h ≡ said (pick (hourKey Pr o) (standing l))
       go zero e = none-said e (pick (hourKey Pr o) (standing l))
@@ -111,7 +111,7 @@ module _ (s : List ℕ) (o : ℕ) (l : List Change) (h : Sheet) (b : Booked s o 
   known-end lo hi =
       hour-said
       ∙ sym (ap (λ (t : Bool). answerOf (cond t (ticks (pos 0)) (offsetIn (answer (hourGuarantees o) 65535 (record { list = l; closed = false }))))) (ne-eqb o 0 (λ z. omega arith))
-      ∙ ap (λ (a : Res Key). answerOf (offsetIn (keyed a (λ (k : Key). guaranteesOf (startIn l) (standing l) (priceOf (standing l)) (k .hour))))) (hour-key Im o lo hi))
+      ∙ ap (λ (a : Res Key). answerOf (offsetIn (keyed a (λ (k : Key). guaranteesOf (standing l) (priceOf (standing l)) (k .hour))))) (hour-key Im o lo hi))
 
 pub ended : (s : List ℕ) (h : Sheet) {o : ℕ} {l : List Change} → Hour o l → Booked s o l h → endOf s h ≡ answerOf (atEnd o (record { list = l; closed = false }))
 ended s h unknown b = by-tests s 0 [] h b true (h .priced) (eq-eqb (length (h .imports)) 0 (each-length (b .imports) ∙ ap length (none-named (hourKey Im 0)))) refl

@@ -30,7 +30,7 @@ use Rattle.records.specs.Examples as records
 use Rattle.records.specs.Examples.{times, w, list, pr, im}
 use Rattle.book.specs.ByName.{inOrder, byName, addName, namesOf}
 use Rattle.book.specs.Amounts.{pick, priceOf, exported, guaranteesOf, dayTotal, unitDayOf, chargesOf}
-use Rattle.book.specs.Register.{writeAll, without, standing, stands, count, refusal, placeOf, startIn, called, run}
+use Rattle.book.specs.Register.{writeAll, without, standing, stands, count, refusal, placeOf, called, run}
 use Rattle.book.specs.Examples as register
 use Rattle.book.specs.Feed.{firstRecord, fed, settled}
 use Rattle.statement.specs.Decimal.{twoDigits, digits, decimal}
@@ -146,5 +146,5 @@ abbrev pub cases : List Case
 cases = whole ++ (map tells register.examples ++ (map reads records.cases ++ (map amounts money.cases ++ map shows statement.cases)))
 
 pub examples : all cases ≡ true
-unfolding outputBy refusalLine settled fed firstRecord called run refusal stands count standing writeAll without sameHour same limitOf parse parseAny bare write headBytes nameBytes entry change head mark rest hour byte nameFor bodyFor nameField some decodeName nameUpTo one escaped hexVal visible taken layout hourPrices import export schedules reserveRows lists unit failure many pair pairs listFrom price quantity amount word statementOf statementLines hoursTo hourOf eachUnit unitOf textOf lineBytes whenBytes twoDigits kindBytes lineName spell spellByte unreserved digit figure sign dollars number decimal digits centsOf startIn placeOf guaranteesOf byName inOrder priceOf pick chargesOf unitDayOf dayTotal atHour namesOf addName exported creditTicks unitTicks chargeTicks rowOf offset precedes upTo counted sameName sameBytes nameBefore profits cost fullPairs Σℤ Σℕ minℤ maxℤ every costAnswer offerFault numbersOk orderOk creditAnswer pricesOk quantitiesOk withinOk offsetAnswer ratesOk listFault faultAt freshName entryFault nameOk firstOf shortfall arranged congestion component4 C1 C2 C3 C4 interval hourAmount reserveFault reservesNumbersOk numbersFine withinFine listsFault unitFault intervalFault charge failureOk
+unfolding outputBy refusalLine settled fed firstRecord called run refusal stands count standing writeAll without sameHour same limitOf parse parseAny bare write headBytes nameBytes entry change head mark rest hour byte nameFor bodyFor nameField some decodeName nameUpTo one escaped hexVal visible taken layout hourPrices import export schedules reserveRows lists unit failure many pair pairs listFrom price quantity amount word statementOf statementLines hoursTo hourOf eachUnit unitOf textOf lineBytes whenBytes twoDigits kindBytes lineName spell spellByte unreserved digit figure sign dollars number decimal digits centsOf placeOf guaranteesOf byName inOrder priceOf pick chargesOf unitDayOf dayTotal atHour namesOf addName exported creditTicks unitTicks chargeTicks rowOf offset precedes upTo counted sameName sameBytes nameBefore profits cost fullPairs Σℤ Σℕ minℤ maxℤ every costAnswer offerFault numbersOk orderOk creditAnswer pricesOk quantitiesOk withinOk offsetAnswer ratesOk listFault faultAt freshName entryFault nameOk firstOf shortfall arranged congestion component4 C1 C2 C3 C4 interval hourAmount reserveFault reservesNumbersOk numbersFine withinFine listsFault unitFault intervalFault charge failureOk
 examples = refl

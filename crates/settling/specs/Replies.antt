@@ -31,7 +31,7 @@ sameNumbers (x ∷ xs) [] = false
 sameNumbers (x ∷ xs) (y ∷ ys) = sameℤ x y && sameNumbers xs ys
 
 abbrev pub sameAmount : NamedAmount → NamedAmount → Bool
-sameAmount a b = (eqb (a .name .len) (b .name .len) && sameBytes (a .name .bytes) (b .name .bytes)) && (eqb (a .start) (b .start) && sameℤ (a .ticks .0) (b .ticks .0))
+sameAmount a b = (eqb (a .name .len) (b .name .len) && sameBytes (a .name .bytes) (b .name .bytes)) && sameℤ (a .ticks .0) (b .ticks .0)
 
 abbrev pub sameNamed : List NamedAmount → List NamedAmount → Bool
 sameNamed [] [] = true

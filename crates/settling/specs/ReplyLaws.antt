@@ -32,15 +32,12 @@ numbers-are (x ∷ xs) (y ∷ ys) e =
 amount-is : (a b : NamedAmount) → sameAmount a b ≡ true → a ≡ b
 amount-is a b e =
     let s : Bool = eqb (a .name .len) (b .name .len) && sameBytes (a .name .bytes) (b .name .bytes) in
-    let t : Bool = eqb (a .start) (b .start) && sameℤ (a .ticks .0) (b .ticks .0) in
-    let x = and-true s t e in
+    let x = and-true s (sameℤ (a .ticks .0) (b .ticks .0)) e in
     let y = and-true (eqb (a .name .len) (b .name .len)) (sameBytes (a .name .bytes) (b .name .bytes)) (x .0) in
-    let z = and-true (eqb (a .start) (b .start)) (sameℤ (a .ticks .0) (b .ticks .0)) (x .1) in
     let l = eqb-true (a .name .len) (b .name .len) (y .0) in
     let n = bytes-is (a .name .bytes) (b .name .bytes) (y .1) in
-    let p = eqb-true (a .start) (b .start) (z .0) in
-    let v = same-is (a .ticks .0) (b .ticks .0) (z .1) in
-    λ i. record { name = record { len = l i; bytes = n i }; start = p i; ticks = record { 0 = v i } }
+    let v = same-is (a .ticks .0) (b .ticks .0) (x .1) in
+    λ i. record { name = record { len = l i; bytes = n i }; ticks = record { 0 = v i } }
 
 named-are : (xs ys : List NamedAmount) → sameNamed xs ys ≡ true → xs ≡ ys
 named-are [] [] e = refl

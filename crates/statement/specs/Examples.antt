@@ -14,7 +14,7 @@ use Rattle.money.specs.Names.{nameOk, sameBytes}
 use Rattle.records.specs.Names.{nameOf, spell, spellByte, unreserved, digit}
 use Rattle.book.specs.declared.answers.NamedAmount.{NamedAmount}
 use Rattle.book.specs.Replies.{Reply, refused, guarantees, unitDay}
-use Rattle.book.specs.Amounts.{Charges, charged, no}
+use Rattle.book.specs.Amounts.{ChargesReply, charged, no}
 use Rattle.statement.specs.Decimal.{twoDigits, digits, decimal}
 use Rattle.statement.specs.Lines.{whenBytes, kindBytes, nameBytes, sign, dollars, number, figure, lineBytes, textOf}
 use Rattle.statement.specs.Statement.{hourLines, unitLines}
@@ -36,7 +36,7 @@ abbrev amount : ℕ → Kind → String → ℤ → Line
 amount h k n t = line h k n (centsOf t)
 
 abbrev named : String → ℤ → NamedAmount
-named n t = record { name = nameOf (bytes n); start = 0; ticks = record { 0 = t } }
+named n t = record { name = nameOf (bytes n); ticks = record { 0 = t } }
 
 -- ---- cases
 pub data Case : Type 0 where
@@ -45,7 +45,7 @@ pub data Case : Type 0 where
   -- a line, and the length of its text
   takes : Line → ℕ → Case
   -- an hour's guarantees, its charges of failed imports and of failed exports, and all of its text
-  hour : ℕ → Reply → Charges → Charges → String → Case
+  hour : ℕ → Reply → ChargesReply → ChargesReply → String → Case
   -- a unit's name, the answer for its day, and all of its text
   unit : String → Reply → String → Case
 

@@ -9,6 +9,7 @@ use Rattle.book.specs.declared.answers.UnitAmounts.{UnitAmounts}
 use Rattle.book.specs.declared.answers.DayAmounts.{DayAmounts}
 use Rattle.book.specs.Meaning.{guaranteesReply, chargesReply, dayReply}
 use Rattle.book.specs.WholeDay.{noHour}
+use Rattle.book.specs.Handed.{maxCredits, maxCharges}
 use Rattle.statement.specs.Lines.{textOf}
 use Rattle.statement.specs.Statement.{hourLines, unitLines, hoursTo}
 use Rattle.statement.specs.declared.lines.Line.{Line}
@@ -48,9 +49,9 @@ linesOfDay d = linesOfHours 24 (d .hours) ++ linesOfUnits (take (d .n) (d .units
 
 -- an hour has at most 16 `IOG`, an `OFF`, 16 `IFC` and 16 `EFC`
 pub record FewLines (a : HourAmounts) : Type 0 where
-  pub credits : a .guarantees .credits .n ≤ 16
-  pub imports : a .imports .charges .n ≤ 16
-  pub exports : a .exports .charges .n ≤ 16
+  pub credits : a .guarantees .credits .n ≤ maxCredits
+  pub imports : a .imports .charges .n ≤ maxCharges
+  pub exports : a .exports .charges .n ≤ maxCharges
 
 pub record FewInAll (hs : List HourAmounts) : Type 0 where
   pub hour : (j : ℕ) → j < 24 → (d : HourAmounts) → FewLines (getD hs j d)

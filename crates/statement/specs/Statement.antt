@@ -10,13 +10,13 @@ use lib.ListN.{length}
 use Rattle.money.specs.Units.{centsOf}
 use Rattle.money.specs.Refusals.{noSpace, priceMissing, notTogether}
 use Rattle.records.specs.Changes.{put}
-use Rattle.book.specs.Layer.{Key, Name, Rec, Change, Fi, Fe, noOne}
+use Rattle.book.specs.Layer.{Name, Rec, Change, Fi, Fe, noOne}
 use Rattle.book.specs.declared.answers.NamedAmount.{NamedAmount}
 use Rattle.book.specs.Replies.{Reply, refused, accepted, place, number, guarantees, unitDay, charge}
-use Rattle.book.specs.Amounts.{Price, Charges, charged, no, hourKey, priceOf, guaranteesOf, chargesOf, unitDayOf}
+use Rattle.book.specs.Amounts.{HourPricing, ChargesReply, charged, no, hourKey, priceOf, guaranteesOf, chargesOf, unitDayOf}
 use Rattle.book.specs.ByName.{namesOf}
 use Rattle.book.specs.Units.{ghKey, unitKey}
-use Rattle.book.specs.Register.{standing, startIn}
+use Rattle.book.specs.Register.{standing}
 use Rattle.book.specs.Meaning.{Load, belongs, astray}
 use Rattle.statement.specs.Lines.{textOf}
 use Rattle.statement.specs.declared.lines.Kind.{Kind}
@@ -48,13 +48,13 @@ abbrev pub hourError : ℕ → List Line
 hourError h = errorLine h noOne ∷ []
 
 -- "`IOG` per import by name, `OFF` where imports stand, `IFC`, `EFC` by name"
-abbrev pub chargedLines : ℕ → List NamedAmount → ℤ → Charges → Charges → List Line
+abbrev pub chargedLines : ℕ → List NamedAmount → ℤ → ChargesReply → ChargesReply → List Line
 chargedLines h cs o (charged fs) (charged es) = map (lineOf h Iog) cs ++ offsetLines h (length cs) o ++ map (lineOf h Ifc) fs ++ map (lineOf h Efc) es
 chargedLines h cs o (charged fs) (no n) = hourError h
 chargedLines h cs o (no n) es = hourError h
 
 -- from the hour's guarantees, its charges of failed imports and those of failed exports
-abbrev pub hourLines : ℕ → Reply → Charges → Charges → List Line
+abbrev pub hourLines : ℕ → Reply → ChargesReply → ChargesReply → List Line
 hourLines h (refused n) fs es = hourError h
 hourLines h accepted fs es = hourError h
 hourLines h (place start len) fs es = hourError h
@@ -63,8 +63,8 @@ hourLines h (guarantees cs o) fs es = chargedLines h cs o fs es
 hourLines h (unitDay t v) fs es = hourError h
 hourLines h (charge t) fs es = hourError h
 
-unfoldable pub hourOf : (Key → ℕ) → List Rec → (ℕ → Price) → ℕ → List Line
-hourOf at rs price h = hourLines h (guaranteesOf at rs price h) (chargesOf at (hourKey Fi h) rs price) (chargesOf at (hourKey Fe h) rs price)
+unfoldable pub hourOf : List Rec → (ℕ → HourPricing) → ℕ → List Line
+hourOf rs price h = hourLines h (guaranteesOf rs price h) (chargesOf (hourKey Fi h) rs price) (chargesOf (hourKey Fe h) rs price)
 
 -- ---- a unit
 
@@ -82,7 +82,7 @@ unitLines n (guarantees cs o) = unitError n
 unitLines n (unitDay t v) = amountLine 0 Pcg n t ∷ amountLine 0 Rev n v ∷ []
 unitLines n (charge t) = unitError n
 
-unfoldable pub unitOf : List Rec → (ℕ → Price) → Name → List Line
+unfoldable pub unitOf : List Rec → (ℕ → HourPricing) → Name → List Line
 unitOf rs price n = unitLines n (unitDayOf (unitKey n) rs price)
 
 -- ---- the day
@@ -98,12 +98,12 @@ eachUnit f [] = []
 eachUnit f (n ∷ ns) = f n ++ eachUnit f ns
 
 -- "by hour: ..; then for each unit by name"
-unfoldable pub statementLines : (Key → ℕ) → List Rec → (ℕ → Price) → List Line
-statementLines at rs price = hoursTo 24 (hourOf at rs price) ++ eachUnit (unitOf rs price) (namesOf ghKey rs)
+unfoldable pub statementLines : List Rec → (ℕ → HourPricing) → List Line
+statementLines rs price = hoursTo 24 (hourOf rs price) ++ eachUnit (unitOf rs price) (namesOf ghKey rs)
 
 -- of a list of changes
 unfoldable pub statementOf : List Change → List ℕ
-statementOf l = textOf (statementLines (startIn l) (standing l) (priceOf (standing l)))
+statementOf l = textOf (statementLines (standing l) (priceOf (standing l)))
 
 -- ---- a call for a text
 

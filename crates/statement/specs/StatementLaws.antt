@@ -15,7 +15,7 @@ use Rattle.book.specs.Amounts.{priceOf}
 use Rattle.book.specs.ByName.{namesOf}
 use Rattle.book.specs.ChargeLaws.{getD-same}
 use Rattle.book.specs.Units.{ghKey, unitKey}
-use Rattle.book.specs.Register.{standing, startIn}
+use Rattle.book.specs.Register.{standing}
 use Rattle.book.specs.Meaning.{belongs, Valid}
 use Rattle.book.specs.WholeDay.{noHour, dayAmounts, dayFrom}
 use Rattle.book.specs.WholeDayLaws.{HourIs, hour-is, unitIn, units-are, day-back}
@@ -68,7 +68,7 @@ module _ (l : List Change) (v : Valid l) where
   abbrev day : DayAmounts
   day = dayFrom (dayAmounts (belongs l))
 
-  hour-lines : (h : ℕ) → h < 24 → linesOfHour (suc h) (getD (day .hours) (suc h - 1) noHour) ≡ hourOf (startIn l) (standing l) (priceOf (standing l)) (suc h)
+  hour-lines : (h : ℕ) → h < 24 → linesOfHour (suc h) (getD (day .hours) (suc h - 1) noHour) ≡ hourOf (standing l) (priceOf (standing l)) (suc h)
   unfolding hourOf
   hour-lines h lt =
       let m : suc h - 1 ≡ h = omega arith in
@@ -77,10 +77,10 @@ module _ (l : List Change) (v : Valid l) where
       subst (λ (k : ℕ). HourIs l (suc h) (getD (day .hours) k noHour)) (sym m) (subst (λ (k : ℕ). HourIs l k (getD (day .hours) h noHour)) n (hour-is l v h lt noHour)) in
       λ i. hourLines (suc h) (x .guaranteed i) (x .imports i) (x .exports i)
 
-  pub day-lines : linesOfDay day ≡ statementLines (startIn l) (standing l) (priceOf (standing l))
+  pub day-lines : linesOfDay day ≡ statementLines (standing l) (priceOf (standing l))
   unfolding statementLines
   day-lines =
-      let s = hours-same (λ (h : ℕ). linesOfHour h (getD (day .hours) (h - 1) noHour)) (hourOf (startIn l) (standing l) (priceOf (standing l))) 24 hour-lines in
+      let s = hours-same (λ (h : ℕ). linesOfHour h (getD (day .hours) (h - 1) noHour)) (hourOf (standing l) (priceOf (standing l))) 24 hour-lines in
       let t = ap linesOfUnits (units-are l v .units) ∙ units-same l (namesOf ghKey (standing l)) in
       λ i. s i ++ t i
 

@@ -3,7 +3,8 @@ use crate::lines::Cursor;
 use crate::lines::Kind;
 use crate::lines::Line;
 use crate::lines::put_line;
-use book::answers::Amounts;
+use book::answers::ChargeList;
+use book::answers::Credits;
 use book::answers::HourAmounts;
 use money::names::Name;
 use money::refusals::PRICE_MISSING;
@@ -14,6 +15,8 @@ ghost use mathlib.Core.Path.{_≡_};
 ghost use mathlib.Core.List.{[], _∷_, map};
 ghost use Prim.Native.Nat.{_+_, _*_, _≤_};
 ghost use lib.ListN.{length, take};
+ghost use Rattle.book.specs.Handed.{maxCredits, maxCharges};
+ghost use Rattle.statement.specs.declared.lines.Kind.the-variants.{Iog};
 ghost use Rattle.statement.specs.Statement.{amountLine, lineOf, errorLine, hourError, offsetLines};
 ghost use Rattle.statement.specs.Inner.{WritesLines, linesOfHour, FewLines};
 
@@ -50,9 +53,27 @@ fn put_hour_error(out: &mut [u8], c: Cursor, hour: u8) -> Cursor
     put_error(out, c, hour, no_name())
 }
 
-// A line for each amount, in their order.
-fn put_amounts(out: &mut [u8], c: Cursor, hour: u8, kind: Kind, a: Amounts) -> Cursor
-    requires { ⌜ (a .n ≤ 16) × (c .at + 66 * a .n ≤ length (now out)) ⌝ }
+// A line for each credit, in their order.
+fn put_credits(out: &mut [u8], c: Cursor, hour: u8, a: Credits) -> Cursor
+    requires { ⌜ (a .n ≤ maxCredits) × (c .at + 66 * a .n ≤ length (now out)) ⌝ }
+    ensures { λ r. ⌜ WritesLines (now (out .entry)) c (map (lineOf hour Iog) (take (a .n) (a .list))) (now (out .exit)) r × (r .at ≤ c .at + 66 * a .n) × (a .n ≡ length (take (a .n) (a .list))) ⌝ }
+{
+    let n = a.n;
+    let mut next = c;
+    let mut i: usize = 0;
+    while i < n {
+        let x = a.list[i];
+        let name = x.name;
+        let ticks = x.ticks;
+        next = put_line(out, next, amount_line(hour, Kind::Iog, name, ticks));
+        i += 1;
+    }
+    next
+}
+
+// A line for each charge, in their order.
+fn put_charges(out: &mut [u8], c: Cursor, hour: u8, kind: Kind, a: ChargeList) -> Cursor
+    requires { ⌜ (a .n ≤ maxCharges) × (c .at + 66 * a .n ≤ length (now out)) ⌝ }
     ensures { λ r. ⌜ WritesLines (now (out .entry)) c (map (lineOf hour kind) (take (a .n) (a .list))) (now (out .exit)) r × (r .at ≤ c .at + 66 * a .n) × (a .n ≡ length (take (a .n) (a .list))) ⌝ }
 {
     let n = a.n;
@@ -100,8 +121,8 @@ pub(crate) fn put_hour(out: &mut [u8], c: Cursor, hour: u8, a: HourAmounts) -> C
     let imports = f.charges;
     let exports = e.charges;
     let offset = g.offset;
-    let off = put_amounts(out, c, hour, Kind::Iog, credits);
+    let off = put_credits(out, c, hour, credits);
     let ifc = put_offset(out, off, hour, credits.n, offset);
-    let efc = put_amounts(out, ifc, hour, Kind::Ifc, imports);
-    put_amounts(out, efc, hour, Kind::Efc, exports)
+    let efc = put_charges(out, ifc, hour, Kind::Ifc, imports);
+    put_charges(out, efc, hour, Kind::Efc, exports)
 }

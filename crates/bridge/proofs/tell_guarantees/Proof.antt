@@ -5,6 +5,7 @@ use lib.IntN.{ℤ}
 use lib.ListN.{length, take}
 use lib.Seq.{length-take-le}
 use borrow.Author.Tests.{eq-eqb, ne-eqb}
+use Rattle.book.specs.Handed.{maxCredits}
 use Rattle.bridge.specs.Bridge.{stored, creditsSizes, creditsAmounts}
 use Rattle.bridge.proofs.Telling.{unmapped}
 use borrow.Author.Needs.{needs}
@@ -33,7 +34,7 @@ same-length-2 c = search needs
 returns-2 : tie.Need-returns-2
 returns-2 c =
     let a = (c .before .before .before .before .before .before .before .before .before .before .before .before .args) .g .credits in
-    let long : length (a .list) ≡ 16 = search (needs, unmapped) in
+    let long : length (a .list) ≡ maxCredits = search (needs, unmapped) in
     let n : length (take (a .n) (a .list)) ≡ a .n = length-take-le (a .n) (a .list) (omega (arith, (c .before .before .before .before .before .before .before .before .before .before .before .before .pre))) in
     rw (eq-eqb _ _ ((c .before .before .before .before .before .before .before .before .before .if1) .left)) (
       refl,

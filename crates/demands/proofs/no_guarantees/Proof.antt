@@ -3,7 +3,7 @@ use mathlib.Core.List.{List}
 use lib.IntN.{pos}
 use lib.ListN.{replicate}
 use Rattle.book.specs.Layer.{Name, noTicks}
-use Rattle.book.specs.Handed.{noAmount, amountsOf}
+use Rattle.book.specs.Handed.{maxCredits, noAmount, creditsOf}
 use Rattle.book.specs.HandedLaws.{pad-none}
 use Rattle.book.specs.declared.answers.NamedAmount.{NamedAmount}
 use Rattle.book.specs.declared.answers.Guarantees.{Guarantees}
@@ -19,9 +19,9 @@ abbrev blank : List NamedAmount → Guarantees
 blank l = record { number = 0; credits = record { n = 0; list = l }; offset = record { 0 = pos 0 } }
 
 returns : tie.Need-returns
-unfolding amountsOf
+unfolding creditsOf
 returns c =
-    ap (λ (x : Name). blank (replicate 16 (record { name = x; start = 0; ticks = noTicks }))) ((c .no-name) .ensures) ∙ ap blank (pad-none noAmount 16)
+    ap (λ (x : Name). blank (replicate maxCredits (record { name = x; ticks = noTicks }))) ((c .no-name) .ensures) ∙ ap blank (pad-none noAmount maxCredits)
 
 pub no-guarantees-spec : {M : Type 1} → statement M
 no-guarantees-spec = tie.close (tie.spec no-name-requires returns)

@@ -24,12 +24,12 @@ returns c = let k = (c .before .before .before .gather-rows) .ok in let la : len
 charges-at-requires : tie.Need-charges-at-requires
 charges-at-requires c κs = let k = (c .before .before .before .before .gather-rows) .ok in let la : length ((c .before .before .before .before .gather-rows) .result .at) ≡ 16 = search (needs, unmapped) in passed-inside (passed ((c .before .before .before .before .before .key-of) .ensures) ((c .before .before .before .before .gather-rows) .ensures) la) ((c .before .before .before .before .before .before .before .pre) .0)
 
-named-requires : tie.Need-named-requires
-named-requires c κs = search needs
+named-charges-requires : tie.Need-named-charges-requires
+named-charges-requires c κs = search needs
 
 returns-2 : tie.Need-returns-2
 returns-2 c = let k = (c .before .before .before .before .before .before .gather-rows) .ok in let la : length ((c .before .before .before .before .before .before .gather-rows) .result .at) ≡ 16 = search (needs, unmapped) in
-    (λ l g b q w. ap charged ((c .named) .ensures .0) ∙ hour-charged (passed ((c .before .before .before .before .before .before .before .key-of) .ensures) ((c .before .before .before .before .before .before .gather-rows) .ensures) la) ((c .before .before .before .before .if1) .left) ((c .before .before .before .if2) .taken) ((c .before .charges-at) .result) ((c .before .charges-at) .ensures) l g b q w, (c .named) .ensures .1, with-charges ((c .named) .result) ((c .named) .ensures .2))
+    (λ l g b q w. ap charged ((c .named-charges) .ensures .0) ∙ hour-charged (passed ((c .before .before .before .before .before .before .before .key-of) .ensures) ((c .before .before .before .before .before .before .gather-rows) .ensures) la) ((c .before .before .before .before .if1) .left) ((c .before .before .before .if2) .taken) ((c .before .charges-at) .result) ((c .before .charges-at) .ensures) l g b q w, (c .named-charges) .ensures .1, with-charges ((c .named-charges) .result) ((c .named-charges) .ensures .2))
 
 no-charges-requires-2 : tie.Need-no-charges-requires-2
 no-charges-requires-2 c κs = search needs
@@ -47,7 +47,7 @@ of-hour-spec =
     no-charges-requires
     returns
     charges-at-requires
-    named-requires
+    named-charges-requires
     returns-2
     no-charges-requires-2
     returns-3)

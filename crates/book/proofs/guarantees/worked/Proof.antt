@@ -25,8 +25,8 @@ enum-known-a c = search needs
 credits-of-requires : tie.Need-credits-of-requires
 credits-of-requires c κs = search needs
 
-named-requires : tie.Need-named-requires
-named-requires c κs = search needs
+named-credits-requires : tie.Need-named-credits-requires
+named-credits-requires c κs = search needs
 
 enum-known-a-2 : tie.Need-enum-known-a-2
 enum-known-a-2 c = search needs
@@ -36,10 +36,10 @@ no-guarantees-requires c κs = search needs
 
 returns : tie.Need-returns
 returns c = let la : length ((c .before .before .before .before .before .before .before .before .before .before .args) .imports .at) ≡ 16 = search (needs, unmapped) in (
-  λ w. worked-is ((c .before .before .before .before .before .before .before .before .before .before .args) .log .now) ((c .before .before .before .before .before .before .before .before .before .before .args) .imports) ((c .before .before .before .before .before .before .before .before .before .before .args) .exports) ((c .before .before .before .before .before .before .before .before .before .before .args) .prices) ((c .before .before .before .before .before .before .before .before .entries-at) .result) ((c .before .before .before .before .before .before .before .before .entries-at) .ensures) ((c .before .credits-of) .result) ((c .before .credits-of) .ensures) ((c .named) .result) ((c .named) .ensures .0) _
+  λ w. worked-is ((c .before .before .before .before .before .before .before .before .before .before .args) .log .now) ((c .before .before .before .before .before .before .before .before .before .before .args) .imports) ((c .before .before .before .before .before .before .before .before .before .before .args) .exports) ((c .before .before .before .before .before .before .before .before .before .before .args) .prices) ((c .before .before .before .before .before .before .before .before .entries-at) .result) ((c .before .before .before .before .before .before .before .before .entries-at) .ensures) ((c .before .credits-of) .result) ((c .before .credits-of) .ensures) ((c .named-credits) .result) ((c .named-credits) .ensures .0) _
       (sym ((c .before .before .before .a) .given .1) ∙ (c .before .before .before .before .before .hour-offset) .ensures ∙ worked-offset ((c .before .before .before .before .before .before .before .before .before .before .args) .log .now) ((c .before .before .before .before .before .before .before .before .before .before .args) .imports) ((c .before .before .before .before .before .before .before .before .before .before .args) .exports) ((c .before .before .before .before .before .before .before .before .before .before .args) .prices) w ((c .before .before .before .before .before .before .before .before .before .before .pre) .0 .few) la ((c .before .before .before .before .before .before .before .before .entries-at) .result) ((c .before .before .before .before .before .before .before .before .entries-at) .ensures) ((c .before .before .before .before .before .before .before .totals-at) .result) ((c .before .before .before .before .before .before .before .totals-at) .ensures)),
-  (c .named) .ensures .1,
-  with-credits ((c .named) .result) _ ((c .named) .ensures .2),
+  (c .named-credits) .ensures .1,
+  with-credits ((c .named-credits) .result) _ ((c .named-credits) .ensures .2),
 )
 
 returns-2 : tie.Need-returns-2
@@ -60,7 +60,7 @@ worked-spec =
     hour-offset-requires
     enum-known-a
     credits-of-requires
-    named-requires
+    named-credits-requires
     enum-known-a-2
     no-guarantees-requires
     returns

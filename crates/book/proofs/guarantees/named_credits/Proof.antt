@@ -1,25 +1,26 @@
 use Prim.Native.Nat.{_-_}
+use mathlib.Core.Path.{_≡_}
+use lib.ListN.{length}
+use Rattle.book.specs.Places.{maxPlaces}
+use Rattle.book.specs.Handed.{maxCredits}
 use native.Mathlib.Omega.{arith}
-use Rattle.book.proofs.Pairing.{Naming, naming-start, naming-more, naming-all, naming-whole}
+use Rattle.book.proofs.Pairing.{Naming, credits-start, naming-more, naming-all, credits-whole}
 use Rattle.book.proofs.Inserting.{unmapped}
 use borrow.Author.Needs.{needs}
-use Rattle.book.proofs.guarantees.named.Statement.{statement}
-use Rattle.book.proofs.guarantees.named.Tie as tie
-use Rattle.book.proofs.guarantees.named.Reads as reads
-use Rattle.book.proofs.guarantees.named.Lts as lts
-use Rattle.book.proofs.guarantees.no_amounts.Reads as no-amounts-reads
+use Rattle.book.proofs.guarantees.named_credits.Statement.{statement}
+use Rattle.book.proofs.guarantees.named_credits.Tie as tie
 
 abbrev Inv-loop : tie.InvT-loop
-Inv-loop p ticks a₀ i₀ a i = Naming p ticks (a .list) i
+Inv-loop p ticks a₀ i₀ a i = Naming maxCredits p ticks (a .list) i
 
 abbrev μ-loop : tie.MeasureT-loop
 μ-loop p ticks a₀ i₀ a i = p .n - i
 
-no-amounts-requires : tie.Need-no-amounts-requires Inv-loop μ-loop
-no-amounts-requires c κs = search needs
+no-credits-requires : tie.Need-no-credits-requires Inv-loop μ-loop
+no-credits-requires c κs = search needs
 
 loop-holds : tie.Need-loop-holds Inv-loop μ-loop
-loop-holds c = naming-start ((c .before .args) .t1) ((c .before .args) .t2) ((c .no-amounts) .result) ((c .no-amounts) .ensures)
+loop-holds c = credits-start ((c .before .args) .t1) ((c .before .args) .t2) ((c .no-credits) .result) ((c .no-credits) .ensures)
 
 mul-x : tie.Need-mul-x Inv-loop μ-loop
 mul-x c = omega (arith, (c .before .loop) .inv .upto, (c .before .before .before .pre), (c .loop-test) .taken)
@@ -33,8 +34,8 @@ mul-t c = omega (arith, (c .before .before .loop) .inv .upto, (c .before .before
 array-copy-out-t : tie.Need-array-copy-out-t Inv-loop μ-loop
 array-copy-out-t c = search (needs, unmapped)
 
-mul-t12 : tie.Need-mul-t12 Inv-loop μ-loop
-mul-t12 c = omega (arith, (c .before .before .before .before .loop) .inv .upto, (c .before .before .before .before .before .before .pre), (c .before .before .before .loop-test) .taken)
+mul-t11 : tie.Need-mul-t11 Inv-loop μ-loop
+mul-t11 c = omega (arith, (c .before .before .before .before .loop) .inv .upto, (c .before .before .before .before .before .before .pre), (c .before .before .before .loop-test) .taken)
 
 element-set-from-a : tie.Need-element-set-from-a Inv-loop μ-loop
 element-set-from-a c = omega (arith, (c .before .before .before .before .loop) .inv .long, (c .before .before .before .before .before .before .pre), (c .before .before .before .loop-test) .taken)
@@ -49,21 +50,25 @@ loop-again : tie.Need-loop-again Inv-loop μ-loop
 loop-again c = naming-more ((c .before .before .before .before .loop) .inv) ((c .before .before .before .loop-test) .taken) ((c .before .before .before .before .before .before .pre))
 
 returns : tie.Need-returns Inv-loop μ-loop
-returns c = (naming-all ((c .before .loop) .inv) ((c .loop-test) .left) ((c .before .before .before .pre)) (search (needs, unmapped)) (search (needs, unmapped)), (c .before .before .before .pre), naming-whole ((c .before .loop) .inv) ((c .loop-test) .left) (c .before .before .before .pre))
+returns c =
+    let few = c .before .before .before .pre in
+    let la : length ((c .before .before .before .args) .t1 .at) ≡ maxPlaces = search (needs, unmapped) in
+    let lt : length ((c .before .before .before .args) .t2) ≡ maxCredits = search (needs, unmapped) in
+    (naming-all ((c .before .loop) .inv) ((c .loop-test) .left) few (omega (arith, la, few)) (omega (arith, lt, few)), few, credits-whole ((c .before .loop) .inv) ((c .loop-test) .left) few)
 
-pub named-spec : {M : Type 1} → statement M
-named-spec =
+pub named-credits-spec : {M : Type 1} → statement M
+named-credits-spec =
     tie.close
     (tie.spec
     Inv-loop
     μ-loop
-    no-amounts-requires
+    no-credits-requires
     loop-holds
     mul-x
     element-copy-out-x
     mul-t
     array-copy-out-t
-    mul-t12
+    mul-t11
     element-set-from-a
     add-i
     loop-less

@@ -4,17 +4,18 @@ use mathlib.Core.List.{[], _∷_, map}
 use Prim.Native.Nat.{_≤_, _+_, _-_, _*_}
 use lib.ListN.{length, take}
 use Rattle.money.specs.UnitLaws.{unmapped}
+use Rattle.book.specs.Handed.{maxCharges}
 use Rattle.statement.specs.Statement.{lineOf}
 use Rattle.statement.specs.Inner.{WritesLines}
 use Rattle.statement.specs.declared.lines.Line.{Line}
 use Rattle.statement.proofs.Writing.{lines-none, lines-then, lines-as, lines-size, lines-end, next-line, few-lines}
 use borrow.Author.Needs.{needs}
 use native.Mathlib.Omega.{arith}
-use Rattle.statement.proofs.hours.put_amounts.Statement.{statement}
-use Rattle.statement.proofs.hours.put_amounts.Tie as tie
+use Rattle.statement.proofs.hours.put_charges.Statement.{statement}
+use Rattle.statement.proofs.hours.put_charges.Tie as tie
 
 abbrev Inv-loop : tie.InvT-loop
-Inv-loop out₀ hour kind a n next₀ i₀ out next i = (i ≤ n) × (n ≡ a .n) × (a .n ≤ 16) × (length (a .list) ≡ 16) × (next₀ .at + 66 * n ≤ length out₀) × WritesLines out₀ next₀ (map (lineOf hour kind) (take i (a .list))) out next
+Inv-loop out₀ hour kind a n next₀ i₀ out next i = (i ≤ n) × (n ≡ a .n) × (a .n ≤ maxCharges) × (length (a .list) ≡ maxCharges) × (next₀ .at + 66 * n ≤ length out₀) × WritesLines out₀ next₀ (map (lineOf hour kind) (take i (a .list))) out next
 
 abbrev μ-loop : tie.MeasureT-loop
 μ-loop out₀ hour kind a n next₀ i₀ out next i = n - i
@@ -61,8 +62,8 @@ returns c =
     let w = rw e at (v .5) in
     (w, lines-end ((c .before .before .before .args) .t5 .n) (few-lines (lineOf ((c .before .before .before .args) .hour) ((c .before .before .before .args) .kind)) ((c .before .before .before .args) .t5 .n) ((c .before .before .before .args) .t5 .list)) w, sym (length-take-le ((c .before .before .before .args) .t5 .n) ((c .before .before .before .args) .t5 .list) (omega (arith, v .2, v .3))))
 
-pub put-amounts-spec : {M : Type 1} → statement M
-put-amounts-spec =
+pub put-charges-spec : {M : Type 1} → statement M
+put-charges-spec =
     tie.close
     (tie.spec
     Inv-loop
