@@ -37,7 +37,7 @@ ghost use Rattle.book.specs.Rows.{Log, Logged};
 ghost use Rattle.book.specs.Prices.{PriceIs};
 
 // The offset's entries of the imports at the places.
-fn entries_at(log: &[u8], p: Places, prices: HourPrices) -> [Import; CREDITS_MAX]
+pub fn entries_at(log: &[u8], p: Places, prices: HourPrices) -> [Import; CREDITS_MAX]
     requires { ⌜ Inside (now log) p ⌝ }
     ensures { λ r. ⌜ take (p .n) r ≡ entriesIn (now (log .entry)) prices (take (p .n) (p .at)) ⌝ }
 {
@@ -57,7 +57,7 @@ fn entries_at(log: &[u8], p: Places, prices: HourPrices) -> [Import; CREDITS_MAX
 }
 
 // The quantities of the exports at the places, summed for each interval.
-fn totals_at(log: &[u8], p: Places) -> [Quantity; 12]
+pub fn totals_at(log: &[u8], p: Places) -> [Quantity; 12]
     requires { ⌜ Inside (now log) p ⌝ }
     ensures { λ r. ⌜ r ≡ totalsIn (now (log .entry)) (take (p .n) (p .at)) ⌝ }
 {

@@ -33,7 +33,7 @@ pub struct Places {
 }
 
 // The first place whose name comes after the spot's, n where none does.
-fn slot_for(p: Places, s: Spot) -> usize
+pub fn slot_for(p: Places, s: Spot) -> usize
     requires { ⌜ p .n ≤ maxPlaces ⌝ }
     ensures { λ r. ⌜ (r ≤ p .n) × (putSpot s (spots p) ≡ take r (spots p) ++ (s ∷ drop r (spots p))) ⌝ }
 {
@@ -50,7 +50,7 @@ fn slot_for(p: Places, s: Spot) -> usize
 }
 
 // With the spot at j, and those from there on one place further.
-fn inserted(p: Places, j: usize, s: Spot) -> Places
+pub fn inserted(p: Places, j: usize, s: Spot) -> Places
     requires { ⌜ (j ≤ p .n) × (p .n < maxPlaces) ⌝ }
     ensures { λ r. ⌜ (r .n ≡ p .n + 1) × (spots r ≡ take j (spots p) ++ (s ∷ drop j (spots p))) ⌝ }
 {
@@ -67,7 +67,8 @@ fn inserted(p: Places, j: usize, s: Spot) -> Places
     next
 }
 
-fn no_spots() -> Places
+// No place is used yet.
+pub fn no_spots() -> Places
     ensures { λ r. ⌜ r .n ≡ 0 ⌝ }
 {
     let name = no_name();

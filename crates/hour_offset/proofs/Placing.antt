@@ -8,34 +8,18 @@ use lib.Dec.{ltb}
 use lib.ListN.{length, take, drop, getD, length-drop, drop-of-length-le}
 use lib.Seq.{take-all, drop-cons, getD-take, length-take-le}
 use borrow.Author.Tests.{lt-ltb, le-ltb}
-use Rattle.money.specs.Names.{nameOf, nameBefore, sameName}
+use Rattle.money.specs.Names.{sameName}
 use Rattle.money.specs.declared.names.Name.{Name}
 use Rattle.book.specs.declared.places.Spot.{Spot}
 use Rattle.book.specs.declared.places.Places.{Places}
 use Rattle.book.specs.Places.{putSpot, spots}
-use Rattle.book.specs.OffsetLaws.{put-none, put-by}
 use Rattle.hour_offset.specs.Tally.{Sheet, noSheet, sheetOf, Few, among, placedNumber, withPrice, withImport, withExport}
 use Rattle.hour_offset.specs.declared.tally.Tally.{Tally}
 use Rattle.hour_offset.specs.declared.tally.Tallied.{Tallied}
 use Rattle.hour_offset.specs.declared.tally.Placed.{Placed}
-use Rattle.book.specs.Inserting.{Sought, sought-here, sought-on, sought-end}
 
 pub to-end : (q : ℕ) (s : List ℕ) → take (length s - q) (drop q s) ≡ drop q s
 to-end q s = take-all (length s - q) (drop q s) (omega (arith, length-drop q s))
-
--- ---- the place of a spot
-module _ (s : Spot) (p : Places) (i : ℕ) (h : Sought (putSpot s) (p .at) (p .n) i) (le : p .n ≤ length (p .at)) where
-  module _ (d : Spot) (lt : i < p .n) (b : Bool) (e : b ≡ nameBefore (nameOf (s .name)) (nameOf (getD (p .at) i d .name))) where
-    pub slot-here : b ≡ true → putSpot s (spots p) ≡ take i (spots p) ++ (s ∷ drop i (spots p))
-    slot-here t = sought-here h d le lt s (λ xs. put-by s (getD (p .at) i d) xs true (sym e ∙ t))
-
-    pub slot-on : b ≡ false → Sought (putSpot s) (p .at) (p .n) (i + 1)
-    slot-on t = sought-on h d le lt (λ xs. put-by s (getD (p .at) i d) xs false (sym e ∙ t))
-
-  pub slot-end : p .n ≤ i → putSpot s (spots p) ≡ take (p .n) (spots p) ++ (s ∷ drop (p .n) (spots p))
-  slot-end out =
-      let e : i ≡ p .n = omega (arith, h .inside) in
-      sought-end h s (put-none s) le out ∙ ap (λ (m : ℕ). take m (spots p) ++ (s ∷ drop m (spots p))) e
 
 -- ---- the search for a name
 pub record Passed (n : Name) (at : List Spot) (m i : ℕ) : Type 0 where

@@ -16,7 +16,7 @@ use Rattle.records.specs.declared.layouts.HourPrices.{HourPrices}
 use Rattle.records.specs.declared.marks.Mark.{Mark}
 use Rattle.records.specs.declared.marks.Mark.the-variants.{Pr, Im, Ex, Gh, Fi, Fe}
 use Rattle.book.specs.declared.places.Spot.{Spot}
-use Rattle.book.specs.Places.{putSpot, spots}
+use Rattle.book.specs.Places.{maxPlaces, putSpot, spots}
 use Rattle.book.specs.Worked.{Inside, entriesIn, totalsIn}
 use Rattle.hour_offset.specs.declared.tally.Tally.{Tally}
 
@@ -35,8 +35,8 @@ sheetOf t = record { priced = t .priced; price = t .price; imports = spots (t .i
 
 -- no more than a mark's limit
 pub record Few (t : Tally) : Type 0 where
-  pub imports : t .imports .n ≤ 16
-  pub exports : t .exports .n ≤ 16
+  pub imports : t .imports .n ≤ maxPlaces
+  pub exports : t .exports .n ≤ maxPlaces
 
 -- ---- a record more
 
@@ -47,7 +47,7 @@ among n (x ∷ xs) = cond (sameName n (x .name)) true (among n xs)
 
 -- of an import or export: 10, then 12
 abbrev pub placedNumber : Name → List Spot → ℕ
-placedNumber n xs = cond (among n xs) keyStands (cond (ltb (length xs) 16) 0 hourFull)
+placedNumber n xs = cond (among n xs) keyStands (cond (ltb (length xs) maxPlaces) 0 hourFull)
 
 -- the number with which a record of a mark and name is refused, 0 where it is not
 abbrev pub addNumber : Mark → Name → Sheet → ℕ

@@ -1,7 +1,12 @@
 // What is kept of an hour's records as they are read: where its prices, imports and exports stand in the lent bytes.
+use book::guarantees::entries_at;
+use book::guarantees::totals_at;
+use book::places::PLACES_MAX;
 use book::places::Places;
 use book::places::Spot;
-use money::imports::Import;
+use book::places::inserted;
+use book::places::no_spots;
+use book::places::slot_for;
 use money::names::Name;
 use money::names::same_name;
 use money::refusals::HOUR_FULL;
@@ -9,25 +14,18 @@ use money::refusals::KEY_STANDS;
 use money::refusals::PRICE_MISSING;
 use money::refusals::UNKNOWN_MARK;
 use money::units::Answer;
-use money::units::Quantity;
 use money::units::Ticks;
 use records::amounts::hour_offset;
-use records::amounts::offset_entry;
-use records::amounts::totals_with_export;
 use records::keys::Key;
 use records::layouts::HourPrices;
 use records::marks::Mark;
-use records::names::comes_before;
-use records::names::no_name;
 use records::views::prices_of;
 ghost use mathlib.Core.Path.{_≡_};
 ghost use mathlib.Core.Bool.{cond};
-ghost use mathlib.Core.List.{_∷_, _++_};
-ghost use lib.ListN.{length, take, drop};
-ghost use Prim.Native.Nat.{_≤_, _<_, _+_};
+ghost use lib.ListN.{length, drop};
+ghost use Prim.Native.Nat.{_≤_};
 ghost use Rattle.records.specs.Views.{pricesIn};
-ghost use Rattle.book.specs.Places.{putSpot, spots};
-ghost use Rattle.book.specs.Worked.{Inside, entriesIn, totalsIn};
+ghost use Rattle.book.specs.Places.{maxPlaces, putSpot, spots};
 ghost use Rattle.hour_offset.specs.Tally.{Few, sheetOf, noSheet, among, placedNumber, withPrice, withImport, withExport, addNumber, adding, Ready, endOf};
 
 // The place of the hour's prices, if there is one, and those of its imports and its exports, by name.
@@ -50,24 +48,12 @@ pub struct Placed {
     pub places: Places,
 }
 
-// No place is used yet.
-fn no_places() -> Places
-    ensures { λ r. ⌜ r .n ≡ 0 ⌝ }
-{
-    let name = no_name();
-    let blank = Spot { name, start: 0 };
-    Places {
-        n: 0,
-        at: [blank; 16],
-    }
-}
-
 // The tally before the first record.
 pub(crate) fn no_records() -> Tally
     ensures { λ r. ⌜ (sheetOf r ≡ noSheet) × Few r ⌝ }
 {
-    let imports = no_places();
-    let exports = no_places();
+    let imports = no_spots();
+    let exports = no_spots();
     Tally {
         priced: false,
         price: 0,
@@ -78,7 +64,7 @@ pub(crate) fn no_records() -> Tally
 
 // Whether one of the places has the name.
 fn holds(p: Places, name: Name) -> bool
-    requires { ⌜ p .n ≤ 16 ⌝ }
+    requires { ⌜ p .n ≤ maxPlaces ⌝ }
     ensures { λ r. ⌜ r ≡ among name (spots p) ⌝ }
 {
     let n = p.n;
@@ -93,45 +79,10 @@ fn holds(p: Places, name: Name) -> bool
     false
 }
 
-// The first place whose name comes after the spot's, n where none does.
-fn slot_for(p: Places, s: Spot) -> usize
-    requires { ⌜ p .n ≤ 16 ⌝ }
-    ensures { λ r. ⌜ (r ≤ p .n) × (putSpot s (spots p) ≡ take r (spots p) ++ (s ∷ drop r (spots p))) ⌝ }
-{
-    let n = p.n;
-    let mut i: usize = 0;
-    while i < n {
-        let x = p.at[i];
-        if comes_before(s.name, x.name) {
-            return i;
-        }
-        i = i + 1;
-    }
-    n
-}
-
-// With the spot at j, and those from there on one place further.
-fn inserted(p: Places, j: usize, s: Spot) -> Places
-    requires { ⌜ (j ≤ p .n) × (p .n < 16) ⌝ }
-    ensures { λ r. ⌜ (r .n ≡ p .n + 1) × (spots r ≡ take j (spots p) ++ (s ∷ drop j (spots p))) ⌝ }
-{
-    let mut next = p;
-    let mut i = p.n;
-    while j < i {
-        let k = i - 1;
-        let x = p.at[k];
-        next.at[i] = x;
-        i = k;
-    }
-    next.at[j] = s;
-    next.n = p.n + 1;
-    next
-}
-
 // With a record's name and place; 10 where the name is there, 12 where all places are taken.
 fn with_place(p: Places, s: Spot) -> Placed
-    requires { ⌜ p .n ≤ 16 ⌝ }
-    ensures { λ r. ⌜ (r .number ≡ placedNumber (s .name) (spots p)) × ((r .places .n ≤ 16) × (r .number ≡ 0 → spots (r .places) ≡ putSpot s (spots p))) ⌝ }
+    requires { ⌜ p .n ≤ maxPlaces ⌝ }
+    ensures { λ r. ⌜ (r .number ≡ placedNumber (s .name) (spots p)) × ((r .places .n ≤ maxPlaces) × (r .number ≡ 0 → spots (r .places) ≡ putSpot s (spots p))) ⌝ }
 {
     if holds(p, s.name) {
         return Placed {
@@ -139,7 +90,7 @@ fn with_place(p: Places, s: Spot) -> Placed
             places: p,
         };
     }
-    if p.n < 16 {
+    if p.n < PLACES_MAX {
         let j = slot_for(p, s);
         let places = inserted(p, j, s);
         return Placed { number: 0, places };
@@ -236,44 +187,6 @@ pub(crate) fn with_record(t: Tally, key: Key, at: usize) -> Tallied
 }
 
 // ---- at the end
-
-// The offset's entries of the imports at the places.
-fn entries_at(s: &[u8], p: Places, prices: HourPrices) -> [Import; 16]
-    requires { ⌜ Inside (now s) p ⌝ }
-    ensures { λ r. ⌜ take (p .n) r ≡ entriesIn (now (s .entry)) prices (take (p .n) (p .at)) ⌝ }
-{
-    let blank = offset_entry(&s[..0], prices);
-    let none = blank.entry;
-    let mut entries = [none; 16];
-    let mut i: usize = 0;
-    while i < p.n {
-        let x = p.at[i];
-        let start = x.start;
-        let a = offset_entry(&s[start..], prices);
-        let e = a.entry;
-        entries[i] = e;
-        i = i + 1;
-    }
-    entries
-}
-
-// The quantities of the exports at the places, summed for each interval.
-fn totals_at(s: &[u8], p: Places) -> [Quantity; 12]
-    requires { ⌜ Inside (now s) p ⌝ }
-    ensures { λ r. ⌜ r ≡ totalsIn (now (s .entry)) (take (p .n) (p .at)) ⌝ }
-{
-    let mut sums = [Quantity(0); 12];
-    let mut i: usize = 0;
-    while i < p.n {
-        let x = p.at[i];
-        let start = x.start;
-        let a = totals_with_export(&s[start..], sums);
-        let next = a.totals;
-        sums = next;
-        i = i + 1;
-    }
-    sums
-}
 
 // The prices at a place.
 fn prices_at(s: &[u8], at: usize) -> HourPrices
