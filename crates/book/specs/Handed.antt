@@ -19,10 +19,11 @@ use Rattle.book.specs.Units.{NameList, named, no as unlisted}
 
 -- ---- credits and charges by name
 
--- "hour holds 16 of that mark": the most credits, and the most charges of a mark, that an hour has
+-- "hour holds 16 of that mark": the most credits of an hour
 abbrev pub maxCredits : ℕ
 maxCredits = 16
 
+-- and the most charges of an hour and mark
 abbrev pub maxCharges : ℕ
 maxCharges = 16
 

@@ -58,14 +58,6 @@ each-put {P} n x r p (more {x = y} {r = q} {xs = xs} {rs = rs} w e) =
     go true v = more p (more w e)
     go false v = more w v
 
-pub put-none : (s : Spot) → putSpot s [] ≡ s ∷ []
-unfolding putSpot
-put-none s = refl
-
-pub put-by : (s x : Spot) (xs : List Spot) (b : Bool) → nameBefore (nameOf (s .name)) (nameOf (x .name)) ≡ b → putSpot s (x ∷ xs) ≡ cond b (s ∷ x ∷ xs) (x ∷ putSpot s xs)
-unfolding putSpot
-put-by s x xs b e = ap (λ (t : Bool). cond t (s ∷ x ∷ xs) (x ∷ putSpot s xs)) e
-
 pub put-length : (s : Spot) (xs : List Spot) → length (putSpot s xs) ≡ length xs + 1
 unfolding putSpot
 put-length s [] = refl

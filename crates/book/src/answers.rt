@@ -35,8 +35,10 @@ pub struct Done {
     pub answer: Answer,
 }
 
-// The most credits and the most charges of an hour: as many as it holds records of a mark.
+// The most credits of an hour: it holds no more imports.
 pub const CREDITS_MAX: usize = 16;
+
+// The most charges of an hour and mark: it holds no more failures.
 pub const CHARGES_MAX: usize = 16;
 
 // An amount, and the decoded name that it belongs to.

@@ -483,14 +483,7 @@ fn tell_credit(
     set_amount(amounts, i + 1, c.ticks);
 }
 
-fn tell_credits(
-    b: Book,
-    lent: &[u8],
-    hour: u8,
-    a: Credits,
-    sizes: &mut [u64],
-    amounts: &mut [i64],
-)
+fn tell_credits(b: Book, lent: &[u8], hour: u8, a: Credits, sizes: &mut [u64], amounts: &mut [i64])
     requires { ⌜ a .n ≤ maxCredits ⌝ }
     ensures { λ r. ⌜ now (sizes .exit) ≡ creditsSizes b (now (lent .entry)) hour 0 (take (a .n) (a .list)) (stored (now (sizes .entry)) 0 (a .n)) ⌝ }
     ensures { λ r. ⌜ now (amounts .exit) ≡ creditsAmounts 0 (take (a .n) (a .list)) (now (amounts .entry)) ⌝ }

@@ -106,8 +106,8 @@ read-as-calls b s input r s′ f ts rs held σ h =
 -- ---- `charges`
 
 lines-are : (p : HourPrices) (rs : List Rec) → chargesAt (priced p) rs ≡ charged (map (chargeLine p) rs)
-lines-are l p [] = refl
-lines-are l p (r ∷ rs) = refl
+lines-are p [] = refl
+lines-are p (r ∷ rs) = refl
 
 module _ (m : Mark) (h : ℕ) (l : List Change) (p : HourPrices) (e : priceOf (standing l) h ≡ priced p) where
   as-asked : (r : Rec) → (pick (r .key) (standing l) ≡ is r) × (sameHour (hourKey m h) (r .key) ≡ true) → AsAsked l p r

@@ -93,8 +93,8 @@ pub record Formulas : Type 0 where
   pub reversed : (total : ℤ) → reversal total ≡ maxℤ (pos 0) (negℤ total)
   -- "dev = max(0, day-ahead quantity - pre-dispatch quantity)";
   -- "Import: min(max(0, PD market price - DA offer), max(0, PD offer - DA offer)) × dev × 12 ticks"
-  pub import-charge : (f : Failure) (p : HourPrices) (dev : ℕ) → dev ≡ max0 (pos (f .scheduled .0) -ℤ pos (f .predispatch .0))
-      → chargeTicksFor Fi f p ≡ minℤ (maxℤ (pos 0) (p .pd .0 -ℤ f .ahead .0)) (maxℤ (pos 0) (f .later .0 -ℤ f .ahead .0)) *ℤ pos dev *ℤ pos 12
+  pub import-charge : (f : Failure) (p : HourPrices) (dev : ℕ) → dev ≡ max0 (pos (f .«day_ahead_quantity» .0) -ℤ pos (f .«pre_dispatch_quantity» .0))
+      → chargeTicksFor Fi f p ≡ minℤ (maxℤ (pos 0) (p .pd .0 -ℤ f .«day_ahead_price» .0)) (maxℤ (pos 0) (f .«pre_dispatch_price» .0 -ℤ f .«day_ahead_price» .0)) *ℤ pos dev *ℤ pos 12
   -- "Export: the same with (DA bid - PD market price) and (DA bid - PD bid)"
-  pub export-charge : (f : Failure) (p : HourPrices) (dev : ℕ) → dev ≡ max0 (pos (f .scheduled .0) -ℤ pos (f .predispatch .0))
-      → chargeTicksFor Fe f p ≡ minℤ (maxℤ (pos 0) (f .ahead .0 -ℤ p .pd .0)) (maxℤ (pos 0) (f .ahead .0 -ℤ f .later .0)) *ℤ pos dev *ℤ pos 12
+  pub export-charge : (f : Failure) (p : HourPrices) (dev : ℕ) → dev ≡ max0 (pos (f .«day_ahead_quantity» .0) -ℤ pos (f .«pre_dispatch_quantity» .0))
+      → chargeTicksFor Fe f p ≡ minℤ (maxℤ (pos 0) (f .«day_ahead_price» .0 -ℤ p .pd .0)) (maxℤ (pos 0) (f .«day_ahead_price» .0 -ℤ f .«pre_dispatch_price» .0)) *ℤ pos dev *ℤ pos 12

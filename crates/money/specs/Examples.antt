@@ -18,7 +18,7 @@ use Rattle.money.specs.declared.imports.Import.{Import}
 use Rattle.money.specs.declared.production.Reserve.{Reserve}
 use Rattle.money.specs.declared.production.UnitHour.{UnitHour}
 use Rattle.money.specs.declared.failure.Failure.{Failure}
-use Rattle.money.specs.Units.{pricesOk, quantitiesOk, withinOk, sameℤ, centsOf}
+use Rattle.money.specs.Units.{intervals, pricesOk, quantitiesOk, withinOk, sameℤ, centsOf}
 use Rattle.money.specs.Offers.{numbersOk, orderOk, offerFault, fullPairs, cost, costAnswer}
 use Rattle.money.specs.Guarantee.{profits, creditAnswer}
 use Rattle.money.specs.Names.{nameBefore, sameBytes, sameName, nameOk}
@@ -62,10 +62,10 @@ abbrev one : ℤ → ℕ → Offer
 one p q = offered 1 (p ∷ []) (q ∷ [])
 
 abbrev flat : ℤ → List Price
-flat p = replicate 12 (price p)
+flat p = replicate intervals (price p)
 
 abbrev level : ℕ → List Quantity
-level n = replicate 12 (quantity n)
+level n = replicate intervals (quantity n)
 
 abbrev import : ℕ → List ℕ → ℤ → ℕ → Offer → Import
 import len name c q o = record { name = record { len = len; bytes = name }; credit = record { 0 = c }; quantities = level q; offer = o }
@@ -128,7 +128,7 @@ idle = unit 600 0 0 0 600 none ahead
 
 -- ---- 002's failures
 abbrev failed : ℕ → ℕ → ℤ → ℤ → Failure
-failed d p da pd = record { scheduled = quantity d; predispatch = quantity p; ahead = price da; later = price pd }
+failed d p da pd = record { «day_ahead_quantity» = quantity d; «pre_dispatch_quantity» = quantity p; «day_ahead_price» = price da; «pre_dispatch_price» = price pd }
 
 -- twelve equal intervals
 abbrev twelfth : ℕ → Answer

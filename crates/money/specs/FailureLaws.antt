@@ -11,29 +11,31 @@ use Rattle.laws.specs.Sums.{and-true}
 use Rattle.money.specs.declared.units.Price.{Price}
 use Rattle.money.specs.declared.units.Answer.the-variants.{Amount}
 use Rattle.money.specs.declared.failure.Failure.{Failure}
-use Rattle.money.specs.Units.{priceOk, quantityOk, unless, answer}
+use Rattle.money.specs.Units.{maxGap, priceOk, quantityOk, unless, answer}
 use Rattle.money.specs.UnitLaws.{price-in}
-use Rattle.money.specs.Failure.{dev, charge, importCharge, exportCharge, failureOk, importChargeAnswer, exportChargeAnswer}
+use Rattle.money.specs.Failure.{dayAheadQuantity, preDispatchQuantity, dayAheadPrice, preDispatchPrice, dev, charge, importCharge, exportCharge, failureOk, importChargeAnswer, exportChargeAnswer}
 
 -- a failure that passed its checks, and the hour's pre-dispatch price
 pub record Sound (f : Failure) (pd : Price) : Type 0 where
   pub market : natAbs (pd .0) ≤ 200000
-  pub scheduled : f .scheduled .0 ≤ 100000
-  pub ahead : natAbs (f .ahead .0) ≤ 200000
-  pub later : natAbs (f .later .0) ≤ 200000
+  pub day-ahead-quantity : dayAheadQuantity f ≤ 100000
+  pub day-ahead-price : natAbs (dayAheadPrice f) ≤ 200000
+  pub pre-dispatch-price : natAbs (preDispatchPrice f) ≤ 200000
 
 pub sound-of : (f : Failure) (pd : Price) → failureOk f pd ≡ true → Sound f pd
 unfolding failureOk
 sound-of f pd e =
     let a = and-true (priceOk pd) _ e in
-    let b = and-true (quantityOk (f .scheduled)) _ (a .1) in
-    let c = and-true (quantityOk (f .predispatch)) (priceOk (f .ahead) && priceOk (f .later)) (b .1) in
-    let d = and-true (priceOk (f .ahead)) (priceOk (f .later)) (c .1) in
-    record { market = price-in pd (a .0); scheduled = leb-true _ _ (b .0); ahead = price-in (f .ahead) (d .0); later = price-in (f .later) (d .1) }
+    let ahead = f .«day_ahead_price» in
+    let later = f .«pre_dispatch_price» in
+    let b = and-true (quantityOk (f .«day_ahead_quantity»)) _ (a .1) in
+    let c = and-true (quantityOk (f .«pre_dispatch_quantity»)) (priceOk ahead && priceOk later) (b .1) in
+    let d = and-true (priceOk ahead) (priceOk later) (c .1) in
+    record { market = price-in pd (a .0); day-ahead-quantity = leb-true _ _ (b .0); day-ahead-price = price-in ahead (d .0); pre-dispatch-price = price-in later (d .1) }
 
 -- and the other way: parts in range pass
-pub failure-fine : (f : Failure) (pd : Price) → priceOk pd ≡ true → quantityOk (f .scheduled) ≡ true → quantityOk (f .predispatch) ≡ true → priceOk (f .ahead) ≡ true → priceOk (f .later) ≡ true
-    → failureOk f pd ≡ true
+pub failure-fine : (f : Failure) (pd : Price) → priceOk pd ≡ true → quantityOk (f .«day_ahead_quantity») ≡ true → quantityOk (f .«pre_dispatch_quantity») ≡ true
+    → priceOk (f .«day_ahead_price») ≡ true → priceOk (f .«pre_dispatch_price») ≡ true → failureOk f pd ≡ true
 unfolding failureOk
 failure-fine f pd a b c d e = rw (a, b, c, d, e)
 
@@ -51,16 +53,16 @@ gap-none = by₂ _ (λ a a′ b b′. simp ints (omega arith))
 pub gap-some : (high low : ℤ) → low ≤ℤ high → high -ℤ low ≡ maxℤ (pos 0) (high -ℤ low)
 gap-some = by₂ _ (λ a a′ b b′. simp ints (omega arith))
 
-gap-within : (high low : ℤ) → natAbs high ≤ 200000 → natAbs low ≤ 200000 → natAbs (maxℤ (pos 0) (high -ℤ low)) ≤ 400000
+gap-within : (high low : ℤ) → natAbs high ≤ 200000 → natAbs low ≤ 200000 → natAbs (maxℤ (pos 0) (high -ℤ low)) ≤ maxGap
 gap-within = by₂ _ (λ a a′ b b′. simp ints (omega arith))
 
-pub gap-size : (high low : ℤ) → natAbs high ≤ 200000 → natAbs low ≤ 200000 → {r : ℤ} → r ≡ maxℤ (pos 0) (high -ℤ low) → natAbs r ≤ 400000
+pub gap-size : (high low : ℤ) → natAbs high ≤ 200000 → natAbs low ≤ 200000 → {r : ℤ} → r ≡ maxℤ (pos 0) (high -ℤ low) → natAbs r ≤ maxGap
 gap-size high low h k e = rw e (gap-within high low h k)
 
-pub lesser-size : (a b : ℤ) → natAbs a ≤ 400000 → natAbs b ≤ 400000 → {r : ℤ} → r ≡ minℤ a b → natAbs r ≤ 400000
+pub lesser-size : (a b : ℤ) → natAbs a ≤ maxGap → natAbs b ≤ maxGap → {r : ℤ} → r ≡ minℤ a b → natAbs r ≤ maxGap
 lesser-size a b h k e = rw e (least a b h k)
   where
-    least : (a b : ℤ) → natAbs a ≤ 400000 → natAbs b ≤ 400000 → natAbs (minℤ a b) ≤ 400000
+    least : (a b : ℤ) → natAbs a ≤ maxGap → natAbs b ≤ maxGap → natAbs (minℤ a b) ≤ maxGap
     least = by₂ _ (λ a a′ b b′. simp ints (omega arith))
 
 -- what the calls returned: two differences, a quantity, and the charge
@@ -72,5 +74,8 @@ charge-is x y n e f k g = g ∙ (λ i. minℤ (e i) (f i) *ℤ pos (k i) *ℤ po
 dev-dif : (n m : ℕ) → dif (n - m) 0 ≡ maxℤ (dif 0 0) (dif n 0 -ℤ dif m 0)
 dev-dif n m = simp ints (omega arith)
 
-pub dev-is : (f : Failure) → pos (dev f) ≡ maxℤ (pos 0) (pos (f .scheduled .0) -ℤ pos (f .predispatch .0))
-dev-is f = pos-dif _ ∙ dev-dif (f .scheduled .0) (f .predispatch .0) ∙ sym (λ i. maxℤ (pos-dif 0 i) (pos-dif (f .scheduled .0) i -ℤ pos-dif (f .predispatch .0) i))
+pub dev-is : (f : Failure) → pos (dev f) ≡ maxℤ (pos 0) (pos (dayAheadQuantity f) -ℤ pos (preDispatchQuantity f))
+dev-is f =
+    let a = dayAheadQuantity f in
+    let b = preDispatchQuantity f in
+    pos-dif _ ∙ dev-dif a b ∙ sym (λ i. maxℤ (pos-dif 0 i) (pos-dif a i -ℤ pos-dif b i))

@@ -9,7 +9,7 @@ use Rattle.money.specs.declared.units.Price.{Price}
 use Rattle.money.specs.declared.units.Quantity.{Quantity}
 use Rattle.money.specs.declared.units.Answer.{Answer}
 use Rattle.money.specs.declared.offers.Offer.{Offer}
-use Rattle.money.specs.Units.{priceAt, quantityAt, pricesOk, quantitiesOk, withinOk, unless, answer}
+use Rattle.money.specs.Units.{intervals, priceAt, quantityAt, pricesOk, quantitiesOk, withinOk, unless, answer}
 use Rattle.money.specs.Offers.{lastQ, offerFault, cost}
 
 -- "Profit OP = EMP × Q - C(Q)"
@@ -18,7 +18,7 @@ profit o emp q = emp *ℤ pos q -ℤ cost o q
 
 -- over twelve intervals; q k is the quantity in interval k
 unfoldable pub profits : Offer → List Price → (ℕ → ℕ) → ℤ
-profits o ps q = Σℤ 12 (λ k. profit o (priceAt ps k) (q k))
+profits o ps q = Σℤ intervals (λ k. profit o (priceAt ps k) (q k))
 
 -- "An import's credit for an hour is -min(0, sum of OP over 12 intervals)"
 abbrev pub credit : Offer → List Price → (ℕ → ℕ) → ℤ

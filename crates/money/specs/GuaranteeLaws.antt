@@ -3,7 +3,6 @@ use mathlib.Core.Path.{_≡_, refl, sym, ap, _∙_, subst}
 use mathlib.Core.Bool.{Bool, true}
 use mathlib.Core.List.{List}
 use Prim.Native.Nat.{ℕ, _+_, _-_, _*_, _≤_, _<_}
-use native.Mathlib.Nat.{sub-zero}
 use native.Mathlib.Omega.{arith}
 use lib.IntN.{ℤ, pos, negℤ, natAbs, _+ℤ_, _-ℤ_, _*ℤ_}
 use Rattle.laws.specs.Ints.{ints, by₁, minℤ, sub-within}
@@ -12,7 +11,7 @@ use Rattle.money.specs.declared.units.Price.{Price}
 use Rattle.money.specs.declared.units.Quantity.{Quantity}
 use Rattle.money.specs.declared.units.Answer.the-variants.{Amount}
 use Rattle.money.specs.declared.offers.Offer.{Offer}
-use Rattle.money.specs.Units.{priceAt, quantityAt, pricesOk, quantitiesOk, withinOk, unless, answer}
+use Rattle.money.specs.Units.{intervals, priceAt, quantityAt, pricesOk, quantitiesOk, withinOk, unless, answer}
 use Rattle.money.specs.Offers.{lastQ, offerFault, cost}
 use Rattle.money.specs.Guarantee.{profit, profits, credit, creditAnswer}
 use Rattle.money.specs.UnitLaws.{Moderate, Rates, within-at}
@@ -21,21 +20,21 @@ use Rattle.money.specs.OfferLaws.{Good, good-of, abs-mul-pos, cost-size,
 -- what the credit of an hour wants: twelve prices in range, twelve quantities within the offer
 pub record Ready (o : Offer) (ps : List Price) (q : ℕ → ℕ) : Type 0 where
   pub good : Good o
-  pub prices : (k : ℕ) → k < 12 → natAbs (priceAt ps k) ≤ 200000
-  pub within : (k : ℕ) → k < 12 → q k ≤ lastQ o
+  pub prices : (k : ℕ) → k < intervals → natAbs (priceAt ps k) ≤ 200000
+  pub within : (k : ℕ) → k < intervals → q k ≤ lastQ o
 
 module _ (o : Offer) (ps : List Price) (q : ℕ → ℕ) (r : Ready o ps q) where
-  pub profit-size : (k : ℕ) → k < 12 → natAbs (profit o (priceAt ps k) (q k)) ≤ 440000000000
+  pub profit-size : (k : ℕ) → k < intervals → natAbs (profit o (priceAt ps k) (q k)) ≤ 440000000000
   profit-size k l =
       let h : q k ≤ 100000 = omega (arith, r .within k l, last-size o (r .good)) in
       sub-within (priceAt ps k *ℤ pos (q k)) (cost o (q k)) (abs-mul-pos (priceAt ps k) (q k) {A = 200000} {B = 100000} (r .prices k l) h) (cost-size o (r .good) (q k) h)
 
-  pub some-size : (n : ℕ) → n ≤ 12 → natAbs (Σℤ n (λ k. profit o (priceAt ps k) (q k))) ≤ 5280000000000
+  pub some-size : (n : ℕ) → n ≤ intervals → natAbs (Σℤ n (λ k. profit o (priceAt ps k) (q k))) ≤ 5280000000000
   some-size n l = omega (arith, Σℤ-within 440000000000 n (λ k. profit o (priceAt ps k) (q k)) (λ j k. profit-size j (omega arith)))
 
   pub profits-size : natAbs (profits o ps q) ≤ 5280000000000
   unfolding profits
-  profits-size = some-size 12 (omega arith)
+  profits-size = some-size intervals (omega arith)
 
   pub credit-size : natAbs (credit o ps q) ≤ 5280000000000
   credit-size = lesser (profits o ps q) profits-size
@@ -54,29 +53,29 @@ abbrev pub interval-profit : Offer → List Price → (ℕ → ℕ) → ℕ → 
 interval-profit o ps q k = profit o (priceAt ps k) (q k)
 
 -- what the calls returned: price × q less the cost
-pub profit-is : (o : Offer) (p : ℤ) (q : ℕ) {c v r : ℤ} → v ≡ p *ℤ pos (q - 0) → c ≡ cost o q → r ≡ v -ℤ c → r ≡ profit o p q
-profit-is o p q e f g = g ∙ (λ i. e i -ℤ f i) ∙ rw sub-zero
+pub profit-is : (o : Offer) (p : ℤ) (q : ℕ) {c v r : ℤ} → v ≡ p *ℤ pos q → c ≡ cost o q → r ≡ v -ℤ c → r ≡ profit o p q
+profit-is o p q e f g = g ∙ (λ i. e i -ℤ f i)
 
 module _ {o : Offer} {ps : List Price} {q : ℕ → ℕ} (ready : Ready o ps q) where
-  pub cost-room : (k : ℕ) → k < 12 → {c : ℤ} → c ≡ cost o (q k) → Moderate c
+  pub cost-room : (k : ℕ) → k < intervals → {c : ℤ} → c ≡ cost o (q k) → Moderate c
   cost-room k l f = rw f (omega (arith, cost-size o (ready .good) (q k) (omega (arith, ready .within k l, last-size o (ready .good)))))
 
-  pub profit-room : (k : ℕ) → k < 12 → {d : ℤ} → d ≡ profit o (priceAt ps k) (q k) → Moderate d
+  pub profit-room : (k : ℕ) → k < intervals → {d : ℤ} → d ≡ profit o (priceAt ps k) (q k) → Moderate d
   profit-room k l e = rw e (omega (arith, profit-size o ps q ready k l))
 
-  pub profits-room : {sum : ℤ} {k : ℕ} → Summed 12 (interval-profit o ps q) sum k → Moderate sum
+  pub profits-room : {sum : ℤ} {k : ℕ} → Summed intervals (interval-profit o ps q) sum k → Moderate sum
   profits-room {k = k} u = rw (u .so-far) (omega (arith, some-size o ps q ready k (u .upto)))
 
-pub profits-all : (o : Offer) (ps : List Price) (q : ℕ → ℕ) {sum : ℤ} {k : ℕ} → Summed 12 (interval-profit o ps q) sum k → 12 ≤ k → sum ≡ profits o ps q
+pub profits-all : (o : Offer) (ps : List Price) (q : ℕ → ℕ) {sum : ℤ} {k : ℕ} → Summed intervals (interval-profit o ps q) sum k → intervals ≤ k → sum ≡ profits o ps q
 unfolding profits
 profits-all o ps q u h = summed-all u h
 
 pub credit-room : {o : Offer} {ps : List Price} {q : ℕ → ℕ} → Ready o ps q → {x : ℤ} → x ≡ credit o ps q → Moderate x
 credit-room {o = o} {ps = ps} {q = q} r e = rw e (omega (arith, credit-size o ps q r))
 
-pub credit-ext : (o : Offer) (ps : List Price) (q q′ : ℕ → ℕ) → ((k : ℕ) → k < 12 → q k ≡ q′ k) → credit o ps q ≡ credit o ps q′
+pub credit-ext : (o : Offer) (ps : List Price) (q q′ : ℕ → ℕ) → ((k : ℕ) → k < intervals → q k ≡ q′ k) → credit o ps q ≡ credit o ps q′
 unfolding profits
-credit-ext o ps q q′ h = ap (λ (z : ℤ). negℤ (minℤ (pos 0) z)) (Σℤ-ext 12 _ _ (λ k l. ap (λ (x : ℕ). profit o (priceAt ps k) x) (h k l)))
+credit-ext o ps q q′ h = ap (λ (z : ℤ). negℤ (minℤ (pos 0) z)) (Σℤ-ext intervals _ _ (λ k l. ap (λ (x : ℕ). profit o (priceAt ps k) x) (h k l)))
 
 -- a credit that no check refuses
 pub credit-given : (o : Offer) (ps : List Price) (qs : List Quantity) → pricesOk ps ≡ true → quantitiesOk qs ≡ true → offerFault o ≡ 0 → withinOk qs (lastQ o) ≡ true

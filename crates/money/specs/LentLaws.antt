@@ -1,4 +1,4 @@
--- A lent list that is taken entry by entry into sixteen places has the answer of the list. Assumes nothing.
+-- A lent list that is taken entry by entry into the places of an hour has the answer of the list. Assumes nothing.
 use mathlib.Core.Path.{_≡_, refl, sym, ap, _∙_, subst}
 use mathlib.Core.Bool.{Bool, true, false, cond, not}
 use mathlib.Core.List.{List, [], _∷_}
@@ -16,11 +16,12 @@ use Rattle.money.specs.declared.units.Answer.{Answer}
 use Rattle.money.specs.declared.units.Answer.the-variants.{Refused}
 use Rattle.money.specs.declared.imports.Import.{Import}
 use Rattle.money.specs.declared.offset.Taken.{Taken}
-use Rattle.money.specs.Units.{quantityAt, unless, answer}
+use Rattle.money.specs.Units.{intervals, quantityAt, unless, answer}
 use Rattle.money.specs.Guarantee.{credit}
 use Rattle.money.specs.Names.{sameName}
-use Rattle.money.specs.Offset.{noImport, entry, mqsi, counted, adj, offset, entryFault, freshName, faultAt, listFault, ratesOk, offsetAnswer}
+use Rattle.money.specs.Offset.{maxImports, noImport, entry, mqsi, counted, adj, offset, entryFault, freshName, faultAt, listFault, ratesOk, offsetAnswer}
 use Rattle.money.specs.GuaranteeLaws.{credit-ext}
+use Rattle.money.specs.Offers.{maxPairs}
 
 -- ---- the answer hangs on the first n entries only
 module _ (n : ℕ) (es es′ : List Import) (same : (i : ℕ) → i < n → entry es i ≡ entry es′ i) (ps : List Price) (ts : List Quantity) where
@@ -47,25 +48,25 @@ module _ (n : ℕ) (es es′ : List Import) (same : (i : ℕ) → i < n → entr
   unfolding offsetAnswer listFault
   answer-front =
       let f = firstOf-ext n (faultAt ps es) (faultAt ps es′) fault-front in
-      (λ x. cond (leb n 16) (cond (ratesOk ps ts) (answer (f x) (offset-front x)) (Refused 5)) (Refused 12))
+      (λ x. cond (leb n maxImports) (cond (ratesOk ps ts) (answer (f x) (offset-front x)) (Refused 5)) (Refused 12))
 
 -- ---- what the functions that take the entries do
 abbrev pub blank : Import
 blank = record {
   name = record { len = 0; bytes = replicate 12 0 };
   credit = record { 0 = pos 0 };
-  quantities = replicate 12 (record { 0 = 0 });
-  offer = record { count = 0; prices = replicate 20 (record { 0 = pos 0 }); quantities = replicate 20 (record { 0 = 0 }) };
+  quantities = replicate intervals (record { 0 = 0 });
+  offer = record { count = 0; prices = replicate maxPairs (record { 0 = pos 0 }); quantities = replicate maxPairs (record { 0 = 0 }) };
 }
 
 abbrev pub startOf : List Price → List Quantity → Taken
-startOf ps ts = record { count = 0; prices = ps; totals = ts; entries = replicate 16 blank }
+startOf ps ts = record { count = 0; prices = ps; totals = ts; entries = replicate maxImports blank }
 
--- the entries are kept, up to 16; a 17th is only counted
+-- the entries are kept, as many as may be; one more is only counted
 abbrev pub addOf : Taken → Import → Taken
 addOf s e =
-    cond (ltb (s .count) 16) (record { count = s .count + 1; prices = s .prices; totals = s .totals; entries = set (s .entries) (s .count) e })
-    (record { count = 17; prices = s .prices; totals = s .totals; entries = s .entries })
+    cond (ltb (s .count) maxImports) (record { count = s .count + 1; prices = s .prices; totals = s .totals; entries = set (s .entries) (s .count) e })
+    (record { count = maxImports + 1; prices = s .prices; totals = s .totals; entries = s .entries })
 
 unfoldable pub foldOf : Taken → List Import → Taken
 foldOf s [] = s
@@ -84,13 +85,13 @@ record Kept (s : Taken) (es : List Import) (t : Taken) : Type 0 where
   old : (i : ℕ) → i < s .count → entry (t .entries) i ≡ entry (s .entries) i
   new : (j : ℕ) → j < length es → entry (t .entries) (s .count + j) ≡ entry es j
 
-kept : (es : List Import) (s : Taken) → s .count + length es ≤ 16 → length (s .entries) ≡ 16 → Kept s es (foldOf s es)
+kept : (es : List Import) (s : Taken) → s .count + length es ≤ maxImports → length (s .entries) ≡ maxImports → Kept s es (foldOf s es)
 unfolding foldOf
 kept [] s h l = record { number = omega arith; prices = refl; totals = refl; old = λ i k. refl; new = λ j k. absurd (omega arith) }
 kept (e ∷ es) s h l =
     let s′ : Taken = record { count = s .count + 1; prices = s .prices; totals = s .totals; entries = set (s .entries) (s .count) e } in
     let k : Kept s′ es (foldOf s′ es) = kept es s′ (omega arith) (simp length-set l) in
-    rw (lt-ltb (s .count) 16 (omega arith)) (record {
+    rw (lt-ltb (s .count) maxImports (omega arith)) (record {
       number = omega (arith, k .number);
       prices = k .prices;
       totals = k .totals;
@@ -102,32 +103,32 @@ kept (e ∷ es) s h l =
     at t f g zero m = subst (λ (i : ℕ). entry (t .entries) i ≡ e) (omega arith) f
     at t f g (suc j) m = subst (λ (i : ℕ). entry (t .entries) i ≡ entry es j) (omega arith) (g j (omega arith))
 
-over : (es : List Import) (s : Taken) → 16 < s .count + length es → s .count ≤ 17 → foldOf s es .count ≡ 17
+over : (es : List Import) (s : Taken) → maxImports < s .count + length es → s .count ≤ maxImports + 1 → foldOf s es .count ≡ maxImports + 1
 unfolding foldOf
 over [] s h l = omega arith
 over (e ∷ es) s h l =
     let x : Taken = record { count = s .count + 1; prices = s .prices; totals = s .totals; entries = set (s .entries) (s .count) e } in
-    let y : Taken = record { count = 17; prices = s .prices; totals = s .totals; entries = s .entries } in
-    below-or (s .count) 16
-    (λ k. ap (λ (b : Bool). foldOf (cond b x y) es .count) (lt-ltb (s .count) 16 k) ∙ over es x (omega arith) (omega arith))
-    (λ k. ap (λ (b : Bool). foldOf (cond b x y) es .count) (le-ltb (s .count) 16 k) ∙ over es y (omega arith) (omega arith))
+    let y : Taken = record { count = maxImports + 1; prices = s .prices; totals = s .totals; entries = s .entries } in
+    below-or (s .count) maxImports
+    (λ k. ap (λ (b : Bool). foldOf (cond b x y) es .count) (lt-ltb (s .count) maxImports k) ∙ over es x (omega arith) (omega arith))
+    (λ k. ap (λ (b : Bool). foldOf (cond b x y) es .count) (le-ltb (s .count) maxImports k) ∙ over es y (omega arith) (omega arith))
 
 -- for a list of any length
 pub whole : (es : List Import) (ps : List Price) (ts : List Quantity) → offsetOf es ps ts ≡ offsetAnswer (length es) es ps ts
 unfolding offsetAnswer
-whole es ps ts = below-or (length es) 17 few many
+whole es ps ts = below-or (length es) (maxImports + 1) few many
   where
     t : Taken
     t = foldOf (startOf ps ts) es
 
-    few : length es < 17 → finishOf t ≡ offsetAnswer (length es) es ps ts
+    few : length es < maxImports + 1 → finishOf t ≡ offsetAnswer (length es) es ps ts
     few h =
         let k = kept es (startOf ps ts) (omega arith) refl in
         let n : t .count ≡ length es = omega (arith, k .number) in
         (λ i. offsetAnswer (n i) (t .entries) (k .prices i) (k .totals i))
         ∙ answer-front (length es) (t .entries) es (λ i l. subst (λ (j : ℕ). entry (t .entries) j ≡ entry es i) (omega arith) (k .new i l)) ps ts
 
-    many : 17 ≤ length es → finishOf t ≡ offsetAnswer (length es) es ps ts
+    many : maxImports + 1 ≤ length es → finishOf t ≡ offsetAnswer (length es) es ps ts
     many h =
-        let n : t .count ≡ 17 = over es (startOf ps ts) (omega arith) (omega arith) in
-        rw (n, lt-leb (length es) 16 (omega arith))
+        let n : t .count ≡ maxImports + 1 = over es (startOf ps ts) (omega arith) (omega arith) in
+        rw (n, lt-leb (length es) maxImports (omega arith))

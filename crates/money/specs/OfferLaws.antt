@@ -18,13 +18,13 @@ use Rattle.money.specs.declared.units.Price.{Price}
 use Rattle.money.specs.declared.units.Ticks.{Ticks}
 use Rattle.money.specs.declared.offers.Offer.{Offer}
 use Rattle.money.specs.Units.{noPrice, noQuantity, priceOk}
-use Rattle.money.specs.Offers.{P, Q, before, lastQ, countOk, numberOk, numbersOk, risesAt, orderOk, offerFault, piece, partPair, fullPairs, cost}
+use Rattle.money.specs.Offers.{maxPairs, P, Q, before, lastQ, countOk, numberOk, numbersOk, risesAt, orderOk, offerFault, piece, partPair, fullPairs, cost}
 use Rattle.money.specs.UnitLaws.{Moderate, price-in, passes}
 
 -- an offer that keeps its rule
 pub record Good (o : Offer) : Type 0 where
   pub some : 1 ≤ o .count
-  pub most : o .count ≤ 20
+  pub most : o .count ≤ maxPairs
   pub prices-in : (i : ℕ) → i < o .count → natAbs (P o i) ≤ 200000
   pub quantities-in : (i : ℕ) → i < o .count → Q o i ≤ 100000
   pub rising : (i : ℕ) → i < o .count → before o i < Q o i
@@ -177,12 +177,12 @@ ticksAt ts i = getD ts i (record { 0 = pos 0 }) .0
 
 pub record Costed (o : Offer) (costs : List Ticks) (acc : ℤ) (last i : ℕ) : Type 0 where
   pub upto : i ≤ o .count
-  pub long : length costs ≡ 20
+  pub long : length costs ≡ maxPairs
   pub from : last ≡ before o i
   pub sum : acc ≡ Σℤ i (piece o)
   pub so-far : (j : ℕ) → j < i → ticksAt costs j ≡ Σℤ j (piece o)
 
-pub costed-none : (o : Offer) (costs : List Ticks) → length costs ≡ 20 → Costed o costs (pos 0) 0 0
+pub costed-none : (o : Offer) (costs : List Ticks) → length costs ≡ maxPairs → Costed o costs (pos 0) 0 0
 unfolding Σℤ
 costed-none o costs h = record { upto = zero-le; long = h; from = refl; sum = refl; so-far = λ j l. absurd (omega arith) }
 
@@ -219,7 +219,7 @@ good-of o e =
     let c = passes (countOk o) 5 _ e in
     let n = passes (every (o .count) (numberOk o)) 4 _ (c .1) in
     let r = passes (leb 1 (Q o 0) && every (o .count - 1) (risesAt o)) 5 0 (n .1) in
-    let k = and-true (leb 1 (o .count)) (leb (o .count) 20) (c .0) in
+    let k = and-true (leb 1 (o .count)) (leb (o .count) maxPairs) (c .0) in
     let s = and-true (leb 1 (Q o 0)) (every (o .count - 1) (risesAt o)) (r .0) in
     record {
       some = leb-true _ _ (k .0);

@@ -32,8 +32,11 @@ abbrev pub lastQ : Offer → ℕ
 lastQ o = before o (o .count)
 
 -- "places for 20 pairs (P, Q): 1 to 20 used"
+abbrev pub maxPairs : ℕ
+maxPairs = 20
+
 abbrev pub countOk : Offer → Bool
-countOk o = leb 1 (o .count) && leb (o .count) 20
+countOk o = leb 1 (o .count) && leb (o .count) maxPairs
 
 abbrev pub numberOk : Offer → ℕ → Bool
 numberOk o i = priceOk (getD (o .prices) i noPrice) && quantityOk (getD (o .quantities) i noQuantity)

@@ -14,10 +14,14 @@ use Rattle.money.specs.declared.units.Quantity.{Quantity}
 use Rattle.money.specs.declared.units.Answer.{Answer}
 use Rattle.money.specs.declared.units.Answer.the-variants.{Refused}
 use Rattle.money.specs.declared.imports.Import.{Import}
-use Rattle.money.specs.Units.{noPrice, noQuantity, priceOk, quantityAt, rowOf, quantitiesOk, withinOk, sameℤ, unless, answer}
+use Rattle.money.specs.Units.{intervals, noPrice, noQuantity, priceOk, quantityAt, rowOf, quantitiesOk, withinOk, sameℤ, unless, answer}
 use Rattle.money.specs.Offers.{lastQ, offerFault}
 use Rattle.money.specs.Guarantee.{credit}
 use Rattle.money.specs.Names.{nameOf, nameBefore, sameName, nameOk}
+
+-- "It refuses a 17th entry with 12": the number of entries that an hour's list may have
+abbrev pub maxImports : ℕ
+maxImports = 16
 
 -- what stands past the end of a list: never met
 abbrev pub noImport : Import
@@ -71,20 +75,23 @@ unfoldable pub listFault : ℕ → List Price → List Import → ℕ
 listFault n ps es = firstOf n (faultAt ps es)
 
 -- "12 export totals (each at most 1,600,000)"
-abbrev pub totalOk : Quantity → Bool
-totalOk t = leb (t .0) 1600000
+abbrev pub maxTotal : ℕ
+maxTotal = 1600000
 
--- totals with one row of quantities more, as they are added up; what would be above 1,600,000 is 1,600,001, which the offset refuses
+abbrev pub totalOk : Quantity → Bool
+totalOk t = leb (t .0) maxTotal
+
+-- totals with one row of quantities more, as they are added up; what would be above the most is one more than that, which the offset refuses
 unfoldable pub totalsWith : List Quantity → List Quantity → List Quantity
-totalsWith ts ms = rowOf 0 12 (λ (k : ℕ). min (quantityAt ts k + quantityAt ms k) 1600001)
+totalsWith ts ms = rowOf 0 intervals (λ (k : ℕ). min (quantityAt ts k + quantityAt ms k) (maxTotal + 1))
 
 abbrev pub rateOk : List Price → List Quantity → ℕ → Bool
 rateOk ps ts k = priceOk (getD ps k noPrice) && totalOk (getD ts k noQuantity)
 
 unfoldable pub ratesOk : List Price → List Quantity → Bool
-ratesOk ps ts = every 12 (rateOk ps ts)
+ratesOk ps ts = every intervals (rateOk ps ts)
 
 -- "It refuses a 17th entry with 12, then a price or total with 5, then entry by entry ..; else it answers the offset"
 unfoldable pub offsetAnswer : ℕ → List Import → List Price → List Quantity → Answer
 offsetAnswer n es ps ts =
-    cond (leb n 16) (cond (ratesOk ps ts) (answer (listFault n ps es) (offset n es ps ts)) (Refused outOfRange)) (Refused hourFull)
+    cond (leb n maxImports) (cond (ratesOk ps ts) (answer (listFault n ps es) (offset n es ps ts)) (Refused outOfRange)) (Refused hourFull)

@@ -13,27 +13,27 @@ use Rattle.money.specs.declared.units.Price.{Price}
 use Rattle.money.specs.declared.units.Quantity.{Quantity}
 use Rattle.money.specs.declared.units.Answer.the-variants.{Amount, Refused}
 use Rattle.money.specs.declared.imports.Import.{Import}
-use Rattle.money.specs.Units.{noPrice, noQuantity, quantityAt, rowOf, priceOk, pricesOk, quantitiesOk, withinOk, sameℤ, unless, answer}
+use Rattle.money.specs.Units.{intervals, noPrice, noQuantity, quantityAt, rowOf, priceOk, pricesOk, quantitiesOk, withinOk, sameℤ, unless, answer}
 use Rattle.money.specs.Offers.{lastQ, offerFault}
 use Rattle.money.specs.Guarantee.{credit}
 use Rattle.money.specs.Names.{nameOk, sameName}
-use Rattle.money.specs.Offset.{entry, mqsi, upTo, counted, reach, adj, offset, entryFault, freshName, faultAt, listFault, totalOk, totalsWith, rateOk, ratesOk, offsetAnswer}
-use Rattle.money.specs.UnitLaws.{Moderate, Rates, price-in, passes, neither, same-is, same-true, row-at, row-same}
+use Rattle.money.specs.Offset.{maxTotal, maxImports, entry, mqsi, upTo, counted, reach, adj, offset, entryFault, freshName, faultAt, listFault, totalOk, totalsWith, rateOk, ratesOk, offsetAnswer}
+use Rattle.money.specs.UnitLaws.{Moderate, Fits, Rates, price-in, passes, neither, same-is, same-true, row-same}
 use Rattle.money.specs.OfferLaws.{Good, last-size}
 use Rattle.money.specs.GuaranteeLaws.{Ready, ready-of, credit-size, credit-ext}
 
 -- an import that may take part
 pub record Sound (e : Import) : Type 0 where
   pub good : Good (e .offer)
-  pub within : (k : ℕ) → k < 12 → mqsi e k ≤ lastQ (e .offer)
+  pub within : (k : ℕ) → k < intervals → mqsi e k ≤ lastQ (e .offer)
   pub small : natAbs (e .credit .0) ≤ 5280000000000
 
 pub record Listed (n : ℕ) (es : List Import) : Type 0 where
-  pub most : n ≤ 16
+  pub most : n ≤ maxImports
   pub each : (i : ℕ) → i < n → Sound (entry es i)
 
 -- ---- the sum up to and including import i
-pub counted-size : (a e : Import) (k : ℕ) → Sound a → k < 12 → counted a e k ≤ 100000
+pub counted-size : (a e : Import) (k : ℕ) → Sound a → k < intervals → counted a e k ≤ 100000
 unfolding counted
 counted-size a e k s l = go (upTo a e)
   where
@@ -53,14 +53,14 @@ counted-no a e k h = rw h
 -- twelve sums, after j imports
 pub record Reached (n : ℕ) (es : List Import) (i : ℕ) (sums : List Quantity) (j : ℕ) : Type 0 where
   pub upto : j ≤ n
-  pub so-far : (k : ℕ) → k < 12 → quantityAt sums k ≡ reach j es i k
+  pub so-far : (k : ℕ) → k < intervals → quantityAt sums k ≡ reach j es i k
 
-pub reached-none : (n : ℕ) (es : List Import) (i : ℕ) (sums : List Quantity) → ((k : ℕ) → k < 12 → quantityAt sums k ≡ 0) → Reached n es i sums 0
+pub reached-none : (n : ℕ) (es : List Import) (i : ℕ) (sums : List Quantity) → ((k : ℕ) → k < intervals → quantityAt sums k ≡ 0) → Reached n es i sums 0
 unfolding Σℕ
 reached-none n es i sums h = record { upto = zero-le; so-far = h }
 
 module _ {n : ℕ} {es : List Import} {i : ℕ} {sums : List Quantity} {j : ℕ} (r : Reached n es i sums j) (l : j < n) where
-  pub reached-room : Listed n es → (k : ℕ) → k < 12 → quantityAt sums k + mqsi (entry es j) k ≤ 1600000
+  pub reached-room : Listed n es → (k : ℕ) → k < intervals → Fits (quantityAt sums k + mqsi (entry es j) k)
   reached-room s k m =
       omega (
         arith,
@@ -71,10 +71,10 @@ module _ {n : ℕ} {es : List Import} {i : ℕ} {sums : List Quantity} {j : ℕ}
         Σℕ-within 100000 j (λ a. counted (entry es a) (entry es i) k) (λ a h. counted-size (entry es a) (entry es i) k (s .each a (omega arith)) m),
       )
 
-  pub reached-more : {row : List Quantity} → ((k : ℕ) → k < 12 → quantityAt row k ≡ quantityAt sums k + counted (entry es j) (entry es i) k) → Reached n es i row (j + 1)
+  pub reached-more : {row : List Quantity} → ((k : ℕ) → k < intervals → quantityAt row k ≡ quantityAt sums k + counted (entry es j) (entry es i) k) → Reached n es i row (j + 1)
   reached-more g = record { upto = omega arith; so-far = λ k m. omega (arith, g k m, r .so-far k m, Σℕ-more j (λ a. counted (entry es a) (entry es i) k)) }
 
-pub reached-all : {n : ℕ} {es : List Import} {i : ℕ} {sums : List Quantity} {j : ℕ} → Reached n es i sums j → n ≤ j → (k : ℕ) → k < 12 → quantityAt sums k ≡ reach n es i k
+pub reached-all : {n : ℕ} {es : List Import} {i : ℕ} {sums : List Quantity} {j : ℕ} → Reached n es i sums j → n ≤ j → (k : ℕ) → k < intervals → quantityAt sums k ≡ reach n es i k
 reached-all {n = n} {es = es} {i = i} {j = j} r h k m = let e : j ≡ n = omega (arith, r .upto) in r .so-far k m ∙ ap (λ (a : ℕ). reach a es i k) e
 
 -- ---- the offset
@@ -83,7 +83,7 @@ abbrev pub gives : ℕ → List Import → List Price → List Quantity → ℕ 
 gives n es ps ts i = entry es i .credit .0 -ℤ credit (entry es i .offer) ps (adj n es ts i)
 
 module _ (ps : List Price) (ts : List Quantity) {n : ℕ} {es : List Import} (s : Listed n es) (rates : Rates ps) where
-  pub adj-ready : {q : ℕ → ℕ} {i : ℕ} → i < n → ((k : ℕ) → k < 12 → q k ≡ adj n es ts i k) → Ready (entry es i .offer) ps q
+  pub adj-ready : {q : ℕ → ℕ} {i : ℕ} → i < n → ((k : ℕ) → k < intervals → q k ≡ adj n es ts i k) → Ready (entry es i .offer) ps q
   adj-ready {i = i} l h = record { good = s .each i l .good; prices = rates; within = λ k m. omega (arith, h k m, s .each i l .within k m) }
 
   gives-size : (i : ℕ) → i < n → natAbs (gives n es ps ts i) ≤ 10560000000000
@@ -93,7 +93,7 @@ module _ (ps : List Price) (ts : List Quantity) {n : ℕ} {es : List Import} (s 
     pub offsets-room : Moderate sum
     offsets-room = rw (r .so-far) (omega (arith, r .upto, s .most, Σℤ-within 10560000000000 i (gives n es ps ts) (λ j h. gives-size j (omega (arith, r .upto)))))
 
-    module _ {q : ℕ → ℕ} {x d : ℤ} (l : i < n) (row : (k : ℕ) → k < 12 → q k ≡ adj n es ts i k) (e : x ≡ credit (entry es i .offer) ps q) (g : d ≡ entry es i .credit .0 -ℤ x) where
+    module _ {q : ℕ → ℕ} {x d : ℤ} (l : i < n) (row : (k : ℕ) → k < intervals → q k ≡ adj n es ts i k) (e : x ≡ credit (entry es i .offer) ps q) (g : d ≡ entry es i .credit .0 -ℤ x) where
       pub gives-is : d ≡ gives n es ps ts i
       gives-is = g ∙ ap (λ (z : ℤ). entry es i .credit .0 -ℤ z) (e ∙ credit-ext (entry es i .offer) ps q (adj n es ts i) row)
 
@@ -116,29 +116,25 @@ sound-of ps e r h =
     let y = ready-of ps (e .offer) (e .quantities) r (c .0) (d .0) in
     record { good = y .good; within = y .within; small = rw (same-is (e .credit .0) (credit (e .offer) ps (mqsi e)) (f .0)) (credit-size _ _ _ y) }
 
-pub listed-of : (n : ℕ) (ps : List Price) (es : List Import) → n ≤ 16 → Rates ps → listFault n ps es ≡ 0 → Listed n es
+pub listed-of : (n : ℕ) (ps : List Price) (es : List Import) → n ≤ maxImports → Rates ps → listFault n ps es ≡ 0 → Listed n es
 unfolding listFault faultAt
 listed-of n ps es m r h = record { most = m; each = λ i l. sound-of ps (entry es i) r (neither _ _ (firstOf-zero n (faultAt ps es) h i l) .0) }
 
 pub rates-of : (ps : List Price) (ts : List Quantity) → ratesOk ps ts ≡ true → Rates ps
 unfolding ratesOk
-rates-of ps ts h = λ k l. price-in (getD ps k noPrice) (and-true (priceOk (getD ps k noPrice)) (totalOk (getD ts k noQuantity)) (every-at 12 (rateOk ps ts) h k l) .0)
+rates-of ps ts h = λ k l. price-in (getD ps k noPrice) (and-true (priceOk (getD ps k noPrice)) (totalOk (getD ts k noQuantity)) (every-at intervals (rateOk ps ts) h k l) .0)
 
 -- ---- totals, and a list that no check refuses
-pub totals-at : (ts ms : List Quantity) (k : ℕ) → k < 12 → quantityAt (totalsWith ts ms) k ≡ min (quantityAt ts k + quantityAt ms k) 1600001
-unfolding totalsWith
-totals-at ts ms k l = row-at 12 (λ (k : ℕ). min (quantityAt ts k + quantityAt ms k) 1600001) k l
-
--- a row more, where no total comes to more than 1,600,000
-pub totals-more : (ts ms : List Quantity) (f : ℕ → ℕ) → ((k : ℕ) → k < 12 → quantityAt ts k ≡ f k) → ((k : ℕ) → k < 12 → f k + quantityAt ms k ≤ 1600000)
-    → totalsWith ts ms ≡ rowOf 0 12 (λ (k : ℕ). f k + quantityAt ms k)
+-- a row more, where no total comes to more than it may
+pub totals-more : (ts ms : List Quantity) (f : ℕ → ℕ) → ((k : ℕ) → k < intervals → quantityAt ts k ≡ f k) → ((k : ℕ) → k < intervals → f k + quantityAt ms k ≤ maxTotal)
+    → totalsWith ts ms ≡ rowOf 0 intervals (λ (k : ℕ). f k + quantityAt ms k)
 unfolding totalsWith
 totals-more ts ms f h m =
-    row-same 12 (λ (k : ℕ). min (quantityAt ts k + quantityAt ms k) 1600001) (λ (k : ℕ). f k + quantityAt ms k) (λ k l. omega (arith, h k l, m k l))
+    row-same intervals (λ (k : ℕ). min (quantityAt ts k + quantityAt ms k) (maxTotal + 1)) (λ (k : ℕ). f k + quantityAt ms k) (λ k l. omega (arith, h k l, m k l))
 
-pub rates-ok : (ps : List Price) (ts : List Quantity) → pricesOk ps ≡ true → ((k : ℕ) → k < 12 → quantityAt ts k ≤ 1600000) → ratesOk ps ts ≡ true
+pub rates-ok : (ps : List Price) (ts : List Quantity) → pricesOk ps ≡ true → ((k : ℕ) → k < intervals → quantityAt ts k ≤ maxTotal) → ratesOk ps ts ≡ true
 unfolding ratesOk pricesOk
-rates-ok ps ts h m = every-yes 12 (rateOk ps ts) (λ k l. rw (every-at 12 (λ k. priceOk (getD ps k noPrice)) h k l, le-leb (quantityAt ts k) 1600000 (m k l)))
+rates-ok ps ts h m = every-yes intervals (rateOk ps ts) (λ k l. rw (every-at intervals (λ k. priceOk (getD ps k noPrice)) h k l, le-leb (quantityAt ts k) maxTotal (m k l)))
 
 -- an entry of which each part is in order
 pub entry-fine : (ps : List Price) (e : Import) → nameOk (e .name) ≡ true → quantitiesOk (e .quantities) ≡ true → offerFault (e .offer) ≡ 0
@@ -147,7 +143,7 @@ unfolding entryFault
 entry-fine ps e a b c d f = rw (a, b, c, d, same-true (e .credit .0) (credit (e .offer) ps (mqsi e)) f)
 
 -- entries in order, each of its own name
-pub offset-amount : (n : ℕ) (es : List Import) (ps : List Price) (ts : List Quantity) → n ≤ 16 → ratesOk ps ts ≡ true
+pub offset-amount : (n : ℕ) (es : List Import) (ps : List Price) (ts : List Quantity) → n ≤ maxImports → ratesOk ps ts ≡ true
     → ((i : ℕ) → i < n → entryFault ps (entry es i) ≡ 0)
     → ((i j : ℕ) → i < n → j < i → sameName (entry es i .name) (entry es j .name) ≡ false)
     → offsetAnswer n es ps ts ≡ Amount (record { 0 = offset n es ps ts })
@@ -157,4 +153,4 @@ offset-amount n es ps ts m r h d =
     = λ i l. every-yes i (λ j. not (sameName (entry es i .name) (entry es j .name))) (λ j k. ap not (d i j l k)) in
     let none : listFault n ps es ≡ 0
     = firstOf-none n (faultAt ps es) (λ i l. (λ x. orElse (h i l x) (unless (fresh i l x) 10 0))) in
-    (λ x. cond (le-leb n 16 m x) (cond (r x) (answer (none x) (offset n es ps ts)) (Refused 5)) (Refused 12))
+    (λ x. cond (le-leb n maxImports m x) (cond (r x) (answer (none x) (offset n es ps ts)) (Refused 5)) (Refused 12))

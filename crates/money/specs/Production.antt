@@ -19,7 +19,7 @@ use Rattle.money.specs.declared.production.Reserve.{Reserve}
 use Rattle.money.specs.declared.production.UnitHour.{UnitHour}
 use Rattle.money.specs.declared.production.DayAnswer.{DayAnswer}
 use Rattle.money.specs.declared.production.DayAnswer.the-variants.{Day, Refused}
-use Rattle.money.specs.Units.{priceAt, quantityAt, pricesOk, quantitiesOk, withinOk, maxCents, unless, answer}
+use Rattle.money.specs.Units.{intervals, dayHours, priceAt, quantityAt, pricesOk, quantitiesOk, withinOk, maxCents, unless, answer}
 use Rattle.money.specs.Offers.{lastQ, offerFault, cost}
 use Rattle.money.specs.Guarantee.{profit}
 
@@ -96,7 +96,7 @@ interval h ps k = C1 h ps k +ℤ C2 h ps k -ℤ C3 h ps k -ℤ C4 h ps k
 
 -- over the intervals of one hour
 unfoldable pub hourAmount : UnitHour → List Price → ℤ
-hourAmount h ps = Σℤ 12 (interval h ps)
+hourAmount h ps = Σℤ intervals (interval h ps)
 
 -- "A reserve list may be empty if its schedules are all 0, else count 0 gives 6"
 unfoldable pub reserveFault : Reserve → ℕ
@@ -132,7 +132,7 @@ unitFault h ps = unless (pricesOk ps) outOfRange (unless (numbersFine h) outOfRa
 
 -- an interval that is asked for: 0 to 11, after the hour
 unfoldable pub intervalFault : UnitHour → List Price → ℕ → ℕ
-intervalFault h ps k = orElse (unitFault h ps) (unless (ltb k 12) outOfRange 0)
+intervalFault h ps k = orElse (unitFault h ps) (unless (ltb k intervals) outOfRange 0)
 
 abbrev pub component1Answer : UnitHour → List Price → ℕ → Answer
 component1Answer h ps k = answer (intervalFault h ps k) (C1 h ps k)
@@ -161,7 +161,7 @@ abbrev pub hourPart : List Ticks → List CentsPerStart → ℕ → ℤ
 hourPart ts ss i = getD ts i noTicks .0 +ℤ pos (getD ss i noStart .0 * 120)
 
 unfoldable pub daySum : List Ticks → List CentsPerStart → ℤ
-daySum ts ss = Σℤ 24 (hourPart ts ss)
+daySum ts ss = Σℤ dayHours (hourPart ts ss)
 
 -- no hour comes to more (`hour-size`), so a larger amount is none of an hour's
 abbrev pub maxHour : ℕ
@@ -171,7 +171,7 @@ abbrev pub amountOk : Ticks → CentsPerStart → Bool
 amountOk t s = leZ (negℤ (pos maxHour)) (t .0) && (leZ (t .0) (pos maxHour) && leb (s .0) maxCents)
 
 unfoldable pub hoursOk : List Ticks → List CentsPerStart → Bool
-hoursOk ts ss = every 24 (λ i. amountOk (getD ts i noTicks) (getD ss i noStart))
+hoursOk ts ss = every dayHours (λ i. amountOk (getD ts i noTicks) (getD ss i noStart))
 
 -- "The reversal is max(0, -total)"
 abbrev pub reversal : ℤ → ℤ

@@ -3,7 +3,6 @@ use mathlib.Core.Path.{_≡_, refl, sym, ap, _∙_}
 use mathlib.Core.Bool.{Bool, true, false, cond, _&&_}
 use mathlib.Core.List.{List}
 use Prim.Native.Nat.{ℕ, zero, suc, _+_, _-_, _*_, _≤_, _<_, zero-le, min, max}
-use native.Mathlib.Nat.{sub-zero}
 use native.Mathlib.Decide.{decLt}
 use native.Mathlib.Omega.{arith}
 use borrow.Author.Tests.{leb-true, ltb-true, le-leb, lt-ltb, le-ltb}
@@ -23,8 +22,8 @@ use Rattle.money.specs.declared.production.Pick.the-variants.{Lesser, Gr
 use Rattle.money.specs.declared.production.Reserve.{Reserve}
 use Rattle.money.specs.declared.production.UnitHour.{UnitHour}
 use Rattle.money.specs.declared.production.DayAnswer.the-variants.{Day}
-use Rattle.money.specs.Units.{priceAt, pricesOk, quantitiesOk, withinOk, maxCents, unless, answer}
-use Rattle.money.specs.Offers.{before, lastQ, offerFault, cost}
+use Rattle.money.specs.Units.{intervals, dayHours, priceAt, pricesOk, quantitiesOk, withinOk, maxCents, unless, answer}
+use Rattle.money.specs.Offers.{maxPairs, before, lastQ, offerFault, cost}
 use Rattle.money.specs.Guarantee.{profit, profits}
 use Rattle.money.specs.Production.{component1, shortfall, component2, arranged, component3, congestion, reserveNet, component4, S, D, R, U, A, K, C1, C2, C3, C4, interval, hourAmount, reserveFault, reserveNumbersOk, reservesNumbersOk, numbersFine, withinFine, listsFault, unitFault, intervalFault, noTicks, noStart, hourPart, maxHour, daySum, amountOk, hoursOk, reversal, dayAnswer, hourAnswer}
 use Rattle.money.specs.UnitLaws.{Moderate, Rates, prices-of, within-at, passes, neither}
@@ -44,17 +43,17 @@ running noload m = cond (ltb 0 m) (pos (noload * 10)) (pos 0)
 -- a reserve that passed its checks: its list keeps the rule, or is empty
 pub record Usable (s : Reserve) : Type 0 where
   pub rates : Rates (s .prices)
-  pub most : s .offer .count ≤ 20
+  pub most : s .offer .count ≤ maxPairs
   pub good : 0 < s .offer .count → Good (s .offer)
-  pub within : (k : ℕ) → k < 12 → S s k ≤ lastQ (s .offer)
+  pub within : (k : ℕ) → k < intervals → S s k ≤ lastQ (s .offer)
 
 -- lists that passed theirs
 pub record ListsGood (h : UnitHour) : Type 0 where
   pub ahead : Good (h .aheadoffer)
   pub real : Good (h .realoffer)
-  pub spinning : h .spinning .offer .count ≤ 20
-  pub nonspinning : h .nonspinning .offer .count ≤ 20
-  pub thirty : h .thirty .offer .count ≤ 20
+  pub spinning : h .spinning .offer .count ≤ maxPairs
+  pub nonspinning : h .nonspinning .offer .count ≤ maxPairs
+  pub thirty : h .thirty .offer .count ≤ maxPairs
 
 -- an hour that passed its checks
 pub record UnitReady (h : UnitHour) (ps : List Price) : Type 0 where
@@ -62,16 +61,16 @@ pub record UnitReady (h : UnitHour) (ps : List Price) : Type 0 where
   pub noload : h .noload .0 ≤ 100000000
   pub ahead : Good (h .aheadoffer)
   pub real : Good (h .realoffer)
-  pub ahead-within : (k : ℕ) → k < 12 → D h k ≤ lastQ (h .aheadoffer)
-  pub real-within : (k : ℕ) → k < 12 → D h k ≤ lastQ (h .realoffer)
+  pub ahead-within : (k : ℕ) → k < intervals → D h k ≤ lastQ (h .aheadoffer)
+  pub real-within : (k : ℕ) → k < intervals → D h k ≤ lastQ (h .realoffer)
   pub spinning : Usable (h .spinning)
   pub nonspinning : Usable (h .nonspinning)
   pub thirty : Usable (h .thirty)
 
 -- 24 hours that passed theirs
 pub record DayReady (ts : List Ticks) (ss : List CentsPerStart) : Type 0 where
-  pub amounts : (i : ℕ) → i < 24 → natAbs (getD ts i noTicks .0) ≤ 100000000000000
-  pub starts : (i : ℕ) → i < 24 → getD ss i noStart .0 ≤ 100000000
+  pub amounts : (i : ℕ) → i < dayHours → natAbs (getD ts i noTicks .0) ≤ 100000000000000
+  pub starts : (i : ℕ) → i < dayHours → getD ss i noStart .0 ≤ 100000000
 
 -- ---- amounts that code holds, by what they are
 -- a cost, a profit or a component of one interval
@@ -109,9 +108,9 @@ module _ (o : Offer) (q : ℕ) (good : Good o) (within : q ≤ lastQ o) where
     loss-size : natAbs (cost o q -ℤ p *ℤ pos q) ≤ 440000000000
     loss-size = sub-within (cost o q) (p *ℤ pos q) spends value-size
 
-    module _ {c v l : ℤ} (e : c ≡ cost o q) (f : v ≡ p *ℤ pos (q - 0)) (g : l ≡ c -ℤ v) where
+    module _ {c v l : ℤ} (e : c ≡ cost o q) (f : v ≡ p *ℤ pos q) (g : l ≡ c -ℤ v) where
       pub loss-is : l ≡ cost o q -ℤ p *ℤ pos q
-      loss-is = g ∙ (λ i. e i -ℤ f i) ∙ rw sub-zero
+      loss-is = g ∙ (λ i. e i -ℤ f i)
 
       pub loss-room : Moderate l
       loss-room = room loss-is (omega (arith, loss-size))
@@ -201,7 +200,7 @@ module _ {s : Reserve} (u : Usable s) where
       none : (p : ℤ) → pos 0 ≡ p *ℤ pos 0 -ℤ pos 0
       none = by₁ _ (λ a a′. simp ints (omega arith))
 
-  net-size : (k q : ℕ) → k < 12 → q ≤ lastQ (s .offer) → natAbs (reserveNet s k q) ≤ 440000000000
+  net-size : (k q : ℕ) → k < intervals → q ≤ lastQ (s .offer) → natAbs (reserveNet s k q) ≤ 440000000000
   net-size k q l w = by (decLt q 1)
     where
       by : Dec (q < 1) → natAbs (reserveNet s k q) ≤ 440000000000
@@ -209,7 +208,7 @@ module _ {s : Reserve} (u : Usable s) where
       by (no h) = profit-size (s .offer) (s .prices) (λ j. q) (record { good = offered q (omega arith) w; prices = u .rates; within = λ j m. w }) k l
 
   -- as much of the schedule as is left
-  module _ (left k : ℕ) {q : ℕ} (l : k < 12) (e : q ≡ min left (S s k)) where
+  module _ (left k : ℕ) {q : ℕ} (l : k < intervals) (e : q ≡ min left (S s k)) where
     pub net-within : q ≤ lastQ (s .offer)
     net-within = omega (arith, u .within k l)
 
@@ -231,7 +230,7 @@ component4-is r1 r2 r3 k d u {q1 = q1} {q2 = q2} {q3 = q3} a b c a′ b′ c′ 
 
 -- ---- an interval and an hour
 module _ {h : UnitHour} {ps : List Price} (ready : UnitReady h ps) where
-  module _ (k : ℕ) (l : k < 12) where
+  module _ (k : ℕ) (l : k < intervals) where
     pub C1-small : Small (C1 h ps k)
     unfolding C1
     C1-small =
@@ -274,13 +273,13 @@ module _ {h : UnitHour} {ps : List Price} (ready : UnitReady h ps) where
         (sub-within (C1 h ps k +ℤ C2 h ps k) (C3 h ps k) (add-within (C1 h ps k) (C2 h ps k) C1-small C2-small) C3-small)
         C4-small
 
-  some-size : (n : ℕ) → n ≤ 12 → natAbs (Σℤ n (interval h ps)) ≤ 100000000000000
+  some-size : (n : ℕ) → n ≤ intervals → natAbs (Σℤ n (interval h ps)) ≤ 100000000000000
   some-size n l = omega (arith, Σℤ-within 8000000000000 n (interval h ps) (λ j m. interval-size j (omega arith)))
 
   -- no hour comes to more than `maxHour`
   pub hour-size : natAbs (hourAmount h ps) ≤ 100000000000000
   unfolding hourAmount
-  hour-size = some-size 12 (omega arith)
+  hour-size = some-size intervals (omega arith)
 
 -- ---- twelve intervals at a time
 Σℤ-add : (n : ℕ) (f g : ℕ → ℤ) → Σℤ n (λ j. f j +ℤ g j) ≡ Σℤ n f +ℤ Σℤ n g
@@ -292,7 +291,7 @@ unfolding Σℤ
     swap = by₄ _ (λ a a′ b b′ c c′ d d′. simp ints (omega arith))
 
 -- quantities that are no larger
-pub ready-less : {o : Offer} {ps : List Price} {q q′ : ℕ → ℕ} → Ready o ps q → ((k : ℕ) → k < 12 → q′ k ≤ q k) → Ready o ps q′
+pub ready-less : {o : Offer} {ps : List Price} {q q′ : ℕ → ℕ} → Ready o ps q → ((k : ℕ) → k < intervals → q′ k ≤ q k) → Ready o ps q′
 ready-less r h = record { good = r .good; prices = r .prices; within = λ k l. omega (arith, h k l, r .within k l) }
 
 pub profits-moderate : {o : Offer} {ps : List Price} {q : ℕ → ℕ} → Ready o ps q → {x : ℤ} → x ≡ profits o ps q → Moderate x
@@ -303,22 +302,22 @@ pub two-profits : {o : Offer} {ps : List Price} {q q′ : ℕ → ℕ} → Ready
 two-profits {o} {ps} {q} {q′} r r′ e f g = rw (g ∙ (λ i. e i -ℤ f i)) (omega (arith, sub-within (profits o ps q) (profits o ps q′) (profits-size o ps q r) (profits-size o ps q′ r′)))
 
 -- speed no-load
-pub runs-room : (noload : ℕ) (m : ℕ → ℕ) → noload ≤ 100000000 → {sum : ℤ} {k : ℕ} → Summed 12 (λ j. running noload (m j)) sum k → Moderate sum
+pub runs-room : (noload : ℕ) (m : ℕ → ℕ) → noload ≤ 100000000 → {sum : ℤ} {k : ℕ} → Summed intervals (λ j. running noload (m j)) sum k → Moderate sum
 runs-room noload m small {k = k} u = rw (u .so-far) (omega (arith, u .upto, Σℤ-within 1000000000 k (λ j. running noload (m j)) (λ j l. running-size noload (m j) small)))
 
-pub runs-moderate : (noload : ℕ) (m : ℕ → ℕ) → noload ≤ 100000000 → {x : ℤ} → x ≡ Σℤ 12 (λ j. running noload (m j)) → Moderate x
-runs-moderate noload m small e = rw e (omega (arith, Σℤ-within 1000000000 12 (λ j. running noload (m j)) (λ j l. running-size noload (m j) small)))
+pub runs-moderate : (noload : ℕ) (m : ℕ → ℕ) → noload ≤ 100000000 → {x : ℤ} → x ≡ Σℤ intervals (λ j. running noload (m j)) → Moderate x
+runs-moderate noload m small e = rw e (omega (arith, Σℤ-within 1000000000 intervals (λ j. running noload (m j)) (λ j l. running-size noload (m j) small)))
 
 turned : (n v c : ℤ) → n -ℤ (v -ℤ c) ≡ c -ℤ v +ℤ n
 turned = by₃ _ (λ a a′ b b′ c c′. simp ints (omega arith))
 
 -- C1 is the speed no-load less the profits
-pub sum1-is : (da : Offer) (ps : List Price) (noload : ℕ) (d r a m : ℕ → ℕ) → ((k : ℕ) → k < 12 → m k ≡ min (d k) (min (r k) (a k))) → {n p x : ℤ} → n ≡ Σℤ 12 (λ k. running noload (m k)) → p ≡ profits da ps m → x ≡ n -ℤ p
-    → x ≡ Σℤ 12 (λ k. component1 da (priceAt ps k) noload (d k) (r k) (a k))
+pub sum1-is : (da : Offer) (ps : List Price) (noload : ℕ) (d r a m : ℕ → ℕ) → ((k : ℕ) → k < intervals → m k ≡ min (d k) (min (r k) (a k))) → {n p x : ℤ} → n ≡ Σℤ intervals (λ k. running noload (m k)) → p ≡ profits da ps m → x ≡ n -ℤ p
+    → x ≡ Σℤ intervals (λ k. component1 da (priceAt ps k) noload (d k) (r k) (a k))
 unfolding profits shortfall
 sum1-is da ps noload d r a m h e f g =
-    g ∙ (λ i. e i -ℤ f i) ∙ sym (Σℤ-sub 12 (λ k. running noload (m k)) (λ k. profit da (priceAt ps k) (m k)))
-    ∙ Σℤ-ext 12 (λ k. running noload (m k) -ℤ profit da (priceAt ps k) (m k)) (λ k. component1 da (priceAt ps k) noload (d k) (r k) (a k))
+    g ∙ (λ i. e i -ℤ f i) ∙ sym (Σℤ-sub intervals (λ k. running noload (m k)) (λ k. profit da (priceAt ps k) (m k)))
+    ∙ Σℤ-ext intervals (λ k. running noload (m k) -ℤ profit da (priceAt ps k) (m k)) (λ k. component1 da (priceAt ps k) noload (d k) (r k) (a k))
     (λ k l. turned (running noload (m k)) (priceAt ps k *ℤ pos (m k)) (cost da (m k)) ∙ ap (λ (q : ℕ). shortfall da (priceAt ps k) noload q) (h k l))
 
 crossed : (v c w d : ℤ) → (v -ℤ c) -ℤ (w -ℤ d) ≡ (d -ℤ c) -ℤ (w -ℤ v)
@@ -337,17 +336,17 @@ arranged-by da rt p b a =
 
 -- what one offer's profits differ by, over the twelve
 profits-differ : (o : Offer) (ps : List Price) (from to : ℕ → ℕ) {x y s : ℤ} → x ≡ profits o ps from → y ≡ profits o ps to → s ≡ x -ℤ y
-    → s ≡ Σℤ 12 (λ k. profit o (priceAt ps k) (from k) -ℤ profit o (priceAt ps k) (to k))
+    → s ≡ Σℤ intervals (λ k. profit o (priceAt ps k) (from k) -ℤ profit o (priceAt ps k) (to k))
 unfolding profits
-profits-differ o ps from to e f g = g ∙ (λ i. e i -ℤ f i) ∙ sym (Σℤ-sub 12 (λ k. profit o (priceAt ps k) (from k)) (λ k. profit o (priceAt ps k) (to k)))
+profits-differ o ps from to e f g = g ∙ (λ i. e i -ℤ f i) ∙ sym (Σℤ-sub intervals (λ k. profit o (priceAt ps k) (from k)) (λ k. profit o (priceAt ps k) (to k)))
 
-pub sum2-is : (da rt : Offer) (ps : List Price) (d r a c to from : ℕ → ℕ) → ((k : ℕ) → k < 12 → to k ≡ min (d k) (c k)) → ((k : ℕ) → k < 12 → from k ≡ min (to k) (max (r k) (a k)))
+pub sum2-is : (da rt : Offer) (ps : List Price) (d r a c to from : ℕ → ℕ) → ((k : ℕ) → k < intervals → to k ≡ min (d k) (c k)) → ((k : ℕ) → k < intervals → from k ≡ min (to k) (max (r k) (a k)))
     → {x y z w s t n : ℤ} → x ≡ profits da ps from → y ≡ profits da ps to → z ≡ profits rt ps from → w ≡ profits rt ps to → s ≡ x -ℤ y → t ≡ z -ℤ w → n ≡ s -ℤ t
-    → n ≡ Σℤ 12 (λ k. component2 da rt (d k) (r k) (a k) (c k))
+    → n ≡ Σℤ intervals (λ k. component2 da rt (d k) (r k) (a k) (c k))
 sum2-is da rt ps d r a c to from h h′ e f e′ f′ g g′ m =
     let one : Offer → ℕ → ℤ = λ o k. profit o (priceAt ps k) (from k) -ℤ profit o (priceAt ps k) (to k) in
-    m ∙ (λ i. profits-differ da ps from to e f g i -ℤ profits-differ rt ps from to e′ f′ g′ i) ∙ sym (Σℤ-sub 12 (one da) (one rt))
-    ∙ Σℤ-ext 12 (λ k. one da k -ℤ one rt k) (λ k. component2 da rt (d k) (r k) (a k) (c k))
+    m ∙ (λ i. profits-differ da ps from to e f g i -ℤ profits-differ rt ps from to e′ f′ g′ i) ∙ sym (Σℤ-sub intervals (one da) (one rt))
+    ∙ Σℤ-ext intervals (λ k. one da k -ℤ one rt k) (λ k. component2 da rt (d k) (r k) (a k) (c k))
     (λ k l. arranged-by da rt (priceAt ps k) (to k) (from k) ∙ (λ i. arranged da rt (h k l i) ((h′ k l ∙ ap (λ (n : ℕ). min n (max (r k) (a k))) (h k l)) i)))
 
 -- C3 is what the profits of one offer differ by
@@ -358,11 +357,11 @@ congestion-by rt p b a = swap (p *ℤ pos a) (cost rt a) (p *ℤ pos b) (cost rt
     swap : (v c w d : ℤ) → (v -ℤ c) -ℤ (w -ℤ d) ≡ (d -ℤ w) -ℤ (c -ℤ v)
     swap = by₄ _ (λ a a′ b b′ c c′ d d′. simp ints (omega arith))
 
-pub sum3-is : (rt : Offer) (ps : List Price) (d r u to from : ℕ → ℕ) → ((k : ℕ) → k < 12 → to k ≡ min (r k) (d k)) → ((k : ℕ) → k < 12 → from k ≡ min (u k) (d k))
-    → {x y n : ℤ} → x ≡ profits rt ps from → y ≡ profits rt ps to → n ≡ x -ℤ y → n ≡ Σℤ 12 (λ k. component3 rt (priceAt ps k) (d k) (r k) (u k))
+pub sum3-is : (rt : Offer) (ps : List Price) (d r u to from : ℕ → ℕ) → ((k : ℕ) → k < intervals → to k ≡ min (r k) (d k)) → ((k : ℕ) → k < intervals → from k ≡ min (u k) (d k))
+    → {x y n : ℤ} → x ≡ profits rt ps from → y ≡ profits rt ps to → n ≡ x -ℤ y → n ≡ Σℤ intervals (λ k. component3 rt (priceAt ps k) (d k) (r k) (u k))
 sum3-is rt ps d r u to from h h′ e f g =
     profits-differ rt ps from to e f g
-    ∙ Σℤ-ext 12 (λ k. profit rt (priceAt ps k) (from k) -ℤ profit rt (priceAt ps k) (to k)) (λ k. component3 rt (priceAt ps k) (d k) (r k) (u k))
+    ∙ Σℤ-ext intervals (λ k. profit rt (priceAt ps k) (from k) -ℤ profit rt (priceAt ps k) (to k)) (λ k. component3 rt (priceAt ps k) (d k) (r k) (u k))
     (λ k l. congestion-by rt (priceAt ps k) (to k) (from k) ∙ (λ i. congestion rt (priceAt ps k) (h k l i) (h′ k l i)))
 
 -- C4: one reserve, of as much of its schedules as is left
@@ -370,56 +369,56 @@ abbrev reserved : Reserve → (ℕ → ℕ) → ℕ → ℤ
 reserved s left k = reserveNet s k (min (left k) (S s k))
 
 module _ {s : Reserve} (u : Usable s) (left : ℕ → ℕ) where
-  pub reserve-none : s .offer .count < 1 → pos 0 ≡ Σℤ 12 (reserved s left)
+  pub reserve-none : s .offer .count < 1 → pos 0 ≡ Σℤ intervals (reserved s left)
   unfolding Σℤ
-  reserve-none h = sym (Σℤ-cut 12 0 (reserved s left) zero-le (λ k a l. sym (idle u k (min (left k) (S s k)) (omega (arith, u .within k l, last-none (s .offer) h)))))
+  reserve-none h = sym (Σℤ-cut intervals 0 (reserved s left) zero-le (λ k a l. sym (idle u k (min (left k) (S s k)) (omega (arith, u .within k l, last-none (s .offer) h)))))
 
-  module _ (q : ℕ → ℕ) (row : (k : ℕ) → k < 12 → q k ≡ min (left k) (S s k)) where
+  module _ (q : ℕ → ℕ) (row : (k : ℕ) → k < intervals → q k ≡ min (left k) (S s k)) where
     pub reserve-ready : 1 ≤ s .offer .count → Ready (s .offer) (s .prices) q
     reserve-ready h = record { good = u .good h; prices = u .rates; within = λ k l. omega (arith, row k l, u .within k l) }
 
-    pub reserve-is : {x : ℤ} → x ≡ profits (s .offer) (s .prices) q → x ≡ Σℤ 12 (reserved s left)
+    pub reserve-is : {x : ℤ} → x ≡ profits (s .offer) (s .prices) q → x ≡ Σℤ intervals (reserved s left)
     unfolding profits
-    reserve-is e = e ∙ Σℤ-ext 12 (λ k. profit (s .offer) (priceAt (s .prices) k) (q k)) (reserved s left) (λ k l. ap (λ (n : ℕ). reserveNet s k n) (row k l))
+    reserve-is e = e ∙ Σℤ-ext intervals (λ k. profit (s .offer) (priceAt (s .prices) k) (q k)) (reserved s left) (λ k l. ap (λ (n : ℕ). reserveNet s k n) (row k l))
 
-  reserve-size : natAbs (Σℤ 12 (reserved s left)) ≤ 5280000000000
-  reserve-size = Σℤ-within 440000000000 12 (reserved s left) (λ k l. net-size u k (min (left k) (S s k)) l (omega (arith, u .within k l)))
+  reserve-size : natAbs (Σℤ intervals (reserved s left)) ≤ 5280000000000
+  reserve-size = Σℤ-within 440000000000 intervals (reserved s left) (λ k l. net-size u k (min (left k) (S s k)) l (omega (arith, u .within k l)))
 
-  pub reserve-room : {x : ℤ} → x ≡ Σℤ 12 (reserved s left) → Moderate x
+  pub reserve-room : {x : ℤ} → x ≡ Σℤ intervals (reserved s left) → Moderate x
   reserve-room e = rw e (omega (arith, reserve-size))
 
-pub two-reserves : {s s′ : Reserve} → Usable s → Usable s′ → (left left′ : ℕ → ℕ) {x y z : ℤ} → x ≡ Σℤ 12 (reserved s left) → y ≡ Σℤ 12 (reserved s′ left′) → z ≡ x +ℤ y → Moderate z
-two-reserves {s} {s′} u u′ left left′ e f g = rw (g ∙ (λ i. e i +ℤ f i)) (omega (arith, add-within (Σℤ 12 (reserved s left)) (Σℤ 12 (reserved s′ left′)) (reserve-size u left) (reserve-size u′ left′)))
+pub two-reserves : {s s′ : Reserve} → Usable s → Usable s′ → (left left′ : ℕ → ℕ) {x y z : ℤ} → x ≡ Σℤ intervals (reserved s left) → y ≡ Σℤ intervals (reserved s′ left′) → z ≡ x +ℤ y → Moderate z
+two-reserves {s} {s′} u u′ left left′ e f g = rw (g ∙ (λ i. e i +ℤ f i)) (omega (arith, add-within (Σℤ intervals (reserved s left)) (Σℤ intervals (reserved s′ left′)) (reserve-size u left) (reserve-size u′ left′)))
 
-pub sum4-is : (r1 r2 r3 : Reserve) (d u l1 l2 l3 : ℕ → ℕ) → ((k : ℕ) → k < 12 → l1 k ≡ d k - u k) → ((k : ℕ) → k < 12 → l2 k ≡ l1 k - S r1 k) → ((k : ℕ) → k < 12 → l3 k ≡ l2 k - S r2 k)
-    → {x y z s n : ℤ} → x ≡ Σℤ 12 (reserved r1 l1) → y ≡ Σℤ 12 (reserved r2 l2) → z ≡ Σℤ 12 (reserved r3 l3) → s ≡ x +ℤ y → n ≡ s +ℤ z
-    → n ≡ Σℤ 12 (λ k. component4 r1 r2 r3 k (d k) (u k))
+pub sum4-is : (r1 r2 r3 : Reserve) (d u l1 l2 l3 : ℕ → ℕ) → ((k : ℕ) → k < intervals → l1 k ≡ d k - u k) → ((k : ℕ) → k < intervals → l2 k ≡ l1 k - S r1 k) → ((k : ℕ) → k < intervals → l3 k ≡ l2 k - S r2 k)
+    → {x y z s n : ℤ} → x ≡ Σℤ intervals (reserved r1 l1) → y ≡ Σℤ intervals (reserved r2 l2) → z ≡ Σℤ intervals (reserved r3 l3) → s ≡ x +ℤ y → n ≡ s +ℤ z
+    → n ≡ Σℤ intervals (λ k. component4 r1 r2 r3 k (d k) (u k))
 sum4-is r1 r2 r3 d u l1 l2 l3 a b c e f g h m =
-    m ∙ (λ i. h i +ℤ g i) ∙ (λ i. e i +ℤ f i +ℤ Σℤ 12 (reserved r3 l3)) ∙ (λ i. sym (Σℤ-add 12 (reserved r1 l1) (reserved r2 l2)) i +ℤ Σℤ 12 (reserved r3 l3))
-    ∙ sym (Σℤ-add 12 (λ k. reserved r1 l1 k +ℤ reserved r2 l2 k) (reserved r3 l3))
-    ∙ Σℤ-ext 12 (λ k. reserved r1 l1 k +ℤ reserved r2 l2 k +ℤ reserved r3 l3 k) (λ k. component4 r1 r2 r3 k (d k) (u k))
+    m ∙ (λ i. h i +ℤ g i) ∙ (λ i. e i +ℤ f i +ℤ Σℤ intervals (reserved r3 l3)) ∙ (λ i. sym (Σℤ-add intervals (reserved r1 l1) (reserved r2 l2)) i +ℤ Σℤ intervals (reserved r3 l3))
+    ∙ sym (Σℤ-add intervals (λ k. reserved r1 l1 k +ℤ reserved r2 l2 k) (reserved r3 l3))
+    ∙ Σℤ-ext intervals (λ k. reserved r1 l1 k +ℤ reserved r2 l2 k +ℤ reserved r3 l3 k) (λ k. component4 r1 r2 r3 k (d k) (u k))
     (λ k l. component4-is r1 r2 r3 k (d k) (u k) (a k l) (b k l) (c k l) refl refl refl refl refl refl refl refl)
 
 -- ---- the four together
 parts : (x y z w : ℤ) → (x +ℤ y) -ℤ (z +ℤ w) ≡ x +ℤ y -ℤ z -ℤ w
 parts = by₄ _ (λ a a′ b b′ c c′ d d′. simp ints (omega arith))
 
-sum-size : (f : ℕ → ℤ) → ((k : ℕ) → k < 12 → Small (f k)) → natAbs (Σℤ 12 f) ≤ 24000000000000
-sum-size f h = Σℤ-within 2000000000000 12 f h
+sum-size : (f : ℕ → ℤ) → ((k : ℕ) → k < intervals → Small (f k)) → natAbs (Σℤ intervals f) ≤ 24000000000000
+sum-size f h = Σℤ-within 2000000000000 intervals f h
 
-pub sum-room : (f : ℕ → ℤ) {x : ℤ} → ((k : ℕ) → k < 12 → Small (f k)) → x ≡ Σℤ 12 f → Moderate x
+pub sum-room : (f : ℕ → ℤ) {x : ℤ} → ((k : ℕ) → k < intervals → Small (f k)) → x ≡ Σℤ intervals f → Moderate x
 sum-room f h e = rw e (omega (arith, sum-size f h))
 
-pub two-sums : (f g : ℕ → ℤ) {x y s : ℤ} → ((k : ℕ) → k < 12 → Small (f k)) → ((k : ℕ) → k < 12 → Small (g k)) → x ≡ Σℤ 12 f → y ≡ Σℤ 12 g → s ≡ x +ℤ y → Moderate s
-two-sums f g h k e e′ m = rw (m ∙ (λ i. e i +ℤ e′ i)) (omega (arith, add-within (Σℤ 12 f) (Σℤ 12 g) (sum-size f h) (sum-size g k)))
+pub two-sums : (f g : ℕ → ℤ) {x y s : ℤ} → ((k : ℕ) → k < intervals → Small (f k)) → ((k : ℕ) → k < intervals → Small (g k)) → x ≡ Σℤ intervals f → y ≡ Σℤ intervals g → s ≡ x +ℤ y → Moderate s
+two-sums f g h k e e′ m = rw (m ∙ (λ i. e i +ℤ e′ i)) (omega (arith, add-within (Σℤ intervals f) (Σℤ intervals g) (sum-size f h) (sum-size g k)))
 
-pub hour-is : (h : UnitHour) (ps : List Price) {x y z w s t n : ℤ} → x ≡ Σℤ 12 (C1 h ps) → y ≡ Σℤ 12 (C2 h ps) → z ≡ Σℤ 12 (C3 h ps) → w ≡ Σℤ 12 (C4 h ps)
+pub hour-is : (h : UnitHour) (ps : List Price) {x y z w s t n : ℤ} → x ≡ Σℤ intervals (C1 h ps) → y ≡ Σℤ intervals (C2 h ps) → z ≡ Σℤ intervals (C3 h ps) → w ≡ Σℤ intervals (C4 h ps)
     → s ≡ x +ℤ y → t ≡ z +ℤ w → n ≡ s -ℤ t → n ≡ hourAmount h ps
 unfolding hourAmount interval
 hour-is h ps a b c d e f g =
-    g ∙ (λ i. e i -ℤ f i) ∙ (λ i. (a i +ℤ b i) -ℤ (c i +ℤ d i)) ∙ (λ i. sym (Σℤ-add 12 (C1 h ps) (C2 h ps)) i -ℤ sym (Σℤ-add 12 (C3 h ps) (C4 h ps)) i)
-    ∙ sym (Σℤ-sub 12 (λ k. C1 h ps k +ℤ C2 h ps k) (λ k. C3 h ps k +ℤ C4 h ps k))
-    ∙ Σℤ-ext 12 (λ k. (C1 h ps k +ℤ C2 h ps k) -ℤ (C3 h ps k +ℤ C4 h ps k)) (interval h ps) (λ k l. parts (C1 h ps k) (C2 h ps k) (C3 h ps k) (C4 h ps k))
+    g ∙ (λ i. e i -ℤ f i) ∙ (λ i. (a i +ℤ b i) -ℤ (c i +ℤ d i)) ∙ (λ i. sym (Σℤ-add intervals (C1 h ps) (C2 h ps)) i -ℤ sym (Σℤ-add intervals (C3 h ps) (C4 h ps)) i)
+    ∙ sym (Σℤ-sub intervals (λ k. C1 h ps k +ℤ C2 h ps k) (λ k. C3 h ps k +ℤ C4 h ps k))
+    ∙ Σℤ-ext intervals (λ k. (C1 h ps k +ℤ C2 h ps k) -ℤ (C3 h ps k +ℤ C4 h ps k)) (interval h ps) (λ k l. parts (C1 h ps k) (C2 h ps k) (C3 h ps k) (C4 h ps k))
 
 -- ---- what the checks tell
 module _ (s : Reserve) (e : reserveFault s ≡ 0) where
@@ -433,7 +432,7 @@ module _ (s : Reserve) (e : reserveFault s ≡ 0) where
       go true false p q = g (good-of (s .offer) q)
       go false b p q = g (good-of (s .offer) q)
 
-  list-most : s .offer .count ≤ 20
+  list-most : s .offer .count ≤ maxPairs
   list-most = by-list (λ z. omega arith) (λ g. g .most)
 
   usable-of : reserveNumbersOk s ≡ true → withinOk (s .schedules) (lastQ (s .offer)) ≡ true → Usable s
@@ -511,11 +510,11 @@ startup-of : (h : UnitHour) (ps : List Price) → unitFault h ps ≡ 0 → h .st
 unfolding unitFault numbersFine
 startup-of h ps e = leb-true _ _ (and-true (leb (h .startup .0) maxCents) _ (passes (numbersFine h) 4 _ (passes (pricesOk ps) 4 _ e .1) .0) .0)
 
-pub interval-of : (h : UnitHour) (ps : List Price) (k : ℕ) → intervalFault h ps k ≡ 0 → UnitReady h ps × (k < 12)
+pub interval-of : (h : UnitHour) (ps : List Price) (k : ℕ) → intervalFault h ps k ≡ 0 → UnitReady h ps × (k < intervals)
 unfolding intervalFault
 interval-of h ps k e =
-    let a = neither (unitFault h ps) (unless (ltb k 12) 5 0) e in
-    (unit-of h ps (a .0), ltb-true _ _ (passes (ltb k 12) 4 0 (a .1) .0))
+    let a = neither (unitFault h ps) (unless (ltb k intervals) 5 0) e in
+    (unit-of h ps (a .0), ltb-true _ _ (passes (ltb k intervals) 4 0 (a .1) .0))
 
 -- ---- and the other way: parts in order pass
 pub reserve-full : (s : Reserve) → offerFault (s .offer) ≡ 0 → reserveFault s ≡ 0
@@ -583,32 +582,32 @@ hour-taken h ps e = amount-ok (record { 0 = hourAmount h ps }) (h .startup) (hou
 pub day-of : (ts : List Ticks) (ss : List CentsPerStart) → hoursOk ts ss ≡ true → DayReady ts ss
 unfolding hoursOk
 day-of ts ss e =
-    let at : (i : ℕ) → i < 24 → (natAbs (getD ts i noTicks .0) ≤ 100000000000000) × (getD ss i noStart .0 ≤ 100000000)
-    = λ i l. amount-in (getD ts i noTicks) (getD ss i noStart) (every-at 24 (λ i. amountOk (getD ts i noTicks) (getD ss i noStart)) e i l) in
+    let at : (i : ℕ) → i < dayHours → (natAbs (getD ts i noTicks .0) ≤ 100000000000000) × (getD ss i noStart .0 ≤ 100000000)
+    = λ i l. amount-in (getD ts i noTicks) (getD ss i noStart) (every-at dayHours (λ i. amountOk (getD ts i noTicks) (getD ss i noStart)) e i l) in
     record { amounts = λ i l. at i l .0; starts = λ i l. at i l .1 }
 
 module _ {ts : List Ticks} {ss : List CentsPerStart} (ready : DayReady ts ss) where
-  part-size : (j : ℕ) → j < 24 → natAbs (hourPart ts ss j) ≤ 100012000000000
+  part-size : (j : ℕ) → j < dayHours → natAbs (hourPart ts ss j) ≤ 100012000000000
   part-size j l = add-within (getD ts j noTicks .0) (pos (getD ss j noStart .0 * 120)) {B = 12000000000} (ready .amounts j l) (omega (arith, ready .starts j l))
 
-  pub day-room : {sum : ℤ} {i : ℕ} → Summed 24 (hourPart ts ss) sum i → Moderate sum
+  pub day-room : {sum : ℤ} {i : ℕ} → Summed dayHours (hourPart ts ss) sum i → Moderate sum
   day-room {i = i} u = rw (u .so-far) (omega (arith, u .upto, Σℤ-within 100012000000000 i (hourPart ts ss) (λ j m. part-size j (omega (arith, u .upto)))))
 
-  pub start-room : (i : ℕ) → i < 24 → {x : ℤ} → x ≡ pos (getD ss i noStart .0 * 120) → Moderate x
+  pub start-room : (i : ℕ) → i < dayHours → {x : ℤ} → x ≡ pos (getD ss i noStart .0 * 120) → Moderate x
   start-room i l e = rw e (omega (arith, ready .starts i l))
 
   -- what the calls of a turn returned: the start-up's ticks, and the hour's part
-  module _ (i : ℕ) (l : i < 24) {x p : ℤ} (e : x ≡ pos (getD ss i noStart .0 * 120)) (f : p ≡ getD ts i noTicks .0 +ℤ x) where
+  module _ (i : ℕ) (l : i < dayHours) {x p : ℤ} (e : x ≡ pos (getD ss i noStart .0 * 120)) (f : p ≡ getD ts i noTicks .0 +ℤ x) where
     pub part-is : p ≡ hourPart ts ss i
     part-is = f ∙ ap (λ (z : ℤ). getD ts i noTicks .0 +ℤ z) e
 
     pub part-room : Moderate p
     part-room = rw part-is (omega (arith, part-size i l))
 
-pub day-amount : (ts : List Ticks) (ss : List CentsPerStart) → ((i : ℕ) → i < 24 → amountOk (getD ts i noTicks) (getD ss i noStart) ≡ true)
+pub day-amount : (ts : List Ticks) (ss : List CentsPerStart) → ((i : ℕ) → i < dayHours → amountOk (getD ts i noTicks) (getD ss i noStart) ≡ true)
     → dayAnswer ts ss ≡ Day (record { 0 = daySum ts ss }) (record { 0 = reversal (daySum ts ss) })
 unfolding dayAnswer hoursOk
-day-amount ts ss h = rw (every-yes 24 (λ i. amountOk (getD ts i noTicks) (getD ss i noStart)) h)
+day-amount ts ss h = rw (every-yes dayHours (λ i. amountOk (getD ts i noTicks) (getD ss i noStart)) h)
 
 -- the reversal as code has it, -min(0, total)
 pub reversal-is : {s t r : ℤ} → t ≡ s → r ≡ negℤ (minℤ (pos 0) t) → r ≡ reversal s
@@ -635,6 +634,6 @@ module _ (d u s t v : ℕ) where
   )
 
 -- a day's sum, hour by hour
-pub day-sum : (ts : List Ticks) (ss : List CentsPerStart) → daySum ts ss ≡ Σℤ 24 (hourPart ts ss)
+pub day-sum : (ts : List Ticks) (ss : List CentsPerStart) → daySum ts ss ≡ Σℤ dayHours (hourPart ts ss)
 unfolding daySum
 day-sum ts ss = refl

@@ -19,15 +19,19 @@ use Rattle.laws.specs.Sums.{every, every-yes, every-at, and-true, orElse, last-
 use Rattle.money.specs.declared.units.Price.{Price}
 use Rattle.money.specs.declared.units.Quantity.{Quantity}
 use Rattle.money.specs.declared.units.Answer.the-variants.{Amount, Refused}
-use Rattle.money.specs.Units.{minPrice, maxPrice, noPrice, noQuantity, priceOk, quantityOk, priceAt, quantityAt, rowOf, pricesOk, quantitiesOk, withinOk, sameℤ, unless, answer, centsOf}
+use Rattle.money.specs.Units.{intervals, minPrice, maxPrice, noPrice, noQuantity, priceOk, quantityOk, priceAt, quantityAt, rowOf, pricesOk, quantitiesOk, withinOk, sameℤ, unless, answer, centsOf}
 
 -- an amount that any sum or difference of two such still holds in 64 bits
 abbrev pub Moderate : ℤ → Type 0
 Moderate z = natAbs z ≤ 100000000000000000
 
+-- a sum of quantities that a quantity's 32 bits hold
+abbrev pub Fits : ℕ → Type 0
+Fits n = n ≤ 4294967295
+
 -- twelve prices in range
 abbrev pub Rates : List Price → Type 0
-Rates ps = (k : ℕ) → k < 12 → natAbs (priceAt ps k) ≤ 200000
+Rates ps = (k : ℕ) → k < intervals → natAbs (priceAt ps k) ≤ 200000
 
 -- what owning an array of structs tells of its list
 pub unmapped : {X Y : Type 0} (f : X → Y) (l : List X) (n : ℕ) → length (map f l) ≡ n → length l ≡ n
@@ -44,27 +48,27 @@ price-in p e =
 
 pub prices-of : (ps : List Price) → pricesOk ps ≡ true → Rates ps
 unfolding pricesOk
-prices-of ps h = λ k l. price-in (getD ps k noPrice) (every-at 12 (λ k. priceOk (getD ps k noPrice)) h k l)
+prices-of ps h = λ k l. price-in (getD ps k noPrice) (every-at intervals (λ k. priceOk (getD ps k noPrice)) h k l)
 
-pub prices-all : (ps : List Price) → ((k : ℕ) → k < 12 → priceOk (getD ps k noPrice) ≡ true) → pricesOk ps ≡ true
+pub prices-all : (ps : List Price) → ((k : ℕ) → k < intervals → priceOk (getD ps k noPrice) ≡ true) → pricesOk ps ≡ true
 unfolding pricesOk
-prices-all ps h = every-yes 12 (λ k. priceOk (getD ps k noPrice)) h
+prices-all ps h = every-yes intervals (λ k. priceOk (getD ps k noPrice)) h
 
-pub quantities-all : (qs : List Quantity) → ((k : ℕ) → k < 12 → quantityOk (getD qs k noQuantity) ≡ true) → quantitiesOk qs ≡ true
+pub quantities-all : (qs : List Quantity) → ((k : ℕ) → k < intervals → quantityOk (getD qs k noQuantity) ≡ true) → quantitiesOk qs ≡ true
 unfolding quantitiesOk
-quantities-all qs h = every-yes 12 (λ k. quantityOk (getD qs k noQuantity)) h
+quantities-all qs h = every-yes intervals (λ k. quantityOk (getD qs k noQuantity)) h
 
-pub within-every : (qs : List Quantity) (last : ℕ) → withinOk qs last ≡ every 12 (λ k. leb (quantityAt qs k) last)
+pub within-every : (qs : List Quantity) (last : ℕ) → withinOk qs last ≡ every intervals (λ k. leb (quantityAt qs k) last)
 unfolding withinOk
 within-every qs last = refl
 
-pub within-at : (qs : List Quantity) (last : ℕ) → withinOk qs last ≡ true → (k : ℕ) → k < 12 → quantityAt qs k ≤ last
+pub within-at : (qs : List Quantity) (last : ℕ) → withinOk qs last ≡ true → (k : ℕ) → k < intervals → quantityAt qs k ≤ last
 unfolding withinOk
-within-at qs last w k l = leb-true _ _ (every-at 12 (λ k. leb (quantityAt qs k) last) w k l)
+within-at qs last w k l = leb-true _ _ (every-at intervals (λ k. leb (quantityAt qs k) last) w k l)
 
-pub quantity-most : (qs : List Quantity) → quantitiesOk qs ≡ true → (k : ℕ) → k < 12 → quantityAt qs k ≤ 100000
+pub quantity-most : (qs : List Quantity) → quantitiesOk qs ≡ true → (k : ℕ) → k < intervals → quantityAt qs k ≤ 100000
 unfolding quantitiesOk
-quantity-most qs h k l = leb-true _ _ (every-at 12 (λ k. quantityOk (getD qs k noQuantity)) h k l)
+quantity-most qs h k l = leb-true _ _ (every-at intervals (λ k. quantityOk (getD qs k noQuantity)) h k l)
 
 pub passes : (b : Bool) (n r : ℕ) → unless b (suc n) r ≡ 0 → (b ≡ true) × (r ≡ 0)
 passes true n r e = (refl, e)
@@ -183,14 +187,14 @@ zeros (suc n) (suc k) = zeros n k
 
 -- ---- a row of twelve quantities, filled from the front
 pub record Filled (row : List Quantity) (f : ℕ → ℕ) (k : ℕ) : Type 0 where
-  pub upto : k ≤ 12
-  pub long : length row ≡ 12
+  pub upto : k ≤ intervals
+  pub long : length row ≡ intervals
   pub so-far : (j : ℕ) → j < k → quantityAt row j ≡ f j
 
-pub filled-none : (row : List Quantity) (f : ℕ → ℕ) → length row ≡ 12 → Filled row f 0
+pub filled-none : (row : List Quantity) (f : ℕ → ℕ) → length row ≡ intervals → Filled row f 0
 filled-none row f h = record { upto = zero-le; long = h; so-far = λ j l. absurd (omega arith) }
 
-pub filled-more : {row : List Quantity} {f : ℕ → ℕ} {k : ℕ} {v : Quantity} → Filled row f k → k < 12 → v .0 ≡ f k → Filled (set row k v) f (k + 1)
+pub filled-more : {row : List Quantity} {f : ℕ → ℕ} {k : ℕ} {v : Quantity} → Filled row f k → k < intervals → v .0 ≡ f k → Filled (set row k v) f (k + 1)
 filled-more {row = row} {f = f} {k = k} {v = v} r l e = record {
   upto = omega arith;
   long = simp length-set (r .long);
@@ -231,10 +235,10 @@ pub row-same : (n : ℕ) (f g : ℕ → ℕ) → ((k : ℕ) → k < n → f k �
 row-same n f g h = same-from 0 n f g (λ k l. ap f (omega arith) ∙ h k l ∙ ap g (omega arith))
 
 -- a row that is filled to its end
-pub filled-all : {row : List Quantity} {f : ℕ → ℕ} {k : ℕ} → Filled row f k → 12 ≤ k → row ≡ rowOf 0 12 f
-filled-all {row = row} {f = f} r h = built-from 0 12 f row (r .long) (λ j l. r .so-far j (omega arith) ∙ ap f (omega arith))
+pub filled-all : {row : List Quantity} {f : ℕ → ℕ} {k : ℕ} → Filled row f k → intervals ≤ k → row ≡ rowOf 0 intervals f
+filled-all {row = row} {f = f} r h = built-from 0 intervals f row (r .long) (λ j l. r .so-far j (omega arith) ∙ ap f (omega arith))
 
 -- nothing in twelve intervals
-pub row-none : replicate 12 noQuantity ≡ rowOf 0 12 (λ (k : ℕ). 0)
+pub row-none : replicate intervals noQuantity ≡ rowOf 0 intervals (λ (k : ℕ). 0)
 unfolding rowOf
 row-none = refl

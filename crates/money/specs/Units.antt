@@ -19,6 +19,14 @@ use Rattle.money.specs.declared.units.PriceRead.the-variants as priceRea
 use Rattle.money.specs.declared.units.QuantityRead.{QuantityRead}
 use Rattle.money.specs.declared.units.QuantityRead.the-variants as quantityRead-variants
 
+-- "sum of OP over 12 intervals": those of an hour
+abbrev pub intervals : ℕ
+intervals = 12
+
+-- "one participant, 24 hours": those of a trading day
+abbrev pub dayHours : ℕ
+dayHours = 24
+
 -- "Price: whole cents per MWh, -200,000 to 200,000"
 abbrev pub minPrice : ℤ
 minPrice = negsuc 199999
@@ -28,6 +36,10 @@ maxPrice = pos 200000
 
 abbrev pub priceOk : Price → Bool
 priceOk p = leZ minPrice (p .0) && leZ (p .0) maxPrice
+
+-- the most that two prices "-200,000 to 200,000" are apart
+abbrev pub maxGap : ℕ
+maxGap = 400000
 
 -- "Quantity: tenths of a MW, 0 to 100,000"
 abbrev pub maxQuantity : ℕ
@@ -67,14 +79,14 @@ rowOf i zero f = []
 rowOf i (suc n) f = record { 0 = f i } ∷ rowOf (i + 1) n f
 
 unfoldable pub pricesOk : List Price → Bool
-pricesOk ps = every 12 (λ k. priceOk (getD ps k noPrice))
+pricesOk ps = every intervals (λ k. priceOk (getD ps k noPrice))
 
 unfoldable pub quantitiesOk : List Quantity → Bool
-quantitiesOk qs = every 12 (λ k. quantityOk (getD qs k noQuantity))
+quantitiesOk qs = every intervals (λ k. quantityOk (getD qs k noQuantity))
 
 -- no quantity lies beyond the last of a list
 unfoldable pub withinOk : List Quantity → ℕ → Bool
-withinOk qs last = every 12 (λ k. leb (quantityAt qs k) last)
+withinOk qs last = every intervals (λ k. leb (quantityAt qs k) last)
 
 abbrev pub sameℤ : ℤ → ℤ → Bool
 sameℤ x y = leZ x y && leZ y x

@@ -2,45 +2,46 @@ ghost use mathlib.Core.Path.{_≡_};
 ghost use Prim.Native.Nat.{ℕ, _≤_, _-_};
 ghost use lib.IntN.{ℤ, pos, natAbs, _-ℤ_, _*ℤ_};
 ghost use Rattle.laws.specs.Ints.{minℤ, maxℤ};
+ghost use Rattle.money.specs.Units.{maxGap};
 ghost use Rattle.money.specs.Failure.{dev, charge, failureOk, importChargeAnswer, exportChargeAnswer};
 use crate::refusals::OUT_OF_RANGE;
 use crate::units::Answer;
 use crate::units::Price;
+use crate::units::PriceGap;
 use crate::units::Quantity;
 use crate::units::Ticks;
 
-// A failed import or export of an hour: the quantities scheduled day-ahead and in pre-dispatch, and the prices
-// offered or bid day-ahead and later, in pre-dispatch.
+// A failed import or export of an hour: the quantities scheduled, and the prices offered or bid, day-ahead and in pre-dispatch.
 pub struct Failure {
-    pub scheduled: Quantity,
-    pub predispatch: Quantity,
-    pub ahead: Price,
-    pub later: Price,
+    pub day_ahead_quantity: Quantity,
+    pub pre_dispatch_quantity: Quantity,
+    pub day_ahead_price: Price,
+    pub pre_dispatch_price: Price,
 }
 
 // max(0, day-ahead - pre-dispatch)
 fn dev_of(f: Failure) -> Quantity
     ensures { λ r. ⌜ r .0 ≡ dev f ⌝ }
 {
-    let scheduled = f.scheduled;
-    let predispatch = f.predispatch;
-    scheduled.above(predispatch)
+    let day_ahead = f.day_ahead_quantity;
+    let pre_dispatch = f.pre_dispatch_quantity;
+    day_ahead.above(pre_dispatch)
 }
 
-// max(0, high - low): a difference of prices, which a price's own limits do not bind.
-fn gap(high: Price, low: Price) -> Price
+// max(0, high - low)
+fn gap(high: Price, low: Price) -> PriceGap
     requires { ⌜ natAbs (high .0) ≤ 200000 ⌝ ∗ ⌜ natAbs (low .0) ≤ 200000 ⌝ }
     ensures { λ r. ⌜ r .0 ≡ maxℤ (pos 0) (high .0 -ℤ low .0) ⌝ }
 {
     if high.0 < low.0 {
-        return Price(0);
+        return PriceGap(0);
     }
-    Price(high.0 - low.0)
+    PriceGap(high.0 - low.0)
 }
 
 // The lesser of two gaps, for a quantity over a whole hour.
-fn charge_of(a: Price, b: Price, dev: Quantity) -> Ticks
-    requires { ⌜ natAbs (a .0) ≤ 400000 ⌝ ∗ ⌜ natAbs (b .0) ≤ 400000 ⌝ ∗ ⌜ dev .0 ≤ 100000 ⌝ }
+fn charge_of(a: PriceGap, b: PriceGap, dev: Quantity) -> Ticks
+    requires { ⌜ natAbs (a .0) ≤ maxGap ⌝ ∗ ⌜ natAbs (b .0) ≤ maxGap ⌝ ∗ ⌜ dev .0 ≤ 100000 ⌝ }
     ensures { λ r. ⌜ r .0 ≡ minℤ (a .0) (b .0) *ℤ pos (dev .0) *ℤ pos 12 ⌝ }
 {
     a.lesser(b).for_an_hour(dev)
@@ -49,23 +50,23 @@ fn charge_of(a: Price, b: Price, dev: Quantity) -> Ticks
 fn failure_ok(f: Failure, pd: Price) -> bool
     ensures { λ r. ⌜ r ≡ failureOk f pd ⌝ }
 {
-    let scheduled = f.scheduled;
-    let predispatch = f.predispatch;
-    let ahead = f.ahead;
-    let later = f.later;
+    let day_ahead_quantity = f.day_ahead_quantity;
+    let pre_dispatch_quantity = f.pre_dispatch_quantity;
+    let day_ahead_price = f.day_ahead_price;
+    let pre_dispatch_price = f.pre_dispatch_price;
     if !pd.in_range() {
         return false;
     }
-    if !scheduled.in_range() {
+    if !day_ahead_quantity.in_range() {
         return false;
     }
-    if !predispatch.in_range() {
+    if !pre_dispatch_quantity.in_range() {
         return false;
     }
-    if !ahead.in_range() {
+    if !day_ahead_price.in_range() {
         return false;
     }
-    later.in_range()
+    pre_dispatch_price.in_range()
 }
 
 // The charge for a failed import at the hour's pre-dispatch price, or the number of the refusal.
@@ -75,9 +76,9 @@ pub fn import_charge(f: Failure, pd: Price) -> Answer
     if !failure_ok(f, pd) {
         return Answer::Refused(OUT_OF_RANGE);
     }
-    let ahead = f.ahead;
-    let later = f.later;
-    Answer::Amount(charge_of(gap(pd, ahead), gap(later, ahead), dev_of(f)))
+    let day_ahead = f.day_ahead_price;
+    let pre_dispatch = f.pre_dispatch_price;
+    Answer::Amount(charge_of(gap(pd, day_ahead), gap(pre_dispatch, day_ahead), dev_of(f)))
 }
 
 // The charge for a failed export at the hour's pre-dispatch price, or the number of the refusal.
@@ -87,7 +88,7 @@ pub fn export_charge(f: Failure, pd: Price) -> Answer
     if !failure_ok(f, pd) {
         return Answer::Refused(OUT_OF_RANGE);
     }
-    let ahead = f.ahead;
-    let later = f.later;
-    Answer::Amount(charge_of(gap(ahead, pd), gap(ahead, later), dev_of(f)))
+    let day_ahead = f.day_ahead_price;
+    let pre_dispatch = f.pre_dispatch_price;
+    Answer::Amount(charge_of(gap(day_ahead, pd), gap(day_ahead, pre_dispatch), dev_of(f)))
 }

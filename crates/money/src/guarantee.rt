@@ -9,6 +9,7 @@ use crate::offers::offer_fault;
 use crate::refusals::BEYOND_LIST;
 use crate::refusals::OUT_OF_RANGE;
 use crate::units::Answer;
+use crate::units::INTERVALS;
 use crate::units::Price;
 use crate::units::Quantity;
 use crate::units::Ticks;
@@ -17,14 +18,14 @@ use crate::units::quantities_ok;
 use crate::units::within_ok;
 
 // The profits of twelve intervals. The walk over the pairs stops at the first one that reaches the quantity; what the pairs before it cost is known.
-pub(crate) fn profit_sum(o: Offer, prices: [Price; 12], qs: [Quantity; 12]) -> Ticks
+pub(crate) fn profit_sum(o: Offer, prices: [Price; INTERVALS], qs: [Quantity; INTERVALS]) -> Ticks
     requires { ⌜ Ready o prices (quantityAt qs) ⌝ }
     ensures { λ r. ⌜ r .0 ≡ profits o prices (quantityAt qs) ⌝ }
 {
     let costs = costs_before(o);
     let mut sum = Ticks(0);
     let mut k: usize = 0;
-    'intervals: while k < 12 {
+    'intervals: while k < INTERVALS {
         let q = qs[k];
         let emp = prices[k];
         let mut last = Quantity(0);
@@ -34,18 +35,18 @@ pub(crate) fn profit_sum(o: Offer, prices: [Price; 12], qs: [Quantity; 12]) -> T
             if q.0 <= w.0 {
                 let p = o.prices[i];
                 let before = costs[i];
-                break before.plus(p.times(last, q));
+                break before.plus(p.between(last, q));
             }
             last = w;
             i = i + 1;
         };
-        sum = sum.plus(emp.times(Quantity(0), q).minus(cost));
+        sum = sum.plus(emp.for_quantity(q).minus(cost));
         k = k + 1;
     }
     sum
 }
 
-pub(crate) fn credit_of(o: Offer, prices: [Price; 12], qs: [Quantity; 12]) -> Ticks
+pub(crate) fn credit_of(o: Offer, prices: [Price; INTERVALS], qs: [Quantity; INTERVALS]) -> Ticks
     requires { ⌜ Ready o prices (quantityAt qs) ⌝ }
     ensures { λ r. ⌜ r .0 ≡ credit o prices (quantityAt qs) ⌝ }
 {
@@ -53,7 +54,7 @@ pub(crate) fn credit_of(o: Offer, prices: [Price; 12], qs: [Quantity; 12]) -> Ti
 }
 
 // An import's credit for an hour, or the number of the refusal.
-pub fn hour_credit(o: Offer, prices: [Price; 12], qs: [Quantity; 12]) -> Answer
+pub fn hour_credit(o: Offer, prices: [Price; INTERVALS], qs: [Quantity; INTERVALS]) -> Answer
     ensures { λ r. ⌜ r ≡ creditAnswer o prices qs ⌝ }
 {
     if !prices_ok(prices) {

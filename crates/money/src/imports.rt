@@ -1,6 +1,6 @@
 ghost use mathlib.Core.Path.{_≡_};
 ghost use Prim.Native.Nat.{ℕ, _<_, _≤_};
-ghost use Rattle.money.specs.Offset.{precedes, upTo, entryFault, freshName, faultAt, listFault};
+ghost use Rattle.money.specs.Offset.{maxImports, precedes, upTo, entryFault, freshName, faultAt, listFault};
 ghost use Rattle.money.specs.UnitLaws.{Rates};
 use crate::guarantee::credit_of;
 use crate::names::Name;
@@ -14,17 +14,21 @@ use crate::refusals::BAD_NAME;
 use crate::refusals::BEYOND_LIST;
 use crate::refusals::KEY_STANDS;
 use crate::refusals::OUT_OF_RANGE;
+use crate::units::INTERVALS;
 use crate::units::Price;
 use crate::units::Quantity;
 use crate::units::Ticks;
 use crate::units::quantities_ok;
 use crate::units::within_ok;
 
+// The number of imports that an hour may have.
+pub const IMPORTS_MAX: usize = 16;
+
 // An hour's import, as the offset takes it.
 pub struct Import {
     pub name: Name,
     pub credit: Ticks,
-    pub quantities: [Quantity; 12],
+    pub quantities: [Quantity; INTERVALS],
     pub offer: Offer,
 }
 
@@ -58,7 +62,7 @@ pub(crate) fn up_to(a: Import, e: Import) -> bool
 }
 
 // What is wrong with an entry by itself: its number, or 0.
-fn entry_fault(e: Import, prices: [Price; 12]) -> u8
+fn entry_fault(e: Import, prices: [Price; INTERVALS]) -> u8
     requires { ⌜ Rates prices ⌝ }
     ensures { λ r. ⌜ r ≡ entryFault prices e ⌝ }
 {
@@ -86,8 +90,8 @@ fn entry_fault(e: Import, prices: [Price; 12]) -> u8
 }
 
 // No entry before i has its name.
-fn fresh(entries: [Import; 16], i: usize) -> bool
-    requires { ⌜ i < 16 ⌝ }
+fn fresh(entries: [Import; IMPORTS_MAX], i: usize) -> bool
+    requires { ⌜ i < maxImports ⌝ }
     ensures { λ r. ⌜ r ≡ freshName entries i ⌝ }
 {
     let e = entries[i];
@@ -104,8 +108,8 @@ fn fresh(entries: [Import; 16], i: usize) -> bool
     true
 }
 
-fn fault_at(entries: [Import; 16], prices: [Price; 12], i: usize) -> u8
-    requires { ⌜ Rates prices ⌝ ∗ ⌜ i < 16 ⌝ }
+fn fault_at(entries: [Import; IMPORTS_MAX], prices: [Price; INTERVALS], i: usize) -> u8
+    requires { ⌜ Rates prices ⌝ ∗ ⌜ i < maxImports ⌝ }
     ensures { λ r. ⌜ r ≡ faultAt prices entries i ⌝ }
 {
     let e = entries[i];
@@ -120,8 +124,8 @@ fn fault_at(entries: [Import; 16], prices: [Price; 12], i: usize) -> u8
 }
 
 // The first fault of the first n entries.
-pub(crate) fn list_fault(n: usize, entries: [Import; 16], prices: [Price; 12]) -> u8
-    requires { ⌜ n ≤ 16 ⌝ ∗ ⌜ Rates prices ⌝ }
+pub(crate) fn list_fault(n: usize, entries: [Import; IMPORTS_MAX], prices: [Price; INTERVALS]) -> u8
+    requires { ⌜ n ≤ maxImports ⌝ ∗ ⌜ Rates prices ⌝ }
     ensures { λ r. ⌜ r ≡ listFault n prices entries ⌝ }
 {
     let mut i: usize = 0;

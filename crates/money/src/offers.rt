@@ -3,7 +3,7 @@ ghost use Prim.Native.Nat.{ℕ, _≤_, _<_};
 ghost use mathlib.Core.Bool.{_&&_};
 ghost use Rattle.money.specs.Units.{priceOk, quantityOk};
 ghost use Rattle.laws.specs.Sums.{Σℤ};
-ghost use Rattle.money.specs.Offers.{numbersOk, rises, orderOk, offerFault, lastQ, piece, cost, costAnswer};
+ghost use Rattle.money.specs.Offers.{maxPairs, numbersOk, rises, orderOk, offerFault, lastQ, piece, cost, costAnswer};
 ghost use Rattle.money.specs.OfferLaws.{Good, ticksAt};
 use crate::refusals::BAD_LIST;
 use crate::refusals::BEYOND_LIST;
@@ -13,11 +13,14 @@ use crate::units::Price;
 use crate::units::Quantity;
 use crate::units::Ticks;
 
+// The number of pairs that an offer may have.
+pub const PAIRS_MAX: usize = 20;
+
 // A count, and places for twenty pairs of a price and a quantity.
 pub struct Offer {
     pub count: u8,
-    pub prices: [Price; 20],
-    pub quantities: [Quantity; 20],
+    pub prices: [Price; PAIRS_MAX],
+    pub quantities: [Quantity; PAIRS_MAX],
 }
 
 fn pair_ok(p: Price, q: Quantity) -> bool
@@ -28,7 +31,7 @@ fn pair_ok(p: Price, q: Quantity) -> bool
 
 // The numbers of an offer's pairs are in range.
 fn numbers_ok(o: Offer) -> bool
-    requires { ⌜ o .count ≤ 20 ⌝ }
+    requires { ⌜ o .count ≤ maxPairs ⌝ }
     ensures { λ r. ⌜ r ≡ numbersOk o ⌝ }
 {
     let n = o.count as usize;
@@ -52,7 +55,7 @@ fn pair_rises(p: Price, next: Price, q: Quantity, other: Quantity) -> bool
 
 // P never falls, and Q rises strictly from above 0.
 fn order_ok(o: Offer) -> bool
-    requires { ⌜ 1 ≤ o .count ⌝ ∗ ⌜ o .count ≤ 20 ⌝ }
+    requires { ⌜ 1 ≤ o .count ⌝ ∗ ⌜ o .count ≤ maxPairs ⌝ }
     ensures { λ r. ⌜ r ≡ orderOk o ⌝ }
 {
     let n = o.count as usize;
@@ -78,10 +81,11 @@ fn order_ok(o: Offer) -> bool
 pub fn offer_fault(o: Offer) -> u8
     ensures { λ r. ⌜ r ≡ offerFault o ⌝ }
 {
-    if o.count < 1 {
+    let n = o.count as usize;
+    if n < 1 {
         return BAD_LIST;
     }
-    if 20 < o.count {
+    if PAIRS_MAX < n {
         return BAD_LIST;
     }
     if !numbers_ok(o) {
@@ -95,7 +99,7 @@ pub fn offer_fault(o: Offer) -> u8
 
 // The quantity of the last pair.
 pub(crate) fn last_of(o: Offer) -> Quantity
-    requires { ⌜ 1 ≤ o .count ⌝ ∗ ⌜ o .count ≤ 20 ⌝ }
+    requires { ⌜ 1 ≤ o .count ⌝ ∗ ⌜ o .count ≤ maxPairs ⌝ }
     ensures { λ r. ⌜ r .0 ≡ lastQ o ⌝ }
 {
     let n = o.count as usize;
@@ -114,9 +118,9 @@ pub(crate) fn cost_of(o: Offer, q: Quantity) -> Ticks
         let p = o.prices[i];
         let w = o.quantities[i];
         if q.0 <= w.0 {
-            break acc.plus(p.times(last, q));
+            break acc.plus(p.between(last, q));
         }
-        acc = acc.plus(p.times(last, w));
+        acc = acc.plus(p.between(last, w));
         last = w;
         i = i + 1;
     };
@@ -124,12 +128,12 @@ pub(crate) fn cost_of(o: Offer, q: Quantity) -> Ticks
 }
 
 // For each pair, what the pairs before it cost together.
-pub(crate) fn costs_before(o: Offer) -> [Ticks; 20]
+pub(crate) fn costs_before(o: Offer) -> [Ticks; PAIRS_MAX]
     requires { ⌜ Good o ⌝ }
     ensures { λ r. ⌜ ((i : ℕ) → i < o .count → ticksAt r i ≡ Σℤ i (piece o)) ⌝ }
 {
     let n = o.count as usize;
-    let mut costs = [Ticks(0); 20];
+    let mut costs = [Ticks(0); PAIRS_MAX];
     let mut acc = Ticks(0);
     let mut last = Quantity(0);
     let mut i: usize = 0;
@@ -137,7 +141,7 @@ pub(crate) fn costs_before(o: Offer) -> [Ticks; 20]
         costs[i] = acc;
         let p = o.prices[i];
         let w = o.quantities[i];
-        acc = acc.plus(p.times(last, w));
+        acc = acc.plus(p.between(last, w));
         last = w;
         i = i + 1;
     }

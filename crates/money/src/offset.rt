@@ -3,20 +3,23 @@ ghost use Prim.Native.Nat.{ℕ, _<_, _≤_, _+_, _-_, min};
 ghost use mathlib.Core.Bool.{_&&_};
 ghost use lib.Dec.{leb};
 ghost use lib.ListN.{length};
-ghost use Rattle.money.specs.Units.{priceOk, quantityAt};
-ghost use Rattle.money.specs.Offset.{mqsi, counted, reach, adj, offset, totalOk, totalsWith, ratesOk, offsetAnswer};
-ghost use Rattle.money.specs.UnitLaws.{Rates};
+ghost use Rattle.money.specs.Units.{intervals, priceOk, quantityAt};
+ghost use Rattle.money.specs.Offset.{maxTotal, mqsi, counted, reach, adj, offset, totalOk, totalsWith, ratesOk, offsetAnswer};
+ghost use Rattle.money.specs.UnitLaws.{Fits, Rates};
 ghost use Rattle.money.specs.OffsetLaws.{Listed};
 ghost use Rattle.money.specs.LentLaws.{startOf, addOf, finishOf};
 use crate::guarantee::credit_of;
+use crate::imports::IMPORTS_MAX;
 use crate::imports::Import;
 use crate::imports::list_fault;
 use crate::imports::up_to;
 use crate::names::Name;
 use crate::offers::Offer;
+use crate::offers::PAIRS_MAX;
 use crate::refusals::HOUR_FULL;
 use crate::refusals::OUT_OF_RANGE;
 use crate::units::Answer;
+use crate::units::INTERVALS;
 use crate::units::Price;
 use crate::units::Quantity;
 use crate::units::Ticks;
@@ -26,7 +29,7 @@ pub const TOTAL_MAX: Quantity = Quantity(1600000);
 
 // A total with one quantity more, no further than TOTAL_MAX + 1.
 fn total_with(total: Quantity, more: Quantity) -> Quantity
-    ensures { λ r. ⌜ r .0 ≡ min (total .0 + more .0) 1600001 ⌝ }
+    ensures { λ r. ⌜ r .0 ≡ min (total .0 + more .0) (maxTotal + 1) ⌝ }
 {
     if TOTAL_MAX.0 < total.0 {
         return Quantity(TOTAL_MAX.0 + 1);
@@ -38,12 +41,15 @@ fn total_with(total: Quantity, more: Quantity) -> Quantity
 }
 
 // Twelve totals, each with one quantity more. What would come to more than TOTAL_MAX is TOTAL_MAX + 1, which the offset refuses.
-pub fn totals_with(totals: [Quantity; 12], more: [Quantity; 12]) -> [Quantity; 12]
+pub fn totals_with(
+    totals: [Quantity; INTERVALS],
+    more: [Quantity; INTERVALS],
+) -> [Quantity; INTERVALS]
     ensures { λ r. ⌜ r ≡ totalsWith totals more ⌝ }
 {
-    let mut row = [Quantity(0); 12];
+    let mut row = [Quantity(0); INTERVALS];
     let mut k: usize = 0;
-    while k < 12 {
+    while k < INTERVALS {
         let a = totals[k];
         let b = more[k];
         row[k] = total_with(a, b);
@@ -52,25 +58,42 @@ pub fn totals_with(totals: [Quantity; 12], more: [Quantity; 12]) -> [Quantity; 1
     row
 }
 
-// The same with an import's quantities, if it precedes `e` or is `e`.
-fn counted_in(sums: [Quantity; 12], a: Import, e: Import) -> [Quantity; 12]
-    requires { ⌜ ((k : ℕ) → k < 12 → quantityAt sums k + mqsi a k ≤ 1600000) ⌝ }
-    ensures { λ r. ⌜ ((k : ℕ) → k < 12 → quantityAt r k ≡ quantityAt sums k + counted a e k) ⌝ }
+// Two rows of quantities, added up.
+fn row_sum(a: [Quantity; INTERVALS], b: [Quantity; INTERVALS]) -> [Quantity; INTERVALS]
+    requires { ⌜ ((k : ℕ) → k < intervals → Fits (quantityAt a k + quantityAt b k)) ⌝ }
+    ensures { λ r. ⌜ ((k : ℕ) → k < intervals → quantityAt r k ≡ quantityAt a k + quantityAt b k) ⌝ }
+{
+    let mut row = [Quantity(0); INTERVALS];
+    let mut k: usize = 0;
+    while k < INTERVALS {
+        let x = a[k];
+        let y = b[k];
+        let sum = x.0 + y.0;
+        row[k] = Quantity(sum);
+        k = k + 1;
+    }
+    row
+}
+
+// Sums with an import's quantities, if it precedes `e` or is `e`.
+fn counted_in(sums: [Quantity; INTERVALS], a: Import, e: Import) -> [Quantity; INTERVALS]
+    requires { ⌜ ((k : ℕ) → k < intervals → Fits (quantityAt sums k + mqsi a k)) ⌝ }
+    ensures { λ r. ⌜ ((k : ℕ) → k < intervals → quantityAt r k ≡ quantityAt sums k + counted a e k) ⌝ }
 {
     if up_to(a, e) {
         let more = a.quantities;
-        return totals_with(sums, more);
+        return row_sum(sums, more);
     }
     sums
 }
 
 // For twelve intervals, the sum of the quantities up to and including import i.
-fn reach_row(n: usize, entries: [Import; 16], i: usize) -> [Quantity; 12]
+fn reach_row(n: usize, entries: [Import; IMPORTS_MAX], i: usize) -> [Quantity; INTERVALS]
     requires { ⌜ Listed n entries ⌝ ∗ ⌜ i < n ⌝ }
-    ensures { λ r. ⌜ ((k : ℕ) → k < 12 → quantityAt r k ≡ reach n entries i k) ⌝ }
+    ensures { λ r. ⌜ ((k : ℕ) → k < intervals → quantityAt r k ≡ reach n entries i k) ⌝ }
 {
     let e = entries[i];
-    let mut sums = [Quantity(0); 12];
+    let mut sums = [Quantity(0); INTERVALS];
     let mut j: usize = 0;
     while j < n {
         let a = entries[j];
@@ -82,15 +105,20 @@ fn reach_row(n: usize, entries: [Import; 16], i: usize) -> [Quantity; 12]
 }
 
 // The twelve adjusted quantities of import i.
-fn adj_row(n: usize, entries: [Import; 16], totals: [Quantity; 12], i: usize) -> [Quantity; 12]
+fn adj_row(
+    n: usize,
+    entries: [Import; IMPORTS_MAX],
+    totals: [Quantity; INTERVALS],
+    i: usize,
+) -> [Quantity; INTERVALS]
     requires { ⌜ Listed n entries ⌝ ∗ ⌜ i < n ⌝ }
-    ensures { λ r. ⌜ ((k : ℕ) → k < 12 → quantityAt r k ≡ adj n entries totals i k) ⌝ }
+    ensures { λ r. ⌜ ((k : ℕ) → k < intervals → quantityAt r k ≡ adj n entries totals i k) ⌝ }
 {
     let e = entries[i];
     let reached = reach_row(n, entries, i);
-    let mut row = [Quantity(0); 12];
+    let mut row = [Quantity(0); INTERVALS];
     let mut k: usize = 0;
-    while k < 12 {
+    while k < INTERVALS {
         let q = e.quantities[k];
         let s = reached[k];
         let t = totals[k];
@@ -101,7 +129,12 @@ fn adj_row(n: usize, entries: [Import; 16], totals: [Quantity; 12], i: usize) ->
 }
 
 // The offset of a sound list.
-fn offset_of(n: usize, entries: [Import; 16], prices: [Price; 12], totals: [Quantity; 12]) -> Ticks
+fn offset_of(
+    n: usize,
+    entries: [Import; IMPORTS_MAX],
+    prices: [Price; INTERVALS],
+    totals: [Quantity; INTERVALS],
+) -> Ticks
     requires { ⌜ Listed n entries ⌝ ∗ ⌜ Rates prices ⌝ }
     ensures { λ r. ⌜ r .0 ≡ offset n entries prices totals ⌝ }
 {
@@ -124,11 +157,11 @@ fn rate_ok(p: Price, total: Quantity) -> bool
     p.in_range() && total.0 <= TOTAL_MAX.0
 }
 
-fn rates_ok(prices: [Price; 12], totals: [Quantity; 12]) -> bool
+fn rates_ok(prices: [Price; INTERVALS], totals: [Quantity; INTERVALS]) -> bool
     ensures { λ r. ⌜ r ≡ ratesOk prices totals ⌝ }
 {
     let mut k: usize = 0;
-    while k < 12 {
+    while k < INTERVALS {
         let p = prices[k];
         let t = totals[k];
         if !rate_ok(p, t) {
@@ -142,19 +175,19 @@ fn rates_ok(prices: [Price; 12], totals: [Quantity; 12]) -> bool
 // The offset of the first `count` entries, or the number of the refusal.
 pub fn offset_core(
     count: u8,
-    entries: [Import; 16],
-    prices: [Price; 12],
-    totals: [Quantity; 12],
+    entries: [Import; IMPORTS_MAX],
+    prices: [Price; INTERVALS],
+    totals: [Quantity; INTERVALS],
 ) -> Answer
     ensures { λ r. ⌜ r ≡ offsetAnswer count entries prices totals ⌝ }
 {
-    if 16 < count {
+    let n = count as usize;
+    if IMPORTS_MAX < n {
         return Answer::Refused(HOUR_FULL);
     }
     if !rates_ok(prices, totals) {
         return Answer::Refused(OUT_OF_RANGE);
     }
-    let n = count as usize;
     let f = list_fault(n, entries, prices);
     if f != 0 {
         return Answer::Refused(f);
@@ -165,18 +198,18 @@ pub fn offset_core(
 // The entries taken so far, beside the hour's prices and export totals.
 pub struct Taken {
     pub count: u8,
-    pub prices: [Price; 12],
-    pub totals: [Quantity; 12],
-    pub entries: [Import; 16],
+    pub prices: [Price; INTERVALS],
+    pub totals: [Quantity; INTERVALS],
+    pub entries: [Import; IMPORTS_MAX],
 }
 
-pub(crate) fn start(prices: [Price; 12], totals: [Quantity; 12]) -> Taken
+pub(crate) fn start(prices: [Price; INTERVALS], totals: [Quantity; INTERVALS]) -> Taken
     ensures { λ r. ⌜ r ≡ startOf prices totals ⌝ }
 {
     let offer = Offer {
         count: 0,
-        prices: [Price(0); 20],
-        quantities: [Quantity(0); 20],
+        prices: [Price(0); PAIRS_MAX],
+        quantities: [Quantity(0); PAIRS_MAX],
     };
     let name = Name {
         len: 0,
@@ -185,10 +218,10 @@ pub(crate) fn start(prices: [Price; 12], totals: [Quantity; 12]) -> Taken
     let none = Import {
         name: name,
         credit: Ticks(0),
-        quantities: [Quantity(0); 12],
+        quantities: [Quantity(0); INTERVALS],
         offer: offer,
     };
-    let entries = [none; 16];
+    let entries = [none; IMPORTS_MAX];
     Taken {
         count: 0,
         prices: prices,
@@ -197,17 +230,17 @@ pub(crate) fn start(prices: [Price; 12], totals: [Quantity; 12]) -> Taken
     }
 }
 
-// One entry more; a 17th is only counted.
+// One entry more; one that has no place is only counted.
 pub(crate) fn add(mut s: Taken, e: Import) -> Taken
     ensures { λ r. ⌜ r ≡ addOf s e ⌝ }
 {
     let n = s.count as usize;
-    if n < 16 {
+    if n < IMPORTS_MAX {
         s.entries[n] = e;
         s.count = s.count + 1;
         return s;
     }
-    s.count = 17;
+    s.count = IMPORTS_MAX as u8 + 1;
     s
 }
 
@@ -221,7 +254,11 @@ pub(crate) fn finish(s: Taken) -> Answer
 }
 
 // The offset of one hour's imports, a lent list of whole entries in any order. Each entry goes by value to the core above.
-pub fn offset(entries: &[Import], prices: [Price; 12], totals: [Quantity; 12]) -> Answer
+pub fn offset(
+    entries: &[Import],
+    prices: [Price; INTERVALS],
+    totals: [Quantity; INTERVALS],
+) -> Answer
     ensures { λ r. ⌜ r ≡ offsetAnswer (length (now (entries .entry))) (now (entries .entry)) prices totals ⌝ }
 {
     let mut t = start(prices, totals);

@@ -2,9 +2,9 @@ ghost use mathlib.Core.Path.{_≡_};
 ghost use Prim.Native.Nat.{ℕ, _<_, _≤_, min};
 ghost use lib.IntN.{natAbs};
 ghost use Rattle.laws.specs.Sums.{Σℤ};
-ghost use Rattle.money.specs.Units.{priceAt, quantityAt, withinOk};
+ghost use Rattle.money.specs.Units.{intervals, priceAt, quantityAt, withinOk};
 ghost use Rattle.money.specs.UnitLaws.{Moderate};
-ghost use Rattle.money.specs.Offers.{lastQ};
+ghost use Rattle.money.specs.Offers.{maxPairs, lastQ};
 ghost use Rattle.money.specs.OfferLaws.{Good};
 ghost use Rattle.money.specs.GuaranteeLaws.{Ready};
 ghost use Rattle.money.specs.Production.{component1, component2, component3, component4, reserveNet, S, C1, C2, C3, C4, hourAmount, reserveFault, reserveNumbersOk, reservesNumbersOk, numbersFine, listsFault, withinFine, unitFault, intervalFault, component1Answer, component2Answer, component3Answer, component4Answer, hourAnswer, amountOk, hoursOk, daySum, dayAnswer};
@@ -19,6 +19,8 @@ use crate::refusals::OUT_OF_RANGE;
 use crate::units::Answer;
 use crate::units::CentsPerHour;
 use crate::units::CentsPerStart;
+use crate::units::HOURS;
+use crate::units::INTERVALS;
 use crate::units::Price;
 use crate::units::Quantity;
 use crate::units::Ticks;
@@ -28,8 +30,8 @@ use crate::units::within_ok;
 
 // A kind of operating reserve in an hour: prices, unconstrained schedules, and the list offered, which may be empty.
 pub struct Reserve {
-    pub prices: [Price; 12],
-    pub schedules: [Quantity; 12],
+    pub prices: [Price; INTERVALS],
+    pub schedules: [Quantity; INTERVALS],
     pub offer: Offer,
 }
 
@@ -37,11 +39,11 @@ pub struct Reserve {
 pub struct UnitHour {
     pub startup: CentsPerStart,
     pub noload: CentsPerHour,
-    pub ahead: [Quantity; 12],
-    pub constrained: [Quantity; 12],
-    pub unconstrained: [Quantity; 12],
-    pub metered: [Quantity; 12],
-    pub capacity: [Quantity; 12],
+    pub ahead: [Quantity; INTERVALS],
+    pub constrained: [Quantity; INTERVALS],
+    pub unconstrained: [Quantity; INTERVALS],
+    pub metered: [Quantity; INTERVALS],
+    pub capacity: [Quantity; INTERVALS],
     pub spinning: Reserve,
     pub nonspinning: Reserve,
     pub thirty: Reserve,
@@ -80,7 +82,7 @@ fn component_1_of(
     ensures { λ x. ⌜ x .0 ≡ component1 da (emp .0) (noload .0) (d .0) (r .0) (a .0) ⌝ }
 {
     let m = d.lesser(r.lesser(a));
-    let loss = cost_of(da, m).minus(emp.times(Quantity(0), m));
+    let loss = cost_of(da, m).minus(emp.for_quantity(m));
     loss.plus(running_at(noload, m))
 }
 
@@ -103,14 +105,14 @@ fn component_3_of(rt: Offer, emp: Price, d: Quantity, r: Quantity, u: Quantity) 
 {
     let to = r.lesser(d);
     let from = u.lesser(d);
-    let spent = cost_of(rt, to).minus(emp.times(Quantity(0), to));
-    let saved = cost_of(rt, from).minus(emp.times(Quantity(0), from));
+    let spent = cost_of(rt, to).minus(emp.for_quantity(to));
+    let saved = cost_of(rt, from).minus(emp.for_quantity(from));
     spent.minus(saved)
 }
 
 // Price × q - cost(q) of one reserve in interval k; nothing for nothing, of an empty list too.
 fn reserve_net(s: Reserve, k: usize, q: Quantity) -> Ticks
-    requires { ⌜ Usable s ⌝ ∗ ⌜ k < 12 ⌝ ∗ ⌜ q .0 ≤ lastQ (s .offer) ⌝ }
+    requires { ⌜ Usable s ⌝ ∗ ⌜ k < intervals ⌝ ∗ ⌜ q .0 ≤ lastQ (s .offer) ⌝ }
     ensures { λ x. ⌜ x .0 ≡ reserveNet s k (q .0) ⌝ }
 {
     if q.0 < 1 {
@@ -118,7 +120,7 @@ fn reserve_net(s: Reserve, k: usize, q: Quantity) -> Ticks
     }
     let o = s.offer;
     let p = s.prices[k];
-    p.times(Quantity(0), q).minus(cost_of(o, q))
+    p.for_quantity(q).minus(cost_of(o, q))
 }
 
 // C4, of what is left of D above U for each reserve in turn.
@@ -130,7 +132,7 @@ fn component_4_of(
     d: Quantity,
     u: Quantity,
 ) -> Ticks
-    requires { ⌜ Usable r1 ⌝ ∗ ⌜ Usable r2 ⌝ ∗ ⌜ Usable r3 ⌝ ∗ ⌜ k < 12 ⌝ }
+    requires { ⌜ Usable r1 ⌝ ∗ ⌜ Usable r2 ⌝ ∗ ⌜ Usable r3 ⌝ ∗ ⌜ k < intervals ⌝ }
     ensures { λ x. ⌜ x .0 ≡ component4 r1 r2 r3 k (d .0) (u .0) ⌝ }
 {
     let s1 = r1.schedules[k];
@@ -147,8 +149,8 @@ fn component_4_of(
 
 // ---- the components of a checked hour's interval
 
-fn c1(h: UnitHour, prices: [Price; 12], k: usize) -> Ticks
-    requires { ⌜ UnitReady h prices ⌝ ∗ ⌜ k < 12 ⌝ }
+fn c1(h: UnitHour, prices: [Price; INTERVALS], k: usize) -> Ticks
+    requires { ⌜ UnitReady h prices ⌝ ∗ ⌜ k < intervals ⌝ }
     ensures { λ x. ⌜ x .0 ≡ C1 h prices k ⌝ }
 {
     let emp = prices[k];
@@ -159,8 +161,8 @@ fn c1(h: UnitHour, prices: [Price; 12], k: usize) -> Ticks
     component_1_of(da, emp, h.noload, d, r, a)
 }
 
-fn c2(h: UnitHour, prices: [Price; 12], k: usize) -> Ticks
-    requires { ⌜ UnitReady h prices ⌝ ∗ ⌜ k < 12 ⌝ }
+fn c2(h: UnitHour, prices: [Price; INTERVALS], k: usize) -> Ticks
+    requires { ⌜ UnitReady h prices ⌝ ∗ ⌜ k < intervals ⌝ }
     ensures { λ x. ⌜ x .0 ≡ C2 h prices k ⌝ }
 {
     let d = h.ahead[k];
@@ -172,8 +174,8 @@ fn c2(h: UnitHour, prices: [Price; 12], k: usize) -> Ticks
     component_2_of(da, rt, d, r, a, cap)
 }
 
-fn c3(h: UnitHour, prices: [Price; 12], k: usize) -> Ticks
-    requires { ⌜ UnitReady h prices ⌝ ∗ ⌜ k < 12 ⌝ }
+fn c3(h: UnitHour, prices: [Price; INTERVALS], k: usize) -> Ticks
+    requires { ⌜ UnitReady h prices ⌝ ∗ ⌜ k < intervals ⌝ }
     ensures { λ x. ⌜ x .0 ≡ C3 h prices k ⌝ }
 {
     let emp = prices[k];
@@ -184,8 +186,8 @@ fn c3(h: UnitHour, prices: [Price; 12], k: usize) -> Ticks
     component_3_of(rt, emp, d, r, u)
 }
 
-fn c4(h: UnitHour, prices: [Price; 12], k: usize) -> Ticks
-    requires { ⌜ UnitReady h prices ⌝ ∗ ⌜ k < 12 ⌝ }
+fn c4(h: UnitHour, prices: [Price; INTERVALS], k: usize) -> Ticks
+    requires { ⌜ UnitReady h prices ⌝ ∗ ⌜ k < intervals ⌝ }
     ensures { λ x. ⌜ x .0 ≡ C4 h prices k ⌝ }
 {
     let d = h.ahead[k];
@@ -215,12 +217,12 @@ fn picked(by: Pick, x: Quantity, y: Quantity) -> Quantity
     }
 }
 
-fn row_by(by: Pick, a: [Quantity; 12], b: [Quantity; 12]) -> [Quantity; 12]
-    ensures { λ r. ⌜ ((k : ℕ) → k < 12 → quantityAt r k ≡ pickOf by (quantityAt a k) (quantityAt b k)) ⌝ }
+fn row_by(by: Pick, a: [Quantity; INTERVALS], b: [Quantity; INTERVALS]) -> [Quantity; INTERVALS]
+    ensures { λ r. ⌜ ((k : ℕ) → k < intervals → quantityAt r k ≡ pickOf by (quantityAt a k) (quantityAt b k)) ⌝ }
 {
-    let mut row = [Quantity(0); 12];
+    let mut row = [Quantity(0); INTERVALS];
     let mut k: usize = 0;
-    while k < 12 {
+    while k < INTERVALS {
         let x = a[k];
         let y = b[k];
         row[k] = picked(by, x, y);
@@ -230,13 +232,13 @@ fn row_by(by: Pick, a: [Quantity; 12], b: [Quantity; 12]) -> [Quantity; 12]
 }
 
 // The speed no-load of the intervals in which something is delivered.
-fn noload_sum(noload: CentsPerHour, m: [Quantity; 12]) -> Ticks
+fn noload_sum(noload: CentsPerHour, m: [Quantity; INTERVALS]) -> Ticks
     requires { ⌜ noload .0 ≤ 100000000 ⌝ }
-    ensures { λ x. ⌜ x .0 ≡ Σℤ 12 (λ (k : ℕ). running (noload .0) (quantityAt m k)) ⌝ }
+    ensures { λ x. ⌜ x .0 ≡ Σℤ intervals (λ (k : ℕ). running (noload .0) (quantityAt m k)) ⌝ }
 {
     let mut sum = Ticks(0);
     let mut k: usize = 0;
-    while k < 12 {
+    while k < INTERVALS {
         let q = m[k];
         sum = sum.plus(running_at(noload, q));
         k = k + 1;
@@ -247,14 +249,14 @@ fn noload_sum(noload: CentsPerHour, m: [Quantity; 12]) -> Ticks
 // C1 of the twelve.
 fn sum_1(
     da: Offer,
-    prices: [Price; 12],
+    prices: [Price; INTERVALS],
     noload: CentsPerHour,
-    d: [Quantity; 12],
-    r: [Quantity; 12],
-    a: [Quantity; 12],
+    d: [Quantity; INTERVALS],
+    r: [Quantity; INTERVALS],
+    a: [Quantity; INTERVALS],
 ) -> Ticks
     requires { ⌜ Ready da prices (quantityAt d) ⌝ ∗ ⌜ noload .0 ≤ 100000000 ⌝ }
-    ensures { λ x. ⌜ x .0 ≡ Σℤ 12 (λ (k : ℕ). component1 da (priceAt prices k) (noload .0) (quantityAt d k) (quantityAt r k) (quantityAt a k)) ⌝ }
+    ensures { λ x. ⌜ x .0 ≡ Σℤ intervals (λ (k : ℕ). component1 da (priceAt prices k) (noload .0) (quantityAt d k) (quantityAt r k) (quantityAt a k)) ⌝ }
 {
     let ra = row_by(Pick::Lesser, r, a);
     let m = row_by(Pick::Lesser, d, ra);
@@ -265,14 +267,14 @@ fn sum_1(
 fn sum_2(
     da: Offer,
     rt: Offer,
-    prices: [Price; 12],
-    d: [Quantity; 12],
-    r: [Quantity; 12],
-    a: [Quantity; 12],
-    cap: [Quantity; 12],
+    prices: [Price; INTERVALS],
+    d: [Quantity; INTERVALS],
+    r: [Quantity; INTERVALS],
+    a: [Quantity; INTERVALS],
+    cap: [Quantity; INTERVALS],
 ) -> Ticks
     requires { ⌜ Ready da prices (quantityAt d) ⌝ ∗ ⌜ Ready rt prices (quantityAt d) ⌝ }
-    ensures { λ x. ⌜ x .0 ≡ Σℤ 12 (λ (k : ℕ). component2 da rt (quantityAt d k) (quantityAt r k) (quantityAt a k) (quantityAt cap k)) ⌝ }
+    ensures { λ x. ⌜ x .0 ≡ Σℤ intervals (λ (k : ℕ). component2 da rt (quantityAt d k) (quantityAt r k) (quantityAt a k) (quantityAt cap k)) ⌝ }
 {
     let to = row_by(Pick::Lesser, d, cap);
     let ra = row_by(Pick::Greater, r, a);
@@ -285,13 +287,13 @@ fn sum_2(
 // C3 of the twelve.
 fn sum_3(
     rt: Offer,
-    prices: [Price; 12],
-    d: [Quantity; 12],
-    r: [Quantity; 12],
-    u: [Quantity; 12],
+    prices: [Price; INTERVALS],
+    d: [Quantity; INTERVALS],
+    r: [Quantity; INTERVALS],
+    u: [Quantity; INTERVALS],
 ) -> Ticks
     requires { ⌜ Ready rt prices (quantityAt d) ⌝ }
-    ensures { λ x. ⌜ x .0 ≡ Σℤ 12 (λ (k : ℕ). component3 rt (priceAt prices k) (quantityAt d k) (quantityAt r k) (quantityAt u k)) ⌝ }
+    ensures { λ x. ⌜ x .0 ≡ Σℤ intervals (λ (k : ℕ). component3 rt (priceAt prices k) (quantityAt d k) (quantityAt r k) (quantityAt u k)) ⌝ }
 {
     let to = row_by(Pick::Lesser, r, d);
     let from = row_by(Pick::Lesser, u, d);
@@ -299,9 +301,9 @@ fn sum_3(
 }
 
 // Of one reserve in the twelve, of as much of its schedules as is left.
-fn reserve_sum(s: Reserve, left: [Quantity; 12]) -> Ticks
+fn reserve_sum(s: Reserve, left: [Quantity; INTERVALS]) -> Ticks
     requires { ⌜ Usable s ⌝ }
-    ensures { λ x. ⌜ x .0 ≡ Σℤ 12 (λ (k : ℕ). reserveNet s k (min (quantityAt left k) (S s k))) ⌝ }
+    ensures { λ x. ⌜ x .0 ≡ Σℤ intervals (λ (k : ℕ). reserveNet s k (min (quantityAt left k) (S s k))) ⌝ }
 {
     let o = s.offer;
     if o.count < 1 {
@@ -314,9 +316,15 @@ fn reserve_sum(s: Reserve, left: [Quantity; 12]) -> Ticks
 }
 
 // C4 of the twelve.
-fn sum_4(r1: Reserve, r2: Reserve, r3: Reserve, d: [Quantity; 12], u: [Quantity; 12]) -> Ticks
+fn sum_4(
+    r1: Reserve,
+    r2: Reserve,
+    r3: Reserve,
+    d: [Quantity; INTERVALS],
+    u: [Quantity; INTERVALS],
+) -> Ticks
     requires { ⌜ Usable r1 ⌝ ∗ ⌜ Usable r2 ⌝ ∗ ⌜ Usable r3 ⌝ }
-    ensures { λ x. ⌜ x .0 ≡ Σℤ 12 (λ (k : ℕ). component4 r1 r2 r3 k (quantityAt d k) (quantityAt u k)) ⌝ }
+    ensures { λ x. ⌜ x .0 ≡ Σℤ intervals (λ (k : ℕ). component4 r1 r2 r3 k (quantityAt d k) (quantityAt u k)) ⌝ }
 {
     let s1 = r1.schedules;
     let s2 = r2.schedules;
@@ -330,7 +338,7 @@ fn sum_4(r1: Reserve, r2: Reserve, r3: Reserve, d: [Quantity; 12], u: [Quantity;
 }
 
 // The sum of the twelve intervals of a checked hour.
-fn hour_sum(h: UnitHour, prices: [Price; 12]) -> Ticks
+fn hour_sum(h: UnitHour, prices: [Price; INTERVALS]) -> Ticks
     requires { ⌜ UnitReady h prices ⌝ }
     ensures { λ x. ⌜ x .0 ≡ hourAmount h prices ⌝ }
 {
@@ -375,7 +383,7 @@ fn reserve_numbers_ok(s: Reserve) -> bool
 }
 
 fn reserve_within_ok(s: Reserve) -> bool
-    requires { ⌜ s .offer .count ≤ 20 ⌝ }
+    requires { ⌜ s .offer .count ≤ maxPairs ⌝ }
     ensures { λ x. ⌜ x ≡ withinOk (s .schedules) (lastQ (s .offer)) ⌝ }
 {
     let o = s.offer;
@@ -489,7 +497,7 @@ fn within_fine(h: UnitHour) -> bool
 }
 
 // What is wrong with an hour or its prices: the number, or 0.
-fn unit_fault(h: UnitHour, prices: [Price; 12]) -> u8
+fn unit_fault(h: UnitHour, prices: [Price; INTERVALS]) -> u8
     ensures { λ x. ⌜ x ≡ unitFault h prices ⌝ }
 {
     if !prices_ok(prices) {
@@ -508,14 +516,14 @@ fn unit_fault(h: UnitHour, prices: [Price; 12]) -> u8
     0
 }
 
-fn interval_fault(h: UnitHour, prices: [Price; 12], k: usize) -> u8
+fn interval_fault(h: UnitHour, prices: [Price; INTERVALS], k: usize) -> u8
     ensures { λ x. ⌜ x ≡ intervalFault h prices k ⌝ }
 {
     let f = unit_fault(h, prices);
     if f != 0 {
         return f;
     }
-    if 12 <= k {
+    if INTERVALS <= k {
         return OUT_OF_RANGE;
     }
     0
@@ -523,7 +531,7 @@ fn interval_fault(h: UnitHour, prices: [Price; 12], k: usize) -> u8
 
 // ---- the four components of an interval, counted from 0
 
-pub fn component_1(h: UnitHour, prices: [Price; 12], k: usize) -> Answer
+pub fn component_1(h: UnitHour, prices: [Price; INTERVALS], k: usize) -> Answer
     ensures { λ x. ⌜ x ≡ component1Answer h prices k ⌝ }
 {
     let f = interval_fault(h, prices, k);
@@ -533,7 +541,7 @@ pub fn component_1(h: UnitHour, prices: [Price; 12], k: usize) -> Answer
     Answer::Amount(c1(h, prices, k))
 }
 
-pub fn component_2(h: UnitHour, prices: [Price; 12], k: usize) -> Answer
+pub fn component_2(h: UnitHour, prices: [Price; INTERVALS], k: usize) -> Answer
     ensures { λ x. ⌜ x ≡ component2Answer h prices k ⌝ }
 {
     let f = interval_fault(h, prices, k);
@@ -543,7 +551,7 @@ pub fn component_2(h: UnitHour, prices: [Price; 12], k: usize) -> Answer
     Answer::Amount(c2(h, prices, k))
 }
 
-pub fn component_3(h: UnitHour, prices: [Price; 12], k: usize) -> Answer
+pub fn component_3(h: UnitHour, prices: [Price; INTERVALS], k: usize) -> Answer
     ensures { λ x. ⌜ x ≡ component3Answer h prices k ⌝ }
 {
     let f = interval_fault(h, prices, k);
@@ -553,7 +561,7 @@ pub fn component_3(h: UnitHour, prices: [Price; 12], k: usize) -> Answer
     Answer::Amount(c3(h, prices, k))
 }
 
-pub fn component_4(h: UnitHour, prices: [Price; 12], k: usize) -> Answer
+pub fn component_4(h: UnitHour, prices: [Price; INTERVALS], k: usize) -> Answer
     ensures { λ x. ⌜ x ≡ component4Answer h prices k ⌝ }
 {
     let f = interval_fault(h, prices, k);
@@ -566,7 +574,7 @@ pub fn component_4(h: UnitHour, prices: [Price; 12], k: usize) -> Answer
 // ---- an hour and a day
 
 // The amount of a unit's hour without its start-up, or the number of the refusal.
-pub fn unit_hour(h: UnitHour, prices: [Price; 12]) -> Answer
+pub fn unit_hour(h: UnitHour, prices: [Price; INTERVALS]) -> Answer
     ensures { λ x. ⌜ x ≡ hourAnswer h prices ⌝ }
 {
     let f = unit_fault(h, prices);
@@ -591,11 +599,11 @@ fn hour_ok(amount: Ticks, start: CentsPerStart) -> bool
     start.0 <= CentsPerStart::MAX.0
 }
 
-fn hours_ok(amounts: [Ticks; 24], starts: [CentsPerStart; 24]) -> bool
+fn hours_ok(amounts: [Ticks; HOURS], starts: [CentsPerStart; HOURS]) -> bool
     ensures { λ x. ⌜ x ≡ hoursOk amounts starts ⌝ }
 {
     let mut i: usize = 0;
-    while i < 24 {
+    while i < HOURS {
         let amount = amounts[i];
         let start = starts[i];
         if !hour_ok(amount, start) {
@@ -606,13 +614,13 @@ fn hours_ok(amounts: [Ticks; 24], starts: [CentsPerStart; 24]) -> bool
     true
 }
 
-fn day_sum(amounts: [Ticks; 24], starts: [CentsPerStart; 24]) -> Ticks
+fn day_sum(amounts: [Ticks; HOURS], starts: [CentsPerStart; HOURS]) -> Ticks
     requires { ⌜ DayReady amounts starts ⌝ }
     ensures { λ x. ⌜ x .0 ≡ daySum amounts starts ⌝ ∗ ⌜ Moderate (x .0) ⌝ }
 {
     let mut sum = Ticks(0);
     let mut i: usize = 0;
-    while i < 24 {
+    while i < HOURS {
         let amount = amounts[i];
         let start = starts[i];
         sum = sum.plus(amount.plus(start.ticks()));
@@ -622,7 +630,7 @@ fn day_sum(amounts: [Ticks; 24], starts: [CentsPerStart; 24]) -> Ticks
 }
 
 // The day total and its reversal of 24 hours' amounts and start-ups, both 0 where the unit has no hour.
-pub fn unit_day(amounts: [Ticks; 24], starts: [CentsPerStart; 24]) -> DayAnswer
+pub fn unit_day(amounts: [Ticks; HOURS], starts: [CentsPerStart; HOURS]) -> DayAnswer
     ensures { λ x. ⌜ x ≡ dayAnswer amounts starts ⌝ }
 {
     if !hours_ok(amounts, starts) {

@@ -2,12 +2,21 @@ ghost use mathlib.Core.Path.{_≡_};
 ghost use Prim.Native.Nat.{ℕ, _<_, _≤_, _+_, _-_, _*_, min, max};
 ghost use lib.IntN.{ℤ, pos, negℤ, natAbs, _+ℤ_, _-ℤ_, _*ℤ_};
 ghost use Rattle.laws.specs.Ints.{minℤ};
-ghost use Rattle.money.specs.Units.{priceOk, quantityOk, priceRead, quantityRead, pricesOk, quantitiesOk, withinOk, sameℤ, centsOf};
+ghost use Rattle.money.specs.Units.{maxGap, priceOk, quantityOk, priceRead, quantityRead, pricesOk, quantitiesOk, withinOk, sameℤ, centsOf};
 ghost use Rattle.money.specs.UnitLaws.{Moderate};
 use crate::refusals::OUT_OF_RANGE;
 
+// The intervals of an hour.
+pub const INTERVALS: usize = 12;
+
+// The hours of a trading day.
+pub const HOURS: usize = 24;
+
 // Cents per MWh.
 pub struct Price(pub i32);
+
+// Cents per MWh between two prices, 0 to 400,000: a price's own limits don't bind it.
+pub struct PriceGap(pub i32);
 
 // Tenths of a MW.
 pub struct Quantity(pub u32);
@@ -60,29 +69,40 @@ impl Price {
         Price::MIN.0 <= self.0 && self.0 <= Price::MAX.0
     }
 
-    // This price for the quantity from one mark to another.
-    pub(crate) fn times(self, from: Quantity, to: Quantity) -> Ticks
+    // This price for a quantity, in one interval.
+    pub(crate) fn for_quantity(self, q: Quantity) -> Ticks
+        requires { ⌜ natAbs (self .0) ≤ 200000 ⌝ ∗ ⌜ q .0 ≤ 100000 ⌝ }
+        ensures { λ r. ⌜ r .0 ≡ self .0 *ℤ pos (q .0) ⌝ ∗ ⌜ natAbs (r .0) ≤ 20000000000 ⌝ }
+    {
+        Ticks((self.0 as i64) * (q.0 as i64))
+    }
+
+    // This price for the part of a list from one quantity to another, in one interval.
+    pub(crate) fn between(self, from: Quantity, to: Quantity) -> Ticks
         requires { ⌜ natAbs (self .0) ≤ 200000 ⌝ ∗ ⌜ from .0 ≤ to .0 ⌝ ∗ ⌜ to .0 ≤ 100000 ⌝ }
         ensures { λ r. ⌜ r .0 ≡ self .0 *ℤ pos (to .0 - from .0) ⌝ ∗ ⌜ natAbs (r .0) ≤ 20000000000 ⌝ }
     {
-        Ticks((self.0 as i64) * ((to.0 - from.0) as i64))
+        let part = to.0 - from.0;
+        self.for_quantity(Quantity(part))
     }
+}
 
-    // This price for a quantity over a whole hour, of twelve intervals.
-    pub(crate) fn for_an_hour(self, q: Quantity) -> Ticks
-        requires { ⌜ natAbs (self .0) ≤ 400000 ⌝ ∗ ⌜ q .0 ≤ 100000 ⌝ }
-        ensures { λ r. ⌜ r .0 ≡ self .0 *ℤ pos (q .0) *ℤ pos 12 ⌝ }
-    {
-        Ticks((self.0 as i64) * (q.0 as i64) * 12)
-    }
-
-    pub fn lesser(self, other: Price) -> Price
+impl PriceGap {
+    pub fn lesser(self, other: PriceGap) -> PriceGap
         ensures { λ r. ⌜ r .0 ≡ minℤ (self .0) (other .0) ⌝ }
     {
         if self.0 < other.0 {
             return self;
         }
         other
+    }
+
+    // This gap for a quantity over a whole hour, of twelve intervals.
+    pub(crate) fn for_an_hour(self, q: Quantity) -> Ticks
+        requires { ⌜ natAbs (self .0) ≤ maxGap ⌝ ∗ ⌜ q .0 ≤ 100000 ⌝ }
+        ensures { λ r. ⌜ r .0 ≡ self .0 *ℤ pos (q .0) *ℤ pos 12 ⌝ }
+    {
+        Ticks((self.0 as i64) * (q.0 as i64) * 12)
     }
 }
 
@@ -211,11 +231,11 @@ impl Ticks {
     }
 }
 
-pub(crate) fn prices_ok(prices: [Price; 12]) -> bool
+pub(crate) fn prices_ok(prices: [Price; INTERVALS]) -> bool
     ensures { λ r. ⌜ r ≡ pricesOk prices ⌝ }
 {
     let mut k: usize = 0;
-    while k < 12 {
+    while k < INTERVALS {
         let p = prices[k];
         if !p.in_range() {
             return false;
@@ -225,11 +245,11 @@ pub(crate) fn prices_ok(prices: [Price; 12]) -> bool
     true
 }
 
-pub(crate) fn quantities_ok(qs: [Quantity; 12]) -> bool
+pub(crate) fn quantities_ok(qs: [Quantity; INTERVALS]) -> bool
     ensures { λ r. ⌜ r ≡ quantitiesOk qs ⌝ }
 {
     let mut k: usize = 0;
-    while k < 12 {
+    while k < INTERVALS {
         let q = qs[k];
         if !q.in_range() {
             return false;
@@ -240,11 +260,11 @@ pub(crate) fn quantities_ok(qs: [Quantity; 12]) -> bool
 }
 
 // No quantity lies beyond the last of a list.
-pub(crate) fn within_ok(qs: [Quantity; 12], last: Quantity) -> bool
+pub(crate) fn within_ok(qs: [Quantity; INTERVALS], last: Quantity) -> bool
     ensures { λ r. ⌜ r ≡ withinOk qs (last .0) ⌝ }
 {
     let mut k: usize = 0;
-    while k < 12 {
+    while k < INTERVALS {
         let q = qs[k];
         if last.0 < q.0 {
             return false;

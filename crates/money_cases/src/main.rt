@@ -310,17 +310,17 @@ fn scenarios_of_001() {
 
 fn failures() {
     let import = Failure {
-        scheduled: Quantity(1000),
-        predispatch: Quantity(900),
-        ahead: Price(10000),
-        later: Price(10000),
+        day_ahead_quantity: Quantity(1000),
+        pre_dispatch_quantity: Quantity(900),
+        day_ahead_price: Price(10000),
+        pre_dispatch_price: Price(10000),
     };
     show(b"002, import charge", import_charge(import, Price(9000)));
     let export = Failure {
-        scheduled: Quantity(2000),
-        predispatch: Quantity(1500),
-        ahead: Price(90000),
-        later: Price(80000),
+        day_ahead_quantity: Quantity(2000),
+        pre_dispatch_quantity: Quantity(1500),
+        day_ahead_price: Price(90000),
+        pre_dispatch_price: Price(80000),
     };
     show(b"002, export charge", export_charge(export, Price(70000)));
 }

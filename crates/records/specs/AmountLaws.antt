@@ -124,10 +124,10 @@ charge-amount r p g h f = go (r .key .mark) refl h
     go Gh e b = absurd (true≢false (sym b))
     go Fi e b =
         let s = standing-failed-import r g e in
-        import-charged (failureOf r) (p .pd) (failure-fine (failureOf r) (p .pd) (f .pd) (s .scheduled) (s .predispatch) (s .ahead) (s .later))
+        import-charged (failureOf r) (p .pd) (failure-fine (failureOf r) (p .pd) (f .pd) (s .day-ahead-quantity) (s .pre-dispatch-quantity) (s .day-ahead-price) (s .pre-dispatch-price))
     go Fe e b =
         let s = standing-failed-export r g e in
-        export-charged (failureOf r) (p .pd) (failure-fine (failureOf r) (p .pd) (f .pd) (s .scheduled) (s .predispatch) (s .ahead) (s .later))
+        export-charged (failureOf r) (p .pd) (failure-fine (failureOf r) (p .pd) (f .pd) (s .day-ahead-quantity) (s .pre-dispatch-quantity) (s .day-ahead-price) (s .pre-dispatch-price))
 
 -- the same in bytes that begin with the record as it was filed
 pub charge-written : (r : Rec) (p : HourPrices) (u : List ℕ) → Good (filed r) → isFailure (r .key .mark) ≡ true → PricesFit p

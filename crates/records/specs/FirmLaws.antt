@@ -95,9 +95,9 @@ firm-price : Firm price
 unfolding price
 firm-price = firm-bind word _ firm-word (λ u. firm-check (priceOk (record { 0 = signed u })) 5 (λ t. got (record { 0 = signed u }) t) (omega arith) (firm-got _))
 
-firm-amount : Firm amount
+firm-amount : (most : ℕ) → Firm (amount most)
 unfolding amount
-firm-amount = firm-bind word _ firm-word (λ v. firm-check (leb v maxCents) 5 (λ t. got v t) (omega arith) (firm-got v))
+firm-amount most = firm-bind word _ firm-word (λ v. firm-check (leb v most) 5 (λ t. got v t) (omega arith) (firm-got v))
 
 firm-hour : Firm hour
 unfolding hour
@@ -140,7 +140,7 @@ firm-export = firm-bind (many 12 quantity) _ rows (λ qs. firm-got _)
 firm-schedules : Firm schedules
 unfolding schedules
 firm-schedules =
-    firm-bind amount _ firm-amount (λ su. firm-bind amount _ firm-amount (λ nl.
+    firm-bind (amount maxCents) _ (firm-amount maxCents) (λ su. firm-bind (amount maxCents) _ (firm-amount maxCents) (λ nl.
     firm-bind (many 12 quantity) _ rows (λ d. firm-bind (many 12 quantity) _ rows (λ r. firm-bind (many 12 quantity) _ rows (λ u. firm-bind (many 12 quantity) _ rows (λ a. firm-bind (many 12 quantity) _ rows (λ k. firm-got _)))))))
 
 firm-reserve : Firm reserveRows

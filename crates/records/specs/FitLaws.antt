@@ -67,11 +67,11 @@ quantity-sound =
     sound-bind word _ (λ u. Unit) (λ q. quantityOk q ≡ true) (sound-any word) (λ u x.
     sound-check (quantityOk (record { 0 = u })) 5 (λ t. got (record { 0 = u }) t) (λ q. quantityOk q ≡ true) (λ h. sound-got (λ q. quantityOk q ≡ true) (record { 0 = u }) h))
 
-amount-sound : Sound amount (λ v. v ≤ maxCents)
+amount-sound : (most : ℕ) → Sound (amount most) (λ v. v ≤ most)
 unfolding amount
-amount-sound =
-    sound-bind word _ (λ u. Unit) (λ v. v ≤ maxCents) (sound-any word) (λ v x.
-    sound-check (leb v maxCents) 5 (λ t. got v t) (λ v. v ≤ maxCents) (λ h. sound-got (λ v. v ≤ maxCents) v (leb-true v maxCents h)))
+amount-sound most =
+    sound-bind word _ (λ u. Unit) (λ v. v ≤ most) (sound-any word) (λ v x.
+    sound-check (leb v most) 5 (λ t. got v t) (λ v. v ≤ most) (λ h. sound-got (λ v. v ≤ most) v (leb-true v most h)))
 
 -- ---- rows
 
@@ -169,17 +169,18 @@ export-sound =
     sound-bind (many 12 quantity) _ (λ qs. quantitiesOk qs ≡ true) (λ x. quantitiesOk (x .mqsw) ≡ true) row-sound (λ qs h. sound-got (λ x. quantitiesOk (x .mqsw) ≡ true) (record { mqsw = qs }) h)
 
 pub record FailureFits (f : Failure) : Type 0 where
-  pub scheduled : quantityOk (f .scheduled) ≡ true
-  pub predispatch : quantityOk (f .predispatch) ≡ true
-  pub ahead : priceOk (f .ahead) ≡ true
-  pub later : priceOk (f .later) ≡ true
+  pub day-ahead-quantity : quantityOk (f .«day_ahead_quantity») ≡ true
+  pub pre-dispatch-quantity : quantityOk (f .«pre_dispatch_quantity») ≡ true
+  pub day-ahead-price : priceOk (f .«day_ahead_price») ≡ true
+  pub pre-dispatch-price : priceOk (f .«pre_dispatch_price») ≡ true
 
 failure-sound : Sound failure FailureFits
 unfolding failure
 failure-sound =
     sound-bind quantity _ (λ q. quantityOk q ≡ true) FailureFits quantity-sound (λ x a. sound-bind quantity _ (λ q. quantityOk q ≡ true) FailureFits quantity-sound (λ y b.
     sound-bind price _ (λ p. priceOk p ≡ true) FailureFits price-sound (λ p c. sound-bind price _ (λ p. priceOk p ≡ true) FailureFits price-sound (λ q d.
-    sound-got FailureFits (record { scheduled = x; predispatch = y; ahead = p; later = q }) (record { scheduled = a; predispatch = b; ahead = c; later = d })))))
+    sound-got FailureFits (record { «day_ahead_quantity» = x; «pre_dispatch_quantity» = y; «day_ahead_price» = p; «pre_dispatch_price» = q })
+    (record { day-ahead-quantity = a; pre-dispatch-quantity = b; day-ahead-price = c; pre-dispatch-price = d })))))
 
 -- ---- a unit's hour
 
@@ -206,8 +207,8 @@ pub record UnitFits (u : UnitHour) : Type 0 where
   pub thirty : ReserveFits (u .thirty)
 
 record SchedulesFit (h : Schedules) : Type 0 where
-  startup : h .startup ≤ maxCents
-  noload : h .noload ≤ maxCents
+  startup : h .startup .0 ≤ maxCents
+  noload : h .noload .0 ≤ maxCents
   ahead : quantitiesOk (h .ahead) ≡ true
   constrained : quantitiesOk (h .constrained) ≡ true
   unconstrained : quantitiesOk (h .unconstrained) ≡ true
@@ -220,10 +221,11 @@ RowOk qs = quantitiesOk qs ≡ true
 schedules-sound : Sound schedules SchedulesFit
 unfolding schedules
 schedules-sound =
-    sound-bind amount _ (λ v. v ≤ maxCents) SchedulesFit amount-sound (λ su x1. sound-bind amount _ (λ v. v ≤ maxCents) SchedulesFit amount-sound (λ nl x2.
+    sound-bind (amount maxCents) _ (λ v. v ≤ maxCents) SchedulesFit (amount-sound maxCents) (λ su x1.
+    sound-bind (amount maxCents) _ (λ v. v ≤ maxCents) SchedulesFit (amount-sound maxCents) (λ nl x2.
     sound-bind (many 12 quantity) _ RowOk SchedulesFit row-sound (λ d x3. sound-bind (many 12 quantity) _ RowOk SchedulesFit row-sound (λ r x4. sound-bind (many 12 quantity) _ RowOk SchedulesFit row-sound (λ u x5.
     sound-bind (many 12 quantity) _ RowOk SchedulesFit row-sound (λ a x6. sound-bind (many 12 quantity) _ RowOk SchedulesFit row-sound (λ k x7.
-    sound-got SchedulesFit (record { startup = su; noload = nl; ahead = d; constrained = r; unconstrained = u; metered = a; capacity = k })
+    sound-got SchedulesFit (record { startup = record { 0 = su }; noload = record { 0 = nl }; ahead = d; constrained = r; unconstrained = u; metered = a; capacity = k })
     (record { startup = x1; noload = x2; ahead = x3; constrained = x4; unconstrained = x5; metered = x6; capacity = x7 }))))))))
 
 record RowsFit (w : ReserveRows) : Type 0 where

@@ -4,7 +4,7 @@ use mathlib.Core.Bool.{Bool, true, false, cond, _&&_}
 use Prim.Native.Nat.{ℕ, _-_}
 use lib.ListN.{length, take}
 use Rattle.money.specs.Refusals.{beyondList}
-use Rattle.money.specs.Units.{withinOk}
+use Rattle.money.specs.Units.{maxCents, withinOk}
 use Rattle.money.specs.Offers.{lastQ}
 use Rattle.money.specs.declared.units.Price.{Price}
 use Rattle.money.specs.declared.units.Quantity.{Quantity}
@@ -44,9 +44,9 @@ export s = many 12 quantity s >>= λ qs s. got (record { mqsw = qs }) s
 -- "`GH`: hour, name, start-up cents u32 .., speed no-load cents u32 .., 12 of each D, R, U, A, K,"
 unfoldable pub schedules : Reader Schedules
 schedules s =
-    amount s >>= λ su s. amount s >>= λ nl s.
+    amount maxCents s >>= λ su s. amount maxCents s >>= λ nl s.
     many 12 quantity s >>= λ d s. many 12 quantity s >>= λ r s. many 12 quantity s >>= λ u s. many 12 quantity s >>= λ a s. many 12 quantity s >>= λ k s.
-    got (record { startup = su; noload = nl; ahead = d; constrained = r; unconstrained = u; metered = a; capacity = k }) s
+    got (record { startup = record { 0 = su }; noload = record { 0 = nl }; ahead = d; constrained = r; unconstrained = u; metered = a; capacity = k }) s
 
 -- "then for each of the three reserves, in C4's order, 12 prices and 12 schedules,"
 unfoldable pub reserveRows : Reader ReserveRows
@@ -68,8 +68,8 @@ allWithin l d s1 s2 s3 = within (l .ahead) d && (within (l .real) d && (within (
 
 abbrev pub unitOf : Schedules → Reserve → Reserve → Reserve → Offer → Offer → UnitHour
 unitOf h r1 r2 r3 da rt = record {
-  startup = record { 0 = h .startup };
-  noload = record { 0 = h .noload };
+  startup = h .startup;
+  noload = h .noload;
   ahead = h .ahead;
   constrained = h .constrained;
   unconstrained = h .unconstrained;
@@ -96,7 +96,7 @@ unit s =
 unfoldable pub failure : Reader Failure
 failure s =
     quantity s >>= λ x s. quantity s >>= λ y s. price s >>= λ p s. price s >>= λ q s.
-    got (record { scheduled = x; predispatch = y; ahead = p; later = q }) s
+    got (record { «day_ahead_quantity» = x; «pre_dispatch_quantity» = y; «day_ahead_price» = p; «pre_dispatch_price» = q }) s
 
 -- a reader for its faults and its end alone
 abbrev pub skip : {A : Type 0} → Reader A → Reader Unit

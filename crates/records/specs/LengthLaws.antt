@@ -120,9 +120,9 @@ brief-price : Brief 4 price
 unfolding price
 brief-price = brief-bind 4 0 word _ brief-word (λ u. brief-check 0 (priceOk (record { 0 = signed u })) 5 (λ t. got (record { 0 = signed u }) t) (λ z. omega arith) (λ h. brief-got _))
 
-brief-amount : Brief 4 amount
+brief-amount : (most : ℕ) → Brief 4 (amount most)
 unfolding amount
-brief-amount = brief-bind 4 0 word _ brief-word (λ v. brief-check 0 (leb v maxCents) 5 (λ t. got v t) (λ z. omega arith) (λ h. brief-got v))
+brief-amount most = brief-bind 4 0 word _ brief-word (λ v. brief-check 0 (leb v most) 5 (λ t. got v t) (λ z. omega arith) (λ h. brief-got v))
 
 brief-hour : Brief 1 hour
 unfolding hour
@@ -175,7 +175,7 @@ brief-export = brief-bind 48 0 (many 12 quantity) _ rows (λ qs. brief-got _)
 brief-schedules : Brief 248 schedules
 unfolding schedules
 brief-schedules =
-    brief-bind 4 244 amount _ brief-amount (λ su. brief-bind 4 240 amount _ brief-amount (λ nl.
+    brief-bind 4 244 (amount maxCents) _ (brief-amount maxCents) (λ su. brief-bind 4 240 (amount maxCents) _ (brief-amount maxCents) (λ nl.
     brief-bind 48 192 (many 12 quantity) _ rows (λ d. brief-bind 48 144 (many 12 quantity) _ rows (λ r. brief-bind 48 96 (many 12 quantity) _ rows (λ u.
     brief-bind 48 48 (many 12 quantity) _ rows (λ a. brief-bind 48 0 (many 12 quantity) _ rows (λ k. brief-got _)))))))
 

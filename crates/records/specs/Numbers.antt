@@ -6,7 +6,7 @@ use lib.Dec.{ltb, leb, eqb}
 use lib.IntN.{ℤ, pos, negsuc}
 use lib.ListN.{length}
 use Rattle.money.specs.Refusals.{endsEarly, badHour, outOfRange, badList}
-use Rattle.money.specs.Units.{priceOk, quantityOk, maxCents, noPrice, noQuantity}
+use Rattle.money.specs.Units.{priceOk, quantityOk, noPrice, noQuantity}
 use Rattle.money.specs.Offers.{offerFault}
 use Rattle.money.specs.declared.units.Price.{Price}
 use Rattle.money.specs.declared.units.Quantity.{Quantity}
@@ -39,8 +39,8 @@ unfoldable pub quantity : Reader Quantity
 quantity s = word s >>= λ u t. check (quantityOk (record { 0 = u })) outOfRange (got (record { 0 = u }) t)
 
 -- "start-up cents u32 (0 for no start), speed no-load cents u32 (each at most 100,000,000)"
-unfoldable pub amount : Reader ℕ
-amount s = word s >>= λ v t. check (leb v maxCents) outOfRange (got v t)
+unfoldable pub amount : ℕ → Reader ℕ
+amount most s = word s >>= λ v t. check (leb v most) outOfRange (got v t)
 
 -- "hour byte 1 to 24"
 unfoldable pub hour : Reader ℕ

@@ -151,9 +151,9 @@ pub lawful-price : Lawful price
 unfolding price
 lawful-price = lawful-bind word _ lawful-word (λ u. lawful-check (priceOk (record { 0 = signed u })) 5 (λ t. got (record { 0 = signed u }) t) (omega arith) (lawful-got _))
 
-pub lawful-amount : Lawful amount
+pub lawful-amount : (most : ℕ) → Lawful (amount most)
 unfolding amount
-lawful-amount = lawful-bind word _ lawful-word (λ v. lawful-check (leb v maxCents) 5 (λ t. got v t) (omega arith) (lawful-got v))
+lawful-amount most = lawful-bind word _ lawful-word (λ v. lawful-check (leb v most) 5 (λ t. got v t) (omega arith) (lawful-got v))
 
 pub lawful-pair : Lawful pair
 unfolding pair
@@ -193,7 +193,7 @@ lawful-export = lawful-bind (many 12 quantity) _ rows (λ qs. lawful-got _)
 lawful-schedules : Lawful schedules
 unfolding schedules
 lawful-schedules =
-    lawful-bind amount _ lawful-amount (λ su. lawful-bind amount _ lawful-amount (λ nl.
+    lawful-bind (amount maxCents) _ (lawful-amount maxCents) (λ su. lawful-bind (amount maxCents) _ (lawful-amount maxCents) (λ nl.
     lawful-bind (many 12 quantity) _ rows (λ d. lawful-bind (many 12 quantity) _ rows (λ r. lawful-bind (many 12 quantity) _ rows (λ u. lawful-bind (many 12 quantity) _ rows (λ a. lawful-bind (many 12 quantity) _ rows (λ k. lawful-got _)))))))
 
 lawful-reserve : Lawful reserveRows

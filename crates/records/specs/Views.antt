@@ -69,7 +69,7 @@ noUnit = record {
 }
 
 abbrev pub noFailure : Failure
-noFailure = record { scheduled = noQuantity; predispatch = noQuantity; ahead = noPrice; later = noPrice }
+noFailure = record { «day_ahead_quantity» = noQuantity; «pre_dispatch_quantity» = noQuantity; «day_ahead_price» = noPrice; «pre_dispatch_price» = noPrice }
 
 -- ---- the fields of a record
 

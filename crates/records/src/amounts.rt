@@ -14,6 +14,7 @@ use money::failure::Failure;
 use money::failure::export_charge;
 use money::failure::import_charge;
 use money::guarantee::hour_credit;
+use money::imports::IMPORTS_MAX;
 use money::imports::Import;
 use money::names::Name;
 use money::offset::offset_core;
@@ -233,7 +234,7 @@ pub fn totals_with_export(s: &[u8], totals: [Quantity; 12]) -> TotalsAnswer
 // The offset of the first `count` entries, or the number of the refusal.
 pub fn hour_offset(
     count: u8,
-    entries: [Import; 16],
+    entries: [Import; IMPORTS_MAX],
     prices: HourPrices,
     totals: [Quantity; 12],
 ) -> Answer

@@ -1,7 +1,6 @@
 use money::refusals::BAD_HOUR;
 use money::refusals::ENDS_EARLY;
 use money::refusals::OUT_OF_RANGE;
-use money::units::CentsPerStart;
 use money::units::Price;
 use money::units::PriceRead;
 use money::units::Quantity;
@@ -122,13 +121,13 @@ pub(crate) fn read_quantity(s: &[u8], at: usize) -> QuantityAt
     }
 }
 
-// Cents of a start or of an hour: both have the same limit.
-fn read_amount(s: &[u8], at: usize) -> Num
-    ensures { λ r. ⌜ (num (now (s .entry)) r ≡ amount (from (now (s .entry)) at)) × NumIn (now (s .entry)) r ⌝ }
+// Cents of a start or of an hour, at most so many.
+fn read_amount(s: &[u8], at: usize, most: u32) -> Num
+    ensures { λ r. ⌜ (num (now (s .entry)) r ≡ amount most (from (now (s .entry)) at)) × NumIn (now (s .entry)) r ⌝ }
 {
     let w = read_word(s, at);
     match w {
-        Num::Got(v, next) => if v <= CentsPerStart::MAX.0 {
+        Num::Got(v, next) => if v <= most {
             Num::Got(v, next)
         } else {
             Num::No(OUT_OF_RANGE)
@@ -187,12 +186,12 @@ pub(crate) fn quantity_then(s: &[u8], e: End) -> QuantityField
     }
 }
 
-pub(crate) fn amount_then(s: &[u8], e: End) -> AmountField
-    ensures { λ r. ⌜ (shown (now (s .entry)) (r .end) (r .value) ≡ then (now (s .entry)) e amount) × EndIn (now (s .entry)) (r .end) ⌝ }
+pub(crate) fn amount_then(s: &[u8], e: End, most: u32) -> AmountField
+    ensures { λ r. ⌜ (shown (now (s .entry)) (r .end) (r .value) ≡ then (now (s .entry)) e (amount most)) × EndIn (now (s .entry)) (r .end) ⌝ }
 {
     match e {
         End::At(at) => {
-            let a = read_amount(s, at);
+            let a = read_amount(s, at, most);
             match a {
                 Num::Got(value, next) => AmountField {
                     end: End::At(next),

@@ -66,8 +66,8 @@ pub struct UnitRead {
 // ---- the parts of a unit's hour
 
 pub struct Schedules {
-    pub startup: u32,
-    pub noload: u32,
+    pub startup: CentsPerStart,
+    pub noload: CentsPerHour,
     pub ahead: [Quantity; 12],
     pub constrained: [Quantity; 12],
     pub unconstrained: [Quantity; 12],
@@ -160,17 +160,17 @@ pub(crate) fn failure_then(s: &[u8], e: End) -> FailureRead
     let e3 = p.end;
     let q = price_then(s, e3);
     let end = q.end;
-    let scheduled = x.quantity;
-    let predispatch = y.quantity;
-    let ahead = p.price;
-    let later = q.price;
+    let day_ahead_quantity = x.quantity;
+    let pre_dispatch_quantity = y.quantity;
+    let day_ahead_price = p.price;
+    let pre_dispatch_price = q.price;
     FailureRead {
         end,
         failure: Failure {
-            scheduled,
-            predispatch,
-            ahead,
-            later,
+            day_ahead_quantity,
+            pre_dispatch_quantity,
+            day_ahead_price,
+            pre_dispatch_price,
         },
     }
 }
@@ -178,9 +178,9 @@ pub(crate) fn failure_then(s: &[u8], e: End) -> FailureRead
 fn schedules_then(s: &[u8], e: End) -> SchedulesRead
     ensures { λ r. ⌜ (shown (now (s .entry)) (r .end) (r .schedules) ≡ then (now (s .entry)) e schedules) × EndIn (now (s .entry)) (r .end) ⌝ }
 {
-    let a0 = amount_then(s, e);
+    let a0 = amount_then(s, e, CentsPerStart::MAX.0);
     let e0 = a0.end;
-    let a1 = amount_then(s, e0);
+    let a1 = amount_then(s, e0, CentsPerHour::MAX.0);
     let e1 = a1.end;
     let v2 = quantities_then(s, e1);
     let e2 = v2.end;
@@ -192,8 +192,8 @@ fn schedules_then(s: &[u8], e: End) -> SchedulesRead
     let e5 = v5.end;
     let v6 = quantities_then(s, e5);
     let end = v6.end;
-    let startup = a0.value;
-    let noload = a1.value;
+    let startup = CentsPerStart(a0.value);
+    let noload = CentsPerHour(a1.value);
     let ahead = v2.values;
     let constrained = v3.values;
     let unconstrained = v4.values;
@@ -330,14 +330,16 @@ fn unit_of(
 ) -> UnitHour
     ensures { λ r. ⌜ r ≡ unitOf h spinning nonspinning thirty aheadoffer realoffer ⌝ }
 {
+    let startup = h.startup;
+    let noload = h.noload;
     let ahead = h.ahead;
     let constrained = h.constrained;
     let unconstrained = h.unconstrained;
     let metered = h.metered;
     let capacity = h.capacity;
     UnitHour {
-        startup: CentsPerStart(h.startup),
-        noload: CentsPerHour(h.noload),
+        startup,
+        noload,
         ahead,
         constrained,
         unconstrained,

@@ -212,10 +212,10 @@ fn no_failure(number: u8) -> FailureAnswer
     FailureAnswer {
         number,
         failure: Failure {
-            scheduled: Quantity(0),
-            predispatch: Quantity(0),
-            ahead: Price(0),
-            later: Price(0),
+            day_ahead_quantity: Quantity(0),
+            pre_dispatch_quantity: Quantity(0),
+            day_ahead_price: Price(0),
+            pre_dispatch_price: Price(0),
         },
     }
 }

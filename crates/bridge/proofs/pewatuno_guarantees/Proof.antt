@@ -1,8 +1,8 @@
 use mathlib.Core.Path.{ap, _∙_}
 use Rattle.book.specs.Register.{Reply, ask, hourGuarantees, stepOf}
-use Rattle.book.specs.Meaning.{outcome}
+use Rattle.book.specs.Meaning.{outcome, guaranteesReply}
 use Rattle.book.specs.Tables.{replied}
-use Rattle.bridge.specs.Bridge.{asked, hourSizes, hourAmounts}
+use Rattle.bridge.specs.Bridge.{bookIn, hourIn, asked, hourSizes, hourAmounts}
 use borrow.Author.Needs.{needs}
 use Rattle.bridge.proofs.pewatuno_guarantees.Statement.{statement}
 use Rattle.bridge.proofs.pewatuno_guarantees.Tie as tie
@@ -28,11 +28,18 @@ same-length-2 c = search needs
 returns : tie.Need-returns
 unfolding asked
 returns c =
-    let p = (c .before .before .before .before .before .before .guarantees) .ensures .0 .answer ∙ (λ i. outcome (stepOf (ask (hourGuarantees ((c .before .before .before .before .before .before .before .hour-of) .ensures i)))) ((c .before .before .before .before .before .before .before .before .book-in) .ensures i) ((c .before .before .before .before .before .before .before .before .before .before .before .before .args) .lent .now) .answer) in (
-      (c .before .before .before .tell-guarantees) .ensures .0 ∙ ap (λ (r : Reply). replied r) p,
+    let args = c .before .before .before .before .before .before .before .before .before .before .before .before .args in
+    let lent = args .lent .now in
+    let g = (c .before .before .before .before .before .before .guarantees) .result in
+    let book = (c .before .before .before .before .before .before .before .before .book-in) .ensures in
+    let hour = (c .before .before .before .before .before .before .before .hour-of) .ensures in
+    let said = (c .before .before .before .tell-guarantees) .ensures in
+    let p = (c .before .before .before .before .before .before .guarantees) .ensures .0 .answer ∙ (λ i. outcome (stepOf (ask (hourGuarantees (hour i)))) (book i) lent .answer) in (
+      said .0 ∙ ap (λ (r : Reply). replied r) p,
       (
-        (c .before .before .before .tell-guarantees) .ensures .1 .0 ∙ ap (λ (r : Reply). hourSizes ((c .before .before .before .before .before .before .before .before .before .before .before .before .args) .lent .now) r ((c .before .before .before .before .before .before .before .before .before .before .before .before .args) .sizes .now)) p,
-        (c .before .before .before .tell-guarantees) .ensures .1 .1 ∙ ap (λ (r : Reply). hourAmounts r ((c .before .before .before .before .before .before .before .before .before .before .before .before .args) .amounts .now)) p,
+        said .1 .0 ∙ (λ i. hourSizes (book i) lent (hour i) (guaranteesReply g) (args .sizes .now))
+            ∙ ap (λ (r : Reply). hourSizes (bookIn (args .state .now)) lent (hourIn (args .hour)) r (args .sizes .now)) p,
+        said .1 .1 ∙ ap (λ (r : Reply). hourAmounts r (args .amounts .now)) p,
       ),
     )
 

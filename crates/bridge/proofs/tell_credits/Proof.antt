@@ -1,6 +1,5 @@
 use mathlib.Core.Path.{_≡_, refl, ap, _∙_}
-use mathlib.Core.List.{List}
-use Prim.Native.Nat.{ℕ, _-_, _≤_}
+use Prim.Native.Nat.{_-_, _≤_}
 use lib.ListN.{length, take}
 use Rattle.book.specs.Handed.{maxCredits}
 use Rattle.bridge.specs.Bridge.{creditsSizes}
@@ -11,16 +10,18 @@ use Rattle.bridge.proofs.tell_credits.Statement.{statement}
 use Rattle.bridge.proofs.tell_credits.Tie as tie
 
 abbrev Inv-loop : tie.InvT-loop
-Inv-loop lent sizes₀ amounts₀ b hour a n i₀ sizes amounts i = (n ≡ a .n) × (n ≤ maxCredits) × (i ≤ n) × (length sizes ≡ length sizes₀) × (length amounts ≡ length amounts₀) × Telling b lent hour n (a .list) sizes₀ amounts₀ i sizes amounts
+Inv-loop b lent hour sizes₀ amounts₀ a n i₀ sizes amounts i =
+    (n ≡ a .n) × (n ≤ maxCredits) × (i ≤ n) × (length sizes ≡ length sizes₀) × (length amounts ≡ length amounts₀)
+    × Telling b lent hour n (a .list) sizes₀ amounts₀ i sizes amounts
 
 abbrev μ-loop : tie.MeasureT-loop
-μ-loop lent sizes₀ amounts₀ b hour a n i₀ sizes amounts i = n - i
+μ-loop b lent hour sizes₀ amounts₀ a n i₀ sizes amounts i = n - i
 
 set-requires : tie.Need-set-requires Inv-loop μ-loop
 set-requires c κs = search needs
 
 loop-holds : tie.Need-loop-holds Inv-loop μ-loop
-loop-holds c = (refl, (c .before .before .before .before .before .before .pre), omega arith, refl, refl, none-told _ _ _ _ _ _ _ _ _)
+loop-holds c = (refl, (c .before .before .before .before .before .before .pre), omega arith, refl, refl, none-told _ _ _ _ _ _ _)
 
 mul-c : tie.Need-mul-c Inv-loop μ-loop
 mul-c c = search needs
@@ -40,8 +41,11 @@ loop-less c = search needs
 loop-again : tie.Need-loop-again Inv-loop μ-loop
 loop-again c =
     let v = (c .before .before .before .before .before .before .before .before .loop) .inv in
-    let long : length ((c .before .before .before .before .before .before .before .before .before .before .before .before .before .before .before .args) .t2 .list) ≡ maxCredits = search (needs, unmapped) in
-    (v .0, v .1, omega arith, omega (arith, v .3), omega (arith, v .4), one-told _ _ _ _ _ _ _ (v .5) ((c .before .before .before .before .before .before .before .loop-test) .taken) (omega (arith, v .1)) ((c .before .before .before .tell-credit) .ensures .0) ((c .before .before .before .tell-credit) .ensures .1))
+    let lt = (c .before .before .before .before .before .before .before .loop-test) .taken in
+    let said = (c .before .before .before .tell-credit) .ensures in
+    let args = c .before .before .before .before .before .before .before .before .before .before .before .before .before .before .before .args in
+    let long : length (args .t4 .list) ≡ maxCredits = search (needs, unmapped) in
+    (v .0, v .1, omega arith, omega (arith, v .3), omega (arith, v .4), one-told _ _ _ _ _ _ _ (v .5) lt (omega (arith, v .1)) (said .0) (said .1))
 
 same-length : tie.Need-same-length Inv-loop μ-loop
 same-length c = search needs
@@ -51,10 +55,12 @@ same-length-2 c = search needs
 
 returns : tie.Need-returns Inv-loop μ-loop
 returns c =
+    let args = c .before .before .before .before .before .before .before .before .args in
     let v = (c .before .loop) .inv in
-    let long : length ((c .before .before .before .before .before .before .before .before .args) .t2 .list) ≡ maxCredits = search (needs, unmapped) in
+    let long : length (args .t4 .list) ≡ maxCredits = search (needs, unmapped) in
     let t = all-told _ _ _ _ _ _ _ (v .5) ((c .loop-test) .left) (omega (arith, v .1)) in
-    (t .0 ∙ ap (λ (s : List ℕ). creditsSizes ((c .before .before .before .before .before .before .before .before .args) .lent .now) 0 (take ((c .before .before .before .before .before .before .before .before .args) .t2 .n) ((c .before .before .before .before .before .before .before .before .args) .t2 .list)) s) ((c .before .before .before .before .set) .ensures), t .1)
+    let told = creditsSizes (args .b) (args .lent .now) (args .hour) 0 (take (args .t4 .n) (args .t4 .list)) in
+    (t .0 ∙ ap told ((c .before .before .before .before .set) .ensures), t .1)
 
 pub tell-credits-spec : {M : Type 1} → statement M
 tell-credits-spec =

@@ -33,14 +33,18 @@ same-length-2 c = search needs
 
 returns-2 : tie.Need-returns-2
 returns-2 c =
-    let a = (c .before .before .before .before .before .before .before .before .before .before .before .before .args) .g .credits in
+    let args = c .before .before .before .before .before .before .before .before .before .before .before .before .args in
+    let few = c .before .before .before .before .before .before .before .before .before .before .before .before .pre in
+    let a = args .g .credits in
     let long : length (a .list) ≡ maxCredits = search (needs, unmapped) in
-    let n : length (take (a .n) (a .list)) ≡ a .n = length-take-le (a .n) (a .list) (omega (arith, (c .before .before .before .before .before .before .before .before .before .before .before .before .pre))) in
+    let n : length (take (a .n) (a .list)) ≡ a .n = length-take-le (a .n) (a .list) (omega (arith, few)) in
+    let said = (c .before .before .before .tell-credits) .ensures in
     rw (eq-eqb _ _ ((c .before .before .before .before .before .before .before .before .before .if1) .left)) (
       refl,
       (
-        (c .before .before .before .tell-credits) .ensures .0 ∙ ap (λ (k : ℕ). creditsSizes ((c .before .before .before .before .before .before .before .before .before .before .before .before .args) .lent .now) 0 (take (a .n) (a .list)) (stored ((c .before .before .before .before .before .before .before .before .before .before .before .before .args) .sizes .now) 0 k)) (sym n),
-        (c .before .before .before .tell-credits) .ensures .1 ∙ ap (λ (s : List ℤ). creditsAmounts 0 (take (a .n) (a .list)) s) ((c .before .before .before .before .before .before .before .set-amount) .ensures),
+        said .0
+            ∙ ap (λ (k : ℕ). creditsSizes (args .b) (args .lent .now) (args .hour) 0 (take (a .n) (a .list)) (stored (args .sizes .now) 0 k)) (sym n),
+        said .1 ∙ ap (λ (s : List ℤ). creditsAmounts 0 (take (a .n) (a .list)) s) ((c .before .before .before .before .before .before .before .set-amount) .ensures),
       ),
     )
 

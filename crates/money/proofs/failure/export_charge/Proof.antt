@@ -24,12 +24,12 @@ returns c = rw (sym ((c .before .failure-ok) .ensures) ∙ not-true _ ((c .if1) 
 gap-requires : tie.Need-gap-requires
 gap-requires c κs =
     let s = sound-of ((c .before .before .before .before .args) .f) ((c .before .before .before .before .args) .pd) (sym ((c .before .before .before .failure-ok) .ensures) ∙ not-false _ ((c .before .before .if1) .left)) in
-    (s .ahead, s .market)
+    (s .day-ahead-price, s .market)
 
 gap-requires-2 : tie.Need-gap-requires-2
 gap-requires-2 c κs =
     let s = sound-of ((c .before .before .before .before .before .args) .f) ((c .before .before .before .before .before .args) .pd) (sym ((c .before .before .before .before .failure-ok) .ensures) ∙ not-false _ ((c .before .before .before .if1) .left)) in
-    (s .ahead, s .later)
+    (s .day-ahead-price, s .pre-dispatch-price)
 
 dev-of-requires : tie.Need-dev-of-requires
 dev-of-requires c κs = search needs
@@ -37,11 +37,11 @@ dev-of-requires c κs = search needs
 charge-of-requires : tie.Need-charge-of-requires
 charge-of-requires c κs =
     let s = sound-of ((c .before .before .before .before .before .before .before .args) .f) ((c .before .before .before .before .before .before .before .args) .pd) (sym ((c .before .before .before .before .before .before .failure-ok) .ensures) ∙ not-false _ ((c .before .before .before .before .before .if1) .left)) in
-    (gap-size ((c .before .before .before .before .before .before .before .args) .f .ahead .0) ((c .before .before .before .before .before .before .before .args) .pd .0) (s .ahead) (s .market) ((c .before .before .gap) .ensures), (gap-size ((c .before .before .before .before .before .before .before .args) .f .ahead .0) ((c .before .before .before .before .before .before .before .args) .f .later .0) (s .ahead) (s .later) ((c .before .gap2) .ensures), omega (arith, (c .dev-of) .ensures)))
+    (gap-size ((c .before .before .before .before .before .before .before .args) .f .«day_ahead_price» .0) ((c .before .before .before .before .before .before .before .args) .pd .0) (s .day-ahead-price) (s .market) ((c .before .before .gap) .ensures), (gap-size ((c .before .before .before .before .before .before .before .args) .f .«day_ahead_price» .0) ((c .before .before .before .before .before .before .before .args) .f .«pre_dispatch_price» .0) (s .day-ahead-price) (s .pre-dispatch-price) ((c .before .gap2) .ensures), omega (arith, (c .dev-of) .ensures)))
 
 returns-2 : tie.Need-returns-2
 returns-2 c =
-    let e = charge-is ((c .before .before .before .before .before .before .before .before .args) .f .ahead .0 -ℤ (c .before .before .before .before .before .before .before .before .args) .pd .0) ((c .before .before .before .before .before .before .before .before .args) .f .ahead .0 -ℤ (c .before .before .before .before .before .before .before .before .args) .f .later .0) (dev ((c .before .before .before .before .before .before .before .before .args) .f)) ((c .before .before .before .gap) .ensures) ((c .before .before .gap2) .ensures) ((c .before .dev-of) .ensures) ((c .charge-of) .ensures) in
+    let e = charge-is ((c .before .before .before .before .before .before .before .before .args) .f .«day_ahead_price» .0 -ℤ (c .before .before .before .before .before .before .before .before .args) .pd .0) ((c .before .before .before .before .before .before .before .before .args) .f .«day_ahead_price» .0 -ℤ (c .before .before .before .before .before .before .before .before .args) .f .«pre_dispatch_price» .0) (dev ((c .before .before .before .before .before .before .before .before .args) .f)) ((c .before .before .before .gap) .ensures) ((c .before .before .gap2) .ensures) ((c .before .dev-of) .ensures) ((c .charge-of) .ensures) in
     rw (sym ((c .before .before .before .before .before .before .before .failure-ok) .ensures) ∙ not-false _ ((c .before .before .before .before .before .before .if1) .left)) (ap (λ (z : ℤ). Amount (record { 0 = z })) e)
 
 pub export-charge-spec : {M : Type 1} → statement M

@@ -1,8 +1,8 @@
 use mathlib.Core.Path.{_≡_, subst⁻¹}
-use Prim.Native.Nat.{ℕ, _-_, _<_, zero-le}
+use Prim.Native.Nat.{ℕ, _-_, _<_}
 use Rattle.laws.specs.Sums.{Σℤ, Summed, summed-none, summed-more}
-use Rattle.money.specs.Units.{priceAt, quantityAt}
-use Rattle.money.specs.Offers.{piece}
+use Rattle.money.specs.Units.{intervals, priceAt, quantityAt}
+use Rattle.money.specs.Offers.{maxPairs, piece}
 use Rattle.money.specs.UnitLaws.{Moderate}
 use Rattle.money.specs.OfferLaws.{Walk, ticksAt, starts, short, last-size, acc-room, found-on, found}
 use Rattle.money.specs.GuaranteeLaws.{interval-profit, profit-is, cost-room, profit-room, profits-room, profits-all}
@@ -13,7 +13,8 @@ use Rattle.money.proofs.guarantee.profit_sum.Tie as tie
 use Rattle.money.proofs.guarantee.profit_sum.Reads as reads
 use Rattle.money.proofs.guarantee.profit_sum.Lts as lts
 use Rattle.money.proofs.offers.costs_before.Reads as costs-before-reads
-use Rattle.money.proofs.units.Price.times.Reads as times-reads
+use Rattle.money.proofs.units.Price.between.Reads as between-reads
+use Rattle.money.proofs.units.Price.for_quantity.Reads as for-quantity-reads
 use Rattle.money.proofs.units.Ticks.minus.Reads as minus-reads
 use Rattle.money.proofs.units.Ticks.plus.Reads as plus-reads
 
@@ -21,13 +22,13 @@ abbrev Inv-loop : tie.InvT-loop
 Inv-loop o prices qs costs sum k q emp last₀ i₀ last i = Walk o (q .0) (Σℤ i (piece o)) (last .0) i
 
 abbrev μ-loop : tie.MeasureT-loop
-μ-loop o prices qs costs sum k q emp last₀ i₀ last i = 20 - i
+μ-loop o prices qs costs sum k q emp last₀ i₀ last i = maxPairs - i
 
 abbrev Inv-intervals : tie.InvT-intervals
-Inv-intervals o prices qs costs sum₀ k₀ sum k = Summed 12 (interval-profit o prices (quantityAt qs)) (sum .0) k
+Inv-intervals o prices qs costs sum₀ k₀ sum k = Summed intervals (interval-profit o prices (quantityAt qs)) (sum .0) k
 
 abbrev μ-intervals : tie.MeasureT-intervals
-μ-intervals o prices qs costs sum₀ k₀ sum k = 12 - k
+μ-intervals o prices qs costs sum₀ k₀ sum k = intervals - k
 
 costs-before-requires : tie.Need-costs-before-requires Inv-loop μ-loop Inv-intervals μ-intervals
 costs-before-requires c κs = (c .pre) .good
@@ -69,15 +70,15 @@ mul-before c = omega (arith, (c .before .before .before .before .before .loop) .
 array-copy-out-before : tie.Need-array-copy-out-before Inv-loop μ-loop Inv-intervals μ-intervals
 array-copy-out-before c = search needs
 
-times-requires : tie.Need-times-requires Inv-loop μ-loop Inv-intervals μ-intervals
-times-requires c κs =
+between-requires : tie.Need-between-requires Inv-loop μ-loop Inv-intervals μ-intervals
+between-requires c κs =
     let w = (c .before .before .before .before .before .before .loop) .inv in
     let g = (c .before .before .before .before .before .before .before .before .before .before .before .before .pre) .good in
     let m = (c .before .before .before .before .before .before .before .before .before .before .before .before .pre) .within _ ((c .before .before .before .before .before .before .before .before .before .intervals-test) .taken) in
     (g .prices-in _ (w .below), (short _ _ g m _ _ _ w, omega (arith, m, last-size _ g)))
 
 plus-requires : tie.Need-plus-requires Inv-loop μ-loop Inv-intervals μ-intervals
-plus-requires c κs = (subst⁻¹ Moderate ((c .before .before .before .before .before .before .before .before .before .before .before .before .costs-before) .ensures _ ((c .before .before .before .before .before .before .before .loop) .inv .below)) (acc-room ((c .before .before .before .before .before .before .before .before .before .before .before .before .before .pre) .good) ((c .before .before .before .before .before .before .before .before .before .before .before .before .before .pre) .within _ ((c .before .before .before .before .before .before .before .before .before .before .intervals-test) .taken)) ((c .before .before .before .before .before .before .before .loop) .inv)), omega (arith, (c .times) .ensures .1))
+plus-requires c κs = (subst⁻¹ Moderate ((c .before .before .before .before .before .before .before .before .before .before .before .before .costs-before) .ensures _ ((c .before .before .before .before .before .before .before .loop) .inv .below)) (acc-room ((c .before .before .before .before .before .before .before .before .before .before .before .before .before .pre) .good) ((c .before .before .before .before .before .before .before .before .before .before .before .before .before .pre) .within _ ((c .before .before .before .before .before .before .before .before .before .before .intervals-test) .taken)) ((c .before .before .before .before .before .before .before .loop) .inv)), omega (arith, (c .between) .ensures .1))
 
 add-i : tie.Need-add-i Inv-loop μ-loop Inv-intervals μ-intervals
 add-i c = search needs
@@ -88,20 +89,20 @@ loop-less c = search needs
 loop-again : tie.Need-loop-again Inv-loop μ-loop Inv-intervals μ-intervals
 loop-again c = found-on ((c .before .before .before .before .before .before .before .before .before .before .pre) .good) ((c .before .before .before .before .before .before .before .before .before .before .pre) .within _ ((c .before .before .before .before .before .before .before .intervals-test) .taken)) ((c .before .before .before .before .loop) .inv) (omega (arith, (c .if1) .left))
 
-times-requires-2 : tie.Need-times-requires-2 Inv-loop μ-loop Inv-intervals μ-intervals
-times-requires-2 c κs =
+for-quantity-requires : tie.Need-for-quantity-requires Inv-loop μ-loop Inv-intervals μ-intervals
+for-quantity-requires c κs =
     let m = (c .before .before .before .before .before .before .before .before .before .before .before .before .before .before .pre) .within _ ((c .before .before .before .before .before .before .before .before .before .before .before .intervals-test) .taken) in
-    ((c .before .before .before .before .before .before .before .before .before .before .before .before .before .before .pre) .prices _ ((c .before .before .before .before .before .before .before .before .before .before .before .intervals-test) .taken), (zero-le, omega (arith, m, last-size _ ((c .before .before .before .before .before .before .before .before .before .before .before .before .before .before .pre) .good))))
+    ((c .before .before .before .before .before .before .before .before .before .before .before .before .before .before .pre) .prices _ ((c .before .before .before .before .before .before .before .before .before .before .before .intervals-test) .taken), omega (arith, m, last-size _ ((c .before .before .before .before .before .before .before .before .before .before .before .before .before .before .pre) .good)))
 
 minus-requires : tie.Need-minus-requires Inv-loop μ-loop Inv-intervals μ-intervals
 minus-requires c κs =
-    let z = found ((c .before .before .before .before .before .before .before .before .before .before .before .before .before .before .before .pre) .good) ((c .before .before .before .before .before .before .before .before .before .before .before .before .before .before .before .pre) .within _ ((c .before .before .before .before .before .before .before .before .before .before .before .before .intervals-test) .taken)) ((c .before .before .before .before .before .before .before .before .before .loop) .inv) ((c .before .before .before .before .before .before .before .before .before .before .before .before .before .before .costs-before) .ensures _ ((c .before .before .before .before .before .before .before .before .before .loop) .inv .below)) ((c .before .before .before .before .before .if1) .taken) ((c .before .before .times) .ensures .0) ((c .before .plus) .ensures) in
-    (omega (arith, (c .times2) .ensures .1), cost-room ((c .before .before .before .before .before .before .before .before .before .before .before .before .before .before .before .pre)) _ ((c .before .before .before .before .before .before .before .before .before .before .before .before .intervals-test) .taken) z)
+    let z = found ((c .before .before .before .before .before .before .before .before .before .before .before .before .before .before .before .pre) .good) ((c .before .before .before .before .before .before .before .before .before .before .before .before .before .before .before .pre) .within _ ((c .before .before .before .before .before .before .before .before .before .before .before .before .intervals-test) .taken)) ((c .before .before .before .before .before .before .before .before .before .loop) .inv) ((c .before .before .before .before .before .before .before .before .before .before .before .before .before .before .costs-before) .ensures _ ((c .before .before .before .before .before .before .before .before .before .loop) .inv .below)) ((c .before .before .before .before .before .if1) .taken) ((c .before .before .between) .ensures .0) ((c .before .plus) .ensures) in
+    (omega (arith, (c .for-quantity) .ensures .1), cost-room ((c .before .before .before .before .before .before .before .before .before .before .before .before .before .before .before .pre)) _ ((c .before .before .before .before .before .before .before .before .before .before .before .before .intervals-test) .taken) z)
 
 plus-requires-2 : tie.Need-plus-requires-2 Inv-loop μ-loop Inv-intervals μ-intervals
 plus-requires-2 c κs =
-    let z = found ((c .before .before .before .before .before .before .before .before .before .before .before .before .before .before .before .before .pre) .good) ((c .before .before .before .before .before .before .before .before .before .before .before .before .before .before .before .before .pre) .within _ ((c .before .before .before .before .before .before .before .before .before .before .before .before .before .intervals-test) .taken)) ((c .before .before .before .before .before .before .before .before .before .before .loop) .inv) ((c .before .before .before .before .before .before .before .before .before .before .before .before .before .before .before .costs-before) .ensures _ ((c .before .before .before .before .before .before .before .before .before .before .loop) .inv .below)) ((c .before .before .before .before .before .before .if1) .taken) ((c .before .before .before .times) .ensures .0) ((c .before .before .plus) .ensures) in
-    (profits-room ((c .before .before .before .before .before .before .before .before .before .before .before .before .before .before .before .before .pre)) ((c .before .before .before .before .before .before .before .before .before .before .before .before .before .before .intervals) .inv), profit-room ((c .before .before .before .before .before .before .before .before .before .before .before .before .before .before .before .before .pre)) _ ((c .before .before .before .before .before .before .before .before .before .before .before .before .before .intervals-test) .taken) (profit-is ((c .before .before .before .before .before .before .before .before .before .before .before .before .before .before .before .before .args) .t1) (priceAt ((c .before .before .before .before .before .before .before .before .before .before .before .before .before .before .before .before .args) .t2) ((c .before .before .before .before .before .before .before .before .before .before .before .before .before .before .intervals) .k)) (quantityAt ((c .before .before .before .before .before .before .before .before .before .before .before .before .before .before .before .before .args) .t3) ((c .before .before .before .before .before .before .before .before .before .before .before .before .before .before .intervals) .k)) ((c .before .times2) .ensures .0) z ((c .minus) .ensures)))
+    let z = found ((c .before .before .before .before .before .before .before .before .before .before .before .before .before .before .before .before .pre) .good) ((c .before .before .before .before .before .before .before .before .before .before .before .before .before .before .before .before .pre) .within _ ((c .before .before .before .before .before .before .before .before .before .before .before .before .before .intervals-test) .taken)) ((c .before .before .before .before .before .before .before .before .before .before .loop) .inv) ((c .before .before .before .before .before .before .before .before .before .before .before .before .before .before .before .costs-before) .ensures _ ((c .before .before .before .before .before .before .before .before .before .before .loop) .inv .below)) ((c .before .before .before .before .before .before .if1) .taken) ((c .before .before .before .between) .ensures .0) ((c .before .before .plus) .ensures) in
+    (profits-room ((c .before .before .before .before .before .before .before .before .before .before .before .before .before .before .before .before .pre)) ((c .before .before .before .before .before .before .before .before .before .before .before .before .before .before .intervals) .inv), profit-room ((c .before .before .before .before .before .before .before .before .before .before .before .before .before .before .before .before .pre)) _ ((c .before .before .before .before .before .before .before .before .before .before .before .before .before .intervals-test) .taken) (profit-is ((c .before .before .before .before .before .before .before .before .before .before .before .before .before .before .before .before .args) .t1) (priceAt ((c .before .before .before .before .before .before .before .before .before .before .before .before .before .before .before .before .args) .t2) ((c .before .before .before .before .before .before .before .before .before .before .before .before .before .before .intervals) .k)) (quantityAt ((c .before .before .before .before .before .before .before .before .before .before .before .before .before .before .before .before .args) .t3) ((c .before .before .before .before .before .before .before .before .before .before .before .before .before .before .intervals) .k)) ((c .before .for-quantity) .ensures .0) z ((c .minus) .ensures)))
 
 add-k : tie.Need-add-k Inv-loop μ-loop Inv-intervals μ-intervals
 add-k c = search needs
@@ -111,8 +112,8 @@ intervals-less c = search needs
 
 intervals-again : tie.Need-intervals-again Inv-loop μ-loop Inv-intervals μ-intervals
 intervals-again c =
-    let z = found ((c .before .before .before .before .before .before .before .before .before .before .before .before .before .before .before .before .before .pre) .good) ((c .before .before .before .before .before .before .before .before .before .before .before .before .before .before .before .before .before .pre) .within _ ((c .before .before .before .before .before .before .before .before .before .before .before .before .before .before .intervals-test) .taken)) ((c .before .before .before .before .before .before .before .before .before .before .before .loop) .inv) ((c .before .before .before .before .before .before .before .before .before .before .before .before .before .before .before .before .costs-before) .ensures _ ((c .before .before .before .before .before .before .before .before .before .before .before .loop) .inv .below)) ((c .before .before .before .before .before .before .before .if1) .taken) ((c .before .before .before .before .times) .ensures .0) ((c .before .before .before .plus) .ensures) in
-    summed-more ((c .before .before .before .before .before .before .before .before .before .before .before .before .before .before .before .intervals) .inv) ((c .before .before .before .before .before .before .before .before .before .before .before .before .before .before .intervals-test) .taken) ((c .plus2) .ensures) (profit-is ((c .before .before .before .before .before .before .before .before .before .before .before .before .before .before .before .before .before .args) .t1) (priceAt ((c .before .before .before .before .before .before .before .before .before .before .before .before .before .before .before .before .before .args) .t2) ((c .before .before .before .before .before .before .before .before .before .before .before .before .before .before .before .intervals) .k)) (quantityAt ((c .before .before .before .before .before .before .before .before .before .before .before .before .before .before .before .before .before .args) .t3) ((c .before .before .before .before .before .before .before .before .before .before .before .before .before .before .before .intervals) .k)) ((c .before .before .times2) .ensures .0) z ((c .before .minus) .ensures))
+    let z = found ((c .before .before .before .before .before .before .before .before .before .before .before .before .before .before .before .before .before .pre) .good) ((c .before .before .before .before .before .before .before .before .before .before .before .before .before .before .before .before .before .pre) .within _ ((c .before .before .before .before .before .before .before .before .before .before .before .before .before .before .intervals-test) .taken)) ((c .before .before .before .before .before .before .before .before .before .before .before .loop) .inv) ((c .before .before .before .before .before .before .before .before .before .before .before .before .before .before .before .before .costs-before) .ensures _ ((c .before .before .before .before .before .before .before .before .before .before .before .loop) .inv .below)) ((c .before .before .before .before .before .before .before .if1) .taken) ((c .before .before .before .before .between) .ensures .0) ((c .before .before .before .plus) .ensures) in
+    summed-more ((c .before .before .before .before .before .before .before .before .before .before .before .before .before .before .before .intervals) .inv) ((c .before .before .before .before .before .before .before .before .before .before .before .before .before .before .intervals-test) .taken) ((c .plus2) .ensures) (profit-is ((c .before .before .before .before .before .before .before .before .before .before .before .before .before .before .before .before .before .args) .t1) (priceAt ((c .before .before .before .before .before .before .before .before .before .before .before .before .before .before .before .before .before .args) .t2) ((c .before .before .before .before .before .before .before .before .before .before .before .before .before .before .before .intervals) .k)) (quantityAt ((c .before .before .before .before .before .before .before .before .before .before .before .before .before .before .before .before .before .args) .t3) ((c .before .before .before .before .before .before .before .before .before .before .before .before .before .before .before .intervals) .k)) ((c .before .before .for-quantity) .ensures .0) z ((c .before .minus) .ensures))
 
 returns : tie.Need-returns Inv-loop μ-loop Inv-intervals μ-intervals
 returns c = profits-all _ _ _ ((c .before .intervals) .inv) ((c .intervals-test) .left)
@@ -138,12 +139,12 @@ profit-sum-spec =
     element-copy-out-p
     mul-before
     array-copy-out-before
-    times-requires
+    between-requires
     plus-requires
     add-i
     loop-less
     loop-again
-    times-requires-2
+    for-quantity-requires
     minus-requires
     plus-requires-2
     add-k

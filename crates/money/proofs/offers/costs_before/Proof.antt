@@ -7,7 +7,7 @@ use Rattle.money.proofs.offers.costs_before.Statement.{statement}
 use Rattle.money.proofs.offers.costs_before.Tie as tie
 use Rattle.money.proofs.offers.costs_before.Reads as reads
 use Rattle.money.proofs.offers.costs_before.Lts as lts
-use Rattle.money.proofs.units.Price.times.Reads as times-reads
+use Rattle.money.proofs.units.Price.between.Reads as between-reads
 use Rattle.money.proofs.units.Ticks.plus.Reads as plus-reads
 
 abbrev Inv-loop : tie.InvT-loop
@@ -40,11 +40,11 @@ mul-w c = search needs
 element-copy-out-w : tie.Need-element-copy-out-w Inv-loop μ-loop
 element-copy-out-w c = search needs
 
-times-requires : tie.Need-times-requires Inv-loop μ-loop
-times-requires c κs = ((c .before .before .before .before .pre) .prices-in _ (omega (arith, (c .before .before .before .loop) .inv .0, (c .before .before .loop-test) .taken)), (costed-reach ((c .before .before .before .before .pre)) ((c .before .before .before .loop) .inv .1) (omega (arith, (c .before .before .before .loop) .inv .0, (c .before .before .loop-test) .taken)), (c .before .before .before .before .pre) .quantities-in _ (omega (arith, (c .before .before .before .loop) .inv .0, (c .before .before .loop-test) .taken))))
+between-requires : tie.Need-between-requires Inv-loop μ-loop
+between-requires c κs = ((c .before .before .before .before .pre) .prices-in _ (omega (arith, (c .before .before .before .loop) .inv .0, (c .before .before .loop-test) .taken)), (costed-reach ((c .before .before .before .before .pre)) ((c .before .before .before .loop) .inv .1) (omega (arith, (c .before .before .before .loop) .inv .0, (c .before .before .loop-test) .taken)), (c .before .before .before .before .pre) .quantities-in _ (omega (arith, (c .before .before .before .loop) .inv .0, (c .before .before .loop-test) .taken))))
 
 plus-requires : tie.Need-plus-requires Inv-loop μ-loop
-plus-requires c κs = (costed-room ((c .before .before .before .before .before .pre)) ((c .before .before .before .before .loop) .inv .1) (omega (arith, (c .before .before .before .before .loop) .inv .0, (c .before .before .before .loop-test) .taken)), omega (arith, (c .times) .ensures .1))
+plus-requires c κs = (costed-room ((c .before .before .before .before .before .pre)) ((c .before .before .before .before .loop) .inv .1) (omega (arith, (c .before .before .before .before .loop) .inv .0, (c .before .before .before .loop-test) .taken)), omega (arith, (c .between) .ensures .1))
 
 add-i : tie.Need-add-i Inv-loop μ-loop
 add-i c = search needs
@@ -53,7 +53,7 @@ loop-less : tie.Need-loop-less Inv-loop μ-loop
 loop-less c = search needs
 
 loop-again : tie.Need-loop-again Inv-loop μ-loop
-loop-again c = ((c .before .before .before .before .before .loop) .inv .0, costed-more ((c .before .before .before .before .before .before .pre)) ((c .before .before .before .before .before .loop) .inv .1) (omega (arith, (c .before .before .before .before .before .loop) .inv .0, (c .before .before .before .before .loop-test) .taken)) refl ((c .before .times) .ensures .0) ((c .plus) .ensures))
+loop-again c = ((c .before .before .before .before .before .loop) .inv .0, costed-more ((c .before .before .before .before .before .before .pre)) ((c .before .before .before .before .before .loop) .inv .1) (omega (arith, (c .before .before .before .before .before .loop) .inv .0, (c .before .before .before .before .loop-test) .taken)) refl ((c .before .between) .ensures .0) ((c .plus) .ensures))
 
 returns : tie.Need-returns Inv-loop μ-loop
 returns c = λ j l. (c .before .loop) .inv .1 .so-far j (omega (arith, (c .before .loop) .inv .0, (c .loop-test) .left))
@@ -72,7 +72,7 @@ costs-before-spec =
     element-copy-out-p
     mul-w
     element-copy-out-w
-    times-requires
+    between-requires
     plus-requires
     add-i
     loop-less

@@ -1,6 +1,6 @@
 use Prim.Native.Nat.{ℕ, _-_, min}
 use mathlib.Core.Path.{refl, _∙_, ap}
-use Rattle.money.specs.Units.{quantityAt}
+use Rattle.money.specs.Units.{intervals, quantityAt}
 use Rattle.money.specs.Offset.{mqsi, entry}
 use Rattle.money.specs.UnitLaws.{Filled, filled-none, filled-more}
 use borrow.Author.Needs.{needs}
@@ -17,7 +17,7 @@ abbrev Inv-loop : tie.InvT-loop
 Inv-loop n i totals e reached row₀ k₀ row k = Filled row (λ j. min (mqsi e j) (quantityAt reached j - quantityAt totals j)) k
 
 abbrev μ-loop : tie.MeasureT-loop
-μ-loop n i totals e reached row₀ k₀ row k = 12 - k
+μ-loop n i totals e reached row₀ k₀ row k = intervals - k
 
 mul-e : tie.Need-mul-e Inv-loop μ-loop
 mul-e c = search needs

@@ -3,6 +3,7 @@ use Prim.Native.Nat.{_-_}
 use borrow.Author.Tests.{not-true, not-false}
 use Rattle.laws.specs.Sums.{Passed, passed-none, passed-more, passed-all, every-no}
 use Rattle.money.specs.Offset.{rateOk, ratesOk}
+use Rattle.money.specs.Units.{intervals}
 use borrow.Author.Needs.{needs}
 use native.Mathlib.Omega.{arith}
 use Rattle.money.proofs.offset.rates_ok.Statement.{statement}
@@ -12,10 +13,10 @@ use Rattle.money.proofs.offset.rates_ok.Lts as lts
 use Rattle.money.proofs.offset.rate_ok.Reads as rate-ok-reads
 
 abbrev Inv-loop : tie.InvT-loop
-Inv-loop prices totals k₀ k = Passed 12 (rateOk prices totals) k
+Inv-loop prices totals k₀ k = Passed intervals (rateOk prices totals) k
 
 abbrev μ-loop : tie.MeasureT-loop
-μ-loop prices totals k₀ k = 12 - k
+μ-loop prices totals k₀ k = intervals - k
 
 loop-holds : tie.Need-loop-holds Inv-loop μ-loop
 loop-holds c = passed-none _ _

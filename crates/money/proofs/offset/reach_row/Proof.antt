@@ -2,6 +2,7 @@ use Prim.Native.Nat.{_-_}
 use mathlib.Core.Path.{refl}
 use Rattle.money.specs.UnitLaws.{zeros}
 use Rattle.money.specs.OffsetLaws.{Reached, reached-none, reached-room, reached-more, reached-all}
+use Rattle.money.specs.Units.{intervals}
 use borrow.Author.Needs.{needs}
 use native.Mathlib.Omega.{arith}
 use Rattle.money.proofs.offset.reach_row.Statement.{statement}
@@ -23,7 +24,7 @@ array-copy-out-e : tie.Need-array-copy-out-e Inv-loop μ-loop
 array-copy-out-e c = search needs
 
 loop-holds : tie.Need-loop-holds Inv-loop μ-loop
-loop-holds c = reached-none _ _ _ _ (λ k l. zeros 12 k)
+loop-holds c = reached-none _ _ _ _ (λ k l. zeros intervals k)
 
 mul-a : tie.Need-mul-a Inv-loop μ-loop
 mul-a c = search needs

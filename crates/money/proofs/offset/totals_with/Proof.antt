@@ -1,8 +1,8 @@
 use Prim.Native.Nat.{ℕ, _-_, _+_, min}
 use mathlib.Core.Path.{refl}
-use Rattle.money.specs.Units.{quantityAt}
+use Rattle.money.specs.Units.{intervals, quantityAt}
 use Rattle.money.specs.UnitLaws.{Filled, filled-none, filled-more, filled-all}
-use Rattle.money.specs.Offset.{totalsWith}
+use Rattle.money.specs.Offset.{maxTotal, totalsWith}
 use borrow.Author.Needs.{needs}
 use native.Mathlib.Omega.{arith}
 use Rattle.money.proofs.offset.totals_with.Statement.{statement}
@@ -12,10 +12,10 @@ use Rattle.money.proofs.offset.totals_with.Lts as lts
 use Rattle.money.proofs.offset.total_with.Reads as total-with-reads
 
 abbrev Inv-loop : tie.InvT-loop
-Inv-loop totals more row₀ k₀ row k = Filled row (λ (j : ℕ). min (quantityAt totals j + quantityAt more j) 1600001) k
+Inv-loop totals more row₀ k₀ row k = Filled row (λ (j : ℕ). min (quantityAt totals j + quantityAt more j) (maxTotal + 1)) k
 
 abbrev μ-loop : tie.MeasureT-loop
-μ-loop totals more row₀ k₀ row k = 12 - k
+μ-loop totals more row₀ k₀ row k = intervals - k
 
 loop-holds : tie.Need-loop-holds Inv-loop μ-loop
 loop-holds c = filled-none _ _ refl

@@ -4,6 +4,7 @@ use lib.IntN.{pos}
 use lib.ListN.{getD}
 use Rattle.money.specs.Production.{noStart, hourPart, daySum}
 use Rattle.money.specs.ProductionLaws.{day-room, part-is, part-room, start-room}
+use Rattle.money.specs.Units.{dayHours}
 use borrow.Author.Needs.{needs}
 use native.Mathlib.Omega.{arith}
 use Rattle.money.proofs.production.day_sum.Statement.{statement}
@@ -14,10 +15,10 @@ use Rattle.money.proofs.units.CentsPerStart.ticks.Reads as ticks-reads
 use Rattle.money.proofs.units.Ticks.plus.Reads as plus-reads
 
 abbrev Inv-loop : tie.InvT-loop
-Inv-loop amounts starts sum₀ i₀ sum i = Summed 24 (hourPart amounts starts) (sum .0) i
+Inv-loop amounts starts sum₀ i₀ sum i = Summed dayHours (hourPart amounts starts) (sum .0) i
 
 abbrev μ-loop : tie.MeasureT-loop
-μ-loop amounts starts sum₀ i₀ sum i = 24 - i
+μ-loop amounts starts sum₀ i₀ sum i = dayHours - i
 
 loop-holds : tie.Need-loop-holds Inv-loop μ-loop
 loop-holds c = summed-none _ _

@@ -4,6 +4,7 @@ use lib.ListN.{getD}
 use borrow.Author.Tests.{not-true, not-false}
 use Rattle.laws.specs.Sums.{Passed, passed-none, passed-more, passed-all, every-no}
 use Rattle.money.specs.Production.{amountOk, hoursOk, noTicks, noStart}
+use Rattle.money.specs.Units.{dayHours}
 use borrow.Author.Needs.{needs}
 use Rattle.money.proofs.production.hours_ok.Statement.{statement}
 use Rattle.money.proofs.production.hours_ok.Tie as tie
@@ -12,10 +13,10 @@ use Rattle.money.proofs.production.hours_ok.Lts as lts
 use Rattle.money.proofs.production.hour_ok.Reads as hour-ok-reads
 
 abbrev Inv-loop : tie.InvT-loop
-Inv-loop amounts starts i₀ i = Passed 24 (λ j. amountOk (getD amounts j noTicks) (getD starts j noStart)) i
+Inv-loop amounts starts i₀ i = Passed dayHours (λ j. amountOk (getD amounts j noTicks) (getD starts j noStart)) i
 
 abbrev μ-loop : tie.MeasureT-loop
-μ-loop amounts starts i₀ i = 24 - i
+μ-loop amounts starts i₀ i = dayHours - i
 
 loop-holds : tie.Need-loop-holds Inv-loop μ-loop
 loop-holds c = passed-none _ _

@@ -1,7 +1,7 @@
 use mathlib.Core.Path.{sym, _∙_}
 use lib.Dec.{ltb}
 use borrow.Author.Tests.{lt-ltb, le-ltb}
-use Rattle.money.specs.Units.{unless}
+use Rattle.money.specs.Units.{intervals, unless}
 use Rattle.money.specs.Production.{intervalFault}
 use Rattle.money.specs.UnitLaws.{kept}
 use borrow.Author.Needs.{needs}
@@ -16,7 +16,7 @@ unit-fault-requires c κs = search needs
 
 returns : tie.Need-returns
 unfolding intervalFault
-returns c = kept (unless (ltb ((c .before .before .args) .k) 12) 5 0) ((c .before .unit-fault) .ensures) ((c .if1) .taken)
+returns c = kept (unless (ltb ((c .before .before .args) .k) intervals) 5 0) ((c .before .unit-fault) .ensures) ((c .if1) .taken)
 
 returns-2 : tie.Need-returns-2
 unfolding intervalFault

@@ -1,6 +1,6 @@
 use Prim.Native.Nat.{ℕ, _-_}
 use Rattle.laws.specs.Sums.{Summed, summed-none, summed-more, summed-all}
-use Rattle.money.specs.Units.{quantityAt}
+use Rattle.money.specs.Units.{intervals, quantityAt}
 use Rattle.money.specs.ProductionLaws.{running, running-room, runs-room}
 use borrow.Author.Needs.{needs}
 use native.Mathlib.Omega.{arith}
@@ -12,10 +12,10 @@ use Rattle.money.proofs.production.running_at.Reads as running-at-reads
 use Rattle.money.proofs.units.Ticks.plus.Reads as plus-reads
 
 abbrev Inv-loop : tie.InvT-loop
-Inv-loop noload m sum₀ k₀ sum k = Summed 12 (λ (j : ℕ). running (noload .0) (quantityAt m j)) (sum .0) k
+Inv-loop noload m sum₀ k₀ sum k = Summed intervals (λ (j : ℕ). running (noload .0) (quantityAt m j)) (sum .0) k
 
 abbrev μ-loop : tie.MeasureT-loop
-μ-loop noload m sum₀ k₀ sum k = 12 - k
+μ-loop noload m sum₀ k₀ sum k = intervals - k
 
 loop-holds : tie.Need-loop-holds Inv-loop μ-loop
 loop-holds c = summed-none _ _

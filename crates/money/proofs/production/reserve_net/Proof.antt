@@ -1,4 +1,3 @@
-use Prim.Native.Nat.{zero-le}
 use Rattle.money.specs.Units.{priceAt}
 use Rattle.money.specs.ProductionLaws.{in-range, spent-room, offered, idle}
 use Rattle.money.specs.GuaranteeLaws.{profit-is}
@@ -9,7 +8,7 @@ use Rattle.money.proofs.production.reserve_net.Tie as tie
 use Rattle.money.proofs.production.reserve_net.Reads as reads
 use Rattle.money.proofs.production.reserve_net.Lts as lts
 use Rattle.money.proofs.offers.cost_of.Reads as cost-of-reads
-use Rattle.money.proofs.units.Price.times.Reads as times-reads
+use Rattle.money.proofs.units.Price.for_quantity.Reads as for-quantity-reads
 use Rattle.money.proofs.units.Ticks.minus.Reads as minus-reads
 
 returns : tie.Need-returns
@@ -21,10 +20,10 @@ mul-p c = search needs
 element-copy-out-p : tie.Need-element-copy-out-p
 element-copy-out-p c = search needs
 
-times-requires : tie.Need-times-requires
-times-requires c κs =
+for-quantity-requires : tie.Need-for-quantity-requires
+for-quantity-requires c κs =
     let g = offered ((c .before .before .before .before .pre) .0) ((c .before .before .before .before .args) .q .0) ((c .before .before .if1) .left) ((c .before .before .before .before .pre) .1 .1) in
-    ((c .before .before .before .before .pre) .0 .rates ((c .before .before .before .before .args) .k) ((c .before .before .before .before .pre) .1 .0), (zero-le, in-range _ _ g ((c .before .before .before .before .pre) .1 .1)))
+    ((c .before .before .before .before .pre) .0 .rates ((c .before .before .before .before .args) .k) ((c .before .before .before .before .pre) .1 .0), in-range _ _ g ((c .before .before .before .before .pre) .1 .1))
 
 cost-of-requires : tie.Need-cost-of-requires
 cost-of-requires c κs = (offered ((c .before .before .before .before .before .pre) .0) ((c .before .before .before .before .before .args) .q .0) ((c .before .before .before .if1) .left) ((c .before .before .before .before .before .pre) .1 .1), (c .before .before .before .before .before .pre) .1 .1)
@@ -32,10 +31,10 @@ cost-of-requires c κs = (offered ((c .before .before .before .before .before .p
 minus-requires : tie.Need-minus-requires
 minus-requires c κs =
     let g = offered ((c .before .before .before .before .before .before .pre) .0) ((c .before .before .before .before .before .before .args) .q .0) ((c .before .before .before .before .if1) .left) ((c .before .before .before .before .before .before .pre) .1 .1) in
-    (omega (arith, (c .before .times) .ensures .1), spent-room _ _ g ((c .before .before .before .before .before .before .pre) .1 .1) ((c .cost-of) .ensures))
+    (omega (arith, (c .before .for-quantity) .ensures .1), spent-room _ _ g ((c .before .before .before .before .before .before .pre) .1 .1) ((c .cost-of) .ensures))
 
 returns-2 : tie.Need-returns-2
-returns-2 c = profit-is ((c .before .before .before .before .before .before .before .args) .t1 .offer) (priceAt ((c .before .before .before .before .before .before .before .args) .t1 .prices) ((c .before .before .before .before .before .before .before .args) .k)) ((c .before .before .before .before .before .before .before .args) .q .0) ((c .before .before .times) .ensures .0) ((c .before .cost-of) .ensures) ((c .minus) .ensures)
+returns-2 c = profit-is ((c .before .before .before .before .before .before .before .args) .t1 .offer) (priceAt ((c .before .before .before .before .before .before .before .args) .t1 .prices) ((c .before .before .before .before .before .before .before .args) .k)) ((c .before .before .before .before .before .before .before .args) .q .0) ((c .before .before .for-quantity) .ensures .0) ((c .before .cost-of) .ensures) ((c .minus) .ensures)
 
 pub reserve-net-spec : {M : Type 1} → statement M
 reserve-net-spec =
@@ -44,7 +43,7 @@ reserve-net-spec =
     returns
     mul-p
     element-copy-out-p
-    times-requires
+    for-quantity-requires
     cost-of-requires
     minus-requires
     returns-2)

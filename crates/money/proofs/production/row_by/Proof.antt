@@ -1,6 +1,6 @@
 use mathlib.Core.Path.{refl}
 use Prim.Native.Nat.{ℕ, _-_}
-use Rattle.money.specs.Units.{quantityAt}
+use Rattle.money.specs.Units.{intervals, quantityAt}
 use Rattle.money.specs.UnitLaws.{Filled, filled-none, filled-more}
 use Rattle.money.specs.ProductionLaws.{pickOf}
 use borrow.Author.Needs.{needs}
@@ -15,7 +15,7 @@ abbrev Inv-loop : tie.InvT-loop
 Inv-loop by a b row₀ k₀ row k = Filled row (λ (j : ℕ). pickOf by (quantityAt a j) (quantityAt b j)) k
 
 abbrev μ-loop : tie.MeasureT-loop
-μ-loop by a b row₀ k₀ row k = 12 - k
+μ-loop by a b row₀ k₀ row k = intervals - k
 
 loop-holds : tie.Need-loop-holds Inv-loop μ-loop
 loop-holds c = filled-none _ _ refl

@@ -2,7 +2,7 @@ use mathlib.Core.Path.{sym, _∙_}
 use Prim.Native.Nat.{_-_}
 use lib.ListN.{getD}
 use borrow.Author.Tests.{not-true, not-false}
-use Rattle.money.specs.Units.{pricesOk, priceOk, noPrice}
+use Rattle.money.specs.Units.{intervals, pricesOk, priceOk, noPrice}
 use Rattle.laws.specs.Sums.{Passed, passed-none, passed-more, passed-all, every-no}
 use borrow.Author.Needs.{needs}
 use native.Mathlib.Omega.{arith}
@@ -13,10 +13,10 @@ use Rattle.money.proofs.units.prices_ok.Lts as lts
 use Rattle.money.proofs.units.Price.in_range.Reads as in-range-reads
 
 abbrev Inv-loop : tie.InvT-loop
-Inv-loop prices k₀ k = Passed 12 (λ j. priceOk (getD prices j noPrice)) k
+Inv-loop prices k₀ k = Passed intervals (λ j. priceOk (getD prices j noPrice)) k
 
 abbrev μ-loop : tie.MeasureT-loop
-μ-loop prices k₀ k = 12 - k
+μ-loop prices k₀ k = intervals - k
 
 loop-holds : tie.Need-loop-holds Inv-loop μ-loop
 loop-holds c = passed-none _ _

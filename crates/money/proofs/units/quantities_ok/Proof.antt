@@ -2,7 +2,7 @@ use mathlib.Core.Path.{sym, _∙_}
 use Prim.Native.Nat.{_-_}
 use lib.ListN.{getD}
 use borrow.Author.Tests.{not-true, not-false}
-use Rattle.money.specs.Units.{quantitiesOk, quantityOk, noQuantity}
+use Rattle.money.specs.Units.{intervals, quantitiesOk, quantityOk, noQuantity}
 use Rattle.laws.specs.Sums.{Passed, passed-none, passed-more, passed-all, every-no}
 use borrow.Author.Needs.{needs}
 use native.Mathlib.Omega.{arith}
@@ -13,10 +13,10 @@ use Rattle.money.proofs.units.quantities_ok.Lts as lts
 use Rattle.money.proofs.units.Quantity.in_range.Reads as in-range-reads
 
 abbrev Inv-loop : tie.InvT-loop
-Inv-loop qs k₀ k = Passed 12 (λ j. quantityOk (getD qs j noQuantity)) k
+Inv-loop qs k₀ k = Passed intervals (λ j. quantityOk (getD qs j noQuantity)) k
 
 abbrev μ-loop : tie.MeasureT-loop
-μ-loop qs k₀ k = 12 - k
+μ-loop qs k₀ k = intervals - k
 
 loop-holds : tie.Need-loop-holds Inv-loop μ-loop
 loop-holds c = passed-none _ _

@@ -2,7 +2,7 @@ use mathlib.Core.Path.{sym, _∙_}
 use Prim.Native.Nat.{_-_}
 use lib.Dec.{leb}
 use borrow.Author.Tests.{le-leb, lt-leb}
-use Rattle.money.specs.Units.{withinOk, quantityAt}
+use Rattle.money.specs.Units.{intervals, withinOk, quantityAt}
 use Rattle.laws.specs.Sums.{Passed, passed-none, passed-more, passed-all, every-no}
 use borrow.Author.Needs.{needs}
 use native.Mathlib.Omega.{arith}
@@ -12,10 +12,10 @@ use Rattle.money.proofs.units.within_ok.Reads as reads
 use Rattle.money.proofs.units.within_ok.Lts as lts
 
 abbrev Inv-loop : tie.InvT-loop
-Inv-loop last qs k₀ k = Passed 12 (λ j. leb (quantityAt qs j) (last .0)) k
+Inv-loop last qs k₀ k = Passed intervals (λ j. leb (quantityAt qs j) (last .0)) k
 
 abbrev μ-loop : tie.MeasureT-loop
-μ-loop last qs k₀ k = 12 - k
+μ-loop last qs k₀ k = intervals - k
 
 loop-holds : tie.Need-loop-holds Inv-loop μ-loop
 loop-holds c = passed-none _ _

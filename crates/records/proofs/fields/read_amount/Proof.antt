@@ -20,12 +20,12 @@ enum-known-w-2 c = search needs
 returns : tie.Need-returns
 unfolding amount
 returns c =
-    let h = (c .before .before .before .before .before .read-word) .ensures .1 in
-    (rw (← (c .before .before .before .before .before .read-word) .ensures .0, (c .before .before .before .w) .given .1, le-leb _ _ ((c .if1) .taken)), rw ((c .before .before .before .w) .given .1) at h)
+    let h = (c .before .before .before .before .read-word) .ensures .1 in
+    (rw (← (c .before .before .before .before .read-word) .ensures .0, (c .before .before .w) .given .1, le-leb _ _ ((c .if1) .taken)), rw ((c .before .before .w) .given .1) at h)
 
 returns-2 : tie.Need-returns-2
 unfolding amount
-returns-2 c = (rw (← (c .before .before .before .before .before .read-word) .ensures .0, (c .before .before .before .w) .given .1, lt-leb _ _ ((c .if1) .left)), tt)
+returns-2 c = (rw (← (c .before .before .before .before .read-word) .ensures .0, (c .before .before .w) .given .1, lt-leb _ _ ((c .if1) .left)), tt)
 
 returns-3 : tie.Need-returns-3
 unfolding amount

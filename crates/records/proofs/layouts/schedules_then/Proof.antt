@@ -1,4 +1,5 @@
 use mathlib.Core.Path.{_≡_, sym, _∙_}
+use Rattle.money.specs.Units.{maxCents}
 use Rattle.records.specs.Reading.{many}
 use Rattle.records.specs.Numbers.{quantity, amount}
 use Rattle.records.specs.Layouts.{schedules}
@@ -44,8 +45,8 @@ returns c =
     let v4 = (c .before .before .before .before .before .before .before .quantities-then3) .result in
     let v5 = (c .before .before .before .before .before .before .quantities-then4) .result in
     let v6 = (c .before .before .before .before .before .quantities-then5) .result in (
-      sym (next s ((c .before .before .before .before .before .before .before .before .before .before .before .before .before .args) .e) (a .end) (a .value) amount _ ((c .before .before .before .before .before .before .before .before .before .before .before .amount-then) .ensures .0)
-          ∙ next s (a .end) (b .end) (b .value) amount _ ((c .before .before .before .before .before .before .before .before .before .before .amount-then2) .ensures .0)
+      sym (next s ((c .before .before .before .before .before .before .before .before .before .before .before .before .before .args) .e) (a .end) (a .value) (amount maxCents) _ ((c .before .before .before .before .before .before .before .before .before .before .before .amount-then) .ensures .0)
+          ∙ next s (a .end) (b .end) (b .value) (amount maxCents) _ ((c .before .before .before .before .before .before .before .before .before .before .amount-then2) .ensures .0)
           ∙ next s (b .end) (v2 .end) (v2 .values) (many 12 quantity) _ ((c .before .before .before .before .before .before .before .before .before .quantities-then) .ensures .0)
           ∙ next s (v2 .end) (v3 .end) (v3 .values) (many 12 quantity) _ ((c .before .before .before .before .before .before .before .before .quantities-then2) .ensures .0)
           ∙ next s (v3 .end) (v4 .end) (v4 .values) (many 12 quantity) _ ((c .before .before .before .before .before .before .before .quantities-then3) .ensures .0)

@@ -15,13 +15,17 @@ use Rattle.statement.proofs.hours.put_charges.Statement.{statement}
 use Rattle.statement.proofs.hours.put_charges.Tie as tie
 
 abbrev Inv-loop : tie.InvT-loop
-Inv-loop out₀ hour kind a n next₀ i₀ out next i = (i ≤ n) × (n ≡ a .n) × (a .n ≤ maxCharges) × (length (a .list) ≡ maxCharges) × (next₀ .at + 66 * n ≤ length out₀) × WritesLines out₀ next₀ (map (lineOf hour kind) (take i (a .list))) out next
+Inv-loop out₀ hour kind a n next₀ i₀ out next i =
+    (i ≤ n) × (n ≡ a .n) × (a .n ≤ maxCharges) × (length (a .list) ≡ maxCharges) × (next₀ .at + 66 * n ≤ length out₀)
+    × WritesLines out₀ next₀ (map (lineOf hour kind) (take i (a .list))) out next
 
 abbrev μ-loop : tie.MeasureT-loop
 μ-loop out₀ hour kind a n next₀ i₀ out next i = n - i
 
 loop-holds : tie.Need-loop-holds Inv-loop μ-loop
-loop-holds c = (search needs, search needs, search needs, search (needs, unmapped), search needs, lines-none ((c .before .args) .out .now) ((c .before .args) .c) (omega (arith, (c .before .pre) .1)))
+loop-holds c =
+    let none = lines-none ((c .before .args) .out .now) ((c .before .args) .c) (omega (arith, (c .before .pre) .1)) in
+    (search needs, search needs, search needs, search (needs, unmapped), search needs, none)
 
 mul-x : tie.Need-mul-x Inv-loop μ-loop
 mul-x c = search needs
@@ -33,7 +37,11 @@ amount-line-requires : tie.Need-amount-line-requires Inv-loop μ-loop
 amount-line-requires c κs = search needs
 
 put-line-requires : tie.Need-put-line-requires Inv-loop μ-loop
-put-line-requires c κs = let v = (c .before .before .before .before .before .before .loop) .inv in omega (arith, lines-size (v .5), lines-end ((c .before .before .before .before .before .before .loop) .i) (few-lines (lineOf ((c .before .before .before .before .before .before .before .before .args) .hour) ((c .before .before .before .before .before .before .before .before .args) .kind)) ((c .before .before .before .before .before .before .loop) .i) ((c .before .before .before .before .before .before .before .before .args) .t5 .list)) (v .5), v .4)
+put-line-requires c κs =
+    let args = c .before .before .before .before .before .before .before .before .args in
+    let l = c .before .before .before .before .before .before .loop in
+    let v = l .inv in
+    omega (arith, lines-size (v .5), lines-end (l .i) (few-lines (lineOf (args .hour) (args .kind)) (l .i) (args .t5 .list)) (v .5), v .4)
 
 add-i : tie.Need-add-i Inv-loop μ-loop
 add-i c = search needs
@@ -43,13 +51,15 @@ loop-less c = search needs
 
 loop-again : tie.Need-loop-again Inv-loop μ-loop
 loop-again c =
-    let v = (c .before .before .before .before .before .before .before .before .before .loop) .inv in (
+    let args = c .before .before .before .before .before .before .before .before .before .before .before .args in
+    let l = c .before .before .before .before .before .before .before .before .before .loop in
+    let line = lines-as (ap (λ (x : Line). x ∷ []) ((c .before .before .before .amount-line) .ensures)) ((c .before .before .put-line) .ensures .0) in (
       search needs,
       search needs,
       search needs,
       search needs,
       search needs,
-      lines-as (next-line (lineOf ((c .before .before .before .before .before .before .before .before .before .before .before .args) .hour) ((c .before .before .before .before .before .before .before .before .before .before .before .args) .kind)) ((c .before .before .before .before .before .before .before .before .before .before .before .args) .t5 .list) ((c .before .before .before .before .before .before .before .before .before .loop) .i) _ (omega arith)) (lines-then (v .5) (lines-as (ap (λ (l : Line). l ∷ []) ((c .before .before .before .amount-line) .ensures)) ((c .before .before .put-line) .ensures .0))),
+      lines-as (next-line (lineOf (args .hour) (args .kind)) (args .t5 .list) (l .i) _ (omega arith)) (lines-then (l .inv .5) line),
     )
 
 same-length : tie.Need-same-length Inv-loop μ-loop
@@ -57,10 +67,12 @@ same-length c = lines-size ((c .before .loop) .inv .5)
 
 returns : tie.Need-returns Inv-loop μ-loop
 returns c =
+    let args = c .before .before .before .args in
     let v = (c .before .loop) .inv in
-    let e : (c .before .loop) .i ≡ (c .before .before .before .args) .t5 .n = omega arith in
+    let e : (c .before .loop) .i ≡ args .t5 .n = omega arith in
     let w = rw e at (v .5) in
-    (w, lines-end ((c .before .before .before .args) .t5 .n) (few-lines (lineOf ((c .before .before .before .args) .hour) ((c .before .before .before .args) .kind)) ((c .before .before .before .args) .t5 .n) ((c .before .before .before .args) .t5 .list)) w, sym (length-take-le ((c .before .before .before .args) .t5 .n) ((c .before .before .before .args) .t5 .list) (omega (arith, v .2, v .3))))
+    let few = few-lines (lineOf (args .hour) (args .kind)) (args .t5 .n) (args .t5 .list) in
+    (w, lines-end (args .t5 .n) few w, sym (length-take-le (args .t5 .n) (args .t5 .list) (omega (arith, v .2, v .3))))
 
 pub put-charges-spec : {M : Type 1} → statement M
 put-charges-spec =

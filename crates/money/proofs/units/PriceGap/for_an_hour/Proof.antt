@@ -2,10 +2,10 @@ use lib.IntN.{pos}
 use Rattle.laws.specs.Exp.{i32, u32, var, _⊗_, fits, same}
 use native.Mathlib.Omega.{arith}
 use borrow.Author.Needs.{needs}
-use Rattle.money.proofs.units.Price.for_an_hour.Statement.{statement}
-use Rattle.money.proofs.units.Price.for_an_hour.Tie as tie
-use Rattle.money.proofs.units.Price.for_an_hour.Reads as reads
-use Rattle.money.proofs.units.Price.for_an_hour.Lts as lts
+use Rattle.money.proofs.units.PriceGap.for_an_hour.Statement.{statement}
+use Rattle.money.proofs.units.PriceGap.for_an_hour.Tie as tie
+use Rattle.money.proofs.units.PriceGap.for_an_hour.Reads as reads
+use Rattle.money.proofs.units.PriceGap.for_an_hour.Lts as lts
 
 cast-t3 : tie.Need-cast-t3
 cast-t3 c = fits (i32 ((c .before .before .args) .self .0) 400000) (omega arith)

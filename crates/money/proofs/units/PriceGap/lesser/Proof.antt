@@ -4,10 +4,10 @@ use Rattle.laws.specs.Ints.{minℤ}
 use Rattle.laws.specs.Held as h
 use borrow.Author.Needs.{needs}
 use native.Mathlib.Omega.{arith}
-use Rattle.money.proofs.units.Price.lesser.Statement.{statement}
-use Rattle.money.proofs.units.Price.lesser.Tie as tie
-use Rattle.money.proofs.units.Price.lesser.Reads as reads
-use Rattle.money.proofs.units.Price.lesser.Lts as lts
+use Rattle.money.proofs.units.PriceGap.lesser.Statement.{statement}
+use Rattle.money.proofs.units.PriceGap.lesser.Tie as tie
+use Rattle.money.proofs.units.PriceGap.lesser.Reads as reads
+use Rattle.money.proofs.units.PriceGap.lesser.Lts as lts
 
 returns : tie.Need-returns
 unfolding minℤ

@@ -1,0 +1,71 @@
+use mathlib.Core.Path.{refl}
+use Prim.Native.Nat.{ℕ, _+_, _-_}
+use Rattle.money.specs.Units.{intervals, quantityAt}
+use Rattle.money.specs.UnitLaws.{Filled, filled-none, filled-more}
+use native.Mathlib.Omega.{arith}
+use borrow.Author.Needs.{needs}
+use Rattle.money.proofs.offset.row_sum.Statement.{statement}
+use Rattle.money.proofs.offset.row_sum.Tie as tie
+use Rattle.money.proofs.offset.row_sum.Reads as reads
+use Rattle.money.proofs.offset.row_sum.Lts as lts
+
+abbrev Inv-loop : tie.InvT-loop
+Inv-loop a b row₀ k₀ row k = Filled row (λ (j : ℕ). quantityAt a j + quantityAt b j) k
+
+abbrev μ-loop : tie.MeasureT-loop
+μ-loop a b row₀ k₀ row k = intervals - k
+
+loop-holds : tie.Need-loop-holds Inv-loop μ-loop
+loop-holds c = filled-none _ _ refl
+
+mul-x : tie.Need-mul-x Inv-loop μ-loop
+mul-x c = search needs
+
+array-copy-out-x : tie.Need-array-copy-out-x Inv-loop μ-loop
+array-copy-out-x c = search needs
+
+mul-y : tie.Need-mul-y Inv-loop μ-loop
+mul-y c = search needs
+
+array-copy-out-y : tie.Need-array-copy-out-y Inv-loop μ-loop
+array-copy-out-y c = search needs
+
+add-sum : tie.Need-add-sum Inv-loop μ-loop
+add-sum c = omega (arith, (c .before .before .before .before .before .before .pre) ((c .before .before .before .before .before .loop) .k) ((c .before .before .before .before .loop-test) .taken))
+
+mul-row : tie.Need-mul-row Inv-loop μ-loop
+mul-row c = search needs
+
+array-set-from-row : tie.Need-array-set-from-row Inv-loop μ-loop
+array-set-from-row c = search needs
+
+add-k : tie.Need-add-k Inv-loop μ-loop
+add-k c = search needs
+
+loop-less : tie.Need-loop-less Inv-loop μ-loop
+loop-less c = search needs
+
+loop-again : tie.Need-loop-again Inv-loop μ-loop
+loop-again c = filled-more ((c .before .before .before .before .before .loop) .inv) ((c .before .before .before .before .loop-test) .taken) refl
+
+returns : tie.Need-returns Inv-loop μ-loop
+returns c = λ j l. (c .before .loop) .inv .so-far j (omega (arith, (c .loop-test) .left))
+
+pub row-sum-spec : {M : Type 1} → statement M
+row-sum-spec =
+    tie.close
+    (tie.spec
+    Inv-loop
+    μ-loop
+    loop-holds
+    mul-x
+    array-copy-out-x
+    mul-y
+    array-copy-out-y
+    add-sum
+    mul-row
+    array-set-from-row
+    add-k
+    loop-less
+    loop-again
+    returns)
