@@ -8,22 +8,18 @@ use native.Mathlib.Numerals.{add-one}
 use native.Mathlib.Omega.{arith}
 use lib.ListN.{length, drop, getD, set, drop-of-length-le}
 use lib.Seq.{drop-cons, getD-set-same, getD-set-other}
-use lib.Dec.{eqb}
-use borrow.Author.Tests.{eq-eqb, eqb-true}
-use Rattle.book.specs.Layer.{Key, Change, Good, keyOf, kindOf, same, sameHour, Mark, Pr, Im, Ex, Gh, Fi, Fe, order, Padded, good-padded, same-true, hour-parts, parts-hour}
+use lib.Dec.{leb, eqb}
+use borrow.Author.Tests.{eq-eqb, eqb-true, leb-true}
+use Rattle.book.specs.Layer.{Key, Change, Good, keyOf, kindOf, same, sameHour, Mark, order, every-mark, Padded, good-padded, same-true, hour-parts, parts-hour}
 use Rattle.book.specs.Tables.{survey}
 use Rattle.book.specs.Index.{hourSlot, weighed, slot, latestOf}
 use Rattle.book.specs.RegisterLaws.{by-test, true≠false}
 
 -- ---- the numbers
 
-pub order-few : (m : Mark) → order m ≤ 5
-order-few Pr = omega arith
-order-few Im = omega arith
-order-few Ex = omega arith
-order-few Gh = omega arith
-order-few Fi = omega arith
-order-few Fe = omega arith
+-- so many marks leave room for any hour byte
+pub order-low : (m : Mark) → order m ≤ 8
+order-low m = leb-true (order m) 8 (every-mark (λ (m : Mark). leb (order m) 8) refl m)
 
 -- the loop over a name's bytes, of which i are weighed
 pub record Weighing (start : ℕ) (bytes : List ℕ) (sum weight i : ℕ) : Type 0 where

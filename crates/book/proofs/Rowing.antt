@@ -7,7 +7,7 @@ use native.Mathlib.Omega.{arith}
 use lib.ListN.{length, take, drop, getD, drop-of-length-le}
 use lib.Dec.{eqb, leb}
 use borrow.Author.Tests.{eq-eqb, ne-eqb, eqb-true, le-leb, lt-leb, leb-true, leb-false}
-use Rattle.book.specs.Layer.{Key, View, Rec, Change, filed, corrected, withdrawn, kindOf, keyOf, write, begins, Good, headKey, recordHead, head-written, head-same, keyAnswer, Res, same, sameHour, same-left, same-alike, same-true, Padded, good-padded, sameHour-same, order, good-hour, hour-parts, parts-hour}
+use Rattle.book.specs.Layer.{Key, View, Rec, Change, filed, corrected, withdrawn, kindOf, keyOf, write, begins, Good, headKey, recordHead, head-written, head-same, keyAnswer, Res, same, sameHour, same-left, same-alike, same-true, Padded, good-padded, sameHour-same, order, good-hour, hour-parts, parts-hour, order-few}
 use Rattle.book.specs.Register.{writeAll, standing, stands, count}
 use Rattle.book.specs.Meaning.{Valid}
 use Rattle.book.specs.Tables.{Survey, survey, viewed}
@@ -19,7 +19,7 @@ use Rattle.book.specs.RegisterLaws.{by-test, true≠false, valid-new, su
 use Rattle.book.specs.GatherLaws.{Pass, gather, collect, gather-standing}
 use Rattle.book.specs.Rows.{packed, rowStart, rowSlot, rowKind, rowLive, rowPlace, rowOf, Rows, Ruled, Rules, Logged, Log, keyAt, Search, Sought}
 use Rattle.book.proofs.Surveying.{to-end, valid-size, valid-drop}
-use Rattle.book.proofs.Indexing.{order-few, other-slot}
+use Rattle.book.proofs.Indexing.{other-slot}
 
 -- ---- a number taken apart
 

@@ -48,7 +48,7 @@ pub use Rattle.money.specs.declared.production.DayAnswer.{DayAnswer}
 pub use Rattle.money.specs.declared.production.DayAnswer.the-variants.{Day, Refused}
 pub use Rattle.money.specs.declared.units.CentsPerStart.{CentsPerStart}
 -- laws
-pub use Rattle.records.specs.BookLaws.{scan-write, Found, scan-got, Taken, parse-fine, parse-fault, Unread, write-pos, write-co, good-co, same-refl, same-sym, same-left, same-right, hour-right, same-alike, Padded, good-padded, same-true, sameHour-same, hour-parts, parts-hour, bare-exact, Read, view-bad, view-got, askBytes, asked, ask-fault, askHour-fault, askHourOf-fault, askUnit-fault, askFailure-fault, hour-asked, unit-marked, failure-marked, names-apart, own-unnamed, head-written, head-same, name-same, name-none, write-long, limit-most, limit-same, good-hour, same-at, at-hour, store-front, store-length}
+pub use Rattle.records.specs.BookLaws.{scan-write, Found, scan-got, Taken, parse-fine, parse-fault, Unread, write-pos, write-co, good-co, same-refl, same-sym, same-left, same-right, hour-right, same-alike, Padded, good-padded, same-true, sameHour-same, hour-parts, parts-hour, bare-exact, Read, view-bad, view-got, askBytes, asked, ask-fault, askHour-fault, askHourOf-fault, askUnit-fault, askFailure-fault, hour-asked, unit-marked, failure-marked, names-apart, own-unnamed, head-written, head-same, name-same, name-none, write-long, every-mark, order-few, limit-most, limit-same, good-hour, same-at, at-hour, store-front, store-length}
 pub use Rattle.records.specs.BookLaws.{PricesFit, prices-there, standing-prices, totals-written, standing-export, unit-written, charge-written, entry-view, entry-sound, unit-ready}
 pub use Rattle.records.specs.BookLaws.{row-at, row-same, row-none, quantity-most, totals-more, rates-ok, offset-amount, answer-front, day-amount, day-sum, amount-ok, same-names, name-trans, name-tri, name-self}
 pub use Rattle.records.specs.BookLaws.{Wellformed, key-formed, failure-formed, hour-formed, mark-hour-formed, unit-formed}

@@ -1,3 +1,4 @@
+pub mod Text
 pub mod Ints
 pub mod Held
 pub mod Exp

@@ -15,7 +15,7 @@ use Rattle.money.specs.Units.{intervals, priceAt, quantityAt, pricesOk, 
 use Rattle.money.specs.Offers.{lastQ, offerFault, cost}
 use Rattle.money.specs.Guarantee.{profit, profits, credit, creditAnswer}
 use Rattle.money.specs.UnitLaws.{Moderate, Rates, within-at}
-use Rattle.money.specs.OfferLaws.{Good, good-of, abs-mul-pos, cost-size, last-size}
+use Rattle.money.specs.OfferLaws.{Good, good-of, abs-mul-pos, in-range, spends}
 
 -- what the credit of an hour wants: twelve prices in range, twelve quantities within the offer
 pub record Ready (o : Offer) (ps : List Price) (q : ℕ → ℕ) : Type 0 where
@@ -26,8 +26,8 @@ pub record Ready (o : Offer) (ps : List Price) (q : ℕ → ℕ) : Type 0 where
 module _ (o : Offer) (ps : List Price) (q : ℕ → ℕ) (r : Ready o ps q) where
   pub profit-size : (k : ℕ) → k < intervals → natAbs (profit o (priceAt ps k) (q k)) ≤ 440000000000
   profit-size k l =
-      let h : q k ≤ 100000 = omega (arith, r .within k l, last-size o (r .good)) in
-      sub-within (priceAt ps k *ℤ pos (q k)) (cost o (q k)) (abs-mul-pos (priceAt ps k) (q k) {A = 200000} {B = 100000} (r .prices k l) h) (cost-size o (r .good) (q k) h)
+      let w = r .within k l in
+      sub-within (priceAt ps k *ℤ pos (q k)) (cost o (q k)) (abs-mul-pos (priceAt ps k) (q k) {A = 200000} {B = 100000} (r .prices k l) (in-range o (q k) (r .good) w)) (spends o (q k) (r .good) w)
 
   pub some-size : (n : ℕ) → n ≤ intervals → natAbs (Σℤ n (λ k. profit o (priceAt ps k) (q k))) ≤ 5280000000000
   some-size n l = omega (arith, Σℤ-within 440000000000 n (λ k. profit o (priceAt ps k) (q k)) (λ j k. profit-size j (omega arith)))
@@ -57,9 +57,6 @@ pub profit-is : (o : Offer) (p : ℤ) (q : ℕ) {c v r : ℤ} → v ≡ p *ℤ p
 profit-is o p q e f g = g ∙ (λ i. e i -ℤ f i)
 
 module _ {o : Offer} {ps : List Price} {q : ℕ → ℕ} (ready : Ready o ps q) where
-  pub cost-room : (k : ℕ) → k < intervals → {c : ℤ} → c ≡ cost o (q k) → Moderate c
-  cost-room k l f = rw f (omega (arith, cost-size o (ready .good) (q k) (omega (arith, ready .within k l, last-size o (ready .good)))))
-
   pub profit-room : (k : ℕ) → k < intervals → {d : ℤ} → d ≡ profit o (priceAt ps k) (q k) → Moderate d
   profit-room k l e = rw e (omega (arith, profit-size o ps q ready k l))
 

@@ -36,6 +36,9 @@ module _ (o : Offer) (good : Good o) where
       let r : Q o i < Q o (suc i) = good .rising (suc i) l in
       last-or j i h (λ e. subst (λ (k : ℕ). Q o k < Q o (suc i)) (sym e) r) (λ k. omega (arith, mono j i (omega arith) k))
 
+  pub reach : (i : ℕ) → i < o .count → {last : ℕ} → last ≡ before o i → last ≤ Q o i
+  reach i l e = omega (arith, good .rising i l)
+
 module _ (o : Offer) where
   -- if the pairs below s are full, and the others not
   pub cost-cut : (q s : ℕ) → s ≤ o .count → ((j : ℕ) → j < s → Q o j ≤ q) → ((j : ℕ) → s ≤ j → j < o .count → q < Q o j) → cost o q ≡ Σℤ s (piece o) +ℤ partPair o q s
@@ -82,9 +85,6 @@ module _ (o : Offer) (q : ℕ) (good : Good o) (within : q ≤ lastQ o) where
           absurd (omega arith)
 
   module _ (acc : ℤ) (last i : ℕ) (w : Walk o q acc last i) where
-    pub reach : last ≤ Q o i
-    reach = omega (arith, w .from, good .rising i (w .below))
-
     pub short : last ≤ q
     short = go i (w .from) (w .past)
       where
@@ -134,6 +134,9 @@ module _ (o : Offer) (good : Good o) where
   pub pieces-size : (i : ℕ) → i < o .count → natAbs (Σℤ i (piece o)) ≤ 400000000000
   pieces-size i l = omega (arith, good .most, Σℤ-within 20000000000 i (piece o) (λ j k. piece-size j (omega arith)))
 
+  pub pieces-room : (i : ℕ) → i < o .count → {acc : ℤ} → acc ≡ Σℤ i (piece o) → Moderate acc
+  pieces-room i l e = rw e (omega (arith, pieces-size i l))
+
   pub part-size : (q s : ℕ) → q ≤ 100000 → natAbs (partPair o q s) ≤ 20000000000
   part-size q s h = go (ltb s (o .count)) refl
     where
@@ -160,11 +163,19 @@ module _ (o : Offer) (good : Good o) where
       go zero e = omega arith
       go (suc n) e = good .quantities-in n (omega arith)
 
+-- ---- the cost of a quantity within an offer
+module _ (o : Offer) (q : ℕ) (good : Good o) (within : q ≤ lastQ o) where
+  pub in-range : q ≤ 100000
+  in-range = omega (arith, last-size o good)
+
+  pub spends : natAbs (cost o q) ≤ 420000000000
+  spends = cost-size o good q in-range
+
+  pub spent-room : {c : ℤ} → c ≡ cost o q → Moderate c
+  spent-room e = rw e (omega (arith, spends))
+
 -- ---- the walk, as loops cite it
 module _ {o : Offer} {q : ℕ} (good : Good o) (within : q ≤ lastQ o) {acc : ℤ} {last i : ℕ} (w : Walk o q acc last i) where
-  pub acc-room : Moderate acc
-  acc-room = rw (w .sum) (omega (arith, pieces-size o good i (w .below)))
-
   pub walked-on : {t r : ℤ} → Q o i < q → t ≡ P o i *ℤ pos (Q o i - last) → r ≡ acc +ℤ t → Walk o q r (Q o i) (i + 1)
   walked-on h e k = next o q good within acc last i w _ h (k ∙ ap (λ (z : ℤ). acc +ℤ z) e)
 
@@ -187,12 +198,6 @@ unfolding Σℤ
 costed-none o costs h = record { upto = zero-le; long = h; from = refl; sum = refl; so-far = λ j l. absurd (omega arith) }
 
 module _ {o : Offer} {costs : List Ticks} {acc : ℤ} {last i : ℕ} (good : Good o) (s : Costed o costs acc last i) (l : i < o .count) where
-  pub costed-reach : last ≤ Q o i
-  costed-reach = omega (arith, s .from, good .rising i l)
-
-  pub costed-room : Moderate acc
-  costed-room = rw (s .sum) (omega (arith, pieces-size o good i l))
-
   pub costed-more : {v : Ticks} {t r : ℤ} → v .0 ≡ acc → t ≡ P o i *ℤ pos (Q o i - last) → r ≡ acc +ℤ t → Costed o (set costs i v) r (Q o i) (i + 1)
   costed-more {v} f e k = record {
     upto = omega arith;

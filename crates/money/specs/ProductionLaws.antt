@@ -27,7 +27,7 @@ use Rattle.money.specs.Offers.{maxPairs, before, lastQ, offerFault, cost
 use Rattle.money.specs.Guarantee.{profit, profits}
 use Rattle.money.specs.Production.{component1, shortfall, component2, arranged, component3, congestion, reserveNet, component4, S, D, R, U, A, K, C1, C2, C3, C4, interval, hourAmount, reserveFault, reserveNumbersOk, reservesNumbersOk, numbersFine, withinFine, listsFault, unitFault, intervalFault, noTicks, noStart, hourPart, maxHour, daySum, amountOk, hoursOk, reversal, dayAnswer, hourAnswer}
 use Rattle.money.specs.UnitLaws.{Moderate, Rates, prices-of, within-at, passes, neither}
-use Rattle.money.specs.OfferLaws.{Good, good-of, cost-none, abs-mul-pos, cost-size, last-size}
+use Rattle.money.specs.OfferLaws.{Good, good-of, cost-none, abs-mul-pos, in-range, spends}
 use Rattle.money.specs.GuaranteeLaws.{Ready, profit-size, profits-size}
 
 -- what two quantities give
@@ -90,30 +90,20 @@ lesser-in a b e h = omega arith
 pub second-in : (a b : ℕ) {q : ℕ} → q ≡ min a b → q ≤ b
 second-in a b e = omega arith
 
--- ---- a cost within an offer, and that cost less a price's value
-module _ (o : Offer) (q : ℕ) (good : Good o) (within : q ≤ lastQ o) where
-  pub in-range : q ≤ 100000
-  in-range = omega (arith, last-size o good)
+-- ---- a cost within an offer less a price's value
+module _ (o : Offer) (q : ℕ) (good : Good o) (within : q ≤ lastQ o) (p : ℤ) (rate : natAbs p ≤ 200000) where
+  value-size : natAbs (p *ℤ pos q) ≤ 20000000000
+  value-size = abs-mul-pos p q {A = 200000} {B = 100000} rate (in-range o q good within)
 
-  spends : natAbs (cost o q) ≤ 420000000000
-  spends = cost-size o good q in-range
+  loss-size : natAbs (cost o q -ℤ p *ℤ pos q) ≤ 440000000000
+  loss-size = sub-within (cost o q) (p *ℤ pos q) (spends o q good within) value-size
 
-  pub spent-room : {c : ℤ} → c ≡ cost o q → Moderate c
-  spent-room e = room e (omega (arith, spends))
+  module _ {c v l : ℤ} (e : c ≡ cost o q) (f : v ≡ p *ℤ pos q) (g : l ≡ c -ℤ v) where
+    pub loss-is : l ≡ cost o q -ℤ p *ℤ pos q
+    loss-is = g ∙ (λ i. e i -ℤ f i)
 
-  module _ (p : ℤ) (rate : natAbs p ≤ 200000) where
-    value-size : natAbs (p *ℤ pos q) ≤ 20000000000
-    value-size = abs-mul-pos p q {A = 200000} {B = 100000} rate in-range
-
-    loss-size : natAbs (cost o q -ℤ p *ℤ pos q) ≤ 440000000000
-    loss-size = sub-within (cost o q) (p *ℤ pos q) spends value-size
-
-    module _ {c v l : ℤ} (e : c ≡ cost o q) (f : v ≡ p *ℤ pos q) (g : l ≡ c -ℤ v) where
-      pub loss-is : l ≡ cost o q -ℤ p *ℤ pos q
-      loss-is = g ∙ (λ i. e i -ℤ f i)
-
-      pub loss-room : Moderate l
-      loss-room = room loss-is (omega (arith, loss-size))
+    pub loss-room : Moderate l
+    loss-room = room loss-is (omega (arith, loss-size))
 
 -- ---- C1
 pub running-none : (noload q : ℕ) → q < 1 → pos 0 ≡ running noload q
@@ -306,7 +296,7 @@ pub runs-room : (noload : ℕ) (m : ℕ → ℕ) → noload ≤ 100000000 → {s
 runs-room noload m small {k = k} u = rw (u .so-far) (omega (arith, u .upto, Σℤ-within 1000000000 k (λ j. running noload (m j)) (λ j l. running-size noload (m j) small)))
 
 pub runs-moderate : (noload : ℕ) (m : ℕ → ℕ) → noload ≤ 100000000 → {x : ℤ} → x ≡ Σℤ intervals (λ j. running noload (m j)) → Moderate x
-runs-moderate noload m small e = rw e (omega (arith, Σℤ-within 1000000000 intervals (λ j. running noload (m j)) (λ j l. running-size noload (m j) small)))
+runs-moderate noload m small e = runs-room noload m small (record { upto = omega arith; so-far = e })
 
 turned : (n v c : ℤ) → n -ℤ (v -ℤ c) ≡ c -ℤ v +ℤ n
 turned = by₃ _ (λ a a′ b b′ c c′. simp ints (omega arith))

@@ -7,14 +7,15 @@ use native.Mathlib.Omega.{arith}
 use native.Mathlib.Nat.{le-of-suc-le-suc, not-suc-le-zero}
 use native.Mathlib.Numerals.{add-one}
 use lib.Dec.{ltb, leb, eqb}
-use lib.ListN.{length, take, drop, getD, set}
-use lib.Seq.{take-suc, length-take-le, take-all}
+use lib.ListN.{length, take, drop, getD, set, drop-of-length-le}
+use lib.Seq.{take-suc, length-take-le, take-all, drop-cons}
 use borrow.Author.Tests.{le-leb, lt-leb, ne-eqb, eq-eqb, eqb-true, eqb-false}
 use Rattle.records.specs.Reading.{Res, bad, got, Reader, _>>=_, check, byte, from}
 use Rattle.records.specs.Numbers.{pad, hour}
 use Rattle.records.specs.Names.{held, bytesOf, nameField, nameOf, noOne}
-use Rattle.records.specs.Marks.{is, mark, hasName}
+use Rattle.records.specs.Marks.{markBytes, is, listing, markAmong, mark, hasName}
 use Rattle.records.specs.Changes.{Head, allowed, number, inside, head, nameless, nameFor, bare}
+use Rattle.records.specs.MarkLaws.{bytes-are}
 use Rattle.records.specs.Inner.{shown, then}
 use Rattle.records.specs.declared.fields.End.{End}
 use Rattle.records.specs.declared.fields.End.the-variants.{At, No}
@@ -22,7 +23,7 @@ use Rattle.records.proofs.Step.{first, next, last}
 use Rattle.money.specs.declared.names.Name.{Name}
 use Rattle.records.proofs.Spelled.{at-end, at-next, at-two, at-last}
 use Rattle.records.specs.declared.marks.Mark.{Mark}
-use Rattle.records.specs.declared.marks.Mark.the-variants.{Pr, Im, Ex, Gh, Fi, Fe}
+use Rattle.records.specs.declared.marks.Mark.the-variants.{Pr}
 use Rattle.records.specs.declared.marks.Kind.{Kind}
 use Rattle.records.specs.declared.marks.Kind.the-variants.{File, Correct, Withdraw}
 
@@ -38,8 +39,26 @@ any-kind want k h = simp (eq-eqb want 0 h)
 pub one-kind : (want : ℕ) (k : Kind) (n : ℕ) → (want ≡ 0 → ⊥) → n ≡ number k → eqb want n ≡ allowed want k
 one-kind want k n h e = rw e (simp (ne-eqb want 0 h))
 
-abbrev pick : (Bool → Bool → Bool → Bool → Bool → Bool → List ℕ → Res Mark)
-pick p q r x y z t = cond p (got Pr t) (cond q (got Im t) (cond r (got Ex t) (cond x (got Gh t) (cond y (got Fi t) (cond z (got Fe t) (bad 2))))))
+-- ---- the mark of two bytes, looked for in a list of marks: i of them are none of it
+
+module _ (ms : List Mark) (a b : ℕ) (t : List ℕ) where
+  found-is : (n : Mark) (ns : List Mark) (p : Bool) → is (markBytes n) a b ≡ p → markAmong (n ∷ ns) a b t ≡ cond p (got n t) (markAmong ns a b t)
+  unfolding markAmong
+  found-is n ns p e = ap (λ (x : Bool). cond x (got n t) (markAmong ns a b t)) e
+
+  among-next : (i : ℕ) → i < length ms → (n : Mark) → n ≡ getD ms i Pr → (p : Bool) → is (markBytes n) a b ≡ p
+      → markAmong (drop i ms) a b t ≡ cond p (got n t) (markAmong (drop (i + 1) ms) a b t)
+  among-next i h n e p f =
+      rw add-one
+      (ap (λ (l : List Mark). markAmong l a b t) (drop-cons ms i Pr h ∙ ap (λ (x : Mark). x ∷ drop (suc i) ms) (sym e)) ∙ found-is n (drop (suc i) ms) p f)
+
+  pub among-test : (i : ℕ) → i < length ms → (n : Mark) → n ≡ getD ms i Pr → (x y : ℕ) → (x ≡ getD (markBytes n) 0 0) × (y ≡ getD (markBytes n) 1 0)
+      → (p : Bool) → p ≡ is (x ∷ y ∷ []) a b → (q : Bool) → p ≡ q → markAmong (drop i ms) a b t ≡ cond q (got n t) (markAmong (drop (i + 1) ms) a b t)
+  among-test i h n e x y f p g q k = among-next i h n e q (ap (λ (l : List ℕ). is l a b) (bytes-are n x y f) ∙ sym g ∙ k)
+
+  pub among-none : (i : ℕ) → length ms ≤ i → markAmong (drop i ms) a b t ≡ bad 2
+  unfolding markAmong
+  among-none i h = ap (λ (l : List Mark). markAmong l a b t) (drop-of-length-le ms {i = i} h)
 
 module _ (s : List ℕ) (at : ℕ) where
   pub mark-past : length s ≤ at → bad 1 ≡ mark (from s at)
@@ -50,17 +69,9 @@ module _ (s : List ℕ) (at : ℕ) where
   unfolding mark
   mark-short h k = rw (at-last s at h k)
 
-  -- a test at the place
-  abbrev pub here : ℕ → ℕ → Bool
-  here x y = is (x ∷ y ∷ []) (getD s at 0) (getD s (at + 1) 0)
-
-  mark-here : at < length s → 2 ≤ length s - at → mark (from s at) ≡ pick (here 80 82) (here 73 77) (here 69 88) (here 71 72) (here 70 73) (here 70 69) (from s (at + 2))
+  pub mark-here : at < length s → 2 ≤ length s - at → mark (from s at) ≡ markAmong listing (getD s at 0) (getD s (at + 1) 0) (from s (at + 2))
   unfolding mark
   mark-here h k = rw (at-two s at h k)
-
-  pub mark-is : at < length s → 2 ≤ length s - at → (p q r x y z : Bool) → here 80 82 ≡ p → here 73 77 ≡ q → here 69 88 ≡ r → here 71 72 ≡ x → here 70 73 ≡ y → here 70 69 ≡ z
-      → pick p q r x y z (from s (at + 2)) ≡ mark (from s at)
-  mark-is h k p q r x y z e₁ e₂ e₃ e₄ e₅ e₆ = sym (mark-here h k ∙ (λ i. pick (e₁ i) (e₂ i) (e₃ i) (e₄ i) (e₅ i) (e₆ i) (from s (at + 2))))
 
   pub hour-past : length s ≤ at → bad 1 ≡ hour (from s at)
   unfolding hour byte

@@ -12,7 +12,8 @@ use lib.Seq.{take-suc, drop-cons, take-all, length-take-le, take-at, drop-drop}
 use borrow.Author.Tests.{le-leb, lt-leb, ne-eqb, eq-eqb, eqb-true}
 use Rattle.records.specs.Reading.{Res, bad, got, Reader, _>>=_, from}
 use Rattle.records.specs.Names.{spell, bytesOf}
-use Rattle.records.specs.Marks.{markBytes, hasName, order}
+use Rattle.records.specs.Marks.{hasName, order}
+use Rattle.records.specs.MarkLaws.{mark-two}
 use Rattle.records.specs.Changes.{changeView, put, putNumber, putBytes, Change, kind, keyOf, kindOf, bodyOf, number, made, leadBytes, noName, nameBytes, headBytes, bodyFor, change, write, Input, fine, fault, whole, parse, Scan, seen, blind, begins, written, scan, viewOf, parsedOf}
 use Rattle.money.specs.Names.{sameName}
 use Rattle.records.specs.Keys.{same, sameHour}
@@ -25,7 +26,6 @@ use Rattle.money.specs.declared.names.Name.{Name}
 use Rattle.records.proofs.Spelled.{at-end, at-next}
 use Rattle.records.specs.NameLaws.{spell-length}
 use Rattle.records.specs.declared.marks.Mark.{Mark}
-use Rattle.records.specs.declared.marks.Mark.the-variants.{Pr, Im, Ex, Gh, Fi, Fe}
 use Rattle.records.specs.declared.marks.Kind.{Kind}
 use Rattle.records.specs.declared.marks.Kind.the-variants.{File, Correct, Withdraw}
 use Rattle.records.specs.declared.keys.Key.{Key}
@@ -104,17 +104,9 @@ lead-length File = omega arith
 lead-length Correct = omega arith
 lead-length Withdraw = omega arith
 
-mark-length : (m : Mark) → length (markBytes m) ≡ 2
-mark-length Pr = refl
-mark-length Im = refl
-mark-length Ex = refl
-mark-length Gh = refl
-mark-length Fi = refl
-mark-length Fe = refl
-
 pub head-length : (k : Kind) (x : Key) → x .name .len ≤ 12 → length (headBytes k x) ≤ 44
 unfolding headBytes
-head-length k x h = simp length-append (omega (arith, lead-length k, mark-length (x .mark), name-length k (x .mark) (x .name) h))
+head-length k x h = simp length-append (omega (arith, lead-length k, mark-two (x .mark), name-length k (x .mark) (x .name) h))
 
 pub wrote-front : {d e : List ℕ} {n : ℕ} {xs : List ℕ} → Wrote d e 0 n xs → length xs ≤ length d → (take n e ≡ xs) × (n ≡ length xs)
 wrote-front {d} {e} {n} {xs} w h =

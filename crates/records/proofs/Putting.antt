@@ -1,13 +1,16 @@
 -- Laws of writing.
-use mathlib.Core.Path.{_≡_, refl, ap, _∙_}
+use mathlib.Core.Path.{_≡_, refl, sym, ap, _∙_, subst}
 use mathlib.Core.List.{List, [], _∷_, _++_}
 use Prim.Native.Nat.{ℕ, suc, _+_}
 use native.Mathlib.Omega.{arith}
 use native.Mathlib.Nat.{add-suc, suc-add, add-zero}
 use native.Mathlib.Numerals.{towards-suc}
-use lib.ListN.{length, set, length-append}
+use lib.ListN.{length, getD, set, length-append}
 use lib.Seq.{sets}
 use Rattle.records.specs.PutLaws.{put-length}
+use Rattle.records.specs.Marks.{markBytes}
+use Rattle.records.specs.MarkLaws.{bytes-are}
+use Rattle.records.specs.declared.marks.Mark.{Mark}
 use Rattle.records.specs.Changes.{put}
 use Rattle.records.specs.Inner.{Wrote}
 
@@ -36,6 +39,9 @@ wrote-one d at x = record { bytes = refl; after = refl }
 pub wrote-two : (d : List ℕ) (at x y : ℕ) → Wrote d (set (set d at x) (at + 1) y) at (at + 2) (x ∷ y ∷ [])
 unfolding put
 wrote-two d at x y = record { bytes = simp towards-suc; after = refl }
+
+pub wrote-mark : (d : List ℕ) (at x y : ℕ) (m : Mark) → (x ≡ getD (markBytes m) 0 0) × (y ≡ getD (markBytes m) 1 0) → Wrote d (set (set d at x) (at + 1) y) at (at + 2) (markBytes m)
+wrote-mark d at x y m e = subst (Wrote d (set (set d at x) (at + 1) y) at (at + 2)) (sym (bytes-are m x y e)) (wrote-two d at x y)
 
 pub wrote-three : (d : List ℕ) (at x y z : ℕ) → Wrote d (set (set (set d at x) (at + 1) y) (at + 2) z) at (at + 3) (x ∷ y ∷ z ∷ [])
 unfolding put

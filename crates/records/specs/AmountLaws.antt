@@ -1,7 +1,8 @@
 -- No amount of a record that stands is refused, at prices that stand: what it comes to, and what the offset and the day take of it.
-use mathlib.Core.Path.{_≡_, refl, sym, ap, _∙_, subst}
+use mathlib.Core.Path.{_≡_, refl, ap, _∙_, subst, subst⁻¹}
 use mathlib.Core.List.{List, [], _∷_, _++_}
-use mathlib.Core.Bool.{true, _&&_, true≢false}
+use mathlib.Core.Bool.{true, _&&_}
+use mathlib.Core.Logic.{⊎-elim}
 use Prim.Native.Nat.{ℕ, zero, suc, _≤_, _<_}
 use native.Mathlib.Nat.{not-suc-le-zero, le-of-suc-le-suc}
 use lib.ListN.{length, getD}
@@ -22,6 +23,7 @@ use Rattle.money.specs.declared.names.Name.{Name}
 use Rattle.records.specs.Numbers.{pad}
 use Rattle.records.specs.Names.{visible, nameOf}
 use Rattle.records.specs.Marks.{hasName, isFailure}
+use Rattle.records.specs.MarkLaws.{failure-mark}
 use Rattle.records.specs.Reading.{Res, got, _>>=_}
 use Rattle.records.specs.Layouts.{import}
 use Rattle.records.specs.Changes.{Rec, filed, write, Good}
@@ -32,7 +34,7 @@ use Rattle.records.specs.KeyLaws.{name-decoded}
 use Rattle.records.specs.ViewLaws.{view-import, written-ahead, body-view, export-view, failed-import-charge, failed-export-charge, unit-view}
 use Rattle.records.specs.FitLaws.{PricesFit, Listed, full, empty, ReserveFits, UnitFits, standing-import, standing-unit, standing-failed-import, standing-failed-export}
 use Rattle.records.specs.declared.marks.Mark.{Mark}
-use Rattle.records.specs.declared.marks.Mark.the-variants.{Pr, Im, Ex, Gh, Fi, Fe}
+use Rattle.records.specs.declared.marks.Mark.the-variants.{Im, Ex, Gh, Fi, Fe}
 use Rattle.records.specs.declared.layouts.HourPrices.{HourPrices}
 use Rattle.records.specs.declared.layouts.Import.{Import}
 use Rattle.records.specs.declared.layouts.Export.{Export}
@@ -115,32 +117,30 @@ module _ (r : Rec) (p : HourPrices) (g : Good (filed r)) (e : r .key .mark ≡ G
 
 pub charge-amount : (r : Rec) (p : HourPrices) → Good (filed r) → isFailure (r .key .mark) ≡ true → PricesFit p → chargeOf r p ≡ Amount (record { 0 = chargeTicks r p })
 unfolding chargeTicks
-charge-amount r p g h f = go (r .key .mark) refl h
+charge-amount r p g h f = ⊎-elim by-import by-export (failure-mark (r .key .mark) h)
   where
-    go : (m : Mark) → r .key .mark ≡ m → isFailure m ≡ true → chargeFor m (failureOf r) p ≡ Amount (record { 0 = chargeTicksFor m (failureOf r) p })
-    go Pr e b = absurd (true≢false (sym b))
-    go Im e b = absurd (true≢false (sym b))
-    go Ex e b = absurd (true≢false (sym b))
-    go Gh e b = absurd (true≢false (sym b))
-    go Fi e b =
+    -- what is to be shown of a mark
+    Charged : Mark → Type 0
+    Charged m = chargeFor m (failureOf r) p ≡ Amount (record { 0 = chargeTicksFor m (failureOf r) p })
+
+    by-import : r .key .mark ≡ Fi → Charged (r .key .mark)
+    by-import e =
         let s = standing-failed-import r g e in
-        import-charged (failureOf r) (p .pd) (failure-fine (failureOf r) (p .pd) (f .pd) (s .day-ahead-quantity) (s .pre-dispatch-quantity) (s .day-ahead-price) (s .pre-dispatch-price))
-    go Fe e b =
+        subst⁻¹ Charged e (import-charged (failureOf r) (p .pd) (failure-fine (failureOf r) (p .pd) (f .pd) (s .day-ahead-quantity) (s .pre-dispatch-quantity) (s .day-ahead-price) (s .pre-dispatch-price)))
+
+    by-export : r .key .mark ≡ Fe → Charged (r .key .mark)
+    by-export e =
         let s = standing-failed-export r g e in
-        export-charged (failureOf r) (p .pd) (failure-fine (failureOf r) (p .pd) (f .pd) (s .day-ahead-quantity) (s .pre-dispatch-quantity) (s .day-ahead-price) (s .pre-dispatch-price))
+        subst⁻¹ Charged e (export-charged (failureOf r) (p .pd) (failure-fine (failureOf r) (p .pd) (f .pd) (s .day-ahead-quantity) (s .pre-dispatch-quantity) (s .day-ahead-price) (s .pre-dispatch-price)))
 
 -- the same in bytes that begin with the record as it was filed
 pub charge-written : (r : Rec) (p : HourPrices) (u : List ℕ) → Good (filed r) → isFailure (r .key .mark) ≡ true → PricesFit p
     → chargeIn (r .key .mark) (write (filed r) ++ u) p ≡ Amount (record { 0 = chargeTicks r p })
-charge-written r p u g h f = go (r .key .mark) refl h ∙ charge-amount r p g h f
+charge-written r p u g h f =
+    ⊎-elim (λ e. subst⁻¹ Same e (failed-import-charge r g u e p)) (λ e. subst⁻¹ Same e (failed-export-charge r g u e p)) (failure-mark (r .key .mark) h) ∙ charge-amount r p g h f
   where
-    go : (m : Mark) → r .key .mark ≡ m → isFailure m ≡ true → chargeIn m (write (filed r) ++ u) p ≡ chargeOf r p
-    go Pr e b = absurd (true≢false (sym b))
-    go Im e b = absurd (true≢false (sym b))
-    go Ex e b = absurd (true≢false (sym b))
-    go Gh e b = absurd (true≢false (sym b))
-    go Fi e b = failed-import-charge r g u e p
-    go Fe e b = failed-export-charge r g u e p
+    Same : Mark → Type 0
+    Same m = chargeIn m (write (filed r) ++ u) p ≡ chargeOf r p
 
 pub unit-written : (r : Rec) (p : HourPrices) (u : List ℕ) → Good (filed r) → r .key .mark ≡ Gh → PricesFit p
     → unitPartIn (write (filed r) ++ u) p ≡ record { number = 0; part = record { ticks = record { 0 = unitTicks r p }; start = unitHourOf r .startup } }

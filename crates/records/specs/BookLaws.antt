@@ -43,6 +43,8 @@ pub use Rattle.records.specs.KeyLaws.{names-apart}
 -- bytes written at a place
 pub use Rattle.records.specs.PutLaws.{put-length, put-whole, put-front}
 pub use Rattle.records.specs.StoreLaws.{store-length, store-front}
+-- a test that holds along the listing holds of every mark; a mark's place fits into four bits
+pub use Rattle.records.specs.MarkLaws.{all, every-mark, order-few}
 -- an hour's limit, a change's hour, keys of one name
 pub use Rattle.records.specs.HourLaws.{limit-most, limit-same, good-hour, same-at, at-hour}
 -- the name of a unit that stands can be asked for

@@ -11,7 +11,8 @@ use borrow.Author.Tests.{ne-eqb, eq-eqb, eqb-true}
 use Rattle.records.specs.Reading.{Res, bad, got, _>>=_, check, byte, some}
 use Rattle.records.specs.Numbers.{between, hour}
 use Rattle.records.specs.Names.{decodeName, upTo, one, escaped, hexVal, visible, spell, bytesOf, nameField, nameOf}
-use Rattle.records.specs.Marks.{is, mark, markBytes, hasName}
+use Rattle.records.specs.Marks.{is, listing, markAmong, mark, markBytes, hasName}
+use Rattle.records.specs.MarkLaws.{mark-two}
 use Rattle.records.specs.Layouts.{layout}
 use Rattle.records.specs.Changes.{Rec, Change, filed, corrected, withdrawn, keyOf, kind, number, kindOf, bodyOf, made, Head, allowed, inside, head, nameless, nameFor, bodyFor, rest, change, leadBytes, noName, nameBytes, headBytes, write, fine, fault, whole, parse, Scan, seen, blind, begins, written, scan, Good, bare, viewOf}
 use Rattle.money.specs.declared.names.Name.{Name}
@@ -36,7 +37,7 @@ and-right false false h = h
 -- ---- each field is read again from what is written of it
 
 pub head-again : (k : Kind) (m : Mark) (t : List ℕ) → head 0 (leadBytes k ++ (markBytes m ++ t)) ≡ got (record { kind = k; mark = m }) t
-unfolding head mark
+unfolding head mark markAmong
 head-again File Pr t = refl
 head-again File Im t = refl
 head-again File Ex t = refl
@@ -280,6 +281,11 @@ pub counted-hour : Counted hour
 unfolding hour
 counted-hour = counted-bind byte _ (lawful-byte .counted) (λ h. counted-check (between 1 24 h) 3 (λ t. got h t) (omega arith) (counted-got h))
 
+counted-among : (ms : List Mark) (a b : ℕ) → Counted (markAmong ms a b)
+unfolding markAmong
+counted-among [] a b = counted-bad 2 (omega arith)
+counted-among (m ∷ ms) a b = counted-cond (is (markBytes m) a b) (λ u. got m u) (markAmong ms a b) (counted-got m) (counted-among ms a b)
+
 pub counted-mark : Counted mark
 unfolding mark
 counted-mark = record { above = go }
@@ -287,13 +293,7 @@ counted-mark = record { above = go }
     go : (s : List ℕ) (k : ℕ) → mark s ≡ bad k → 0 < k
     go [] k e = let q : 1 ≡ k = cc in omega arith
     go (a ∷ []) k e = let q : 1 ≡ k = cc in omega arith
-    go (a ∷ b ∷ s) k e =
-        counted-cond (is (80 ∷ 82 ∷ []) a b) (λ u. got Pr u) _ (counted-got Pr)
-        (counted-cond (is (73 ∷ 77 ∷ []) a b) (λ u. got Im u) _ (counted-got Im)
-        (counted-cond (is (69 ∷ 88 ∷ []) a b) (λ u. got Ex u) _ (counted-got Ex)
-        (counted-cond (is (71 ∷ 72 ∷ []) a b) (λ u. got Gh u) _ (counted-got Gh)
-        (counted-cond (is (70 ∷ 73 ∷ []) a b) (λ u. got Fi u) _ (counted-got Fi)
-        (counted-cond (is (70 ∷ 69 ∷ []) a b) (λ u. got Fe u) (λ u. bad 2) (counted-got Fe) (counted-bad 2 (omega arith))))))) .above s k e
+    go (a ∷ b ∷ s) k e = counted-among listing a b .above s k e
 
 counted-inside : (want : ℕ) (k : Kind) → Counted (inside want k)
 counted-inside want k = counted-check (allowed want k) 2 _ (omega arith) (counted-bind mark _ counted-mark (λ m. counted-got _))
@@ -393,14 +393,6 @@ parse-fault want s n = go (change want s) refl
     go (got d (x ∷ t)) q e z = let p : 8 ≡ n = cc in omega arith
 
 -- ---- the written form
-
-pub mark-two : (m : Mark) → length (markBytes m) ≡ 2
-mark-two Pr = refl
-mark-two Im = refl
-mark-two Ex = refl
-mark-two Gh = refl
-mark-two Fi = refl
-mark-two Fe = refl
 
 pub write-pos : (c : Change) → 0 < length (write c)
 unfolding write headBytes

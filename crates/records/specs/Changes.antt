@@ -6,6 +6,7 @@ use Prim.Native.Nat.{ℕ, _+_, _-_}
 use lib.Dec.{leb, eqb}
 use lib.ListN.{length}
 use lib.Seq.{sets}
+use Rattle.laws.specs.Text.{bytes}
 use Rattle.money.specs.Refusals.{endsEarly, unknownMark, badName, leftOver, noSpace}
 use Rattle.money.specs.declared.names.Name.{Name}
 use Rattle.records.specs.Reading.{Res, bad, got, Reader, _>>=_, check, byte}
@@ -57,14 +58,14 @@ made Withdraw k b = withdrawn k
 
 abbrev pub leadBytes : Kind → List ℕ
 leadBytes File = []
-leadBytes Correct = 67 ∷ 79 ∷ []
-leadBytes Withdraw = 87 ∷ 68 ∷ []
+leadBytes Correct = bytes "CO"
+leadBytes Withdraw = bytes "WD"
 
 abbrev pub takeBackBytes : List ℕ
-takeBackBytes = 84 ∷ 66 ∷ []
+takeBackBytes = bytes "TB"
 
 abbrev pub closeBytes : List ℕ
-closeBytes = 67 ∷ 76 ∷ []
+closeBytes = bytes "CL"
 
 -- a kind of change as the number under which the code asks for it and answers it
 abbrev pub number : Kind → ℕ

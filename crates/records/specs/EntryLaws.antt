@@ -11,12 +11,11 @@ use Rattle.money.specs.declared.names.Name.{Name}
 use Rattle.records.specs.Reading.{Res, bad, got, Reader, _>>=_, check, byte, some}
 use Rattle.records.specs.Numbers.{between, hour}
 use Rattle.records.specs.Names.{decodeName, nameField, nameOf, noOne, held}
-use Rattle.records.specs.Marks.{is, mark, markBytes, hasName}
+use Rattle.records.specs.Marks.{is, listing, markAmong, mark, markBytes, hasName}
 use Rattle.records.specs.Changes.{Change, Head, made, allowed, inside, head, leadBytes, nameless, nameFor, bodyFor, rest, change, Entry, changed, takingBack, closing, entry, takeBackBytes, closeBytes, Input, fine, fault, whole, parse, parseAny, bare, Good}
 use Rattle.records.specs.ReaderLaws.{bad-got, check-got, bind-got, Local, Lawful, Counted, lawful-byte}
 use Rattle.records.specs.ChangeLaws.{body-rest, change-good, counted-change}
 use Rattle.records.specs.declared.marks.Mark.{Mark}
-use Rattle.records.specs.declared.marks.Mark.the-variants.{Pr, Im, Ex, Gh, Fi, Fe}
 use Rattle.records.specs.declared.marks.Kind.{Kind}
 use Rattle.records.specs.declared.marks.Kind.the-variants.{File, Correct, Withdraw}
 use Rattle.records.specs.declared.keys.Key.{Key}
@@ -79,24 +78,21 @@ rest-less h s c t e =
     let l : length (y .1) ≡ length (z .0) + length t = ap length (body-rest (h .kind) (h .mark) (y .1) (z .0) (z .1) (z .2)) ∙ length-append (z .0) (z .1) ∙ ap (λ w. length (z .0) + length w) p in
     omega (arith, hour-less s (x .0) (x .1) (x .2), name-less (h .kind) (h .mark) (x .1) (y .0) (y .1) (y .2))
 
+-- two bytes are taken, whatever marks are looked for
+taken-among : (ms : List Mark) (a b : ℕ) (s : List ℕ) (m : Mark) (t : List ℕ) → markAmong ms a b s ≡ got m t → s ≡ t
+unfolding markAmong
+taken-among [] a b s m t e = absurd (bad-got e)
+taken-among (n ∷ ms) a b s m t e = go (is (markBytes n) a b) (taken-among ms a b s m t) e
+  where
+    go : (p : Bool) → (markAmong ms a b s ≡ got m t → s ≡ t) → cond p (got n s) (markAmong ms a b s) ≡ got m t → s ≡ t
+    go true h f = let q : s ≡ t = cc in q
+    go false h f = h f
+
 mark-two : (s : List ℕ) (m : Mark) (t : List ℕ) → mark s ≡ got m t → 2 + length t ≤ length s
 unfolding mark
 mark-two [] m t e = absurd (bad-got e)
 mark-two (a ∷ []) m t e = absurd (bad-got e)
-mark-two (a ∷ b ∷ s) m t e =
-    go (is (markBytes Pr) a b) (is (markBytes Im) a b) (is (markBytes Ex) a b) (is (markBytes Gh) a b) (is (markBytes Fi) a b) (is (markBytes Fe) a b) e
-  where
-    this : (n : Mark) → got n s ≡ got m t → 2 + length t ≤ length (a ∷ b ∷ s)
-    this n f = let p : s ≡ t = cc in rw (← p) (omega arith)
-
-    go : (p q r x y z : Bool) → cond p (got Pr s) (cond q (got Im s) (cond r (got Ex s) (cond x (got Gh s) (cond y (got Fi s) (cond z (got Fe s) (bad 2)))))) ≡ got m t → 2 + length t ≤ length (a ∷ b ∷ s)
-    go true q r x y z f = this Pr f
-    go false true r x y z f = this Im f
-    go false false true x y z f = this Ex f
-    go false false false true y z f = this Gh f
-    go false false false false true z f = this Fi f
-    go false false false false false true f = this Fe f
-    go false false false false false false f = absurd (bad-got f)
+mark-two (a ∷ b ∷ s) m t e = omega (arith, ap length (taken-among listing a b s m t e))
 
 inside-two : (want : ℕ) (k : Kind) (s : List ℕ) (h : Head) (t : List ℕ) → inside want k s ≡ got h t → 2 + length t ≤ length s
 inside-two want k s h t e =

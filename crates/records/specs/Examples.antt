@@ -5,6 +5,7 @@ use mathlib.Core.Bool.{Bool, true, false, _&&_}
 use Prim.Native.Nat.{ℕ, zero, suc, _/_, _%_}
 use lib.Dec.{eqb}
 use lib.ListN.{length}
+use Rattle.laws.specs.Text.{char, bytes}
 use Rattle.laws.specs.Sums.{every}
 use Rattle.money.specs.Units.{withinOk}
 use Rattle.money.specs.Offers.{offerFault, numbersOk, orderOk}
@@ -12,7 +13,7 @@ use Rattle.money.specs.Names.{sameBytes}
 use Rattle.records.specs.Reading.{Res, bad, got, byte, some, many}
 use Rattle.records.specs.Numbers.{pad, word, price, quantity, amount, hour, pair, pairs, listFrom}
 use Rattle.records.specs.Names.{visible, hexVal, escaped, one, upTo, decodeName, nameField, unreserved, digit, spellByte, spell}
-use Rattle.records.specs.Marks.{mark}
+use Rattle.records.specs.Marks.{markAmong, mark}
 use Rattle.records.specs.Layouts.{hourPrices, import, export, schedules, reserveRows, lists, unit, failure, layout, taken}
 use Rattle.records.specs.Changes.{Change, Entry, Input, fine, fault, parse, parseAny, change, entry, head, rest, nameFor, bodyFor, write, headBytes, nameBytes, putNumber}
 
@@ -32,17 +33,17 @@ list p q = 1 ∷ (w p ++ w q)
 
 -- `PR` of hour 5, 3000 throughout
 abbrev pub pr : List ℕ
-pr = 80 ∷ 82 ∷ 5 ∷ times 13 (w 3000)
+pr = bytes "PR" ++ (5 ∷ times 13 (w 3000))
 
 -- `IM` `A%2FB` of hour 5, twelve times a quantity, and its list
 abbrev pub im : ℕ → List ℕ → List ℕ
-im q l = 73 ∷ 77 ∷ 5 ∷ 5 ∷ 65 ∷ 37 ∷ 50 ∷ 70 ∷ 66 ∷ (times 12 (w q) ++ l)
+im q l = bytes "IM" ++ (5 ∷ 5 ∷ (bytes "A%2FB" ++ (times 12 (w q) ++ l)))
 
 -- `GH` `U` of hour 5: D, spinning schedules, the three lists of the reserves; DA and RT reach 600
 abbrev gh : ℕ → ℕ → List ℕ → List ℕ → List ℕ → List ℕ
 gh d s l1 l2 l3 =
-    71 ∷ 72 ∷ 5 ∷ 1 ∷ 85 ∷ (w 0 ++ (w 0 ++ (times 12 (w d) ++ (times 48 (w 0) ++ (times 12 (w 600) ++ (times 12 (w s) ++ (times 48 (w 0)
-    ++ (list 3000 600 ++ (list 3000 600 ++ (l1 ++ (l2 ++ l3)))))))))))
+    bytes "GH" ++ (5 ∷ 1 ∷ char "U" ∷ (w 0 ++ (w 0 ++ (times 12 (w d) ++ (times 48 (w 0) ++ (times 12 (w 600) ++ (times 12 (w s) ++ (times 48 (w 0)
+    ++ (list 3000 600 ++ (list 3000 600 ++ (l1 ++ (l2 ++ l3))))))))))))
 
 abbrev none : List ℕ
 none = 0 ∷ []
@@ -87,31 +88,31 @@ allHold (c ∷ cs) = holds c && allHold cs
 abbrev pub cases : List Case
 cases =
     -- (P) `A/B` and `A%2FB` are one name, `A%2fb` is `A/b`; it is written `A%2FB`
-    decodes (65 ∷ 47 ∷ 66 ∷ []) (65 ∷ 47 ∷ 66 ∷ [])
-    ∷ decodes (65 ∷ 37 ∷ 50 ∷ 70 ∷ 66 ∷ []) (65 ∷ 47 ∷ 66 ∷ [])
-    ∷ decodes (65 ∷ 37 ∷ 50 ∷ 102 ∷ 98 ∷ []) (65 ∷ 47 ∷ 98 ∷ [])
-    ∷ spells (65 ∷ 47 ∷ 66 ∷ []) (65 ∷ 37 ∷ 50 ∷ 70 ∷ 66 ∷ [])
+    decodes (bytes "A/B") (bytes "A/B")
+    ∷ decodes (bytes "A%2FB") (bytes "A/B")
+    ∷ decodes (bytes "A%2fb") (bytes "A/b")
+    ∷ spells (bytes "A/B") (bytes "A%2FB")
     -- (P) `%252F` is `%2F`, not `/`
-    ∷ decodes (37 ∷ 50 ∷ 53 ∷ 50 ∷ 70 ∷ []) (37 ∷ 50 ∷ 70 ∷ [])
-    ∷ spells (37 ∷ 50 ∷ 70 ∷ []) (37 ∷ 50 ∷ 53 ∷ 50 ∷ 70 ∷ [])
+    ∷ decodes (bytes "%252F") (bytes "%2F")
+    ∷ spells (bytes "%2F") (bytes "%252F")
     -- (P) `PR` takes 55 bytes: accepted with 55 free, refused with 54
     ∷ filing pr 55 0
     ∷ filing pr 54 13
     -- 1: `P`
-    ∷ gives 1 (80 ∷ []) 1
+    ∷ gives 1 (bytes "P") 1
     -- 2: `ZZ`; `CO` lent to file; `CO` inside `CO`; behind `CO` one byte gives 1
-    ∷ gives 1 (90 ∷ 90 ∷ []) 2
-    ∷ gives 1 (67 ∷ 79 ∷ 80 ∷ 82 ∷ 5 ∷ []) 2
-    ∷ gives 2 (67 ∷ 79 ∷ 67 ∷ 79 ∷ []) 2
-    ∷ gives 2 (67 ∷ 79 ∷ 80 ∷ []) 1
+    ∷ gives 1 (bytes "ZZ") 2
+    ∷ gives 1 (bytes "COPR" ++ (5 ∷ [])) 2
+    ∷ gives 2 (bytes "COCO") 2
+    ∷ gives 2 (bytes "COP") 1
     -- 3: `PR`, 0
-    ∷ gives 1 (80 ∷ 82 ∷ 0 ∷ []) 3
+    ∷ gives 1 (bytes "PR" ++ (0 ∷ [])) 3
     -- 4: `A%2`; a length byte by itself; cut short it gives 1
-    ∷ gives 1 (73 ∷ 77 ∷ 5 ∷ 3 ∷ 65 ∷ 37 ∷ 50 ∷ []) 4
-    ∷ gives 1 (73 ∷ 77 ∷ 5 ∷ 37 ∷ []) 4
-    ∷ gives 1 (73 ∷ 77 ∷ 5 ∷ 2 ∷ 32 ∷ []) 1
+    ∷ gives 1 (bytes "IM" ++ (5 ∷ 3 ∷ bytes "A%2")) 4
+    ∷ gives 1 (bytes "IM" ++ (5 ∷ 37 ∷ [])) 4
+    ∷ gives 1 (bytes "IM" ++ (5 ∷ 2 ∷ bytes " ")) 1
     -- 5: price 200,001, with nothing behind it
-    ∷ gives 1 (80 ∷ 82 ∷ 5 ∷ w 200001) 5
+    ∷ gives 1 (bytes "PR" ++ (5 ∷ w 200001)) 5
     -- 6: 20.00 then 19.99; a count of 21 by itself
     ∷ gives 1 (im 100 falls) 6
     ∷ gives 1 (im 100 (21 ∷ [])) 6
@@ -119,15 +120,15 @@ cases =
     ∷ gives 1 (im 101 (list 4000 100)) 7
     ∷ gives 1 (im 100 (list 4000 100)) 0
     -- 8: `TB`, 0; 7 comes first
-    ∷ gives-any (84 ∷ 66 ∷ 0 ∷ []) 8
-    ∷ gives-any (84 ∷ 66 ∷ []) 0
-    ∷ gives-any (67 ∷ 76 ∷ []) 0
+    ∷ gives-any (bytes "TB" ++ (0 ∷ [])) 8
+    ∷ gives-any (bytes "TB") 0
+    ∷ gives-any (bytes "CL") 0
     ∷ gives 1 (im 101 (list 4000 100) ++ (0 ∷ [])) 7
     ∷ gives 1 (im 100 (list 4000 100) ++ (0 ∷ [])) 8
     -- `WD` of `PR`: the length byte 0, and nothing else; elsewhere 0 gives 4
-    ∷ gives 3 (87 ∷ 68 ∷ 80 ∷ 82 ∷ 5 ∷ 0 ∷ []) 0
-    ∷ gives 3 (87 ∷ 68 ∷ 80 ∷ 82 ∷ 5 ∷ 1 ∷ []) 4
-    ∷ gives 3 (87 ∷ 68 ∷ 73 ∷ 77 ∷ 5 ∷ 0 ∷ []) 4
+    ∷ gives 3 (bytes "WDPR" ++ (5 ∷ 0 ∷ [])) 0
+    ∷ gives 3 (bytes "WDPR" ++ (5 ∷ 1 ∷ [])) 4
+    ∷ gives 3 (bytes "WDIM" ++ (5 ∷ 0 ∷ [])) 4
     -- a reserve's list may be empty if its schedules are all 0, else count 0 gives 6; D beyond its lists gives 7, a later list's 6 comes first
     ∷ gives 1 (gh 600 0 none none none) 0
     ∷ gives 1 (gh 600 1 none none none) 6
@@ -136,5 +137,5 @@ cases =
     ∷ []
 
 all-hold : allHold cases ≡ true
-unfolding parse parseAny change entry head mark rest hour byte nameFor bodyFor nameField some decodeName upTo one escaped hexVal visible taken layout hourPrices import export schedules reserveRows lists unit failure many pair pairs listFrom price quantity amount word spell spellByte unreserved digit write headBytes nameBytes offerFault numbersOk orderOk withinOk every sameBytes
+unfolding parse parseAny change entry head mark markAmong rest hour byte nameFor bodyFor nameField some decodeName upTo one escaped hexVal visible taken layout hourPrices import export schedules reserveRows lists unit failure many pair pairs listFrom price quantity amount word spell spellByte unreserved digit write headBytes nameBytes offerFault numbersOk orderOk withinOk every sameBytes
 all-hold = refl

@@ -14,7 +14,7 @@ use Rattle.money.specs.declared.units.Quantity.{Quantity}
 use Rattle.records.specs.Reading.{Res, bad, got, Reader, _>>=_, check, byte, some, many}
 use Rattle.records.specs.Numbers.{between, word, signed, price, quantity, amount, hour, pair, offerOf, pairs, listOk, listFrom}
 use Rattle.records.specs.Names.{decodeName, nameField, nameOf, noOne}
-use Rattle.records.specs.Marks.{is, mark, markBytes, hasName}
+use Rattle.records.specs.Marks.{is, listing, markAmong, mark, markBytes, hasName}
 use Rattle.records.specs.Layouts.{within, hourPrices, import, export, schedules, reserveRows, fewest, lists, allWithin, unit, failure, skip, layout, taken}
 use Rattle.records.specs.Changes.{Change, bodyOf, made, Head, allowed, inside, head, leadBytes, nameless, nameFor, bodyFor, rest, change, Entry, changed, takingBack, closing, entry, takeBackBytes, closeBytes, fine, fault, whole, parse, parseAny, begins}
 use Rattle.records.specs.ReaderLaws.{bad-got, bind-got, check-got, Part, counted-bad, Lawful, lawful-got, lawful-bind, lawful-byte, lawful-word, taken-got, counted-taken}
@@ -269,15 +269,14 @@ firm-two {A} f none one two = record { lawful = record { local = record { reads 
     go (a ∷ []) u j e n = let p : 1 ≡ j = cc (one a) in absurd (n (sym p))
     go (a ∷ b ∷ s) u j e n = two a b .stays s u j e n
 
+firm-among : (ms : List Mark) (a b : ℕ) → Firm (markAmong ms a b)
+unfolding markAmong
+firm-among [] a b = firm-bad 2 (omega arith)
+firm-among (m ∷ ms) a b = firm-cond (is (markBytes m) a b) (λ u. got m u) (markAmong ms a b) (firm-got m) (firm-among ms a b)
+
 mark-behind : (a b : ℕ) → Firm (λ s. mark (a ∷ b ∷ s))
 unfolding mark
-mark-behind a b =
-    firm-cond (is (markBytes Pr) a b) (λ u. got Pr u) _ (firm-got Pr)
-    (firm-cond (is (markBytes Im) a b) (λ u. got Im u) _ (firm-got Im)
-    (firm-cond (is (markBytes Ex) a b) (λ u. got Ex u) _ (firm-got Ex)
-    (firm-cond (is (markBytes Gh) a b) (λ u. got Gh u) _ (firm-got Gh)
-    (firm-cond (is (markBytes Fi) a b) (λ u. got Fi u) _ (firm-got Fi)
-    (firm-cond (is (markBytes Fe) a b) (λ u. got Fe u) (λ u. bad 2) (firm-got Fe) (firm-bad 2 (omega arith)))))))
+mark-behind a b = firm-among listing a b
 
 firm-mark : Firm mark
 unfolding mark

@@ -7,7 +7,7 @@ use native.Mathlib.Omega.{arith}
 use lib.Dec.{eqb, leb}
 use lib.ListN.{length, take, drop, getD}
 use lib.Seq.{getD-take}
-use borrow.Author.Tests.{leb-true, eqb-true}
+use borrow.Author.Tests.{leb-true, eqb-true, ne-eqb}
 use Rattle.laws.specs.Sums.{every, every-at}
 use Rattle.money.specs.Names.{nameByteOk, nameOk}
 use Rattle.money.specs.declared.names.Name.{Name}
@@ -15,6 +15,7 @@ use Rattle.records.specs.Reading.{Res, got, _>>=_, byte}
 use Rattle.records.specs.Numbers.{between, hour}
 use Rattle.records.specs.Names.{visible, spell, nameField, nameOf, noOne, bytesOf}
 use Rattle.records.specs.Marks.{markBytes, hasName}
+use Rattle.records.specs.MarkLaws.{two-bytes, mark-first}
 use Rattle.records.specs.Changes.{Rec, Change, filed, keyOf, kind, bodyOf, head, nameFor, nameBytes, headBytes, write, begins, Good}
 use Rattle.records.specs.Keys.{same}
 use Rattle.records.specs.Heads.{headKey, keyOk, recordHead}
@@ -23,7 +24,6 @@ use Rattle.records.specs.ChangeLaws.{and-left, and-right, head-again, ho
 use Rattle.records.specs.KeyLaws.{Padded, good-padded, same-refl, same-true, own-unnamed, both, got-value}
 use Rattle.records.specs.AmountLaws.{name-sound}
 use Rattle.records.specs.declared.marks.Mark.{Mark}
-use Rattle.records.specs.declared.marks.Mark.the-variants.{Pr, Im, Ex, Gh, Fi, Fe}
 use Rattle.records.specs.declared.marks.Kind.{Kind}
 use Rattle.records.specs.declared.marks.Kind.the-variants.{File}
 use Rattle.records.specs.declared.keys.Key.{Key}
@@ -104,12 +104,9 @@ none-begins r t = go (r .key .mark)
     rest = r .key .hour ∷ nameBytes File (r .key .mark) (r .key .name)
 
     go : (m : Mark) → begins (0 ∷ []) (((markBytes m ++ rest) ++ r .body) ++ t) ≡ false
-    go Pr = refl
-    go Im = refl
-    go Ex = refl
-    go Gh = refl
-    go Fi = refl
-    go Fe = refl
+    go m =
+        ap (λ (l : List ℕ). begins (0 ∷ []) (((l ++ rest) ++ r .body) ++ t)) (two-bytes m)
+        ∙ ap (λ (b : Bool). b && true) (ne-eqb 0 (getD (markBytes m) 0 0) (λ e. omega (arith, mark-first m)))
 
 module _ (k : Key) (p : Padded (k .name)) (r : Rec) (g : Good (filed r)) (t : List ℕ) where
   headed-same : begins (recordHead k) (write (filed r) ++ t) ≡ true → same k (r .key) ≡ true

@@ -10,27 +10,20 @@ use Rattle.money.specs.Names as names
 use Rattle.records.specs.Reading.{Res, got, _>>=_}
 use Rattle.records.specs.Numbers.{between}
 use Rattle.records.specs.Names.{spell, bytesOf}
-use Rattle.records.specs.Marks.{hasName, order, limit}
+use Rattle.records.specs.Marks.{hasName, order, hourLimit, limit}
+use Rattle.records.specs.MarkLaws.{every-mark}
 use Rattle.records.specs.Changes.{Rec, Change, filed, keyOf, Good}
 use Rattle.records.specs.Keys.{sameHour, same, askUnit}
 use Rattle.records.specs.Hours.{limitOf, atHour, sameName}
 use Rattle.records.specs.ChangeLaws.{and-left, and-right, Kept, good-kept, hour-range}
 use Rattle.records.specs.KeyLaws.{hour-parts, own-name}
 use Rattle.records.specs.declared.marks.Mark.{Mark}
-use Rattle.records.specs.declared.marks.Mark.the-variants.{Pr, Im, Ex, Gh, Fi, Fe}
+use Rattle.records.specs.declared.marks.Mark.the-variants.{Gh}
 use Rattle.records.specs.declared.keys.Key.{Key}
 
-pub limit-most : (k : Key) → limitOf k ≤ 16
+pub limit-most : (k : Key) → limitOf k ≤ hourLimit
 unfolding limitOf
-limit-most k = go (k .mark)
-  where
-    go : (m : Mark) → limit m ≤ 16
-    go Pr = omega arith
-    go Im = omega arith
-    go Ex = omega arith
-    go Gh = omega arith
-    go Fi = omega arith
-    go Fe = omega arith
+limit-most k = leb-true (limit (k .mark)) hourLimit (every-mark (λ (m : Mark). leb (limit m) hourLimit) refl (k .mark))
 
 pub limit-same : (a b : Key) → sameHour a b ≡ true → limitOf a ≡ limitOf b
 unfolding limitOf

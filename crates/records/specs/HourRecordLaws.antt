@@ -1,14 +1,17 @@
 -- The records of one hour: what is read of one is what filing reads, and how long it is written.
 use mathlib.Core.Path.{_≡_, refl, sym, ap, _∙_, subst}
 use mathlib.Core.List.{List, [], _++_}
-use mathlib.Core.Bool.{true, true≢false}
+use mathlib.Core.Bool.{true}
 use Prim.Native.Nat.{ℕ, _+_, _-_, _≤_, _<_}
 use native.Mathlib.Omega.{arith}
+use lib.Dec.{leb, eqb}
 use lib.ListN.{length, take, drop}
+use borrow.Author.Tests.{leb-true, eqb-true}
 use Rattle.records.specs.Reading.{Res, bad, got, _>>=_, check}
 use Rattle.records.specs.Numbers.{hour}
 use Rattle.records.specs.Names.{noOne}
-use Rattle.records.specs.Marks.{limit}
+use Rattle.records.specs.Marks.{hourLimit, limit}
+use Rattle.records.specs.MarkLaws.{every-such}
 use Rattle.records.specs.Changes.{Rec, Change, filed, corrected, withdrawn, kindOf, Head, head, rest, change, nameFor, nameBytes, fine, parse, write, Good}
 use Rattle.records.specs.Hours.{limitOf}
 use Rattle.records.specs.HourRecord.{ofHour, sameAs, hourRecord}
@@ -19,7 +22,7 @@ use Rattle.records.specs.FirmLaws.{change-alone, change-end}
 use Rattle.records.specs.LengthLaws.{bodyMost, written-most}
 use Rattle.records.specs.declared.keys.Key.{Key}
 use Rattle.records.specs.declared.marks.Mark.{Mark}
-use Rattle.records.specs.declared.marks.Mark.the-variants.{Pr, Im, Ex, Gh, Fi, Fe}
+use Rattle.records.specs.declared.marks.Mark.the-variants.{Pr}
 use Rattle.records.specs.declared.marks.Kind.the-variants.{File}
 
 -- a record of the hour stands at the front of the bytes s, and t is left
@@ -87,27 +90,14 @@ price-name r g e =
     let p : noOne ≡ r .key .name = cc in
     sym p
 
--- an hour holds 16 of each
-pub hour-limit : (k : Key) → ofHour (k .mark) ≡ true → limitOf k ≡ 16
+-- an hour holds as many of each
+pub hour-limit : (k : Key) → ofHour (k .mark) ≡ true → limitOf k ≡ hourLimit
 unfolding limitOf
-hour-limit k h = go (k .mark) h
-  where
-    go : (m : Mark) → ofHour m ≡ true → limit m ≡ 16
-    go Pr h = refl
-    go Im h = refl
-    go Ex h = refl
-    go Gh h = absurd (true≢false (sym h))
-    go Fi h = absurd (true≢false (sym h))
-    go Fe h = absurd (true≢false (sym h))
+hour-limit k h = eqb-true (limit (k .mark)) hourLimit (every-such ofHour (λ (m : Mark). eqb (limit m) hourLimit) refl (k .mark) h)
 
 -- 3 bytes of mark and hour, 37 of a name, and no more than 257 of fields
 pub hour-written : (r : Rec) → Good (filed r) → ofHour (r .key .mark) ≡ true → length (write (filed r)) ≤ 297
 hour-written r g h = omega (arith, written-most r g, few (r .key .mark) h)
   where
     few : (m : Mark) → ofHour m ≡ true → bodyMost m ≤ 257
-    few Pr h = omega arith
-    few Im h = omega arith
-    few Ex h = omega arith
-    few Gh h = absurd (true≢false (sym h))
-    few Fi h = absurd (true≢false (sym h))
-    few Fe h = absurd (true≢false (sym h))
+    few m h = leb-true (bodyMost m) 257 (every-such ofHour (λ (m : Mark). leb (bodyMost m) 257) refl m h)

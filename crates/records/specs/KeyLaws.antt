@@ -13,7 +13,8 @@ use Rattle.money.specs.NameLaws.{same-of, same-names}
 use Rattle.records.specs.Reading.{Res, bad, got, _>>=_, check, byte}
 use Rattle.records.specs.Numbers.{between, hour}
 use Rattle.records.specs.Names.{decodeName, nameField, spell, nameOf, noOne, bytesOf, held}
-use Rattle.records.specs.Marks.{markBytes, mark, hasName, isFailure, order}
+use Rattle.records.specs.Marks.{markBytes, markAmong, mark, hasName, isFailure, order}
+use Rattle.records.specs.MarkLaws.{order-same}
 use Rattle.records.specs.Changes.{Rec, Change, filed, keyOf, kind, Good, nameless, nameFor, noName, nameBytes}
 use Rattle.records.specs.Keys.{sameHour, same, askMark, askName, askFailureMark, askFrom, ask, askFailure, askHourOf, askHour, askUnit, keyAnswer}
 use Rattle.records.specs.ReaderLaws.{bad-got, check-got, bind-got}
@@ -25,21 +26,6 @@ use Rattle.records.specs.declared.marks.Kind.{Kind}
 use Rattle.records.specs.declared.marks.Kind.the-variants.{File, Correct, Withdraw}
 use Rattle.records.specs.declared.keys.Key.{Key}
 use Rattle.records.specs.declared.keys.KeyAnswer.{KeyAnswer}
-
--- the mark of a place in the order
-abbrev atOrder : ℕ → Mark
-atOrder n = cond (eqb n 0) Pr (cond (eqb n 1) Im (cond (eqb n 2) Ex (cond (eqb n 3) Gh (cond (eqb n 4) Fi Fe))))
-
-order-back : (m : Mark) → atOrder (order m) ≡ m
-order-back Pr = refl
-order-back Im = refl
-order-back Ex = refl
-order-back Gh = refl
-order-back Fi = refl
-order-back Fe = refl
-
-order-same : (a b : Mark) → order a ≡ order b → a ≡ b
-order-same a b e = sym (order-back a) ∙ ap atOrder e ∙ order-back b
 
 pub hour-parts : (a b : Key) → sameHour a b ≡ true → (a .mark ≡ b .mark) × (a .hour ≡ b .hour)
 unfolding sameHour
@@ -116,7 +102,7 @@ hour-right a b h x = let w = same-alike a b h in λ i. eqb (order (x .mark)) (or
 -- ---- the key of a question
 
 askMark-bytes : (m : Mark) → askMark (markBytes m) ≡ got m []
-unfolding askMark mark
+unfolding askMark mark markAmong
 askMark-bytes Pr = refl
 askMark-bytes Im = refl
 askMark-bytes Ex = refl

@@ -12,11 +12,12 @@ use Rattle.money.specs.declared.units.Quantity.{Quantity}
 use Rattle.records.specs.Reading.{Res, bad, got, Reader, _>>=_, check, byte, some, many}
 use Rattle.records.specs.Numbers.{between, word, signed, price, quantity, amount, hour, pair, offerOf, pairs, listOk, listFrom}
 use Rattle.records.specs.Names.{visible, hexVal, escaped, one, upTo, decodeName, nameField, nameOf, noOne}
-use Rattle.records.specs.Marks.{is, mark, markBytes, hasName}
+use Rattle.records.specs.Marks.{is, listing, markAmong, mark, markBytes, hasName}
+use Rattle.records.specs.MarkLaws.{every-mark, mark-two}
 use Rattle.records.specs.Layouts.{within, hourPrices, import, export, schedules, reserveRows, fewest, lists, allWithin, unit, failure, skip, layout, taken}
 use Rattle.records.specs.Changes.{Rec, Change, filed, Head, allowed, inside, head, leadBytes, nameless, nameFor, bodyFor, rest, change, Entry, changed, takingBack, closing, entry, takeBackBytes, closeBytes, fine, fault, whole, parse, parseAny, bare, begins, nameBytes, headBytes, write, Good}
 use Rattle.records.specs.ReaderLaws.{bad-got}
-use Rattle.records.specs.ChangeLaws.{and-left, and-right, begins-true, good-kept, mark-two}
+use Rattle.records.specs.ChangeLaws.{and-left, and-right, begins-true, good-kept}
 use Rattle.records.specs.FirmLaws.{Unread}
 use Rattle.records.specs.declared.marks.Mark.{Mark}
 use Rattle.records.specs.declared.marks.Mark.the-variants.{Pr, Im, Ex, Gh, Fi, Fe}
@@ -215,12 +216,7 @@ bodyMost Fi = 16
 bodyMost Fe = 16
 
 body-most : (m : Mark) → bodyMost m ≤ 1341
-body-most Pr = omega arith
-body-most Im = omega arith
-body-most Ex = omega arith
-body-most Gh = omega arith
-body-most Fi = omega arith
-body-most Fe = omega arith
+body-most m = leb-true (bodyMost m) 1341 (every-mark (λ (m : Mark). leb (bodyMost m) 1341) refl m)
 
 brief-layout : (m : Mark) → Brief (bodyMost m) (layout m)
 unfolding layout
@@ -364,15 +360,14 @@ brief-two {A} n f none one two = record { takes = took; early = ends }
     ends (a ∷ []) e = omega arith
     ends (a ∷ b ∷ s) e = omega (arith, two a b .early s e)
 
+brief-among : (ms : List Mark) (a b : ℕ) → Brief 0 (markAmong ms a b)
+unfolding markAmong
+brief-among [] a b = brief-bad 2 (λ z. omega arith)
+brief-among (m ∷ ms) a b = brief-cond 0 (is (markBytes m) a b) (λ u. got m u) (markAmong ms a b) (brief-got m) (brief-among ms a b)
+
 mark-behind : (a b : ℕ) → Brief 0 (λ s. mark (a ∷ b ∷ s))
 unfolding mark
-mark-behind a b =
-    brief-cond 0 (is (markBytes Pr) a b) (λ u. got Pr u) _ (brief-got Pr)
-    (brief-cond 0 (is (markBytes Im) a b) (λ u. got Im u) _ (brief-got Im)
-    (brief-cond 0 (is (markBytes Ex) a b) (λ u. got Ex u) _ (brief-got Ex)
-    (brief-cond 0 (is (markBytes Gh) a b) (λ u. got Gh u) _ (brief-got Gh)
-    (brief-cond 0 (is (markBytes Fi) a b) (λ u. got Fi u) _ (brief-got Fi)
-    (brief-cond 0 (is (markBytes Fe) a b) (λ u. got Fe u) (λ u. bad 2) (brief-got Fe) (brief-bad 2 (λ z. omega arith)))))))
+mark-behind a b = brief-among listing a b
 
 brief-mark : Brief 2 mark
 unfolding mark

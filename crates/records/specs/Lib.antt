@@ -2,6 +2,7 @@ pub mod Reading
 pub mod Numbers
 pub mod Names
 pub mod Marks
+pub mod MarkLaws
 pub mod Layouts
 pub mod Changes
 pub mod Keys

@@ -1,8 +1,17 @@
--- 01, "Records": the marks. A mark that joins later adds a line to each definition here. Assumes nothing.
+-- 01, "Records": the marks. Assumes nothing.
+--
+-- A mark that joins costs a line in each of these tables; what is proved of all marks (`MarkLaws.antt`, and `markAmong` by induction) goes along the listing and stays as it is.
+-- Definitions: here `markBytes`, `listing`, `hasName`, `isFailure`, `order`, `limit`; `layout` (Layouts), `chargeFor` and `chargeTicksFor` (Amounts), `ofHour` (HourRecord), `bodyMost` (LengthLaws).
+-- Laws: `order-back` (MarkLaws), `head-again` for each kind (ChangeLaws), `head-file` and, for a new layout, a `Layout` (ViewLaws), `askMark-bytes` (KeyLaws), `lawful-layout` (ReaderLaws),
+-- `firm-layout` (FirmLaws), `brief-layout` (LengthLaws).
+-- Code: `Mark`, `MARKS`, `bytes_of`, `listed`, `has_name`, `is_failure`, `order`, `limit` (marks.rt), `of_hour` (hour_records.rt); with an arm in their proofs `layout_then` (layouts.rt) and
+-- `charge_for` (amounts.rt).
+-- In the crate hour_offset: `addNumber` and `adding` (Tally), the two `go` of TallyLaws, and with an arm in its proof `with_record` (tally.rt).
 use mathlib.Core.List.{List, [], _∷_}
 use mathlib.Core.Bool.{Bool, true, false, cond, _&&_}
 use Prim.Native.Nat.{ℕ}
 use lib.Dec.{eqb}
+use Rattle.laws.specs.Text.{bytes}
 use Rattle.money.specs.Refusals.{endsEarly, unknownMark}
 use Rattle.records.specs.Reading.{Res, bad, got, Reader}
 use Rattle.records.specs.declared.marks.Mark.{Mark}
@@ -10,12 +19,12 @@ use Rattle.records.specs.declared.marks.Mark.the-variants.{Pr, Im, Ex, G
 
 -- "Two marking bytes (ASCII)"
 abbrev pub markBytes : Mark → List ℕ
-markBytes Pr = 80 ∷ 82 ∷ []
-markBytes Im = 73 ∷ 77 ∷ []
-markBytes Ex = 69 ∷ 88 ∷ []
-markBytes Gh = 71 ∷ 72 ∷ []
-markBytes Fi = 70 ∷ 73 ∷ []
-markBytes Fe = 70 ∷ 69 ∷ []
+markBytes Pr = bytes "PR"
+markBytes Im = bytes "IM"
+markBytes Ex = bytes "EX"
+markBytes Gh = bytes "GH"
+markBytes Fi = bytes "FI"
+markBytes Fe = bytes "FE"
 
 -- a and b are the two bytes of a mark
 abbrev pub is : List ℕ → ℕ → ℕ → Bool
@@ -23,13 +32,20 @@ is [] a b = false
 is (x ∷ []) a b = false
 is (x ∷ y ∷ r) a b = eqb a x && eqb b y
 
--- the mark of one of the six; "unknown mark" else
+-- "one of the six above (their order is the listing's)"
+abbrev pub listing : List Mark
+listing = Pr ∷ Im ∷ Ex ∷ Gh ∷ Fi ∷ Fe ∷ []
+
+-- the first of some marks that two bytes are; "unknown mark" else
+unfoldable pub markAmong : List Mark → ℕ → ℕ → Reader Mark
+markAmong [] a b s = bad unknownMark
+markAmong (m ∷ ms) a b s = cond (is (markBytes m) a b) (got m s) (markAmong ms a b s)
+
+-- "Two marking bytes (ASCII), then fields": those of one of the six
 unfoldable pub mark : Reader Mark
 mark [] = bad endsEarly
 mark (a ∷ []) = bad endsEarly
-mark (a ∷ b ∷ s) =
-    cond (is (markBytes Pr) a b) (got Pr s) (cond (is (markBytes Im) a b) (got Im s) (cond (is (markBytes Ex) a b) (got Ex s)
-    (cond (is (markBytes Gh) a b) (got Gh s) (cond (is (markBytes Fi) a b) (got Fi s) (cond (is (markBytes Fe) a b) (got Fe s) (bad unknownMark))))))
+mark (a ∷ b ∷ s) = markAmong listing a b s
 
 -- `PR` has no name
 abbrev pub hasName : Mark → Bool
@@ -49,7 +65,7 @@ isFailure Gh = false
 isFailure Fi = true
 isFailure Fe = true
 
--- "one of the six above (their order is the listing's)"
+-- the place in the listing
 abbrev pub order : Mark → ℕ
 order Pr = 0
 order Im = 1
@@ -62,10 +78,16 @@ abbrev pub sameMark : Mark → Mark → Bool
 sameMark a b = eqb (order a) (order b)
 
 -- "hour holds 16 of that mark (8 for `GH`)"
+abbrev pub hourLimit : ℕ
+hourLimit = 16
+
+abbrev pub unitLimit : ℕ
+unitLimit = 8
+
 abbrev pub limit : Mark → ℕ
-limit Pr = 16
-limit Im = 16
-limit Ex = 16
-limit Gh = 8
-limit Fi = 16
-limit Fe = 16
+limit Pr = hourLimit
+limit Im = hourLimit
+limit Ex = hourLimit
+limit Gh = unitLimit
+limit Fi = hourLimit
+limit Fe = hourLimit

@@ -5,12 +5,13 @@ use mathlib.Core.Bool.{Bool, true, false, cond, _&&_}
 use Prim.Native.Nat.{ℕ, suc, _≤_, _<_}
 use native.Mathlib.Omega.{arith}
 use lib.Dec.{eqb}
-use lib.ListN.{length, drop, length-append}
+use lib.ListN.{length, drop, getD, length-append}
 use borrow.Author.Tests.{eq-eqb}
 use Rattle.laws.specs.Sums.{on}
 use Rattle.money.specs.Names.{nameOk}
 use Rattle.records.specs.Numbers.{between}
 use Rattle.records.specs.Marks.{markBytes, hasName}
+use Rattle.records.specs.MarkLaws.{two-bytes}
 use Rattle.records.specs.Changes.{Rec, filed, nameBytes, headBytes, write, begins, Good}
 use Rattle.records.specs.Keys.{same}
 use Rattle.records.specs.Hours.{atHour, sameName}
@@ -20,17 +21,11 @@ use Rattle.records.specs.KeyLaws.{Padded}
 use Rattle.records.specs.HourLaws.{same-at}
 use Rattle.records.specs.HeadLaws.{none-begins, head-same}
 use Rattle.records.specs.declared.marks.Mark.{Mark}
-use Rattle.records.specs.declared.marks.Mark.the-variants.{Pr, Im, Ex, Gh, Fi, Fe}
 use Rattle.records.specs.declared.marks.Kind.the-variants.{File}
 use Rattle.records.specs.declared.keys.Key.{Key}
 
 marked-long : (m : Mark) (t : List ℕ) → length (markBytes m ++ t) ≡ suc (suc (length t))
-marked-long Pr t = refl
-marked-long Im t = refl
-marked-long Ex t = refl
-marked-long Gh t = refl
-marked-long Fi t = refl
-marked-long Fe t = refl
+marked-long m t = ap (λ (l : List ℕ). length (l ++ t)) (two-bytes m)
 
 -- mark and hour take three bytes
 head-long : (k : Key) → 3 ≤ length (headBytes File k)
@@ -40,6 +35,9 @@ head-long k = omega (arith, marked-long (k .mark) (k .hour ∷ nameBytes File (k
 pub write-long : (r : Rec) → 3 ≤ length (write (filed r))
 unfolding write
 write-long r = omega (arith, head-long (r .key), length-append (headBytes File (r .key)) (r .body))
+
+three-begin : (a b c : ℕ) (xs ys : List ℕ) → begins (a ∷ b ∷ c ∷ xs) (a ∷ b ∷ c ∷ ys) ≡ begins xs ys
+three-begin a b c xs ys = rw (eq-eqb a a refl, eq-eqb b b refl, eq-eqb c c refl)
 
 and-yes : (b : Bool) → (b && true) ≡ b
 and-yes true = refl
@@ -66,12 +64,7 @@ module _ (k : Key) where
       part = nameBytes File (k .mark) (k .name)
 
       go : (x : Mark) → drop 3 (markBytes x ++ (m ∷ part)) ≡ part
-      go Pr = refl
-      go Im = refl
-      go Ex = refl
-      go Gh = refl
-      go Fi = refl
-      go Fe = refl
+      go x = ap (λ (l : List ℕ). drop 3 (l ++ (m ∷ part))) (two-bytes x)
 
   module _ (p : Padded (k .name)) (r : Rec) (g : Good (filed r)) (t : List ℕ) (mk : r .key .mark ≡ k .mark) where
     abbrev all : List ℕ
@@ -102,16 +95,17 @@ module _ (k : Key) where
         own-part : List ℕ
         own-part = nameBytes File (r .key .mark) (r .key .name)
 
+        behind-mark : List ℕ → List ℕ
+        behind-mark l = ((l ++ (h ∷ own-part)) ++ r .body) ++ t
+
         whole : Mark → List ℕ
-        whole x = ((markBytes x ++ (h ∷ own-part)) ++ r .body) ++ t
+        whole x = behind-mark (markBytes x)
 
         go : (x : Mark) → begins (markBytes x ++ (h ∷ part)) (whole x) ≡ begins part (drop 3 (whole x))
-        go Pr = ap (λ (b : Bool). b && begins part ((own-part ++ r .body) ++ t)) (eq-eqb h h refl)
-        go Im = ap (λ (b : Bool). b && begins part ((own-part ++ r .body) ++ t)) (eq-eqb h h refl)
-        go Ex = ap (λ (b : Bool). b && begins part ((own-part ++ r .body) ++ t)) (eq-eqb h h refl)
-        go Gh = ap (λ (b : Bool). b && begins part ((own-part ++ r .body) ++ t)) (eq-eqb h h refl)
-        go Fi = ap (λ (b : Bool). b && begins part ((own-part ++ r .body) ++ t)) (eq-eqb h h refl)
-        go Fe = ap (λ (b : Bool). b && begins part ((own-part ++ r .body) ++ t)) (eq-eqb h h refl)
+        go x =
+            ap (λ (l : List ℕ). begins (l ++ (h ∷ part)) (behind-mark l)) (two-bytes x)
+            ∙ three-begin (getD (markBytes x) 0 0) (getD (markBytes x) 1 0) h part ((own-part ++ r .body) ++ t)
+            ∙ sym (ap (λ (l : List ℕ). begins part (drop 3 (behind-mark l))) (two-bytes x))
 
     -- by the head of the key in the first hour
     pub name-same : 3 ≤ length (recordHead (atHour k 1)) → begins (drop 3 (recordHead (atHour k 1))) (drop 3 all) ≡ sameName k (r .key)

@@ -2,7 +2,7 @@
 use mathlib.Core.Path.{_≡_, refl, sym, ap, _∙_}
 use mathlib.Core.List.{List, [], _∷_, _++_, append-assoc, append-nil}
 use mathlib.Core.Bool.{Bool, true, false, cond, true≢false, and-false}
-use Prim.Native.Nat.{ℕ, zero, suc, _+_, _*_, _/_, _%_, _≤_, _<_}
+use Prim.Native.Nat.{ℕ, zero, suc, _+_, _*_, _-_, _/_, _%_, _≤_, _<_}
 use native.Mathlib.Omega.{arith}
 use native.Mathlib.Nat.{not-suc-le-zero, le-of-suc-le-suc}
 use native.Mathlib.Numerals.{add-one}
@@ -45,7 +45,8 @@ hexVal-digit n h = go (ltb n 10) refl
         simp (e, le-leb 48 (48 + n) (omega arith), le-leb (48 + n) 57 (omega arith)) (omega arith)
     go false e =
         let l : 10 ≤ n = ltb-false n 10 e in
-        simp (e, le-leb 48 (55 + n) (omega arith), lt-leb (55 + n) 57 (omega arith), le-leb 65 (55 + n) (omega arith), le-leb (55 + n) 70 (omega arith)) (omega arith)
+        let d = 65 + (n - 10) in
+        simp (e, le-leb 48 d (omega arith), lt-leb d 57 (omega arith), le-leb 65 d (omega arith), le-leb d 70 (omega arith)) (omega arith)
 
 unreserved-percent : (x : ℕ) → unreserved x ≡ true → x ≡ 37 → ⊥
 unfolding unreserved

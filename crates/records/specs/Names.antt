@@ -4,6 +4,7 @@ use mathlib.Core.Bool.{Bool, cond, _||_}
 use Prim.Native.Nat.{ℕ, zero, suc, _+_, _*_, _-_, _/_, _%_}
 use lib.Dec.{ltb, eqb}
 use lib.ListN.{length, take}
+use Rattle.laws.specs.Text.{char}
 use Rattle.money.specs.Refusals.{badName}
 use Rattle.money.specs.Names.{nameOk}
 use Rattle.money.specs.declared.names.Name.{Name}
@@ -17,7 +18,9 @@ visible x = between 0x21 0x7E x
 
 -- the value of a hex digit, "0" to "9", "A" to "F" or "a" to "f", and 16 of any other byte
 unfoldable pub hexVal : ℕ → ℕ
-hexVal x = cond (between 48 57 x) (x - 48) (cond (between 65 70 x) (x - 55) (cond (between 97 102 x) (x - 87) 16))
+hexVal x =
+    cond (between (char "0") (char "9") x) (x - char "0")
+    (cond (between (char "A") (char "F") x) (10 + (x - char "A")) (cond (between (char "a") (char "f") x) (10 + (x - char "a")) 16))
 
 -- "`%` only before two hex digits": what these two stand for
 unfoldable pub escaped : Reader ℕ
@@ -29,7 +32,7 @@ escaped (h ∷ l ∷ s) =
 -- one byte of a name, plain or escaped
 unfoldable pub one : Reader ℕ
 one [] = bad badName
-one (x ∷ s) = cond (eqb x 37) (escaped s) (check (visible x) badName (got x s))
+one (x ∷ s) = cond (eqb x (char "%")) (escaped s) (check (visible x) badName (got x s))
 
 -- at most n bytes of a name, up to the end of the spelling
 unfoldable pub upTo : ℕ → Reader (List ℕ)
@@ -50,15 +53,17 @@ nameField s = byte s >>= λ n t. check (between 1 36 n) badName (some n t >>= λ
 
 -- RFC 3986, 2.3: ALPHA / DIGIT / "-" / "." / "_" / "~"
 unfoldable pub unreserved : ℕ → Bool
-unreserved x = between 65 90 x || (between 97 122 x || (between 48 57 x || (between 45 46 x || (eqb x 95 || eqb x 126))))
+unreserved x =
+    between (char "A") (char "Z") x || (between (char "a") (char "z") x || (between (char "0") (char "9") x
+    || (between (char "-") (char ".") x || (eqb x (char "_") || eqb x (char "~")))))
 
 -- a capital hex digit
 unfoldable pub digit : ℕ → ℕ
-digit n = cond (ltb n 10) (48 + n) (55 + n)
+digit n = cond (ltb n 10) (char "0" + n) (char "A" + (n - 10))
 
 -- "Writing spells RFC 3986 unreserved bytes plainly and all others as `%` and two capital hex digits"
 unfoldable pub spellByte : ℕ → List ℕ
-spellByte x = cond (unreserved x) (x ∷ []) (37 ∷ digit (x / 16) ∷ digit (x % 16) ∷ [])
+spellByte x = cond (unreserved x) (x ∷ []) (char "%" ∷ digit (x / 16) ∷ digit (x % 16) ∷ [])
 
 unfoldable pub spell : List ℕ → List ℕ
 spell [] = []

@@ -3,10 +3,11 @@ use mathlib.Core.Path.{_≡_, refl}
 use mathlib.Core.List.{List, [], _∷_, _++_}
 use Prim.Native.Nat.{ℕ}
 use lib.ListN.{length, replicate}
+use Rattle.laws.specs.Text.{char}
 use Rattle.records.specs.Reading.{byte, many}
 use Rattle.records.specs.Numbers.{word, price, hour}
 use Rattle.records.specs.Names.{noOne}
-use Rattle.records.specs.Marks.{mark}
+use Rattle.records.specs.Marks.{markAmong, mark, hourLimit}
 use Rattle.records.specs.Layouts.{hourPrices, layout, taken}
 use Rattle.records.specs.Changes.{Rec, filed, Input, fine, parse, change, head, rest, nameFor, bodyFor, write, headBytes, nameBytes}
 use Rattle.records.specs.Hours.{limitOf}
@@ -14,19 +15,19 @@ use Rattle.records.specs.declared.marks.Mark.the-variants.{Pr}
 
 -- hour 1, all prices 0
 abbrev pub priceBytes : List ℕ
-priceBytes = 80 ∷ 82 ∷ 1 ∷ replicate 52 0
+priceBytes = char "P" ∷ char "R" ∷ 1 ∷ replicate 52 0
 
 abbrev pub priceRecord : Rec
 priceRecord = record { key = record { mark = Pr; hour = 1; name = noOne }; body = replicate 52 0 }
 
 pub price-read : parse 1 priceBytes ≡ fine (filed priceRecord)
-unfolding parse change head mark rest hour byte nameFor bodyFor taken layout hourPrices many price word
+unfolding parse change head mark markAmong rest hour byte nameFor bodyFor taken layout hourPrices many price word
 price-read = refl
 
 pub price-length : length (write (filed priceRecord)) ≡ 55
 unfolding write headBytes nameBytes
 price-length = refl
 
-pub price-limit : limitOf (priceRecord .key) ≡ 16
+pub price-limit : limitOf (priceRecord .key) ≡ hourLimit
 unfolding limitOf
 price-limit = refl

@@ -6,7 +6,7 @@ use borrow.Author.Tests.{eq-eqb}
 use native.Mathlib.Omega.{arith}
 use Rattle.records.specs.Reading.{Res, got, Reader, _>>=_}
 use Rattle.records.specs.Numbers.{hour}
-use Rattle.records.specs.Marks.{markBytes, mark, order, sameMark, isFailure}
+use Rattle.records.specs.Marks.{markBytes, markAmong, mark, order, sameMark, isFailure}
 use Rattle.records.specs.Layouts.{hourPrices, import, export, unit, failure, skip, layout, taken}
 use Rattle.records.specs.Changes.{Rec, filed, head, nameBytes, bodyFor, headBytes, write, Good}
 use Rattle.records.specs.Views.{valueOr, pricesOf, importOf, exportOf, unitHourOf, failureOf, noPrices, noImport, noExport, noUnit, noFailure, ahead, viewed, viewedFailure, pricesIn}
@@ -62,7 +62,7 @@ rec-view f m l r e h u =
 -- ---- the views that the code gives
 
 head-file : (m : Mark) (t : List ℕ) → head 1 (markBytes m ++ t) ≡ got (record { kind = File; mark = m }) t
-unfolding head mark
+unfolding head mark markAmong
 head-file Pr t = refl
 head-file Im t = refl
 head-file Ex t = refl

@@ -3,8 +3,10 @@ use money::refusals::ENDS_EARLY;
 use money::refusals::UNKNOWN_MARK;
 ghost use mathlib.Core.Path.{_≡_};
 ghost use mathlib.Core.List.{List, [], _∷_};
+ghost use Prim.Native.Nat.{_<_};
+ghost use lib.ListN.{length, getD};
 ghost use Rattle.records.specs.Reading.{from};
-ghost use Rattle.records.specs.Marks.{is, mark, hasName, isFailure, order, sameMark, limit};
+ghost use Rattle.records.specs.Marks.{markBytes, is, listing, mark, hasName, isFailure, order, sameMark, limit};
 ghost use Rattle.records.specs.Changes.{number, allowed, inside, head};
 ghost use Rattle.records.specs.Inner.{shown, EndIn, headed};
 
@@ -18,6 +20,14 @@ pub const WITHDRAWN: u8 = 3;
 pub const TAKE_BACK: u8 = 4;
 
 pub const CLOSE: u8 = 5;
+
+// How many marks the listing has.
+const MARKS: usize = 6;
+
+// The most records of a mark in an hour, and of `GH`.
+pub const HOUR_LIMIT: u8 = 16;
+
+pub const UNIT_LIMIT: u8 = 8;
 
 pub enum Mark {
     Pr,
@@ -33,6 +43,9 @@ pub enum Kind {
     Correct,
     Withdraw,
 }
+
+// The two bytes of a mark.
+pub(crate) struct MarkBytes(pub(crate) u8, pub(crate) u8);
 
 pub struct MarkRead {
     pub end: End,
@@ -52,6 +65,28 @@ pub(crate) fn is(a: u8, b: u8, x: u8, y: u8) -> bool
         return false;
     }
     b == y
+}
+
+pub(crate) fn bytes_of(m: Mark) -> MarkBytes
+    ensures { λ r. ⌜ (r .0 ≡ getD (markBytes m) 0 0) × (r .1 ≡ getD (markBytes m) 1 0) ⌝ }
+{
+    match m {
+        Mark::Pr => MarkBytes(b'P', b'R'),
+        Mark::Im => MarkBytes(b'I', b'M'),
+        Mark::Ex => MarkBytes(b'E', b'X'),
+        Mark::Gh => MarkBytes(b'G', b'H'),
+        Mark::Fi => MarkBytes(b'F', b'I'),
+        Mark::Fe => MarkBytes(b'F', b'E'),
+    }
+}
+
+// The mark at a place of the listing.
+fn listed(i: usize) -> Mark
+    requires { ⌜ i < length listing ⌝ }
+    ensures { λ r. ⌜ r ≡ getD listing i Mark.Pr ⌝ }
+{
+    let listing = [Mark::Pr, Mark::Im, Mark::Ex, Mark::Gh, Mark::Fi, Mark::Fe];
+    listing[i]
 }
 
 pub(crate) fn mark_no(k: u8) -> MarkRead
@@ -83,24 +118,14 @@ pub(crate) fn mark_at(s: &[u8], at: usize) -> MarkRead
     }
     let a = s[at];
     let b = s[at + 1];
-    let next = at + 2;
-    if is(a, b, b'P', b'R') {
-        return marked(Mark::Pr, next);
-    }
-    if is(a, b, b'I', b'M') {
-        return marked(Mark::Im, next);
-    }
-    if is(a, b, b'E', b'X') {
-        return marked(Mark::Ex, next);
-    }
-    if is(a, b, b'G', b'H') {
-        return marked(Mark::Gh, next);
-    }
-    if is(a, b, b'F', b'I') {
-        return marked(Mark::Fi, next);
-    }
-    if is(a, b, b'F', b'E') {
-        return marked(Mark::Fe, next);
+    let mut i: usize = 0;
+    while i < MARKS {
+        let mark = listed(i);
+        let bytes = bytes_of(mark);
+        if is(a, b, bytes.0, bytes.1) {
+            return marked(mark, at + 2);
+        }
+        i += 1;
     }
     mark_no(UNKNOWN_MARK)
 }
@@ -213,11 +238,11 @@ pub fn limit(m: Mark) -> u8
     ensures { λ r. ⌜ r ≡ limit m ⌝ }
 {
     match m {
-        Mark::Pr => 16,
-        Mark::Im => 16,
-        Mark::Ex => 16,
-        Mark::Gh => 8,
-        Mark::Fi => 16,
-        Mark::Fe => 16,
+        Mark::Pr => HOUR_LIMIT,
+        Mark::Im => HOUR_LIMIT,
+        Mark::Ex => HOUR_LIMIT,
+        Mark::Gh => UNIT_LIMIT,
+        Mark::Fi => HOUR_LIMIT,
+        Mark::Fe => HOUR_LIMIT,
     }
 }

@@ -43,23 +43,23 @@ fn visible(x: u8) -> bool
 fn hex(x: u8) -> u8
     ensures { λ r. ⌜ r ≡ hexVal x ⌝ }
 {
-    if x < 48 {
+    if x < b'0' {
         return 16;
     }
-    if x <= 57 {
-        return x - 48;
+    if x <= b'9' {
+        return x - b'0';
     }
-    if x < 65 {
+    if x < b'A' {
         return 16;
     }
-    if x <= 70 {
-        return x - 55;
+    if x <= b'F' {
+        return 10 + (x - b'A');
     }
-    if x < 97 {
+    if x < b'a' {
         return 16;
     }
-    if x <= 102 {
-        return x - 87;
+    if x <= b'f' {
+        return 10 + (x - b'a');
     }
     16
 }
@@ -95,7 +95,7 @@ fn one_at(s: &[u8], at: usize) -> Chr
     ensures { λ r. ⌜ (chr (now (s .entry)) r ≡ one (from (now (s .entry)) at)) × ChrIn (now (s .entry)) r ⌝ }
 {
     let x = s[at];
-    if x == 37 {
+    if x == b'%' {
         return escaped_at(s, at + 1);
     }
     if visible(x) {
@@ -166,38 +166,38 @@ pub(crate) fn decode(spelled: &[u8]) -> NameRead
 fn unreserved(x: u8) -> bool
     ensures { λ r. ⌜ r ≡ unreserved x ⌝ }
 {
-    if x < 45 {
+    if x < b'-' {
         return false;
     }
-    if x <= 46 {
+    if x <= b'.' {
         return true;
     }
-    if x < 48 {
+    if x < b'0' {
         return false;
     }
-    if x <= 57 {
+    if x <= b'9' {
         return true;
     }
-    if x < 65 {
+    if x < b'A' {
         return false;
     }
-    if x <= 90 {
+    if x <= b'Z' {
         return true;
     }
-    if x < 97 {
-        return x == 95;
+    if x < b'a' {
+        return x == b'_';
     }
-    if x <= 122 {
+    if x <= b'z' {
         return true;
     }
-    x == 126
+    x == b'~'
 }
 
 fn digit(n: u8) -> u8
     requires { ⌜ n < 16 ⌝ }
     ensures { λ r. ⌜ r ≡ digit n ⌝ }
 {
-    if n < 10 { 48 + n } else { 55 + n }
+    if n < 10 { b'0' + n } else { b'A' + (n - 10) }
 }
 
 fn write_byte(x: u8, out: &mut [u8], at: usize) -> usize
@@ -208,7 +208,7 @@ fn write_byte(x: u8, out: &mut [u8], at: usize) -> usize
         out[at] = x;
         return at + 1;
     }
-    out[at] = 37;
+    out[at] = b'%';
     out[at + 1] = digit(x / 16);
     out[at + 2] = digit(x % 16);
     at + 3

@@ -6,6 +6,7 @@ use crate::marks::FILED;
 use crate::marks::Kind;
 use crate::marks::Mark;
 use crate::marks::WITHDRAWN;
+use crate::marks::bytes_of;
 use crate::marks::has_name;
 use crate::names::spelled_len;
 use crate::names::write_name;
@@ -51,38 +52,10 @@ fn write_mark(mark: Mark, out: &mut [u8], at: usize) -> usize
     requires { ⌜ at + 2 ≤ length (now out) ⌝ }
     ensures { λ r. ⌜ Wrote (now (out .entry)) (now (out .exit)) at r (markBytes mark) × (r ≡ at + 2) ⌝ }
 {
-    match mark {
-        Mark::Pr => {
-            out[at] = b'P';
-            out[at + 1] = b'R';
-            at + 2
-        }
-        Mark::Im => {
-            out[at] = b'I';
-            out[at + 1] = b'M';
-            at + 2
-        }
-        Mark::Ex => {
-            out[at] = b'E';
-            out[at + 1] = b'X';
-            at + 2
-        }
-        Mark::Gh => {
-            out[at] = b'G';
-            out[at + 1] = b'H';
-            at + 2
-        }
-        Mark::Fi => {
-            out[at] = b'F';
-            out[at + 1] = b'I';
-            at + 2
-        }
-        Mark::Fe => {
-            out[at] = b'F';
-            out[at + 1] = b'E';
-            at + 2
-        }
-    }
+    let bytes = bytes_of(mark);
+    out[at] = bytes.0;
+    out[at + 1] = bytes.1;
+    at + 2
 }
 
 fn write_none(kind: Kind, out: &mut [u8], at: usize) -> usize

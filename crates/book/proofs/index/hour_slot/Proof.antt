@@ -1,4 +1,4 @@
-use Rattle.book.proofs.Indexing.{order-few}
+use Rattle.book.proofs.Indexing.{order-low}
 use native.Mathlib.Omega.{arith}
 use borrow.Author.Needs.{needs}
 use Rattle.book.proofs.index.hour_slot.Statement.{statement}
@@ -20,7 +20,7 @@ add-result : tie.Need-add-result
 add-result c = search needs
 
 returns : tie.Need-returns
-returns c = (omega (arith, (c .before .wide) .ensures .0, (c .wide2) .ensures .0, (c .before .before .order) .ensures), omega (arith, (c .before .wide) .ensures .0, (c .wide2) .ensures .1, (c .before .before .order) .ensures, order-few ((c .before .before .before .args) .key .mark)))
+returns c = (omega (arith, (c .before .wide) .ensures .0, (c .wide2) .ensures .0, (c .before .before .order) .ensures), omega (arith, (c .before .wide) .ensures .0, (c .wide2) .ensures .1, (c .before .before .order) .ensures, order-low ((c .before .before .before .args) .key .mark)))
 
 pub hour-slot-spec : {M : Type 1} → statement M
 hour-slot-spec =

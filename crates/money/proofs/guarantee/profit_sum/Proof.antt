@@ -1,11 +1,10 @@
-use mathlib.Core.Path.{_≡_, subst⁻¹}
+use mathlib.Core.Path.{_≡_}
 use Prim.Native.Nat.{ℕ, _-_, _<_}
 use Rattle.laws.specs.Sums.{Σℤ, Summed, summed-none, summed-more}
 use Rattle.money.specs.Units.{intervals, priceAt, quantityAt}
 use Rattle.money.specs.Offers.{maxPairs, piece}
-use Rattle.money.specs.UnitLaws.{Moderate}
-use Rattle.money.specs.OfferLaws.{Walk, ticksAt, starts, short, last-size, acc-room, found-on, found}
-use Rattle.money.specs.GuaranteeLaws.{interval-profit, profit-is, cost-room, profit-room, profits-room, profits-all}
+use Rattle.money.specs.OfferLaws.{Walk, ticksAt, starts, short, in-range, pieces-room, spent-room, found-on, found}
+use Rattle.money.specs.GuaranteeLaws.{interval-profit, profit-is, profit-room, profits-room, profits-all}
 use borrow.Author.Needs.{needs}
 use native.Mathlib.Omega.{arith}
 use Rattle.money.proofs.guarantee.profit_sum.Statement.{statement}
@@ -75,10 +74,12 @@ between-requires c κs =
     let w = (c .before .before .before .before .before .before .loop) .inv in
     let g = (c .before .before .before .before .before .before .before .before .before .before .before .before .pre) .good in
     let m = (c .before .before .before .before .before .before .before .before .before .before .before .before .pre) .within _ ((c .before .before .before .before .before .before .before .before .before .intervals-test) .taken) in
-    (g .prices-in _ (w .below), (short _ _ g m _ _ _ w, omega (arith, m, last-size _ g)))
+    (g .prices-in _ (w .below), (short _ _ g m _ _ _ w, in-range _ _ g m))
 
 plus-requires : tie.Need-plus-requires Inv-loop μ-loop Inv-intervals μ-intervals
-plus-requires c κs = (subst⁻¹ Moderate ((c .before .before .before .before .before .before .before .before .before .before .before .before .costs-before) .ensures _ ((c .before .before .before .before .before .before .before .loop) .inv .below)) (acc-room ((c .before .before .before .before .before .before .before .before .before .before .before .before .before .pre) .good) ((c .before .before .before .before .before .before .before .before .before .before .before .before .before .pre) .within _ ((c .before .before .before .before .before .before .before .before .before .before .intervals-test) .taken)) ((c .before .before .before .before .before .before .before .loop) .inv)), omega (arith, (c .between) .ensures .1))
+plus-requires c κs =
+    let l = (c .before .before .before .before .before .before .before .loop) .inv .below in
+    (pieces-room _ ((c .before .before .before .before .before .before .before .before .before .before .before .before .before .pre) .good) _ l ((c .before .before .before .before .before .before .before .before .before .before .before .before .costs-before) .ensures _ l), omega (arith, (c .between) .ensures .1))
 
 add-i : tie.Need-add-i Inv-loop μ-loop Inv-intervals μ-intervals
 add-i c = search needs
@@ -92,12 +93,12 @@ loop-again c = found-on ((c .before .before .before .before .before .before .bef
 for-quantity-requires : tie.Need-for-quantity-requires Inv-loop μ-loop Inv-intervals μ-intervals
 for-quantity-requires c κs =
     let m = (c .before .before .before .before .before .before .before .before .before .before .before .before .before .before .pre) .within _ ((c .before .before .before .before .before .before .before .before .before .before .before .intervals-test) .taken) in
-    ((c .before .before .before .before .before .before .before .before .before .before .before .before .before .before .pre) .prices _ ((c .before .before .before .before .before .before .before .before .before .before .before .intervals-test) .taken), omega (arith, m, last-size _ ((c .before .before .before .before .before .before .before .before .before .before .before .before .before .before .pre) .good)))
+    ((c .before .before .before .before .before .before .before .before .before .before .before .before .before .before .pre) .prices _ ((c .before .before .before .before .before .before .before .before .before .before .before .intervals-test) .taken), in-range _ _ ((c .before .before .before .before .before .before .before .before .before .before .before .before .before .before .pre) .good) m)
 
 minus-requires : tie.Need-minus-requires Inv-loop μ-loop Inv-intervals μ-intervals
 minus-requires c κs =
     let z = found ((c .before .before .before .before .before .before .before .before .before .before .before .before .before .before .before .pre) .good) ((c .before .before .before .before .before .before .before .before .before .before .before .before .before .before .before .pre) .within _ ((c .before .before .before .before .before .before .before .before .before .before .before .before .intervals-test) .taken)) ((c .before .before .before .before .before .before .before .before .before .loop) .inv) ((c .before .before .before .before .before .before .before .before .before .before .before .before .before .before .costs-before) .ensures _ ((c .before .before .before .before .before .before .before .before .before .loop) .inv .below)) ((c .before .before .before .before .before .if1) .taken) ((c .before .before .between) .ensures .0) ((c .before .plus) .ensures) in
-    (omega (arith, (c .for-quantity) .ensures .1), cost-room ((c .before .before .before .before .before .before .before .before .before .before .before .before .before .before .before .pre)) _ ((c .before .before .before .before .before .before .before .before .before .before .before .before .intervals-test) .taken) z)
+    (omega (arith, (c .for-quantity) .ensures .1), spent-room _ _ ((c .before .before .before .before .before .before .before .before .before .before .before .before .before .before .before .pre) .good) ((c .before .before .before .before .before .before .before .before .before .before .before .before .before .before .before .pre) .within _ ((c .before .before .before .before .before .before .before .before .before .before .before .before .intervals-test) .taken)) z)
 
 plus-requires-2 : tie.Need-plus-requires-2 Inv-loop μ-loop Inv-intervals μ-intervals
 plus-requires-2 c κs =

@@ -1,5 +1,5 @@
 use Prim.Native.Nat.{_-_}
-use Rattle.money.specs.OfferLaws.{Walk, starts, reach, short, last-size, acc-room, walked-on, walked}
+use Rattle.money.specs.OfferLaws.{Walk, starts, reach, short, in-range, pieces-room, walked-on, walked}
 use Rattle.money.specs.Offers.{maxPairs}
 use borrow.Author.Needs.{needs}
 use native.Mathlib.Omega.{arith}
@@ -34,18 +34,18 @@ element-copy-out-w c = search needs
 between-requires : tie.Need-between-requires Inv-loop μ-loop
 between-requires c κs =
     let w = (c .before .before .before .before .before .loop) .inv in
-    ((c .before .before .before .before .before .before .pre) .0 .prices-in _ (w .below), (short _ _ ((c .before .before .before .before .before .before .pre) .0) ((c .before .before .before .before .before .before .pre) .1) _ _ _ w, omega (arith, (c .before .before .before .before .before .before .pre) .1, last-size _ ((c .before .before .before .before .before .before .pre) .0))))
+    ((c .before .before .before .before .before .before .pre) .0 .prices-in _ (w .below), (short _ _ ((c .before .before .before .before .before .before .pre) .0) ((c .before .before .before .before .before .before .pre) .1) _ _ _ w, in-range _ _ ((c .before .before .before .before .before .before .pre) .0) ((c .before .before .before .before .before .before .pre) .1)))
 
 plus-requires : tie.Need-plus-requires Inv-loop μ-loop
-plus-requires c κs = (acc-room ((c .before .before .before .before .before .before .before .pre) .0) ((c .before .before .before .before .before .before .before .pre) .1) ((c .before .before .before .before .before .before .loop) .inv), omega (arith, (c .between) .ensures .1))
+plus-requires c κs = (pieces-room _ ((c .before .before .before .before .before .before .before .pre) .0) _ ((c .before .before .before .before .before .before .loop) .inv .below) ((c .before .before .before .before .before .before .loop) .inv .sum), omega (arith, (c .between) .ensures .1))
 
 between-requires-2 : tie.Need-between-requires-2 Inv-loop μ-loop
 between-requires-2 c κs =
     let w = (c .before .before .before .before .before .loop) .inv in
-    ((c .before .before .before .before .before .before .pre) .0 .prices-in _ (w .below), (reach _ _ ((c .before .before .before .before .before .before .pre) .0) ((c .before .before .before .before .before .before .pre) .1) _ _ _ w, (c .before .before .before .before .before .before .pre) .0 .quantities-in _ (w .below)))
+    ((c .before .before .before .before .before .before .pre) .0 .prices-in _ (w .below), (reach _ ((c .before .before .before .before .before .before .pre) .0) _ (w .below) (w .from), (c .before .before .before .before .before .before .pre) .0 .quantities-in _ (w .below)))
 
 plus-requires-2 : tie.Need-plus-requires-2 Inv-loop μ-loop
-plus-requires-2 c κs = (acc-room ((c .before .before .before .before .before .before .before .pre) .0) ((c .before .before .before .before .before .before .before .pre) .1) ((c .before .before .before .before .before .before .loop) .inv), omega (arith, (c .between2) .ensures .1))
+plus-requires-2 c κs = (pieces-room _ ((c .before .before .before .before .before .before .before .pre) .0) _ ((c .before .before .before .before .before .before .loop) .inv .below) ((c .before .before .before .before .before .before .loop) .inv .sum), omega (arith, (c .between2) .ensures .1))
 
 add-i : tie.Need-add-i Inv-loop μ-loop
 add-i c = search needs

@@ -1,6 +1,6 @@
 use mathlib.Core.Path.{_≡_, refl}
 use Prim.Native.Nat.{_-_}
-use Rattle.money.specs.OfferLaws.{Costed, costed-none, costed-reach, costed-room, costed-more}
+use Rattle.money.specs.OfferLaws.{Costed, reach, pieces-room, costed-none, costed-more}
 use borrow.Author.Needs.{needs}
 use native.Mathlib.Omega.{arith}
 use Rattle.money.proofs.offers.costs_before.Statement.{statement}
@@ -41,10 +41,15 @@ element-copy-out-w : tie.Need-element-copy-out-w Inv-loop μ-loop
 element-copy-out-w c = search needs
 
 between-requires : tie.Need-between-requires Inv-loop μ-loop
-between-requires c κs = ((c .before .before .before .before .pre) .prices-in _ (omega (arith, (c .before .before .before .loop) .inv .0, (c .before .before .loop-test) .taken)), (costed-reach ((c .before .before .before .before .pre)) ((c .before .before .before .loop) .inv .1) (omega (arith, (c .before .before .before .loop) .inv .0, (c .before .before .loop-test) .taken)), (c .before .before .before .before .pre) .quantities-in _ (omega (arith, (c .before .before .before .loop) .inv .0, (c .before .before .loop-test) .taken))))
+between-requires c κs =
+    let good = c .before .before .before .before .pre in
+    let u = (c .before .before .before .loop) .inv .0 in
+    let t = (c .before .before .loop-test) .taken in
+    let from = (c .before .before .before .loop) .inv .1 .from in
+    (good .prices-in _ (omega (arith, u, t)), (reach _ good _ (omega (arith, u, t)) from, good .quantities-in _ (omega (arith, u, t))))
 
 plus-requires : tie.Need-plus-requires Inv-loop μ-loop
-plus-requires c κs = (costed-room ((c .before .before .before .before .before .pre)) ((c .before .before .before .before .loop) .inv .1) (omega (arith, (c .before .before .before .before .loop) .inv .0, (c .before .before .before .loop-test) .taken)), omega (arith, (c .between) .ensures .1))
+plus-requires c κs = (pieces-room _ (c .before .before .before .before .before .pre) _ (omega (arith, (c .before .before .before .before .loop) .inv .0, (c .before .before .before .loop-test) .taken)) ((c .before .before .before .before .loop) .inv .1 .sum), omega (arith, (c .between) .ensures .1))
 
 add-i : tie.Need-add-i Inv-loop μ-loop
 add-i c = search needs

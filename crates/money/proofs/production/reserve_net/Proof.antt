@@ -1,5 +1,6 @@
 use Rattle.money.specs.Units.{priceAt}
-use Rattle.money.specs.ProductionLaws.{in-range, spent-room, offered, idle}
+use Rattle.money.specs.OfferLaws.{in-range, spent-room}
+use Rattle.money.specs.ProductionLaws.{offered, idle}
 use Rattle.money.specs.GuaranteeLaws.{profit-is}
 use native.Mathlib.Omega.{arith}
 use borrow.Author.Needs.{needs}

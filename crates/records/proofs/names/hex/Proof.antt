@@ -19,8 +19,8 @@ returns-3 : tie.Need-returns-3
 unfolding hexVal
 returns-3 c = let x = c .before .before .before .args .x in simp (le-leb 48 x (omega arith), lt-leb x 57 (omega arith), lt-leb 65 x (omega arith), lt-leb 97 x (omega arith))
 
-sub-result : tie.Need-sub-result
-sub-result c = search needs
+add-result : tie.Need-add-result
+add-result c = search needs
 
 returns-4 : tie.Need-returns-4
 unfolding hexVal
@@ -30,8 +30,8 @@ returns-5 : tie.Need-returns-5
 unfolding hexVal
 returns-5 c = let x = c .before .before .before .before .before .args .x in simp (le-leb 48 x (omega arith), lt-leb x 57 (omega arith), le-leb 65 x (omega arith), lt-leb x 70 (omega arith), lt-leb 97 x (omega arith))
 
-sub-result-2 : tie.Need-sub-result-2
-sub-result-2 c = search needs
+add-result-2 : tie.Need-add-result-2
+add-result-2 c = search needs
 
 returns-6 : tie.Need-returns-6
 unfolding hexVal
@@ -48,9 +48,9 @@ hex-spec =
     returns
     returns-2
     returns-3
-    sub-result
+    add-result
     returns-4
     returns-5
-    sub-result-2
+    add-result-2
     returns-6
     returns-7)

@@ -3,7 +3,6 @@ use mir.Val.{SFits}
 use Rattle.laws.specs.Ints.{minℤ}
 use Rattle.laws.specs.Held as h
 use borrow.Author.Needs.{needs}
-use native.Mathlib.Omega.{arith}
 use Rattle.money.proofs.units.PriceGap.lesser.Statement.{statement}
 use Rattle.money.proofs.units.PriceGap.lesser.Tie as tie
 use Rattle.money.proofs.units.PriceGap.lesser.Reads as reads
