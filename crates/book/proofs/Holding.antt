@@ -8,7 +8,7 @@ use lib.ListN.{length, take, drop, set, getD, length-append, length-set}
 use lib.Seq.{take-append-seam, take-take}
 use lib.Dec.{eqb, ltb}
 use borrow.Author.Tests.{eq-eqb, ne-eqb, eqb-true, eqb-false}
-use Rattle.book.specs.Layer.{Key, View, Parsed, Change, keyOf, kindOf, write, Good, Input, fine, fault, parse, parsedOf, parse-fine, parse-fault, putBytes, viewedBytes, viewed-put, store-front, store-length, limitOf, Padded, good-padded, good-hour}
+use Rattle.book.specs.Layer.{Key, View, Parsed, Change, keyOf, kindOf, write, Good, Input, fine, fault, parse, parsedOf, parse-fine, parse-fault, putBytes, viewedBytes, viewed-put, store-front, store-length, limitOf, Padded, good-padded, good-hour, Wanted, Any}
 use Rattle.records.specs.Changes.{entry, whole, parseAny}
 use Rattle.book.specs.Layer.{bad, Entry, changed, takingBack, closingEntry, entryView, entryOf, entry-bad, any-fault, alone, asEntry, any-back, any-close, any-change, markIs, begins, takeBackBytes, closeBytes}
 use Rattle.book.specs.declared.journal.Book.{Book}
@@ -98,7 +98,7 @@ judged-no : (c : Change) (g : Reg) (n : ℕ) → (n ≡ 0 → ⊥) → judged c 
 judged-no c g zero z = absurd (z refl)
 judged-no c g (suc n) z = refl
 
-module _ {b : Book} {s rows : List ℕ} (h : Held b s rows) {want : ℕ} {rec : List ℕ} {v : View} (r : IsChange want rec v) where
+module _ {b : Book} {s rows : List ℕ} (h : Held b s rows) {want : Wanted} {rec : List ℕ} {v : View} (r : IsChange want rec v) where
   good : Good (r .what)
   good = parse-fine want rec (r .what) (r .input) .good
 
@@ -190,7 +190,7 @@ module _ {b : Book} {s rows : List ℕ} (h : Held b s rows) {want : ℕ} {rec : 
 -- ---- what is refused before it is listed
 
 module _ (b : Book) (s : List ℕ) (x : Loaded b s) (rec : List ℕ) where
-  pub parse-refused : (want : ℕ) (p : Parsed) → p ≡ parsedOf (parse want rec) → (p .number ≡ 0 → ⊥) → Leaves (listed (parse want rec)) b s b (refused (p .number)) s
+  pub parse-refused : (want : Wanted) (p : Parsed) → p ≡ parsedOf (parse want rec) → (p .number ≡ 0 → ⊥) → Leaves (listed (parse want rec)) b s b (refused (p .number)) s
   parse-refused want p e z = leaves-answered (listed (parse want rec)) b s (refused (p .number)) (step-is (listed (parse want rec)) b s x ∙ go (parse want rec) e)
     where
       go : (i : Input Change) → p ≡ parsedOf i → listed i (length s) (regOf b s x) ≡ answered (refused (p .number))
@@ -209,7 +209,7 @@ module _ (b : Book) (s : List ℕ) (x : Loaded b s) (rec : List ℕ) {n : ℕ} w
       leaves-answered (closing (bareClose rec)) b s (refused n)
       (bare-fault b s x (bareClose rec) n q (closing (bareClose rec)) (becomes (record { list = x .list; closed = true })) refl z)
 
-pub parse-taken : (want : ℕ) (rec : List ℕ) (p : Parsed) → p ≡ parsedOf (parse want rec) → p .number ≡ 0 → IsChange want rec (p .view)
+pub parse-taken : (want : Wanted) (rec : List ℕ) (p : Parsed) → p ≡ parsedOf (parse want rec) → p .number ≡ 0 → IsChange want rec (p .view)
 parse-taken want rec p e z = go (parse want rec) refl
   where
     go : (i : Input Change) → parse want rec ≡ i → IsChange want rec (p .view)
@@ -315,7 +315,7 @@ module _ {b : Book} {s rows : List ℕ} (h : Held b s rows) where
 data Sort (rec : List ℕ) : Type 0 where
   is-back : general rec ≡ takenBack (bareTakeBack rec) → parseAny rec ≡ alone takingBack (bareTakeBack rec) → Sort rec
   is-close : general rec ≡ closing (bareClose rec) → parseAny rec ≡ alone closingEntry (bareClose rec) → Sort rec
-  is-other : general rec ≡ listed (parse 0 rec) → parseAny rec ≡ asEntry (parse 0 rec) → Sort rec
+  is-other : general rec ≡ listed (parse Any rec) → parseAny rec ≡ asEntry (parse Any rec) → Sort rec
 
 begins-is : (x y a b : ℕ) (s : List ℕ) → begins (x ∷ y ∷ []) (a ∷ b ∷ s) ≡ markIs (x ∷ y ∷ []) a b
 begins-is x y a b s = and-one (eqb x a) (eqb y b) ∙ (λ i. turned x a i && turned y b i)
@@ -330,7 +330,7 @@ begins-is x y a b s = and-one (eqb x a) (eqb y b) ∙ (λ i. turned x a i && tur
 
 module _ (rec : List ℕ) where
   abbrev By : Bool → Bool → ℕ → Reg → Step
-  By p q = cond p (takenBack (bareTakeBack rec)) (cond q (closing (bareClose rec)) (listed (parse 0 rec)))
+  By p q = cond p (takenBack (bareTakeBack rec)) (cond q (closing (bareClose rec)) (listed (parse Any rec)))
 
   sort-unread : (j : ℕ) → entry rec ≡ bad j → Sort rec
   unfolding parseAny
@@ -365,7 +365,7 @@ general-fault rec n e lent g = go (sort-of rec)
     go : Sort rec → general rec lent g ≡ answered (refused n)
     go (is-back a p) = ap (λ (f : ℕ → Reg → Step). f lent g) a ∙ bare takingBack (bareTakeBack rec) takenBack (λ k. refl) (sym p ∙ e)
     go (is-close a p) = ap (λ (f : ℕ → Reg → Step). f lent g) a ∙ bare closingEntry (bareClose rec) closing (λ k. refl) (sym p ∙ e)
-    go (is-other a p) = ap (λ (f : ℕ → Reg → Step). f lent g) a ∙ other (parse 0 rec) (sym p ∙ e)
+    go (is-other a p) = ap (λ (f : ℕ → Reg → Step). f lent g) a ∙ other (parse Any rec) (sym p ∙ e)
 
 -- what it takes is a mark by itself, or a change of one kind
 alone-taken : (x y : Entry) (m : ℕ) → alone x m ≡ fine y → (m ≡ 0) × (x ≡ y)
@@ -383,7 +383,7 @@ module _ (rec : List ℕ) where
       go : Sort rec → general rec ≡ takenBack 0
       go (is-back a p) = a ∙ ap takenBack (alone-taken takingBack takingBack (bareTakeBack rec) (sym p ∙ e) .0)
       go (is-close a p) = let w = alone-taken closingEntry takingBack (bareClose rec) (sym p ∙ e) .1 in absurd (let z : _≡_ {A = ℕ} 0 1 = cc in omega arith)
-      go (is-other a p) = other (parse 0 rec) (sym p ∙ e)
+      go (is-other a p) = other (parse Any rec) (sym p ∙ e)
 
   general-close : parseAny rec ≡ fine closingEntry → general rec ≡ closing 0
   general-close e = go (sort-of rec)
@@ -395,19 +395,19 @@ module _ (rec : List ℕ) where
       go : Sort rec → general rec ≡ closing 0
       go (is-back a p) = let w = alone-taken takingBack closingEntry (bareTakeBack rec) (sym p ∙ e) .1 in absurd (let z : _≡_ {A = ℕ} 0 1 = cc in omega arith)
       go (is-close a p) = a ∙ ap closing (alone-taken closingEntry closingEntry (bareClose rec) (sym p ∙ e) .0)
-      go (is-other a p) = other (parse 0 rec) (sym p ∙ e)
+      go (is-other a p) = other (parse Any rec) (sym p ∙ e)
 
-  general-change : (c : Change) → parseAny rec ≡ fine (changed c) → (general rec ≡ listed (parse 0 rec)) × (parse 0 rec ≡ fine c)
+  general-change : (c : Change) → parseAny rec ≡ fine (changed c) → (general rec ≡ listed (parse Any rec)) × (parse Any rec ≡ fine c)
   general-change c e = go (sort-of rec)
     where
       other : (i : Input Change) → asEntry i ≡ fine (changed c) → i ≡ fine c
       other (fine d) q = let p : d ≡ c = cc in ap fine p
       other (fault n) q = absurd (let z : _≡_ {A = ℕ} 0 1 = cc in omega arith)
 
-      go : Sort rec → (general rec ≡ listed (parse 0 rec)) × (parse 0 rec ≡ fine c)
+      go : Sort rec → (general rec ≡ listed (parse Any rec)) × (parse Any rec ≡ fine c)
       go (is-back a p) = let w = alone-taken takingBack (changed c) (bareTakeBack rec) (sym p ∙ e) .1 in absurd (let z : _≡_ {A = ℕ} 0 1 = cc in omega arith)
       go (is-close a p) = let w = alone-taken closingEntry (changed c) (bareClose rec) (sym p ∙ e) .1 in absurd (let z : _≡_ {A = ℕ} 0 1 = cc in omega arith)
-      go (is-other a p) = (a, other (parse 0 rec) (sym p ∙ e))
+      go (is-other a p) = (a, other (parse Any rec) (sym p ∙ e))
 
 -- by the kind of its view
 module _ {rec : List ℕ} {v : View} (r : IsEntry rec v) where
@@ -430,10 +430,10 @@ module _ {rec : List ℕ} {v : View} (r : IsEntry rec v) where
       go takingBack e k = absurd (omega arith)
       go closingEntry e k = general-close rec e
 
-  pub only-change : (v .kind ≡ 4 → ⊥) → (v .kind ≡ 5 → ⊥) → (general rec ≡ listed (parse 0 rec)) × IsChange 0 rec v
+  pub only-change : (v .kind ≡ 4 → ⊥) → (v .kind ≡ 5 → ⊥) → (general rec ≡ listed (parse Any rec)) × IsChange Any rec v
   only-change z y = go (r .what) (r .input) (r .is)
     where
-      go : (x : Entry) → parseAny rec ≡ fine x → v ≡ entryView x → (general rec ≡ listed (parse 0 rec)) × IsChange 0 rec v
+      go : (x : Entry) → parseAny rec ≡ fine x → v ≡ entryView x → (general rec ≡ listed (parse Any rec)) × IsChange Any rec v
       go (changed c) e k = let g = general-change rec c e in (g .0, record { what = c; input = g .1; is = k })
       go takingBack e k = absurd (z (ap (λ (y : View). y .kind) k))
       go closingEntry e k = absurd (y (ap (λ (y : View). y .kind) k))

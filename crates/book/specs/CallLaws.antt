@@ -8,7 +8,7 @@ use lib.ListN.{length, take, length-take}
 use lib.Seq.{take-all}
 use lib.Dec.{ltb}
 use borrow.Author.Tests.{le-ltb}
-use Rattle.book.specs.Layer.{Key, Rec, Change, Im, Ex, Input, fine, fault, parse, begins, takeBackBytes, closeBytes, Asked, got, bad, askHourOf, askHourOf-fault, parse-fault, Unread}
+use Rattle.book.specs.Layer.{Key, Rec, Change, Im, Ex, Input, fine, fault, parse, begins, takeBackBytes, closeBytes, Asked, got, bad, askHourOf, askHourOf-fault, parse-fault, Unread, File, Wanted, Any, Only}
 use Rattle.book.specs.declared.journal.Book.{Book}
 use Rattle.book.specs.ByName.{byName}
 use Rattle.book.specs.Amounts.{HourPricing, priced, unpriced, hourKey, priceOf, guaranteesAt, guaranteesOf}
@@ -38,7 +38,7 @@ decided-called call lent g d = go (ltb lent (length (writeAll (g .list))))
     go true = no 16 (omega arith)
     go false = d
 
-decided-listed : (want : ℕ) (s : List ℕ) (lent : ℕ) (g : Reg) → Decided (listed (parse want s) lent g)
+decided-listed : (want : Wanted) (s : List ℕ) (lent : ℕ) (g : Reg) → Decided (listed (parse want s) lent g)
 decided-listed want s lent g = go (parse want s) refl
   where
     above : (n : ℕ) → (n ≡ 0 → ⊥) → 0 < n
@@ -70,15 +70,15 @@ decided-back cl [] = no 14 (omega arith)
 decided-back cl (c ∷ l) = tt
 
 pub decided-file : (s : List ℕ) (lent : ℕ) (g : Reg) → Decided (called (file s) lent g)
-decided-file s lent g = decided-called (file s) lent g (decided-listed 1 s lent g)
+decided-file s lent g = decided-called (file s) lent g (decided-listed (Only File) s lent g)
 
 pub decided-change : (s : List ℕ) (lent : ℕ) (g : Reg) → Decided (called (change s) lent g)
 decided-change s lent g = decided-called (change s) lent g (go (begins takeBackBytes s) (begins closeBytes s))
   where
-    go : (a b : Bool) → Decided (cond a (takenBack (bareTakeBack s)) (cond b (closing (bareClose s)) (listed (parse 0 s))) lent g)
+    go : (a b : Bool) → Decided (cond a (takenBack (bareTakeBack s)) (cond b (closing (bareClose s)) (listed (parse Any s))) lent g)
     go true b = decided-bare (bareTakeBack s) g (shorter (g .closed) (g .list)) (decided-back (g .closed) (g .list))
     go false true = decided-bare (bareClose s) g (becomes (record { list = g .list; closed = true })) tt
-    go false false = decided-listed 0 s lent g
+    go false false = decided-listed Any s lent g
 
 -- ---- 16, and then the others
 

@@ -6,7 +6,7 @@ use Prim.Native.Nat.{ℕ, zero, suc, _+_}
 use native.Mathlib.Omega.{arith}
 use lib.Dec.{ltb, leb}
 use lib.ListN.{length}
-use Rattle.book.specs.Layer.{Change, filed, corrected, withdrawn, write, Input, fine, fault, parse, begins, takeBackBytes, closeBytes, limitOf, Unread, bare-early}
+use Rattle.book.specs.Layer.{Change, filed, corrected, withdrawn, write, Input, fine, fault, parse, begins, takeBackBytes, closeBytes, limitOf, Unread, bare-early, Any}
 use Rattle.book.specs.Register.{Reg, change, Reply, refused, Step, answered, becomes, called, listed, judged, takenBack, closing, shorter, unless-closed, bareTakeBack, bareClose, refusal, capped, stands, count, standing, writeAll}
 use Rattle.book.specs.Tables.{replied}
 
@@ -69,7 +69,7 @@ early s lent g r e one = go (ltb lent (length (writeAll (g .list)))) (begins tak
     no (answered q) x f = let p : q ≡ r = cc in absurd (x (ap replied p ∙ one))
     no (becomes h) x f = absurd (let z : _≡_ {A = ℕ} 0 1 = cc in omega arith)
 
-    read : begins takeBackBytes s ≡ false → begins closeBytes s ≡ false → (i : Input Change) → parse 0 s ≡ i → listed i lent g ≡ answered r → Unread s 1
+    read : begins takeBackBytes s ≡ false → begins closeBytes s ≡ false → (i : Input Change) → parse Any s ≡ i → listed i lent g ≡ answered r → Unread s 1
     read b c (fault n) p f =
         let q : refused n ≡ r = cc in
         let k : n ≡ 1 = ap replied q ∙ one in
@@ -77,8 +77,8 @@ early s lent g r e one = go (ltb lent (length (writeAll (g .list)))) (begins tak
     read b c (fine x) p f = no (listed (fine x) lent g) (else-open g (judged x g (refusal (g .list) lent x)) (else-judged x g lent)) f
 
     go : (x a : Bool) → begins takeBackBytes s ≡ a → (b : Bool) → begins closeBytes s ≡ b
-        → cond x (answered (refused 16)) (cond a (takenBack (bareTakeBack s)) (cond b (closing (bareClose s)) (listed (parse 0 s))) lent g) ≡ answered r → Unread s 1
+        → cond x (answered (refused 16)) (cond a (takenBack (bareTakeBack s)) (cond b (closing (bareClose s)) (listed (parse Any s))) lent g) ≡ answered r → Unread s 1
     go true a p b q f = no (answered (refused 16)) (else-said 16 (λ z. omega arith)) f
     go false true p b q f = no (takenBack (bareTakeBack s) lent g) (else-bare (bareTakeBack s) g (shorter (g .closed) (g .list)) (bare-early 84 66 s p) (else-shorter (g .closed) (g .list))) f
     go false false p true q f = no (closing (bareClose s) lent g) (else-bare (bareClose s) g (becomes (record { list = g .list; closed = true })) (bare-early 67 76 s q) tt) f
-    go false false p false q f = read p q (parse 0 s) refl f
+    go false false p false q f = read p q (parse Any s) refl f

@@ -7,7 +7,7 @@ use lib.Dec.{ltb}
 use lib.ListN.{length}
 use native.Mathlib.Omega.{arith}
 use borrow.Author.Tests.{le-ltb}
-use Rattle.book.specs.Layer.{Change, filed, write, Input, parse, same-refl, bare-exact, priceBytes, priceRecord, price-read, price-length, price-limit, takeBackBytes, closeBytes}
+use Rattle.book.specs.Layer.{Change, filed, write, Input, parse, same-refl, bare-exact, priceBytes, priceRecord, price-read, price-length, price-limit, takeBackBytes, closeBytes, File, Only}
 use Rattle.book.specs.Register.{Reg, fresh, file, takeBack, close, ask, freeBytes, Reply, refused, accepted, Step, answered, becomes, listed, judged, unless-closed, shorter, reply, after, room, refusal, stands, count, standing, writeAll, called, stepOf, Turn, run}
 
 pub record Case : Type 0 where
@@ -45,7 +45,7 @@ price-judged lent = ap (λ (m : ℕ). cond (ltb 0 m) (room 0 0 (length (write (f
 
 price-at : (lent : ℕ) → called (file priceBytes) lent fresh ≡ judged (filed priceRecord) fresh (room 0 0 55 lent)
 unfolding called writeAll
-price-at lent = ap (λ (b : Bool). cond b (answered (refused 16)) (listed (parse 1 priceBytes) lent fresh)) (le-ltb lent 0 (omega arith)) ∙ ap (λ (i : Input Change). listed i lent fresh) price-read ∙ ap (judged (filed priceRecord) fresh) (price-judged lent)
+price-at lent = ap (λ (b : Bool). cond b (answered (refused 16)) (listed (parse (Only File) priceBytes) lent fresh)) (le-ltb lent 0 (omega arith)) ∙ ap (λ (i : Input Change). listed i lent fresh) price-read ∙ ap (judged (filed priceRecord) fresh) (price-judged lent)
 
 abbrev one : Reg
 one = record { list = filed priceRecord ∷ []; closed = false }
@@ -65,7 +65,7 @@ again = rw (same-refl (priceRecord .key))
 twice : called (file priceBytes) 110 one ≡ answered (refused 10)
 unfolding called
 twice =
-    ap (λ (n : ℕ). cond (ltb 110 n) (answered (refused 16)) (listed (parse 1 priceBytes) 110 one)) one-used
+    ap (λ (n : ℕ). cond (ltb 110 n) (answered (refused 16)) (listed (parse (Only File) priceBytes) 110 one)) one-used
     ∙ ap (λ (i : Input Change). listed i 110 one) price-read ∙ ap (judged (filed priceRecord) one) again
 
 short : called (ask freeBytes) 54 one ≡ answered (refused 16)

@@ -4,7 +4,7 @@ use mathlib.Core.Path.{_≡_}
 use mathlib.Core.List.{List, _∷_}
 use mathlib.Core.Bool.{true}
 use lib.ListN.{length, drop}
-use Rattle.book.specs.Layer.{Key, View, Change, Entry, keyOf, fine, parse, parseAny, entryView, same, recordHead}
+use Rattle.book.specs.Layer.{Key, View, Change, Entry, keyOf, fine, parse, parseAny, entryView, same, recordHead, Wanted}
 use Rattle.book.specs.declared.journal.Book.{Book}
 use Rattle.book.specs.declared.answers.Done.{Done}
 use Rattle.book.specs.Register.{Reg, Step, writeAll}
@@ -34,14 +34,14 @@ pub record Since (b : Book) (s : List ℕ) (k : Key) (from : ℕ) : Type 0 where
   pub none : (l : List Change) → load b s ≡ belongs l → latestOf (slot k) l ≤ from
 
 -- the bytes are a change of the kind that is wanted, and this is its view
-pub record IsChange (want : ℕ) (rec : List ℕ) (v : View) : Type 0 where
+pub record IsChange (want : Wanted) (rec : List ℕ) (v : View) : Type 0 where
   pub what : Change
   pub input : parse want rec ≡ fine what
   pub is : v ≡ viewed what
 
 -- the same of some kind
 pub record Viewing (rec : List ℕ) (v : View) : Type 0 where
-  pub want : ℕ
+  pub want : Wanted
   pub change : IsChange want rec v
 
 -- the bytes are a change of any mark, and this is its view

@@ -5,7 +5,7 @@ use mathlib.Core.Bool.{Bool, true, false, cond}
 use lib.ListN.{length}
 use lib.Dec.{ltb, leb}
 use Rattle.money.specs.Refusals.{bookClosed, keyStands, noSuchKey, hourFull, noSpace, nothingToTakeBack, notTogether}
-use Rattle.book.specs.Layer.{Key, Rec, Change, filed, corrected, withdrawn, keyOf, write, Input, fine, fault, parse, bare, same, sameHour, Asked, got, bad, keyAsked, askHour, askHourOf, askUnit, askFailure, Im, limitOf, begins, takeBackBytes, closeBytes}
+use Rattle.book.specs.Layer.{Key, Rec, Change, filed, corrected, withdrawn, keyOf, write, Input, fine, fault, parse, bare, same, sameHour, Asked, got, bad, keyAsked, askHour, askHourOf, askUnit, askFailure, Im, limitOf, begins, takeBackBytes, closeBytes, File, Correct, Withdraw, Any, Only}
 pub use Rattle.book.specs.Replies.{Reply, refused, accepted, place, number, guarantees, unitDay, charge}
 use Rattle.book.specs.Amounts.{guaranteesOf, unitDayOf, chargeOf, priceOf}
 
@@ -164,13 +164,13 @@ pub data Call : Type 0 where
   ask : Question → Call
 
 abbrev pub general : List ℕ → ℕ → Reg → Step
-general s = cond (begins takeBackBytes s) (takenBack (bareTakeBack s)) (cond (begins closeBytes s) (closing (bareClose s)) (listed (parse 0 s)))
+general s = cond (begins takeBackBytes s) (takenBack (bareTakeBack s)) (cond (begins closeBytes s) (closing (bareClose s)) (listed (parse Any s)))
 
 -- what the register does with a call over enough lent bytes
 abbrev pub stepOf : Call → ℕ → Reg → Step
-stepOf (file s) = listed (parse 1 s)
-stepOf (correct s) = listed (parse 2 s)
-stepOf (withdraw s) = listed (parse 3 s)
+stepOf (file s) = listed (parse (Only File) s)
+stepOf (correct s) = listed (parse (Only Correct) s)
+stepOf (withdraw s) = listed (parse (Only Withdraw) s)
 stepOf (takeBack s) = takenBack (bareTakeBack s)
 stepOf (close s) = closing (bareClose s)
 stepOf (change s) = general s

@@ -8,7 +8,7 @@ use lib.ListN.{length, take, drop}
 use lib.Seq.{drop-append-seam, take-all}
 use lib.Dec.{ltb, leb, eqb}
 use borrow.Author.Tests.{eq-eqb, eqb-true, le-leb, lt-leb, ltb-true, ltb-false, leb-true}
-use Rattle.book.specs.Layer.{Change, kindOf, keyOf, write, Good, Scan, seen, blind, scan, Input, fine, fault, parse, begins, takeBackBytes, closeBytes, limitOf, scan-write, scan-got, parse-fine}
+use Rattle.book.specs.Layer.{Change, kindOf, keyOf, write, Good, Scan, seen, blind, scan, Input, fine, fault, parse, begins, takeBackBytes, closeBytes, limitOf, scan-write, scan-got, parse-fine, File, Correct, Withdraw, Any, Only}
 use Rattle.book.specs.Register.{Reg, Call, file, correct, withdraw, takeBack, close, change, ask, answered, becomes, refused, stepOf, called, listed, judged, takenBack, closing, shorter, unless-closed, bareTakeBack, bareClose, after, writeAll, refusal, room, stands, count, standing}
 use Rattle.book.specs.Meaning.{belongs, astray, onward, replay, load, Valid, bookOf, leaving, stepped, outcome}
 use Rattle.book.specs.Tables.{judge}
@@ -127,17 +127,17 @@ closing-valid m lent g v = go m (g .closed)
     go (suc n) b = v
 
 after-valid : (call : Call) (lent : ℕ) (g : Reg) → Valid (g .list) → Valid (after (stepOf call lent g) g .list)
-after-valid (file s) lent g v = listed-valid (parse 1 s) lent g (λ c e. parse-fine 1 s c e .good) v
-after-valid (correct s) lent g v = listed-valid (parse 2 s) lent g (λ c e. parse-fine 2 s c e .good) v
-after-valid (withdraw s) lent g v = listed-valid (parse 3 s) lent g (λ c e. parse-fine 3 s c e .good) v
+after-valid (file s) lent g v = listed-valid (parse (Only File) s) lent g (λ c e. parse-fine (Only File) s c e .good) v
+after-valid (correct s) lent g v = listed-valid (parse (Only Correct) s) lent g (λ c e. parse-fine (Only Correct) s c e .good) v
+after-valid (withdraw s) lent g v = listed-valid (parse (Only Withdraw) s) lent g (λ c e. parse-fine (Only Withdraw) s c e .good) v
 after-valid (takeBack s) lent g v = taken-valid (bareTakeBack s) lent g v
 after-valid (close s) lent g v = closing-valid (bareClose s) lent g v
 after-valid (change s) lent g v = go (begins takeBackBytes s) (begins closeBytes s)
   where
-    go : (a b : Bool) → Valid (after (cond a (takenBack (bareTakeBack s)) (cond b (closing (bareClose s)) (listed (parse 0 s))) lent g) g .list)
+    go : (a b : Bool) → Valid (after (cond a (takenBack (bareTakeBack s)) (cond b (closing (bareClose s)) (listed (parse Any s))) lent g) g .list)
     go true b = taken-valid (bareTakeBack s) lent g v
     go false true = closing-valid (bareClose s) lent g v
-    go false false = listed-valid (parse 0 s) lent g (λ c e. parse-fine 0 s c e .good) v
+    go false false = listed-valid (parse Any s) lent g (λ c e. parse-fine Any s c e .good) v
 after-valid (ask q) lent g v = v
 
 pub called-valid : (call : Call) (lent : ℕ) (g : Reg) → Valid (g .list) → Valid (after (called call lent g) g .list)

@@ -3,9 +3,8 @@ use crate::answers::Answer;
 use crate::answers::Done;
 use crate::journal::Book;
 use money::refusals::NOT_TOGETHER;
-use records::marks::CORRECTED;
-use records::marks::FILED;
-use records::marks::WITHDRAWN;
+use records::marks::Kind;
+use records::marks::Wanted;
 use records::parse::parse_any;
 use records::parse::parse_change;
 use records::parse::parse_close;
@@ -15,7 +14,7 @@ ghost use Rattle.book.specs.Register.{listed, file, correct, withdraw, t
 ghost use Rattle.book.specs.Meaning.{Leaves, Meets, replyOf};
 
 impl Book {
-    fn enter(mut self, log: &mut [u8], rec: &[u8], want: u8) -> Done
+    fn enter(mut self, log: &mut [u8], rec: &[u8], want: Wanted) -> Done
         ensures { λ r. ⌜ Leaves (listed (parse want (now (rec .entry)))) self (now (log .entry)) (r .book) (replyOf (r .answer)) (now (log .exit)) ⌝ }
     {
         let mut rows = [0u32; 512];
@@ -40,19 +39,19 @@ impl Book {
     pub fn file(mut self, log: &mut [u8], rec: &[u8]) -> Done
         ensures { λ r. ⌜ Meets (file (now (rec .entry))) self (now (log .entry)) (r .book) (replyOf (r .answer)) (now (log .exit)) ⌝ }
     {
-        self.enter(log, rec, FILED)
+        self.enter(log, rec, Wanted::Only(Kind::File))
     }
 
     pub fn correct(mut self, log: &mut [u8], rec: &[u8]) -> Done
         ensures { λ r. ⌜ Meets (correct (now (rec .entry))) self (now (log .entry)) (r .book) (replyOf (r .answer)) (now (log .exit)) ⌝ }
     {
-        self.enter(log, rec, CORRECTED)
+        self.enter(log, rec, Wanted::Only(Kind::Correct))
     }
 
     pub fn withdraw(mut self, log: &mut [u8], rec: &[u8]) -> Done
         ensures { λ r. ⌜ Meets (withdraw (now (rec .entry))) self (now (log .entry)) (r .book) (replyOf (r .answer)) (now (log .exit)) ⌝ }
     {
-        self.enter(log, rec, WITHDRAWN)
+        self.enter(log, rec, Wanted::Only(Kind::Withdraw))
     }
 
     pub fn take_back(mut self, log: &[u8], rec: &[u8]) -> Done

@@ -20,6 +20,7 @@ use records::marks::CLOSE;
 use records::marks::FILED;
 use records::marks::TAKE_BACK;
 use records::marks::WITHDRAWN;
+use records::marks::Wanted;
 use records::scan::View;
 use records::scan::starts;
 use records::writing::put_viewed;
@@ -96,7 +97,7 @@ impl Book {
         rec: &[u8],
     ) -> Done
         requires { ⌜ Held self (now log) (now rows) ⌝ ∗ ⌜ Since self (now log) (view .key) from ⌝ ∗ ⌜ Viewing (now rec) view ⌝ }
-        ensures { λ r. ⌜ ((want : ℕ) → IsChange want (now (rec .entry)) view → Makes (listed (parse want (now (rec .entry)))) self (now (log .entry)) (view .key) r (now (log .exit)) (now (rows .exit))) ⌝ }
+        ensures { λ r. ⌜ ((want : Wanted) → IsChange want (now (rec .entry)) view → Makes (listed (parse want (now (rec .entry)))) self (now (log .entry)) (view .key) r (now (log .exit)) (now (rows .exit))) ⌝ }
     {
         if self.closed {
             return Done {

@@ -18,7 +18,10 @@ use Rattle.records.specs.declared.marks.Mark.the-variants.{Im, Fi, Fe}
 use Rattle.records.specs.Marks.{markBytes}
 use Rattle.records.specs.Views.{pricesIn}
 use Rattle.records.specs.Amounts.{creditIn, unitAmountIn, chargeIn}
-use Rattle.records.specs.Changes.{begins, parsedOf, parse, parseAny, entryOf, putNumber, putBytes, bare, takeBackBytes, closeBytes}
+use Rattle.records.specs.Changes.{begins, parsedOf, parse, parseAny, entryOf, putNumber, putBytes, bare, takeBackBytes, closeBytes, viewOf, scan}
+use Rattle.records.specs.declared.marks.Kind.the-variants.{File, Correct, Withdraw}
+use Rattle.records.specs.declared.marks.Wanted.{Wanted}
+use Rattle.records.specs.declared.marks.Wanted.the-variants.{Any, Only}
 use Rattle.book.specs.declared.journal.Book.{Book}
 use Rattle.book.specs.declared.answers.NamedAmount.{NamedAmount}
 use Rattle.book.specs.declared.feed.Fed.{Fed}
@@ -61,23 +64,27 @@ alone s = ltb 3 (entryOf (parseAny s) .view .kind)
 
 -- a change of any mark, written at the start of d: its number, what is then in d, and the length told
 abbrev pub anyNumber : List ℕ → List ℕ → ℕ
-anyNumber s d = orElse (entryOf (parseAny s) .number) (cond (alone s) 0 (putNumber (parse 0 s) 0 d))
+anyNumber s d = orElse (entryOf (parseAny s) .number) (cond (alone s) 0 (putNumber (parse Any s) 0 d))
 
 abbrev pub anyBytes : List ℕ → List ℕ → List ℕ
-anyBytes s d = cond (eqb (entryOf (parseAny s) .number) 0) (cond (alone s) d (putBytes (parse 0 s) 0 d)) d
+anyBytes s d = cond (eqb (entryOf (parseAny s) .number) 0) (cond (alone s) d (putBytes (parse Any s) 0 d)) d
 
 abbrev pub anySize : List ℕ → ℕ
-anySize s = cond (alone s) 0 (parsedOf (parse 0 s) .view .len)
+anySize s = cond (alone s) 0 (parsedOf (parse Any s) .view .len)
+
+-- what a method's number asks for, by its last two bits: 1 filing, 2 `CO`, 3 `WD`, 0 any of these
+unfoldable pub wantedBy : ℕ → Wanted
+wantedBy m = cond (eqb (m % 4) 1) (Only File) (cond (eqb (m % 4) 2) (Only Correct) (cond (eqb (m % 4) 3) (Only Withdraw) Any))
 
 -- a change for a method
 abbrev pub writeNumber : ℕ → List ℕ → List ℕ → ℕ
-writeNumber m s d = cond (eqb m 0) (anyNumber s d) (cond (eqb m 4) (bare takeBackBytes s) (cond (eqb m 5) (bare closeBytes s) (putNumber (parse (m % 4) s) 0 d)))
+writeNumber m s d = cond (eqb m 0) (anyNumber s d) (cond (eqb m 4) (bare takeBackBytes s) (cond (eqb m 5) (bare closeBytes s) (putNumber (parse (wantedBy m) s) 0 d)))
 
 abbrev pub writeBytes : ℕ → List ℕ → List ℕ → List ℕ
-writeBytes m s d = cond (eqb m 0) (anyBytes s d) (cond (eqb m 4) d (cond (eqb m 5) d (putBytes (parse (m % 4) s) 0 d)))
+writeBytes m s d = cond (eqb m 0) (anyBytes s d) (cond (eqb m 4) d (cond (eqb m 5) d (putBytes (parse (wantedBy m) s) 0 d)))
 
 abbrev pub writeSize : ℕ → List ℕ → ℕ
-writeSize m s = cond (eqb m 0) (anySize s) (cond (eqb m 4) 0 (cond (eqb m 5) 0 (parsedOf (parse (m % 4) s) .view .len)))
+writeSize m s = cond (eqb m 0) (anySize s) (cond (eqb m 4) 0 (cond (eqb m 5) 0 (parsedOf (parse (wantedBy m) s) .view .len)))
 
 -- ---- the book
 
@@ -193,7 +200,7 @@ hourAmounts (charge t) row = row
 
 -- bytes that must be a record, of a mark that has been tested
 abbrev pub filingNumber : List ℕ → Bool → ℕ
-filingNumber s marked = cond (ltb (length s) 2) endsEarly (cond marked (parsedOf (parse 1 s) .number) unknownMark)
+filingNumber s marked = cond (ltb (length s) 2) endsEarly (cond marked (parsedOf (parse (Only File) s) .number) unknownMark)
 
 abbrev pub hasAmount : List ℕ → Bool
 hasAmount s = begins (73 ∷ 77 ∷ []) s || (begins (71 ∷ 72 ∷ []) s || (begins (70 ∷ 73 ∷ []) s || begins (70 ∷ 69 ∷ []) s))

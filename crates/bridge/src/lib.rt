@@ -22,10 +22,11 @@ use records::amounts::import_credit;
 use records::amounts::unit_amount;
 use records::keys::ask_name;
 use records::leads::bears;
-use records::marks::FILED;
+use records::marks::Kind;
 use records::marks::Mark;
 use records::marks::WITHDRAWN;
 use records::names::spell_name;
+use records::marks::Wanted;
 use records::parse::first_change;
 use records::parse::parse_any;
 use records::parse::parse_change;
@@ -44,7 +45,7 @@ ghost use Rattle.book.specs.Register.{recordOf, countOf, freeBytes, hourGuarant
 ghost use Rattle.book.specs.Meaning.{replyOf, guaranteesReply, dayReply};
 ghost use Rattle.book.specs.Tables.{replied};
 ghost use Rattle.book.specs.Handed.{maxCredits};
-ghost use Rattle.bridge.specs.Bridge.{stored, told, compareNumber, orderOf, anyNumber, anySize, anyBytes, writeNumber, writeSize, writeBytes};
+ghost use Rattle.bridge.specs.Bridge.{stored, told, compareNumber, orderOf, anyNumber, anySize, anyBytes, writeNumber, writeSize, writeBytes, wantedBy};
 ghost use Rattle.bridge.specs.Bridge.{filingNumber, hasAmount, amountIn, answerNumber, amountNumber, ticksTold, amountTold};
 ghost use Rattle.bridge.specs.Bridge.{noBook, bookFrom, bookIn, flagOf, handedBack, methodIn, hourIn, Changed};
 ghost use Rattle.bridge.specs.Bridge.{asked, sizesTold, amountsTold, importPlace, placeTold, creditSizes, creditsSizes, creditsAmounts, hourSizes, hourAmounts};
@@ -85,7 +86,7 @@ fn set_amount(amounts: &mut [i64], i: usize, t: Ticks)
     }
 }
 
-fn write_change(want: u8, bytes: &[u8], out: &mut [u8], sizes: &mut [u64]) -> u32
+fn write_change(want: Wanted, bytes: &[u8], out: &mut [u8], sizes: &mut [u64]) -> u32
     ensures { λ r. ⌜ r ≡ putNumber (parse want (now (bytes .entry))) 0 (now (out .entry)) ⌝ }
     ensures { λ r. ⌜ now (out .exit) ≡ putBytes (parse want (now (bytes .entry))) 0 (now (out .entry)) ⌝ }
     ensures { λ r. ⌜ now (sizes .exit) ≡ told r (parsedOf (parse want (now (bytes .entry))) .view .len) (now (sizes .entry)) ⌝ }
@@ -126,7 +127,24 @@ fn write_any(bytes: &[u8], out: &mut [u8], sizes: &mut [u64]) -> u32
     if WITHDRAWN < v.kind {
         return mark_alone(0, sizes);
     }
-    write_change(0, bytes, out, sizes)
+    write_change(Wanted::Any, bytes, out, sizes)
+}
+
+// What a method's number asks for, by its last two bits.
+fn wanted_by(method: u32) -> Wanted
+    ensures { λ r. ⌜ r ≡ wantedBy method ⌝ }
+{
+    let k = method % 4;
+    if k == 1 {
+        return Wanted::Only(Kind::File);
+    }
+    if k == 2 {
+        return Wanted::Only(Kind::Correct);
+    }
+    if k == 3 {
+        return Wanted::Only(Kind::Withdraw);
+    }
+    Wanted::Any
 }
 
 // Reads one change, for any mark (0) or a method's (1 to 5), and writes it in its written form.
@@ -150,7 +168,7 @@ pub extern "C" fn pewatuno_write(
     if method == 5 {
         return mark_alone(parse_close(bytes), sizes);
     }
-    write_change((method % 4) as u8, bytes, out, sizes)
+    write_change(wanted_by(method), bytes, out, sizes)
 }
 
 // Where the change ends that the bytes begin with.
@@ -214,7 +232,7 @@ fn filing_fault(bytes: &[u8], marked: bool) -> u32
     if !marked {
         return UNKNOWN_MARK as u32;
     }
-    parse_change(bytes, FILED).number as u32
+    parse_change(bytes, Wanted::Only(Kind::File)).number as u32
 }
 
 fn has_amount(bytes: &[u8]) -> bool

@@ -11,7 +11,7 @@ use Rattle.records.specs.Names.{decodeName, spell}
 use Rattle.records.specs.Changes.{change as readChange}
 use Rattle.records.specs.Views.{failureOf}
 use Rattle.records.specs.Amounts.{chargeTicksFor}
-use Rattle.book.specs.Layer.{Key, Rec, Change, fine, parse, write, Scan, seen, scan, keyAsked, askHourOf, askUnit, askFailure, got, markBytes, askBytes, Im, Ex, HourPrices, offset, offsetEntry}
+use Rattle.book.specs.Layer.{Key, Rec, Change, fine, parse, write, Scan, seen, scan, keyAsked, askHourOf, askUnit, askFailure, got, markBytes, askBytes, Im, Ex, HourPrices, offset, offsetEntry, Wanted, Any}
 use Rattle.book.specs.ByName.{byName}
 use Rattle.book.specs.declared.journal.Book.{Book}
 use Rattle.book.specs.Amounts.{pick, is, priced, priceOf, hourKey, creditAt, totalsOf, unitAt, hourTicks}
@@ -103,7 +103,7 @@ pub record Demand2 : Type 0 where
   pub formulas : Formulas
   pub amounts : (b : Book) (s : List ℕ) (l : List Change) → load b s ≡ belongs l → Amounts b s l
   -- "and every record that is written reads back as itself,": whatever stands behind it
-  pub back : (want : ℕ) (s : List ℕ) (c : Change) → parse want s ≡ fine c → (rest : List ℕ) → readChange 0 (write c ++ rest) ≡ got c rest
+  pub back : (want : Wanted) (s : List ℕ) (c : Change) → parse want s ≡ fine c → (rest : List ℕ) → readChange Any (write c ++ rest) ≡ got c rest
   -- "its name in one spelling only.": the spelling of the decoded name, which decodes to it again,
   pub spelled : (s v t : List ℕ) → decodeName s ≡ got v t → decodeName (spell v) ≡ got v []
   -- and what stands in a book is read in that form only, each change by itself

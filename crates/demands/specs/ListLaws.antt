@@ -6,7 +6,7 @@ use mathlib.Core.Bool.{Bool, true, false, cond}
 use native.Mathlib.Omega.{arith}
 use lib.ListN.{length, take, drop, replicate}
 use lib.Dec.{ltb}
-use Rattle.book.specs.Layer.{Change, Input, fine, fault, parse, begins, takeBackBytes, closeBytes, Asked}
+use Rattle.book.specs.Layer.{Change, Input, fine, fault, parse, begins, takeBackBytes, closeBytes, Asked, File, Correct, Withdraw, Any, Only}
 use Rattle.book.specs.declared.journal.Book.{Book}
 use Rattle.book.specs.Amounts.{pick}
 use Rattle.book.specs.Register.{Reg, standing, refusal, writeAll, Call, file, correct, withdraw, takeBack, close, change, ask, recordOf, freeBytes, placeOf, keyed, Reply}
@@ -54,17 +54,17 @@ closing-moves m lent g = go m (g .closed)
     go (suc n) b = stays
 
 step-moves : (call : Call) (lent : ℕ) (g : Reg) → Moves (g .list) (after (stepOf call lent g) g .list)
-step-moves (file s) lent g = listed-moves (parse 1 s) lent g
-step-moves (correct s) lent g = listed-moves (parse 2 s) lent g
-step-moves (withdraw s) lent g = listed-moves (parse 3 s) lent g
+step-moves (file s) lent g = listed-moves (parse (Only File) s) lent g
+step-moves (correct s) lent g = listed-moves (parse (Only Correct) s) lent g
+step-moves (withdraw s) lent g = listed-moves (parse (Only Withdraw) s) lent g
 step-moves (takeBack s) lent g = taken-moves (bareTakeBack s) lent g
 step-moves (close s) lent g = closing-moves (bareClose s) lent g
 step-moves (change s) lent g = go (begins takeBackBytes s) (begins closeBytes s)
   where
-    go : (a b : Bool) → Moves (g .list) (after (cond a (takenBack (bareTakeBack s)) (cond b (closing (bareClose s)) (listed (parse 0 s))) lent g) g .list)
+    go : (a b : Bool) → Moves (g .list) (after (cond a (takenBack (bareTakeBack s)) (cond b (closing (bareClose s)) (listed (parse Any s))) lent g) g .list)
     go true b = taken-moves (bareTakeBack s) lent g
     go false true = closing-moves (bareClose s) lent g
-    go false false = listed-moves (parse 0 s) lent g
+    go false false = listed-moves (parse Any s) lent g
 step-moves (ask q) lent g = stays
 
 call-moves : (call : Call) (lent : ℕ) (g : Reg) → Moves (g .list) (after (called call lent g) g .list)

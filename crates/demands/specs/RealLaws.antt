@@ -8,7 +8,7 @@ use lib.ListN.{length, take, drop, replicate, length-append, length-take, length
 use lib.Seq.{take-all, take-append-le, take-append-seam, take-take, length-take-le, take-length}
 use lib.Dec.{ltb, leb}
 use borrow.Author.Tests.{ltb-true, ltb-false, leb-true}
-use Rattle.book.specs.Layer.{Change, filed, corrected, withdrawn, write, Input, fine, fault, parse, begins, takeBackBytes, closeBytes, limitOf}
+use Rattle.book.specs.Layer.{Change, filed, corrected, withdrawn, write, Input, fine, fault, parse, begins, takeBackBytes, closeBytes, limitOf, File, Correct, Withdraw, Any, Only}
 use Rattle.book.specs.declared.journal.Book.{Book}
 use Rattle.book.specs.Register.{Reg, Call, file, correct, withdraw, takeBack, close, change, ask, Reply, refused, reply, Step, answered, becomes, stepOf, called, listed}
 use Rattle.book.specs.Register.{judged, takenBack, closing, shorter, unless-closed, bareTakeBack, bareClose, after, writeAll, refusal, room, roomFor, capped, stands, count, standing, Turn, run, told}
@@ -86,17 +86,17 @@ module _ (lent : ℕ) (g : Reg) (enough : length (writeAll (g .list)) ≤ lent) 
   back-fits b (c ∷ l) h = omega (arith, length-append (writeAll l) (write c))
 
   step-fits : (call : Call) → Fits lent (stepOf call lent g)
-  step-fits (file s) = listed-fits (parse 1 s)
-  step-fits (correct s) = listed-fits (parse 2 s)
-  step-fits (withdraw s) = listed-fits (parse 3 s)
+  step-fits (file s) = listed-fits (parse (Only File) s)
+  step-fits (correct s) = listed-fits (parse (Only Correct) s)
+  step-fits (withdraw s) = listed-fits (parse (Only Withdraw) s)
   step-fits (takeBack s) = bare-fits (bareTakeBack s) (shorter (g .closed) (g .list)) (back-fits (g .closed) (g .list) enough)
   step-fits (close s) = bare-fits (bareClose s) (becomes (record { list = g .list; closed = true })) enough
   step-fits (change s) = go (begins takeBackBytes s) (begins closeBytes s)
     where
-      go : (a b : Bool) → Fits lent (cond a (takenBack (bareTakeBack s)) (cond b (closing (bareClose s)) (listed (parse 0 s))) lent g)
+      go : (a b : Bool) → Fits lent (cond a (takenBack (bareTakeBack s)) (cond b (closing (bareClose s)) (listed (parse Any s))) lent g)
       go true b = bare-fits (bareTakeBack s) (shorter (g .closed) (g .list)) (back-fits (g .closed) (g .list) enough)
       go false true = bare-fits (bareClose s) (becomes (record { list = g .list; closed = true })) enough
-      go false false = listed-fits (parse 0 s)
+      go false false = listed-fits (parse Any s)
   step-fits (ask q) = tt
 
 pub called-fits : (call : Call) (lent : ℕ) (g : Reg) → Fits lent (called call lent g)

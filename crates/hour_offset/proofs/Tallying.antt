@@ -14,6 +14,8 @@ use Rattle.records.specs.HourRecord.{hourRecord, hourFrontOf}
 use Rattle.records.specs.BookLaws.{OfHour, hour-record-got, hour-record-fault, good-hour}
 use Rattle.records.specs.declared.keys.Key.{Key}
 use Rattle.records.specs.declared.hour_records.HourFront.{HourFront}
+use Rattle.records.specs.declared.marks.Kind.the-variants.{File}
+use Rattle.records.specs.declared.marks.Wanted.the-variants.{Only}
 use Rattle.book.specs.declared.places.Spot.{Spot}
 use Rattle.book.specs.declared.places.Places.{Places}
 use Rattle.book.specs.Places.{spots}
@@ -128,7 +130,7 @@ module _ (records : List ℕ) (t : Tally) (o at : ℕ) (g : Going records t o at
         p : List ℕ
         p = take (length s - length (x .left)) s
 
-        alone : parse 1 p ≡ fine (x .what)
+        alone : parse (Only File) p ≡ fine (x .what)
         unfolding p
         alone = rd .alone
 

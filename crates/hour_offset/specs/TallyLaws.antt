@@ -19,6 +19,8 @@ use Rattle.records.specs.BookLaws.{same-by, same-refl, hour-parts, parts-hour, 
 use Rattle.records.specs.declared.keys.Key.{Key}
 use Rattle.records.specs.declared.marks.Mark.{Mark}
 use Rattle.records.specs.declared.marks.Mark.the-variants.{Pr, Im, Ex, Gh, Fi, Fe}
+use Rattle.records.specs.declared.marks.Kind.the-variants.{File}
+use Rattle.records.specs.declared.marks.Wanted.the-variants.{Only}
 use Rattle.money.specs.declared.names.Name.{Name}
 use Rattle.book.specs.declared.places.Spot.{Spot}
 use Rattle.book.specs.Places.{putSpot}
@@ -39,7 +41,7 @@ pub record Stood (s : List ℕ) (x : Spot) (r : Rec) : Type 0 where
   pub inside : x .start ≤ length s
   pub name : x .name ≡ r .key .name
   pub rest : List ℕ
-  pub front : change 1 (drop (x .start) s) ≡ got (filed r) rest
+  pub front : change (Only File) (drop (x .start) s) ≡ got (filed r) rest
 
 -- whether the hour's prices stand, and where
 abbrev pub Priced : List ℕ → Bool → ℕ → Pick → Type 0

@@ -1,6 +1,7 @@
 // Runs the record layer on the cases of its standard input, each a two-byte length (little-endian) and as many bytes: prints the
 // change in its written form, or the number with which it is refused. The expected output was made by the independent
 // implementation.
+use records::marks::Wanted;
 use records::parse::parse_any;
 use records::writing::put;
 
@@ -43,7 +44,7 @@ fn show(s: &[u8]) {
         return;
     }
     let mut out = io::buffer();
-    put(&mut out, 0, s, 0);
+    put(&mut out, 0, s, Wanted::Any);
     print_written(&out, len);
 }
 

@@ -20,6 +20,7 @@ use Rattle.records.specs.declared.keys.Key.{Key}
 use Rattle.records.specs.ReaderLaws.{bad-got, Part, Lawful, lawful-got, lawful-layout}
 use Rattle.records.specs.declared.names.NameRead.{NameRead}
 use Rattle.records.specs.declared.marks.HeadRead.{HeadRead}
+use Rattle.records.specs.declared.marks.Wanted.{Wanted}
 use Rattle.records.specs.declared.fields.HourField.{HourField}
 
 pub length-from : (s : List ℕ) (at : ℕ) → length (from s at) ≡ length s - at
@@ -88,7 +89,7 @@ pub skip-is : {A : Type 0} (s : List ℕ) (e d : End) (v : A) (f : Reader A) →
 skip-is s e d v f h = sym (next s e d v f (λ x t. got tt t) h ∙ last s d tt)
 
 -- the whole of a change, from the ends of its fields
-pub change-is : (s : List ℕ) (want : ℕ) (h : HeadRead) (o : HourField) (n : NameRead) (f : End)
+pub change-is : (s : List ℕ) (want : Wanted) (h : HeadRead) (o : HourField) (n : NameRead) (f : End)
     → headed s h ≡ head want s
     → shown s (o .end) (o .hour) ≡ then s (h .end) hour
     → Named s (then s (o .end) (nameFor (h .kind) (h .mark))) n

@@ -12,6 +12,8 @@ use Rattle.records.specs.ReaderLaws.{bad-got}
 use Rattle.records.specs.declared.scan.View.{View}
 use Rattle.records.specs.declared.parse.Parsed.{Parsed}
 use Rattle.records.specs.declared.parse.Front.{Front}
+use Rattle.records.specs.declared.marks.Wanted.{Wanted}
+use Rattle.records.specs.declared.marks.Wanted.the-variants.{Any}
 use Rattle.records.proofs.Spelled.{at-end, at-next}
 use Rattle.records.proofs.Body.{length-from}
 
@@ -41,7 +43,7 @@ module _ {A : Type 0} (g : A → View) (s : List ℕ) where
       let q : from s n ≡ x ∷ t = cc in
       absurd (let p : length (from s n) ≡ suc (length t) = ap length q in omega (arith, length-from s n))
 
-module _ (s : List ℕ) (want : ℕ) where
+module _ (s : List ℕ) (want : Wanted) where
   pub parsed-bad : (k : ℕ) → bad k ≡ changeView (change want s) → parse want s ≡ fault k
   unfolding parse
   parsed-bad k e = whole-bad (λ c. viewOf (seen c (length (write c)))) s (change want s) k e
@@ -100,18 +102,18 @@ entry-short (a ∷ []) h = refl
 entry-short (a ∷ b ∷ s) h = absurd (omega arith)
 
 pub entry-is : (s : List ℕ) → 2 ≤ length s → (p q : Bool) → is takeBackBytes (getD s 0 0) (getD s 1 0) ≡ p → is closeBytes (getD s 0 0) (getD s 1 0) ≡ q
-    → cond p (got (entryView takingBack) (from s 2)) (cond q (got (entryView closing) (from s 2)) (changeView (change 0 s))) ≡ entryRead (entry s)
+    → cond p (got (entryView takingBack) (from s 2)) (cond q (got (entryView closing) (from s 2)) (changeView (change Any s))) ≡ entryRead (entry s)
 unfolding entry from
 entry-is [] h p q e f = absurd (omega arith)
 entry-is (a ∷ []) h p q e f = absurd (omega arith)
-entry-is (a ∷ b ∷ s) h p q e f = go p q ∙ sym (ap₂ (λ x y. entryRead (cond x (got takingBack s) (cond y (got closing s) (change 0 (a ∷ b ∷ s) >>= λ c t. got (changed c) t)))) e f)
+entry-is (a ∷ b ∷ s) h p q e f = go p q ∙ sym (ap₂ (λ x y. entryRead (cond x (got takingBack s) (cond y (got closing s) (change Any (a ∷ b ∷ s) >>= λ c t. got (changed c) t)))) e f)
   where
     each : (r : Res Change) → changeView r ≡ entryRead (r >>= λ c t. got (changed c) t)
     each (bad k) = refl
     each (got c t) = refl
 
-    go : (p q : Bool) → cond p (got (entryView takingBack) s) (cond q (got (entryView closing) s) (changeView (change 0 (a ∷ b ∷ s))))
-        ≡ entryRead (cond p (got takingBack s) (cond q (got closing s) (change 0 (a ∷ b ∷ s) >>= λ c t. got (changed c) t)))
+    go : (p q : Bool) → cond p (got (entryView takingBack) s) (cond q (got (entryView closing) s) (changeView (change Any (a ∷ b ∷ s))))
+        ≡ entryRead (cond p (got takingBack s) (cond q (got closing s) (change Any (a ∷ b ∷ s) >>= λ c t. got (changed c) t)))
     go true q = refl
     go false true = refl
-    go false false = each (change 0 (a ∷ b ∷ s))
+    go false false = each (change Any (a ∷ b ∷ s))

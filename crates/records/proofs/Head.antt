@@ -26,18 +26,13 @@ use Rattle.records.specs.declared.marks.Mark.{Mark}
 use Rattle.records.specs.declared.marks.Mark.the-variants.{Pr}
 use Rattle.records.specs.declared.marks.Kind.{Kind}
 use Rattle.records.specs.declared.marks.Kind.the-variants.{File, Correct, Withdraw}
+use Rattle.records.specs.declared.marks.Wanted.{Wanted}
 
 pub is-no : (a b x y : ℕ) → (a ≡ x → ⊥) → false ≡ is (x ∷ y ∷ []) a b
 is-no a b x y h = simp (ne-eqb a x h)
 
 pub is-yes : (a b x y : ℕ) → a ≡ x → eqb b y ≡ is (x ∷ y ∷ []) a b
 is-yes a b x y h = simp (eq-eqb a x h)
-
-pub any-kind : (want : ℕ) (k : Kind) → want ≡ 0 → true ≡ allowed want k
-any-kind want k h = simp (eq-eqb want 0 h)
-
-pub one-kind : (want : ℕ) (k : Kind) (n : ℕ) → (want ≡ 0 → ⊥) → n ≡ number k → eqb want n ≡ allowed want k
-one-kind want k n h e = rw e (simp (ne-eqb want 0 h))
 
 -- ---- the mark of two bytes, looked for in a list of marks: i of them are none of it
 
@@ -101,21 +96,21 @@ module _ (s : List ℕ) (at : ℕ) where
   unfolding byte
   zero-not h e = rw (at-next s at h, ne-eqb (getD s at 0) 0 e)
 
-pub inside-is : (s : List ℕ) (e : End) (m : Mark) (want : ℕ) (k : Kind) (x : Res Mark) → shown s e m ≡ x → allowed want k ≡ true
+pub inside-is : (s : List ℕ) (e : End) (m : Mark) (want : Wanted) (k : Kind) (x : Res Mark) → shown s e m ≡ x → allowed want k ≡ true
     → _≡_ {A = Res Head} (shown s e (record { kind = k; mark = m })) (check (allowed want k) 2 (x >>= λ n t. got (record { kind = k; mark = n }) t))
 inside-is s e m want k x h a =
     sym (ap (λ b. check b 2 (x >>= λ n t. got (record { kind = k; mark = n }) t)) a ∙ first s e m x (λ n t. got (record { kind = k; mark = n }) t) h ∙ last s e (record { kind = k; mark = m }))
 
-pub inside-not : (want : ℕ) (k : Kind) (x : Res Mark) → allowed want k ≡ false → _≡_ {A = Res Head} (bad 2) (check (allowed want k) 2 (x >>= λ n t. got (record { kind = k; mark = n }) t))
+pub inside-not : (want : Wanted) (k : Kind) (x : Res Mark) → allowed want k ≡ false → _≡_ {A = Res Head} (bad 2) (check (allowed want k) 2 (x >>= λ n t. got (record { kind = k; mark = n }) t))
 inside-not want k x a = sym (ap (λ b. check b 2 (x >>= λ n t. got (record { kind = k; mark = n }) t)) a)
 
-pub head-short : (want : ℕ) (s : List ℕ) → length s < 2 → bad 1 ≡ head want s
+pub head-short : (want : Wanted) (s : List ℕ) → length s < 2 → bad 1 ≡ head want s
 unfolding head
 head-short want [] h = refl
 head-short want (a ∷ []) h = refl
 head-short want (a ∷ b ∷ s) h = absurd (omega arith)
 
-pub head-is : (want : ℕ) (s : List ℕ) → 2 ≤ length s → (p q : Bool) → is (67 ∷ 79 ∷ []) (getD s 0 0) (getD s 1 0) ≡ p → is (87 ∷ 68 ∷ []) (getD s 0 0) (getD s 1 0) ≡ q
+pub head-is : (want : Wanted) (s : List ℕ) → 2 ≤ length s → (p q : Bool) → is (67 ∷ 79 ∷ []) (getD s 0 0) (getD s 1 0) ≡ p → is (87 ∷ 68 ∷ []) (getD s 0 0) (getD s 1 0) ≡ q
     → cond p (inside want Correct (from s 2)) (cond q (inside want Withdraw (from s 2)) (inside want File (from s 0))) ≡ head want s
 unfolding head from
 head-is want [] h p q e f = absurd (omega arith)

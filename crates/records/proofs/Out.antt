@@ -28,6 +28,8 @@ use Rattle.records.specs.NameLaws.{spell-length}
 use Rattle.records.specs.declared.marks.Mark.{Mark}
 use Rattle.records.specs.declared.marks.Kind.{Kind}
 use Rattle.records.specs.declared.marks.Kind.the-variants.{File, Correct, Withdraw}
+use Rattle.records.specs.declared.marks.Wanted.{Wanted}
+use Rattle.records.specs.declared.marks.Wanted.the-variants.{Any}
 use Rattle.records.specs.declared.keys.Key.{Key}
 use Rattle.records.specs.declared.scan.View.{View}
 use Rattle.records.specs.declared.parse.Parsed.{Parsed}
@@ -115,11 +117,11 @@ wrote-front {d} {e} {n} {xs} w h =
 
 -- ---- what was read, by where it ended
 
-pub record Full (s : List ℕ) (want n : ℕ) (c : Read) : Type 0 where
+pub record Full (s : List ℕ) (want : Wanted) (n : ℕ) (c : Read) : Type 0 where
   pub value : change want s ≡ got (made (c .kind) (c .key) (take (n - c .body) (from s (c .body)))) (from s n)
   pub stands : Stands s n (c .kind) (c .key) (c .body)
 
-module _ (s : List ℕ) (want : ℕ) (c : Read) (h : ReadIs s want c) where
+module _ (s : List ℕ) (want : Wanted) (c : Read) (h : ReadIs s want c) where
   pub full : (n : ℕ) → c .end ≡ At n → Full s want n c
   full n e = record {
     value = sym (h .value) ∙ ap (λ d. told s d (c .kind) (c .key) (c .body)) e;
@@ -133,7 +135,7 @@ module _ (s : List ℕ) (want : ℕ) (c : Read) (h : ReadIs s want c) where
 abbrev pub readOf : List ℕ → ℕ → Read → Change
 readOf s n c = made (c .kind) (c .key) (take (n - c .body) (from s (c .body)))
 
-pub parse-bad : (want : ℕ) (s : List ℕ) (k : ℕ) → change want s ≡ bad k → parse want s ≡ fault k
+pub parse-bad : (want : Wanted) (s : List ℕ) (k : ℕ) → change want s ≡ bad k → parse want s ≡ fault k
 unfolding parse
 parse-bad want s k e = ap whole e
 
@@ -162,7 +164,7 @@ begins-more (x ∷ xs) ys (y ∷ s) e = go (eqb x y) (begins-more xs ys s) e
     go true i f = i f
     go false i f = refl
 
-module _ (s : List ℕ) (want n : ℕ) (c : Read) (h : Full s want n c) where
+module _ (s : List ℕ) (want : Wanted) (n : ℕ) (c : Read) (h : Full s want n c) where
   pub full-bytes : write (readOf s n c) ≡ headBytes (c .kind) (c .key) ++ take (n - c .body) (from s (c .body))
   full-bytes = write-made (c .kind) (c .key) _ (h .stands .own)
 
@@ -198,33 +200,33 @@ unfolding write
 begins-body s d y v q w =
     ap₂ (λ l m. begins (headBytes (kind d) (keyOf d) ++ l) m) q (w ∙ sym (append-assoc (headBytes (kind d) (keyOf d)) y v)) ∙ begins-append (headBytes (kind d) (keyOf d) ++ y) v
 
-begins-yes : (s : List ℕ) (d : Change) (t : List ℕ) → change 0 s ≡ got d t → begins (headBytes (kind d) (keyOf d)) s ≡ true → begins (write d) s ≡ true
+begins-yes : (s : List ℕ) (d : Change) (t : List ℕ) → change Any s ≡ got d t → begins (headBytes (kind d) (keyOf d)) s ≡ true → begins (write d) s ≡ true
 begins-yes s d t f b =
     let hd : List ℕ = headBytes (kind d) (keyOf d) in
     let u : List ℕ = drop (length hd) s in
     let w : s ≡ hd ++ u = begins-true hd s b in
-    let r : (bodyFor (kind d) (keyOf d .mark) u >>= λ y v. got (made (kind d) (keyOf d) y) v) ≡ got d t = sym (head-read d (change-kept 0 s d t f) u) ∙ sym (ap (change 0) w) ∙ f in
+    let r : (bodyFor (kind d) (keyOf d .mark) u >>= λ y v. got (made (kind d) (keyOf d) y) v) ≡ got d t = sym (head-read d (change-kept Any s d t f) u) ∙ sym (ap (change Any) w) ∙ f in
     let x = bind-got (bodyFor (kind d) (keyOf d .mark) u) (λ y v. got (made (kind d) (keyOf d) y) v) d t r in
     let p : made (kind d) (keyOf d) (x .0) ≡ d = cc (x .3) in
     let q : bodyOf d ≡ x .0 = ap bodyOf (sym p) ∙ body-own (kind d) (keyOf d) u (x .0) (x .1) (x .2) in
     let z : u ≡ x .0 ++ x .1 = body-rest (kind d) (keyOf d .mark) u (x .0) (x .1) (x .2) in
     begins-body s d (x .0) (x .1) q (w ∙ ap (λ l. hd ++ l) z)
 
-module _ (s : List ℕ) (n : ℕ) (c : Read) (h : Full s 0 n c) where
+module _ (s : List ℕ) (n : ℕ) (c : Read) (h : Full s Any n c) where
   pub peek-yes : (m k : ℕ) → m ≡ length (headBytes (c .kind) (c .key)) → k ≡ number (c .kind) → begins (headBytes (c .kind) (c .key)) s ≡ true
       → _≡_ {A = View} (record { kind = k; key = c .key; len = m + (n - c .body) }) (viewOf (scan s))
   unfolding scan
   peek-yes m k e f b =
       let g = begins-yes s (readOf s n c) (from s n) (h .value) (ap (λ l. begins l s) (made-kind (c .kind) (c .key) _) ∙ b) in
-      full-view s 0 n c h m k e f ∙ sym (ap (λ r. viewOf (written s r)) (h .value) ∙ ap (λ t. viewOf (cond t (seen (readOf s n c) (length (write (readOf s n c)))) blind)) g)
+      full-view s Any n c h m k e f ∙ sym (ap (λ r. viewOf (written s r)) (h .value) ∙ ap (λ t. viewOf (cond t (seen (readOf s n c) (length (write (readOf s n c)))) blind)) g)
 
   pub peek-no : begins (headBytes (c .kind) (c .key)) s ≡ false → viewOf blind ≡ viewOf (scan s)
   unfolding scan
   peek-no b =
-      let g : begins (write (readOf s n c)) s ≡ false = ap (λ l. begins l s) (full-bytes s 0 n c h) ∙ begins-more (headBytes (c .kind) (c .key)) _ s b in
+      let g : begins (write (readOf s n c)) s ≡ false = ap (λ l. begins l s) (full-bytes s Any n c h) ∙ begins-more (headBytes (c .kind) (c .key)) _ s b in
       sym (ap (λ r. viewOf (written s r)) (h .value) ∙ ap (λ t. viewOf (cond t (seen (readOf s n c) (length (write (readOf s n c)))) blind)) g)
 
-pub peek-bad : (s : List ℕ) (k : ℕ) → change 0 s ≡ bad k → viewOf blind ≡ viewOf (scan s)
+pub peek-bad : (s : List ℕ) (k : ℕ) → change Any s ≡ bad k → viewOf blind ≡ viewOf (scan s)
 unfolding scan
 peek-bad s k e = sym (ap (λ r. viewOf (written s r)) e)
 
@@ -276,7 +278,7 @@ first-fits at m k n t e h l = omega arith
 pub rest-fits : {d e : List ℕ} {at next : ℕ} {xs : List ℕ} → Wrote d e at next xs → (m k : ℕ) (ys : List ℕ) → length xs ≡ m → at ≤ length d → m + k ≤ length d - at → next + length (take k ys) ≤ length e
 rest-fits {d} {e} {at} {next} {xs} w m k ys l h f = omega (arith, w .after, wrote-length w, length-take k ys)
 
-pub both-put : (s : List ℕ) (want n : ℕ) (c : Read) → Full s want n c → {d e g : List ℕ} {at m r : ℕ} (hd : List ℕ) → hd ≡ headBytes (c .kind) (c .key)
+pub both-put : (s : List ℕ) (want : Wanted) (n : ℕ) (c : Read) → Full s want n c → {d e g : List ℕ} {at m r : ℕ} (hd : List ℕ) → hd ≡ headBytes (c .kind) (c .key)
     → Wrote d e at m hd → Wrote e g m r (take (n - c .body) (drop (c .body) s)) → g ≡ put d at (write (readOf s n c))
 unfolding from
 both-put s want n c h {d} {e} {g} {at} {m} {r} hd q w v =

@@ -21,6 +21,8 @@ use Rattle.records.specs.declared.marks.Mark.{Mark}
 use Rattle.records.specs.declared.marks.Mark.the-variants.{Pr, Im, Ex, Gh, Fi, Fe}
 use Rattle.records.specs.declared.marks.Kind.{Kind}
 use Rattle.records.specs.declared.marks.Kind.the-variants.{File, Correct, Withdraw}
+use Rattle.records.specs.declared.marks.Wanted.{Wanted}
+use Rattle.records.specs.declared.marks.Wanted.the-variants.{Any}
 use Rattle.records.specs.declared.keys.Key.{Key}
 use Rattle.records.specs.declared.scan.View.{View}
 use Rattle.records.specs.ReaderLaws.{bad-got, check-got, bind-got, Counted, counted-got, counted-bad, counted-bind, counted-check, counted-cond, lawful-byte, lawful-layout, taken-got, counted-taken}
@@ -36,7 +38,7 @@ and-right false false h = h
 
 -- ---- each field is read again from what is written of it
 
-pub head-again : (k : Kind) (m : Mark) (t : List ℕ) → head 0 (leadBytes k ++ (markBytes m ++ t)) ≡ got (record { kind = k; mark = m }) t
+pub head-again : (k : Kind) (m : Mark) (t : List ℕ) → head Any (leadBytes k ++ (markBytes m ++ t)) ≡ got (record { kind = k; mark = m }) t
 unfolding head mark markAmong
 head-again File Pr t = refl
 head-again File Im t = refl
@@ -164,7 +166,7 @@ rest-kept h s c t e =
     made-kind Correct x b = refl
     made-kind Withdraw x b = refl
 
-pub change-kept : (want : ℕ) (s : List ℕ) (c : Change) (t : List ℕ) → change want s ≡ got c t → Kept c
+pub change-kept : (want : Wanted) (s : List ℕ) (c : Change) (t : List ℕ) → change want s ≡ got c t → Kept c
 unfolding change
 change-kept want s c t e =
     let x = bind-got (head want s) (λ h u. rest h u) c t e in
@@ -177,7 +179,7 @@ made-is (withdrawn k) = refl
 
 -- after the canonical head, what is left is the body
 pub head-read : (c : Change) → Kept c → (s : List ℕ)
-    → change 0 (headBytes (kind c) (keyOf c) ++ s) ≡ (bodyFor (kind c) (keyOf c .mark) s >>= λ b v. got (made (kind c) (keyOf c) b) v)
+    → change Any (headBytes (kind c) (keyOf c) ++ s) ≡ (bodyFor (kind c) (keyOf c .mark) s >>= λ b v. got (made (kind c) (keyOf c) b) v)
 unfolding change rest headBytes
 head-read c h s =
     simp append-assoc
@@ -192,7 +194,7 @@ unfolding Good write
 kept-good c h t = rw append-assoc (head-read c h (bodyOf c ++ t) ∙ rw (h .body-back t, made-is c))
 
 -- what is read, in whatever spelling, is read back as it is written
-pub change-good : (want : ℕ) (s : List ℕ) (c : Change) (t : List ℕ) → change want s ≡ got c t → Good c
+pub change-good : (want : Wanted) (s : List ℕ) (c : Change) (t : List ℕ) → change want s ≡ got c t → Good c
 change-good want s c t e = kept-good c (change-kept want s c t e)
 
 -- ---- scan
@@ -219,52 +221,50 @@ pub record Found (s : List ℕ) (c : Change) (n : ℕ) : Type 0 where
 
 pub scan-got : (s : List ℕ) (c : Change) (n : ℕ) → scan s ≡ seen c n → Found s c n
 unfolding scan
-scan-got s c n = go (change 0 s) refl
+scan-got s c n = go (change Any s) refl
   where
-    go2 : (d : Change) (t : List ℕ) → change 0 s ≡ got d t → (b : Bool) → begins (write d) s ≡ b → cond b (seen d (length (write d))) blind ≡ seen c n → Found s c n
+    go2 : (d : Change) (t : List ℕ) → change Any s ≡ got d t → (b : Bool) → begins (write d) s ≡ b → cond b (seen d (length (write d))) blind ≡ seen c n → Found s c n
     go2 d t q true f e =
         let p : d ≡ c = cc in
         let l : length (write d) ≡ n = cc in
-        subst (λ x. Found s x n) p (record { good = change-good 0 s d t q; len = sym l; bytes = begins-true (write d) s f ∙ ap (λ k. write d ++ drop k s) l })
+        subst (λ x. Found s x n) p (record { good = change-good Any s d t q; len = sym l; bytes = begins-true (write d) s f ∙ ap (λ k. write d ++ drop k s) l })
     go2 d t q false f e = absurd (let z : _≡_ {A = ℕ} 0 1 = cc in omega arith)
 
-    go : (r : Res Change) → change 0 s ≡ r → written s r ≡ seen c n → Found s c n
+    go : (r : Res Change) → change Any s ≡ r → written s r ≡ seen c n → Found s c n
     go (bad k) q e = absurd (let z : _≡_ {A = ℕ} 0 1 = cc in omega arith)
     go (got d t) q e = go2 d t q (begins (write d) s) refl e
 
 -- ---- parse
 
-pub record Taken (want : ℕ) (c : Change) : Type 0 where
+pub record Taken (want : Wanted) (c : Change) : Type 0 where
   pub good : Good c
-  pub kind-is : (want ≡ 0 → ⊥) → kindOf c ≡ want
+  pub kind-is : allowed want (kind c) ≡ true
 
-inside-kind : (want : ℕ) (k : Kind) (s : List ℕ) (h : Head) (t : List ℕ) → inside want k s ≡ got h t → (want ≡ 0 → ⊥) → number (h .kind) ≡ want
-inside-kind want k s h t e z =
+inside-kind : (want : Wanted) (k : Kind) (s : List ℕ) (h : Head) (t : List ℕ) → inside want k s ≡ got h t → allowed want (h .kind) ≡ true
+inside-kind want k s h t e =
     let x = check-got (allowed want k) 2 (mark s >>= λ m t. got (record { kind = k; mark = m }) t) h t e in
     let y = bind-got (mark s) (λ m t. got (record { kind = k; mark = m }) t) h t (x .1) in
     let w : _≡_ {A = Head} (record { kind = k; mark = y .0 }) h = cc (y .3) in
-    let p : k ≡ h .kind = ap (λ (a : Head). a .kind) w in
-    let q : eqb want (number k) ≡ true = rw (ne-eqb want 0 z) at (x .0) in
-    rw (← p) (sym (eqb-true want (number k) q))
+    ap (λ (a : Head). allowed want (a .kind)) (sym w) ∙ x .0
 
-head-kind : (want : ℕ) (s : List ℕ) (h : Head) (t : List ℕ) → head want s ≡ got h t → (want ≡ 0 → ⊥) → number (h .kind) ≡ want
+head-kind : (want : Wanted) (s : List ℕ) (h : Head) (t : List ℕ) → head want s ≡ got h t → allowed want (h .kind) ≡ true
 unfolding head
-head-kind want [] h t e z = absurd (bad-got e)
-head-kind want (a ∷ []) h t e z = absurd (bad-got e)
-head-kind want (a ∷ b ∷ s) h t e z = go (is (67 ∷ 79 ∷ []) a b) (is (87 ∷ 68 ∷ []) a b) e
+head-kind want [] h t e = absurd (bad-got e)
+head-kind want (a ∷ []) h t e = absurd (bad-got e)
+head-kind want (a ∷ b ∷ s) h t e = go (is (67 ∷ 79 ∷ []) a b) (is (87 ∷ 68 ∷ []) a b) e
   where
-    go : (p q : Bool) → cond p (inside want Correct s) (cond q (inside want Withdraw s) (inside want File (a ∷ b ∷ s))) ≡ got h t → number (h .kind) ≡ want
-    go true q f = inside-kind want Correct s h t f z
-    go false true f = inside-kind want Withdraw s h t f z
-    go false false f = inside-kind want File (a ∷ b ∷ s) h t f z
+    go : (p q : Bool) → cond p (inside want Correct s) (cond q (inside want Withdraw s) (inside want File (a ∷ b ∷ s))) ≡ got h t → allowed want (h .kind) ≡ true
+    go true q f = inside-kind want Correct s h t f
+    go false true f = inside-kind want Withdraw s h t f
+    go false false f = inside-kind want File (a ∷ b ∷ s) h t f
 
-pub change-kind : (want : ℕ) (s : List ℕ) (c : Change) (t : List ℕ) → change want s ≡ got c t → (want ≡ 0 → ⊥) → kindOf c ≡ want
+pub change-kind : (want : Wanted) (s : List ℕ) (c : Change) (t : List ℕ) → change want s ≡ got c t → allowed want (kind c) ≡ true
 unfolding change
-change-kind want s c t e z =
+change-kind want s c t e =
     let x = bind-got (head want s) (λ h u. rest h u) c t e in
-    ap number (rest-kept (x .0) (x .1) c t (x .3) .1) ∙ head-kind want s (x .0) (x .1) (x .2) z
+    ap (allowed want) (rest-kept (x .0) (x .1) c t (x .3) .1) ∙ head-kind want s (x .0) (x .1) (x .2)
 
-pub parse-fine : (want : ℕ) (s : List ℕ) (c : Change) → parse want s ≡ fine c → Taken want c
+pub parse-fine : (want : Wanted) (s : List ℕ) (c : Change) → parse want s ≡ fine c → Taken want c
 unfolding parse
 parse-fine want s c = go (change want s) refl
   where
@@ -295,10 +295,10 @@ counted-mark = record { above = go }
     go (a ∷ []) k e = let q : 1 ≡ k = cc in omega arith
     go (a ∷ b ∷ s) k e = counted-among listing a b .above s k e
 
-counted-inside : (want : ℕ) (k : Kind) → Counted (inside want k)
+counted-inside : (want : Wanted) (k : Kind) → Counted (inside want k)
 counted-inside want k = counted-check (allowed want k) 2 _ (omega arith) (counted-bind mark _ counted-mark (λ m. counted-got _))
 
-pub counted-head : (want : ℕ) → Counted (head want)
+pub counted-head : (want : Wanted) → Counted (head want)
 unfolding head
 counted-head want = record { above = go }
   where
@@ -379,11 +379,11 @@ counted-rest h =
     counted-bind hour _ counted-hour (λ o. counted-bind (nameFor (h .kind) (h .mark)) _ (counted-name (h .kind) (h .mark)) (λ n.
     counted-bind (bodyFor (h .kind) (h .mark)) _ (counted-body (h .kind) (h .mark)) (λ b. counted-got _)))
 
-pub counted-change : (want : ℕ) → Counted (change want)
+pub counted-change : (want : Wanted) → Counted (change want)
 unfolding change
 counted-change want = counted-bind (head want) _ (counted-head want) (λ h. counted-rest h)
 
-pub parse-fault : (want : ℕ) (s : List ℕ) (n : ℕ) → parse want s ≡ fault n → n ≡ 0 → ⊥
+pub parse-fault : (want : Wanted) (s : List ℕ) (n : ℕ) → parse want s ≡ fault n → n ≡ 0 → ⊥
 unfolding parse
 parse-fault want s n = go (change want s) refl
   where
@@ -437,7 +437,7 @@ view-got s v e h = go (scan s) refl
 
 pub good-kept : (c : Change) → Good c → Kept c
 unfolding Good
-good-kept c g = change-kept 0 (write c ++ []) c [] (g [])
+good-kept c g = change-kept Any (write c ++ []) c [] (g [])
 
 -- a mark by itself has no fault
 pub bare-exact : (x y : ℕ) → bare (x ∷ y ∷ []) (x ∷ y ∷ []) ≡ 0

@@ -1,7 +1,7 @@
 -- 01, "Records" and "Numbers a call can bring back": changes, read and written. Assumes nothing.
 use mathlib.Core.Path.{_≡_}
 use mathlib.Core.List.{List, [], _∷_, _++_}
-use mathlib.Core.Bool.{Bool, true, false, cond, _&&_, _||_}
+use mathlib.Core.Bool.{Bool, true, false, cond, _&&_}
 use Prim.Native.Nat.{ℕ, _+_, _-_}
 use lib.Dec.{leb, eqb}
 use lib.ListN.{length}
@@ -18,6 +18,8 @@ use Rattle.records.specs.declared.marks.Mark.{Mark}
 use Rattle.records.specs.declared.marks.Mark.the-variants.{Pr}
 use Rattle.records.specs.declared.marks.Kind.{Kind}
 use Rattle.records.specs.declared.marks.Kind.the-variants.{File, Correct, Withdraw}
+use Rattle.records.specs.declared.marks.Wanted.{Wanted}
+use Rattle.records.specs.declared.marks.Wanted.the-variants.{Any, Only}
 use Rattle.records.specs.declared.keys.Key.{Key}
 use Rattle.records.specs.declared.scan.View.{View}
 use Rattle.records.specs.declared.parse.Parsed.{Parsed}
@@ -67,7 +69,7 @@ takeBackBytes = bytes "TB"
 abbrev pub closeBytes : List ℕ
 closeBytes = bytes "CL"
 
--- a kind of change as the number under which the code asks for it and answers it
+-- a kind of change as the number under which the code answers it
 abbrev pub number : Kind → ℕ
 number File = 1
 number Correct = 2
@@ -84,20 +86,41 @@ kindOf c = number (kind c)
 
 -- ---- reading
 
--- a change is asked for by its kind's number, or by 0 where any will do
-abbrev pub allowed : ℕ → Kind → Bool
-allowed want k = eqb want 0 || eqb want (number k)
+abbrev pub isFiling : Kind → Bool
+isFiling File = true
+isFiling Correct = false
+isFiling Withdraw = false
+
+abbrev pub isCorrection : Kind → Bool
+isCorrection File = false
+isCorrection Correct = true
+isCorrection Withdraw = false
+
+abbrev pub isWithdrawal : Kind → Bool
+isWithdrawal File = false
+isWithdrawal Correct = false
+isWithdrawal Withdraw = true
+
+abbrev pub sameKind : Kind → Kind → Bool
+sameKind File k = isFiling k
+sameKind Correct k = isCorrection k
+sameKind Withdraw k = isWithdrawal k
+
+-- a change is asked for by its kind, unless any will do
+abbrev pub allowed : Wanted → Kind → Bool
+allowed Any k = true
+allowed (Only w) k = sameKind w k
 
 pub record Head : Type 0 where
   pub kind : Kind
   pub mark : Mark
 
 -- "unknown mark, or not allowed inside `CO` or `WD`"; another method's mark is refused before what stands behind it
-abbrev pub inside : ℕ → Kind → Reader Head
+abbrev pub inside : Wanted → Kind → Reader Head
 inside want k s = check (allowed want k) unknownMark (mark s >>= λ m t. got (record { kind = k; mark = m }) t)
 
 -- "`CO`: one of the six above (their order is the listing's). `WD`: mark of one of the six"
-unfoldable pub head : ℕ → Reader Head
+unfoldable pub head : Wanted → Reader Head
 head want [] = bad endsEarly
 head want (a ∷ []) = bad endsEarly
 head want (a ∷ b ∷ s) =
@@ -125,7 +148,7 @@ rest h s =
     hour s >>= λ o t. nameFor (h .kind) (h .mark) t >>= λ n u. bodyFor (h .kind) (h .mark) u >>= λ b v.
     got (made (h .kind) (record { mark = h .mark; hour = o; name = n }) b) v
 
-unfoldable pub change : ℕ → Reader Change
+unfoldable pub change : Wanted → Reader Change
 change want s = head want s >>= λ h t. rest h t
 
 -- any of the ten marks; "`TB`, `CL`: mark only"
@@ -139,7 +162,7 @@ entry [] = bad endsEarly
 entry (a ∷ []) = bad endsEarly
 entry (a ∷ b ∷ s) =
     cond (is takeBackBytes a b) (got takingBack s)
-    (cond (is closeBytes a b) (got closing s) (change 0 (a ∷ b ∷ s) >>= λ c t. got (changed c) t))
+    (cond (is closeBytes a b) (got closing s) (change Any (a ∷ b ∷ s) >>= λ c t. got (changed c) t))
 
 -- ---- what an argument is: any spelling, and "bytes left over" give 8
 
@@ -153,7 +176,7 @@ whole (got a []) = fine a
 whole (got a (x ∷ t)) = fault leftOver
 
 -- the change of a kind, by the method that takes it
-unfoldable pub parse : ℕ → List ℕ → Input Change
+unfoldable pub parse : Wanted → List ℕ → Input Change
 parse want s = whole (change want s)
 
 -- the change of any mark, by the call that takes them all
@@ -217,11 +240,11 @@ written s (got c t) = cond (begins (write c) s) (seen c (length (write c))) blin
 
 -- the change that bytes begin with, byte for byte as it is written
 unfoldable pub scan : List ℕ → Scan
-scan s = written s (change 0 s)
+scan s = written s (change Any s)
 
 -- a change that is read back wherever it is written
 unfoldable pub Good : Change → Type 0
-Good c = (t : List ℕ) → change 0 (write c ++ t) ≡ got c t
+Good c = (t : List ℕ) → change Any (write c ++ t) ≡ got c t
 
 -- ---- what the code answers
 

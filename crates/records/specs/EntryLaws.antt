@@ -18,6 +18,8 @@ use Rattle.records.specs.ChangeLaws.{body-rest, change-good, counted-cha
 use Rattle.records.specs.declared.marks.Mark.{Mark}
 use Rattle.records.specs.declared.marks.Kind.{Kind}
 use Rattle.records.specs.declared.marks.Kind.the-variants.{File, Correct, Withdraw}
+use Rattle.records.specs.declared.marks.Wanted.{Wanted}
+use Rattle.records.specs.declared.marks.Wanted.the-variants.{Any}
 use Rattle.records.specs.declared.keys.Key.{Key}
 
 -- ---- what is left is never longer
@@ -94,14 +96,14 @@ mark-two [] m t e = absurd (bad-got e)
 mark-two (a ∷ []) m t e = absurd (bad-got e)
 mark-two (a ∷ b ∷ s) m t e = omega (arith, ap length (taken-among listing a b s m t e))
 
-inside-two : (want : ℕ) (k : Kind) (s : List ℕ) (h : Head) (t : List ℕ) → inside want k s ≡ got h t → 2 + length t ≤ length s
+inside-two : (want : Wanted) (k : Kind) (s : List ℕ) (h : Head) (t : List ℕ) → inside want k s ≡ got h t → 2 + length t ≤ length s
 inside-two want k s h t e =
     let x = check-got (allowed want k) 2 (mark s >>= λ m t. got (record { kind = k; mark = m }) t) h t e in
     let y = bind-got (mark s) (λ m t. got (record { kind = k; mark = m }) t) h t (x .1) in
     let p : y .1 ≡ t = cc (y .3) in
     rw (← p) (mark-two s (y .0) (y .1) (y .2))
 
-head-two : (want : ℕ) (s : List ℕ) (h : Head) (t : List ℕ) → head want s ≡ got h t → 2 + length t ≤ length s
+head-two : (want : Wanted) (s : List ℕ) (h : Head) (t : List ℕ) → head want s ≡ got h t → 2 + length t ≤ length s
 unfolding head
 head-two want [] h t e = absurd (bad-got e)
 head-two want (a ∷ []) h t e = absurd (bad-got e)
@@ -113,7 +115,7 @@ head-two want (a ∷ b ∷ s) h t e = go (is (leadBytes Correct) a b) (is (leadB
     go false false f = inside-two want File (a ∷ b ∷ s) h t f
 
 -- a change takes at least its mark
-pub change-two : (want : ℕ) (s : List ℕ) (c : Change) (t : List ℕ) → change want s ≡ got c t → 2 + length t ≤ length s
+pub change-two : (want : Wanted) (s : List ℕ) (c : Change) (t : List ℕ) → change want s ≡ got c t → 2 + length t ≤ length s
 unfolding change
 change-two want s c t e =
     let x = bind-got (head want s) (λ h u. rest h u) c t e in
@@ -138,20 +140,20 @@ entry-got (a ∷ b ∷ s) x t e = go (is takeBackBytes a b) (is closeBytes a b) 
         let q : y ≡ x = cc in
         record { takes = rw (← p) (omega arith); good = λ c h. absurd (other c (q ∙ h)) }
 
-    one : (r : Res Change) → change 0 (a ∷ b ∷ s) ≡ r → (r >>= λ c t. got (changed c) t) ≡ got x t → Ahead (a ∷ b ∷ s) x t
+    one : (r : Res Change) → change Any (a ∷ b ∷ s) ≡ r → (r >>= λ c t. got (changed c) t) ≡ got x t → Ahead (a ∷ b ∷ s) x t
     one (bad k) q f = absurd (bad-got f)
     one (got c u) q f =
         let p : u ≡ t = cc in
         let w : changed c ≡ x = cc in
         record {
-          takes = rw (← p) (change-two 0 (a ∷ b ∷ s) c u q);
-          good = λ d h. let v : changed c ≡ changed d = w ∙ h in let z : c ≡ d = cc in rw (← z) (change-good 0 (a ∷ b ∷ s) c u q);
+          takes = rw (← p) (change-two Any (a ∷ b ∷ s) c u q);
+          good = λ d h. let v : changed c ≡ changed d = w ∙ h in let z : c ≡ d = cc in rw (← z) (change-good Any (a ∷ b ∷ s) c u q);
         }
 
-    go : (p q : Bool) → cond p (got takingBack s) (cond q (got closing s) (change 0 (a ∷ b ∷ s) >>= λ c t. got (changed c) t)) ≡ got x t → Ahead (a ∷ b ∷ s) x t
+    go : (p q : Bool) → cond p (got takingBack s) (cond q (got closing s) (change Any (a ∷ b ∷ s) >>= λ c t. got (changed c) t)) ≡ got x t → Ahead (a ∷ b ∷ s) x t
     go true q f = bare-mark takingBack (λ c h. let z : _≡_ {A = ℕ} 0 1 = cc in omega arith) f
     go false true f = bare-mark closing (λ c h. let z : _≡_ {A = ℕ} 0 1 = cc in omega arith) f
-    go false false f = one (change 0 (a ∷ b ∷ s)) refl f
+    go false false f = one (change Any (a ∷ b ∷ s)) refl f
 
 -- no fault is 0
 pub entry-fault : (s : List ℕ) (k : ℕ) → entry s ≡ bad k → 0 < k
@@ -160,14 +162,14 @@ entry-fault [] k e = let q : 1 ≡ k = cc in omega arith
 entry-fault (a ∷ []) k e = let q : 1 ≡ k = cc in omega arith
 entry-fault (a ∷ b ∷ s) k e = go (is takeBackBytes a b) (is closeBytes a b) e
   where
-    one : (r : Res Change) → change 0 (a ∷ b ∷ s) ≡ r → (r >>= λ c t. got (changed c) t) ≡ bad k → 0 < k
-    one (bad j) q f = counted-change 0 .above (a ∷ b ∷ s) k (q ∙ (let p : j ≡ k = cc in ap bad p))
+    one : (r : Res Change) → change Any (a ∷ b ∷ s) ≡ r → (r >>= λ c t. got (changed c) t) ≡ bad k → 0 < k
+    one (bad j) q f = counted-change Any .above (a ∷ b ∷ s) k (q ∙ (let p : j ≡ k = cc in ap bad p))
     one (got c u) q f = absurd (bad-got (sym f))
 
-    go : (p q : Bool) → cond p (got takingBack s) (cond q (got closing s) (change 0 (a ∷ b ∷ s) >>= λ c t. got (changed c) t)) ≡ bad k → 0 < k
+    go : (p q : Bool) → cond p (got takingBack s) (cond q (got closing s) (change Any (a ∷ b ∷ s) >>= λ c t. got (changed c) t)) ≡ bad k → 0 < k
     go true q f = absurd (bad-got (sym f))
     go false true f = absurd (bad-got (sym f))
-    go false false f = one (change 0 (a ∷ b ∷ s)) refl f
+    go false false f = one (change Any (a ∷ b ∷ s)) refl f
 
 pub any-fault : (s : List ℕ) (n : ℕ) → parseAny s ≡ fault n → n ≡ 0 → ⊥
 unfolding parseAny
@@ -216,6 +218,6 @@ module _ (a b : ℕ) (s : List ℕ) where
   unfolding parseAny entry bare
   any-close h k = rw (h, k) (whole-alone closing s)
 
-  pub any-change : is takeBackBytes a b ≡ false → is closeBytes a b ≡ false → parseAny (a ∷ b ∷ s) ≡ asEntry (parse 0 (a ∷ b ∷ s))
+  pub any-change : is takeBackBytes a b ≡ false → is closeBytes a b ≡ false → parseAny (a ∷ b ∷ s) ≡ asEntry (parse Any (a ∷ b ∷ s))
   unfolding parseAny entry parse
-  any-change h k = rw (h, k) (whole-change (change 0 (a ∷ b ∷ s)))
+  any-change h k = rw (h, k) (whole-change (change Any (a ∷ b ∷ s)))

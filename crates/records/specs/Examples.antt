@@ -16,6 +16,9 @@ use Rattle.records.specs.Names.{visible, hexVal, escaped, one, upTo, dec
 use Rattle.records.specs.Marks.{markAmong, mark}
 use Rattle.records.specs.Layouts.{hourPrices, import, export, schedules, reserveRows, lists, unit, failure, layout, taken}
 use Rattle.records.specs.Changes.{Change, Entry, Input, fine, fault, parse, parseAny, change, entry, head, rest, nameFor, bodyFor, write, headBytes, nameBytes, putNumber}
+use Rattle.records.specs.declared.marks.Kind.the-variants.{File, Correct, Withdraw}
+use Rattle.records.specs.declared.marks.Wanted.{Wanted}
+use Rattle.records.specs.declared.marks.Wanted.the-variants.{Only}
 
 -- ---- bytes
 
@@ -55,8 +58,8 @@ falls = 2 ∷ (w 2000 ++ (w 100 ++ (w 1999 ++ w 200)))
 -- ---- cases
 
 pub data Case : Type 0 where
-  -- the bytes lent to a method (1 file, 2 correct, 3 withdraw) have the number as their first fault, 0 for none
-  gives : ℕ → List ℕ → ℕ → Case
+  -- the bytes lent to a method have the number as their first fault, 0 for none
+  gives : Wanted → List ℕ → ℕ → Case
   -- the same for the call that takes any mark
   gives-any : List ℕ → ℕ → Case
   -- filing the bytes with so many free gives the number
@@ -77,7 +80,7 @@ bytesAre (got v t) n = sameBytes v n
 abbrev pub holds : Case → Bool
 holds (gives want s n) = eqb (numberOf (parse want s)) n
 holds (gives-any s n) = eqb (numberOf (parseAny s)) n
-holds (filing s free n) = eqb (putNumber (parse 1 s) 0 (pad 0 free [])) n
+holds (filing s free n) = eqb (putNumber (parse (Only File) s) 0 (pad 0 free [])) n
 holds (decodes s v) = bytesAre (decodeName s) v
 holds (spells v s) = sameBytes (spell v) s
 
@@ -99,41 +102,41 @@ cases =
     ∷ filing pr 55 0
     ∷ filing pr 54 13
     -- 1: `P`
-    ∷ gives 1 (bytes "P") 1
+    ∷ gives (Only File) (bytes "P") 1
     -- 2: `ZZ`; `CO` lent to file; `CO` inside `CO`; behind `CO` one byte gives 1
-    ∷ gives 1 (bytes "ZZ") 2
-    ∷ gives 1 (bytes "COPR" ++ (5 ∷ [])) 2
-    ∷ gives 2 (bytes "COCO") 2
-    ∷ gives 2 (bytes "COP") 1
+    ∷ gives (Only File) (bytes "ZZ") 2
+    ∷ gives (Only File) (bytes "COPR" ++ (5 ∷ [])) 2
+    ∷ gives (Only Correct) (bytes "COCO") 2
+    ∷ gives (Only Correct) (bytes "COP") 1
     -- 3: `PR`, 0
-    ∷ gives 1 (bytes "PR" ++ (0 ∷ [])) 3
+    ∷ gives (Only File) (bytes "PR" ++ (0 ∷ [])) 3
     -- 4: `A%2`; a length byte by itself; cut short it gives 1
-    ∷ gives 1 (bytes "IM" ++ (5 ∷ 3 ∷ bytes "A%2")) 4
-    ∷ gives 1 (bytes "IM" ++ (5 ∷ 37 ∷ [])) 4
-    ∷ gives 1 (bytes "IM" ++ (5 ∷ 2 ∷ bytes " ")) 1
+    ∷ gives (Only File) (bytes "IM" ++ (5 ∷ 3 ∷ bytes "A%2")) 4
+    ∷ gives (Only File) (bytes "IM" ++ (5 ∷ 37 ∷ [])) 4
+    ∷ gives (Only File) (bytes "IM" ++ (5 ∷ 2 ∷ bytes " ")) 1
     -- 5: price 200,001, with nothing behind it
-    ∷ gives 1 (bytes "PR" ++ (5 ∷ w 200001)) 5
+    ∷ gives (Only File) (bytes "PR" ++ (5 ∷ w 200001)) 5
     -- 6: 20.00 then 19.99; a count of 21 by itself
-    ∷ gives 1 (im 100 falls) 6
-    ∷ gives 1 (im 100 (21 ∷ [])) 6
+    ∷ gives (Only File) (im 100 falls) 6
+    ∷ gives (Only File) (im 100 (21 ∷ [])) 6
     -- 7: 101 against last Q 100; 100 is within it
-    ∷ gives 1 (im 101 (list 4000 100)) 7
-    ∷ gives 1 (im 100 (list 4000 100)) 0
+    ∷ gives (Only File) (im 101 (list 4000 100)) 7
+    ∷ gives (Only File) (im 100 (list 4000 100)) 0
     -- 8: `TB`, 0; 7 comes first
     ∷ gives-any (bytes "TB" ++ (0 ∷ [])) 8
     ∷ gives-any (bytes "TB") 0
     ∷ gives-any (bytes "CL") 0
-    ∷ gives 1 (im 101 (list 4000 100) ++ (0 ∷ [])) 7
-    ∷ gives 1 (im 100 (list 4000 100) ++ (0 ∷ [])) 8
+    ∷ gives (Only File) (im 101 (list 4000 100) ++ (0 ∷ [])) 7
+    ∷ gives (Only File) (im 100 (list 4000 100) ++ (0 ∷ [])) 8
     -- `WD` of `PR`: the length byte 0, and nothing else; elsewhere 0 gives 4
-    ∷ gives 3 (bytes "WDPR" ++ (5 ∷ 0 ∷ [])) 0
-    ∷ gives 3 (bytes "WDPR" ++ (5 ∷ 1 ∷ [])) 4
-    ∷ gives 3 (bytes "WDIM" ++ (5 ∷ 0 ∷ [])) 4
+    ∷ gives (Only Withdraw) (bytes "WDPR" ++ (5 ∷ 0 ∷ [])) 0
+    ∷ gives (Only Withdraw) (bytes "WDPR" ++ (5 ∷ 1 ∷ [])) 4
+    ∷ gives (Only Withdraw) (bytes "WDIM" ++ (5 ∷ 0 ∷ [])) 4
     -- a reserve's list may be empty if its schedules are all 0, else count 0 gives 6; D beyond its lists gives 7, a later list's 6 comes first
-    ∷ gives 1 (gh 600 0 none none none) 0
-    ∷ gives 1 (gh 600 1 none none none) 6
-    ∷ gives 1 (gh 601 0 none none none) 7
-    ∷ gives 1 (gh 601 0 none none falls) 6
+    ∷ gives (Only File) (gh 600 0 none none none) 0
+    ∷ gives (Only File) (gh 600 1 none none none) 6
+    ∷ gives (Only File) (gh 601 0 none none none) 7
+    ∷ gives (Only File) (gh 601 0 none none falls) 6
     ∷ []
 
 all-hold : allHold cases ≡ true

@@ -23,6 +23,8 @@ use Rattle.records.specs.declared.marks.Mark.{Mark}
 use Rattle.records.specs.declared.marks.Mark.the-variants.{Pr, Im, Ex, Gh, Fi, Fe}
 use Rattle.records.specs.declared.marks.Kind.{Kind}
 use Rattle.records.specs.declared.marks.Kind.the-variants.{File, Correct, Withdraw}
+use Rattle.records.specs.declared.marks.Wanted.{Wanted}
+use Rattle.records.specs.declared.marks.Wanted.the-variants.{Any}
 use Rattle.records.specs.declared.keys.Key.{Key}
 
 -- a reader that more bytes behind do not lead elsewhere
@@ -282,10 +284,10 @@ firm-mark : Firm mark
 unfolding mark
 firm-mark = firm-two mark refl (λ a. refl) mark-behind
 
-firm-inside : (want : ℕ) (k : Kind) (f : Reader Mark) → Firm f → Firm {A = Head} (λ s. check (allowed want k) 2 (f s >>= λ m t. got (record { kind = k; mark = m }) t))
+firm-inside : (want : Wanted) (k : Kind) (f : Reader Mark) → Firm f → Firm {A = Head} (λ s. check (allowed want k) 2 (f s >>= λ m t. got (record { kind = k; mark = m }) t))
 firm-inside want k f h = firm-check (allowed want k) 2 _ (omega arith) (firm-bind f _ h (λ m. firm-got _))
 
-head-behind : (want a b : ℕ) → Firm (λ s. head want (a ∷ b ∷ s))
+head-behind : (want : Wanted) (a b : ℕ) → Firm (λ s. head want (a ∷ b ∷ s))
 unfolding head
 head-behind want a b =
     firm-cond (is (leadBytes Correct) a b) (inside want Correct) _ (firm-inside want Correct mark firm-mark)
@@ -297,11 +299,11 @@ firm-rest h =
     firm-bind hour _ firm-hour (λ o. firm-bind (nameFor (h .kind) (h .mark)) _ (firm-name (h .kind) (h .mark)) (λ n.
     firm-bind (bodyFor (h .kind) (h .mark)) _ (firm-body (h .kind) (h .mark)) (λ b. firm-got _)))
 
-firm-head : (want : ℕ) → Firm (head want)
+firm-head : (want : Wanted) → Firm (head want)
 unfolding head
 firm-head want = firm-two (head want) refl (λ a. refl) (head-behind want)
 
-firm-change : (want : ℕ) → Firm (change want)
+firm-change : (want : Wanted) → Firm (change want)
 unfolding change
 firm-change want = firm-bind (head want) _ (firm-head want) (λ h. firm-rest h)
 
@@ -311,7 +313,7 @@ firm-entry =
     firm-two entry refl (λ a. refl) (λ a b.
     firm-cond (is takeBackBytes a b) (λ s. got takingBack s) _ (firm-got takingBack)
     (firm-cond (is closeBytes a b) (λ s. got closing s) _ (firm-got closing)
-    (firm-bind (λ s. change 0 (a ∷ b ∷ s)) _ (firm-bind (λ s. head 0 (a ∷ b ∷ s)) _ (head-behind 0 a b) (λ h. firm-rest h)) (λ c. firm-got (changed c)))))
+    (firm-bind (λ s. change Any (a ∷ b ∷ s)) _ (firm-bind (λ s. head Any (a ∷ b ∷ s)) _ (head-behind Any a b) (λ h. firm-rest h)) (λ c. firm-got (changed c)))))
 
 -- ---- the first of several changes
 
@@ -329,7 +331,7 @@ entry-alone s x t e =
     ∙ ap parseAny (take-append-seam (p .part) t ∙ sym (append-nil (p .part))) ∙ ap whole (p .again [])
 
 -- the same of a change of one kind
-pub change-alone : (want : ℕ) (s : List ℕ) (c : Change) (t : List ℕ) → change want s ≡ got c t → parse want (take (length s - length t) s) ≡ fine c
+pub change-alone : (want : Wanted) (s : List ℕ) (c : Change) (t : List ℕ) → change want s ≡ got c t → parse want (take (length s - length t) s) ≡ fine c
 unfolding parse
 change-alone want s c t e =
     let p = firm-change want .lawful .local .reads s c t e in
@@ -338,7 +340,7 @@ change-alone want s c t e =
     ∙ ap (parse want) (take-append-seam (p .part) t ∙ sym (append-nil (p .part))) ∙ ap whole (p .again [])
 
 -- what follows a change is what the bytes end with
-pub change-end : (want : ℕ) (s : List ℕ) (c : Change) (t : List ℕ) → change want s ≡ got c t → drop (length s - length t) s ≡ t
+pub change-end : (want : Wanted) (s : List ℕ) (c : Change) (t : List ℕ) → change want s ≡ got c t → drop (length s - length t) s ≡ t
 change-end want s c t e =
     let p = firm-change want .lawful .local .reads s c t e in
     let n : length s - length t ≡ length (p .part) = omega (arith, ap length (p .whole), length-append (p .part) t) in
@@ -376,7 +378,7 @@ ends-rest h s c t e =
     ends-behind (o .part) s (x .1) c t (o .whole)
     (ends-behind (n .part) (x .1) (y .1) c t (n .whole) (ends-made (h .kind) k (y .1) (z .0) t c (z .2 ∙ ap (got (z .0)) q) p))
 
-pub change-ends : (want : ℕ) (s : List ℕ) (c : Change) (t : List ℕ) → change want s ≡ got c t → Ends s c t
+pub change-ends : (want : Wanted) (s : List ℕ) (c : Change) (t : List ℕ) → change want s ≡ got c t → Ends s c t
 unfolding change
 change-ends want s c t e =
     let x = bind-got (head want s) (λ h u. rest h u) c t e in
@@ -391,7 +393,7 @@ entry-firm = firm-entry .stays
 pub record Unread (s : List ℕ) (j : ℕ) : Type 0 where
   pub no-back : begins takeBackBytes s ≡ false
   pub no-close : begins closeBytes s ≡ false
-  pub refused : parse 0 s ≡ fault j
+  pub refused : parse Any s ≡ fault j
 
 pub entry-bad : (s : List ℕ) (j : ℕ) → entry s ≡ bad j → Unread s j
 unfolding entry parse change head
@@ -405,16 +407,16 @@ entry-bad s j e = record { no-back = back (begins takeBackBytes s) refl; no-clos
     close false q = refl
     close true q = absurd (bad-got (sym e ∙ ap entry (begins-true closeBytes s q)))
 
-    one : (s : List ℕ) (r : Res Change) → change 0 s ≡ r → (r >>= λ c t. got (changed c) t) ≡ bad j → parse 0 s ≡ fault j
+    one : (s : List ℕ) (r : Res Change) → change Any s ≡ r → (r >>= λ c t. got (changed c) t) ≡ bad j → parse Any s ≡ fault j
     one s (bad k) q f = let p : k ≡ j = cc in ap whole (q ∙ ap bad p)
     one s (got c t) q f = absurd (bad-got (sym f))
 
-    unread : (s : List ℕ) → entry s ≡ bad j → parse 0 s ≡ fault j
+    unread : (s : List ℕ) → entry s ≡ bad j → parse Any s ≡ fault j
     unread [] f = let p : 1 ≡ j = cc in ap fault p
     unread (a ∷ []) f = let p : 1 ≡ j = cc in ap fault p
     unread (a ∷ b ∷ s) f = two (is takeBackBytes a b) (is closeBytes a b) f
       where
-        two : (p q : Bool) → cond p (got takingBack s) (cond q (got closing s) (change 0 (a ∷ b ∷ s) >>= λ c t. got (changed c) t)) ≡ bad j → parse 0 (a ∷ b ∷ s) ≡ fault j
+        two : (p q : Bool) → cond p (got takingBack s) (cond q (got closing s) (change Any (a ∷ b ∷ s) >>= λ c t. got (changed c) t)) ≡ bad j → parse Any (a ∷ b ∷ s) ≡ fault j
         two true q g = absurd (bad-got (sym g))
         two false true g = absurd (bad-got (sym g))
-        two false false g = one (a ∷ b ∷ s) (change 0 (a ∷ b ∷ s)) refl g
+        two false false g = one (a ∷ b ∷ s) (change Any (a ∷ b ∷ s)) refl g

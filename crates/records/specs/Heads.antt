@@ -9,11 +9,12 @@ use Rattle.records.specs.Numbers.{between, hour}
 use Rattle.records.specs.Marks.{hasName}
 use Rattle.records.specs.Changes.{head, nameFor, headBytes}
 use Rattle.records.specs.declared.marks.Kind.the-variants.{File}
+use Rattle.records.specs.declared.marks.Wanted.the-variants.{Any}
 use Rattle.records.specs.declared.keys.Key.{Key}
 
 -- the key of the change that bytes begin with, whatever its fields are
 unfoldable pub headKey : Reader Key
-headKey s = head 0 s >>= λ h t. hour t >>= λ o u. nameFor (h .kind) (h .mark) u >>= λ n v. got (record { mark = h .mark; hour = o; name = n }) v
+headKey s = head Any s >>= λ h t. hour t >>= λ o u. nameFor (h .kind) (h .mark) u >>= λ n v. got (record { mark = h .mark; hour = o; name = n }) v
 
 -- a key that a record can have: an hour of the day, and a name that keeps its rule, or none where the mark has none
 unfoldable pub keyOk : Key → Bool

@@ -12,7 +12,7 @@ use Rattle.records.specs.Numbers.{hour}
 use Rattle.records.specs.Names.{noOne}
 use Rattle.records.specs.Marks.{hourLimit, limit}
 use Rattle.records.specs.MarkLaws.{every-such}
-use Rattle.records.specs.Changes.{Rec, Change, filed, corrected, withdrawn, kindOf, Head, head, rest, change, nameFor, nameBytes, fine, parse, write, Good}
+use Rattle.records.specs.Changes.{Rec, Change, filed, corrected, withdrawn, kindOf, Head, head, rest, change, nameFor, nameBytes, fine, parse, write, Good, kind, isFiling}
 use Rattle.records.specs.Hours.{limitOf}
 use Rattle.records.specs.HourRecord.{ofHour, sameAs, hourRecord}
 use Rattle.records.specs.ReaderLaws.{bind-got, check-got, Counted, counted-bind, counted-check}
@@ -24,45 +24,46 @@ use Rattle.records.specs.declared.keys.Key.{Key}
 use Rattle.records.specs.declared.marks.Mark.{Mark}
 use Rattle.records.specs.declared.marks.Mark.the-variants.{Pr}
 use Rattle.records.specs.declared.marks.Kind.the-variants.{File}
+use Rattle.records.specs.declared.marks.Wanted.the-variants.{Only}
 
 -- a record of the hour stands at the front of the bytes s, and t is left
 pub record OfHour (first : ℕ) (s : List ℕ) (c : Change) (t : List ℕ) : Type 0 where
   pub takes : 2 + length t ≤ length s
-  pub alone : parse 1 (take (length s - length t) s) ≡ fine c
+  pub alone : parse (Only File) (take (length s - length t) s) ≡ fine c
   pub left : drop (length s - length t) s ≡ t
   pub what : Rec
   pub is : c ≡ filed what
-  pub front : change 1 s ≡ got (filed what) t
+  pub front : change (Only File) s ≡ got (filed what) t
   pub good : Good (filed what)
   pub of-hour : ofHour (what .key .mark) ≡ true
   pub follows : sameAs first (what .key .hour) ≡ true
 
-as-filed : (c : Change) → kindOf c ≡ 1 → (r : Rec) × (c ≡ filed r)
+as-filed : (c : Change) → isFiling (kind c) ≡ true → (r : Rec) × (c ≡ filed r)
 as-filed (filed r) e = (r, refl)
-as-filed (corrected r) e = absurd (omega arith)
-as-filed (withdrawn k) e = absurd (omega arith)
+as-filed (corrected r) e = absurd (true≢false (sym e))
+as-filed (withdrawn k) e = absurd (true≢false (sym e))
 
 pub hour-record-got : (first : ℕ) (s : List ℕ) (c : Change) (t : List ℕ) → hourRecord first s ≡ got c t → OfHour first s c t
 unfolding hourRecord change
 hour-record-got first s c t e =
-    let x = bind-got (head 1 s) (λ h t. check (ofHour (h .mark)) 2 (hour t >>= λ o u. check (sameAs first o) 3 (rest h t))) c t e in
+    let x = bind-got (head (Only File) s) (λ h t. check (ofHour (h .mark)) 2 (hour t >>= λ o u. check (sameAs first o) 3 (rest h t))) c t e in
     let h : Head = x .0 in
     let y = check-got (ofHour (h .mark)) 2 (hour (x .1) >>= λ o u. check (sameAs first o) 3 (rest h (x .1))) c t (x .3) in
     let z = bind-got (hour (x .1)) (λ o u. check (sameAs first o) 3 (rest h (x .1))) c t (y .1) in
     let w = check-got (sameAs first (z .0)) 3 (rest h (x .1)) c t (z .3) in
-    let q : change 1 s ≡ got c t = ap (λ (r : Res Head). r >>= λ h t. rest h t) (x .2) ∙ w .1 in
-    let f = as-filed c (change-kind 1 s c t q (λ z. omega arith)) in
+    let q : change (Only File) s ≡ got c t = ap (λ (r : Res Head). r >>= λ h t. rest h t) (x .2) ∙ w .1 in
+    let f = as-filed c (change-kind (Only File) s c t q) in
     let p = rest-parts h (x .1) c t (w .1) in
     let r = filed-made (h .kind) (record { mark = h .mark; hour = p .hour-of; name = p .name-of }) (p .body) (f .0) (sym (f .1) ∙ p .is) .1 in
     let o : z .0 ≡ p .hour-of = let v : got (z .0) (z .1) ≡ got (p .hour-of) (p .after-hour) = sym (z .2) ∙ p .hour-is in cc in
     record {
-      takes = change-two 1 s c t q;
-      alone = change-alone 1 s c t q;
-      left = change-end 1 s c t q;
+      takes = change-two (Only File) s c t q;
+      alone = change-alone (Only File) s c t q;
+      left = change-end (Only File) s c t q;
       what = f .0;
       is = f .1;
       front = q ∙ ap (λ (a : Change). got a t) (f .1);
-      good = subst Good (f .1) (change-good 1 s c t q);
+      good = subst Good (f .1) (change-good (Only File) s c t q);
       of-hour = subst (λ (m : Mark). ofHour m ≡ true) (ap (λ (a : Rec). a .key .mark) (sym r)) (y .0);
       follows = subst (λ (n : ℕ). sameAs first n ≡ true) (o ∙ ap (λ (a : Rec). a .key .hour) (sym r)) (w .0);
     }
@@ -70,7 +71,7 @@ hour-record-got first s c t e =
 -- no fault is 0
 counted-record : (first : ℕ) → Counted (hourRecord first)
 unfolding hourRecord
-counted-record first = counted-bind (head 1) _ (counted-head 1) (λ h. counted-check (ofHour (h .mark)) 2 _ (omega arith) (timely h))
+counted-record first = counted-bind (head (Only File)) _ (counted-head (Only File)) (λ h. counted-check (ofHour (h .mark)) 2 _ (omega arith) (timely h))
   where
     timely : (h : Head) → Counted (λ t. hour t >>= λ o u. check (sameAs first o) 3 (rest h t))
     timely h = record {

@@ -31,6 +31,7 @@ use Rattle.records.specs.declared.marks.Mark.{Mark}
 use Rattle.records.specs.declared.marks.Kind.{Kind}
 use Rattle.records.specs.declared.marks.Kind.the-variants.{File, Correct, Withdraw}
 use Rattle.records.specs.declared.marks.HeadRead.{HeadRead}
+use Rattle.records.specs.declared.marks.Wanted.{Wanted}
 use Rattle.records.specs.declared.keys.Key.{Key}
 use Rattle.records.specs.declared.changes.Read.{Read}
 use Rattle.records.specs.declared.writing.HeadOut.{HeadOut}
@@ -152,7 +153,7 @@ abbrev pub Placed : List ℕ → End → Kind → Key → ℕ → Type 0
 Placed s (At n) k x b = Stands s n k x b
 Placed s (No j) k x b = Unit
 
-pub record ReadIs (s : List ℕ) (want : ℕ) (r : Read) : Type 0 where
+pub record ReadIs (s : List ℕ) (want : Wanted) (r : Read) : Type 0 where
   pub value : told s (r .end) (r .kind) (r .key) (r .body) ≡ change want s
   pub placed : Placed s (r .end) (r .kind) (r .key) (r .body)
   pub few : r .key .name .len ≤ 12

@@ -23,6 +23,8 @@ use Rattle.records.specs.declared.marks.Mark.{Mark}
 use Rattle.records.specs.declared.marks.Mark.the-variants.{Pr, Im, Ex, Gh, Fi, Fe}
 use Rattle.records.specs.declared.marks.Kind.{Kind}
 use Rattle.records.specs.declared.marks.Kind.the-variants.{File, Correct, Withdraw}
+use Rattle.records.specs.declared.marks.Wanted.{Wanted}
+use Rattle.records.specs.declared.marks.Wanted.the-variants.{Any}
 
 -- a reader of at most n bytes: what it got took no more, and where they end early there are fewer
 pub record Brief {A : Type 0} (n : ℕ) (f : Reader A) : Type 0 where
@@ -373,10 +375,10 @@ brief-mark : Brief 2 mark
 unfolding mark
 brief-mark = brief-two 0 mark refl (λ a. refl) mark-behind
 
-brief-inside : (n want : ℕ) (k : Kind) (f : Reader Mark) → Brief n f → Brief {A = Head} (n + 0) (λ s. check (allowed want k) 2 (f s >>= λ m t. got (record { kind = k; mark = m }) t))
+brief-inside : (n : ℕ) (want : Wanted) (k : Kind) (f : Reader Mark) → Brief n f → Brief {A = Head} (n + 0) (λ s. check (allowed want k) 2 (f s >>= λ m t. got (record { kind = k; mark = m }) t))
 brief-inside n want k f h = brief-check (n + 0) (allowed want k) 2 _ (λ z. omega arith) (λ e. brief-bind n 0 f _ h (λ m. brief-got _))
 
-head-behind : (want a b : ℕ) → Brief 2 (λ s. head want (a ∷ b ∷ s))
+head-behind : (want : Wanted) (a b : ℕ) → Brief 2 (λ s. head want (a ∷ b ∷ s))
 unfolding head
 head-behind want a b =
     brief-cond 2 (is (leadBytes Correct) a b) (inside want Correct) _ (brief-inside 2 want Correct mark brief-mark)
@@ -395,7 +397,7 @@ brief-entry =
     brief-two 1381 entry refl (λ a. refl) (λ a b.
     brief-cond 1381 (is takeBackBytes a b) (λ s. got takingBack s) _ (brief-more 0 1381 _ (omega arith) (brief-got takingBack))
     (brief-cond 1381 (is closeBytes a b) (λ s. got closing s) _ (brief-more 0 1381 _ (omega arith) (brief-got closing))
-    (brief-bind 1381 0 (λ s. change 0 (a ∷ b ∷ s)) _ (brief-bind 2 1379 (λ s. head 0 (a ∷ b ∷ s)) _ (head-behind 0 a b) (λ h. brief-rest h)) (λ c. brief-got (changed c)))))
+    (brief-bind 1381 0 (λ s. change Any (a ∷ b ∷ s)) _ (brief-bind 2 1379 (λ s. head Any (a ∷ b ∷ s)) _ (head-behind Any a b) (λ h. brief-rest h)) (λ c. brief-got (changed c)))))
 
 -- a record that ends early is shorter than the longest one
 pub entry-early : (s : List ℕ) → entry s ≡ bad 1 → length s < 1383
@@ -422,10 +424,10 @@ unread-early (a ∷ b ∷ s) u = go (is takeBackBytes a b) refl (is closeBytes a
     one (got c (x ∷ t)) e = absurd (let z : _≡_ {A = ℕ} 8 1 = cc in omega arith)
 
     go : (p : Bool) → is takeBackBytes a b ≡ p → (q : Bool) → is closeBytes a b ≡ q
-        → cond p (got takingBack s) (cond q (got closing s) (change 0 (a ∷ b ∷ s) >>= λ c t. got (changed c) t)) ≡ bad 1
+        → cond p (got takingBack s) (cond q (got closing s) (change Any (a ∷ b ∷ s) >>= λ c t. got (changed c) t)) ≡ bad 1
     go true e q f = absurd (apart (both 84 66 e) (u .no-back))
     go false e true f = absurd (apart (both 67 76 f) (u .no-close))
-    go false e false f = one (change 0 (a ∷ b ∷ s)) (u .refused)
+    go false e false f = one (change Any (a ∷ b ∷ s)) (u .refused)
 
 -- a mark that is there does not end early
 pub bare-early : (x y : ℕ) (s : List ℕ) → begins (x ∷ y ∷ []) s ≡ true → bare (x ∷ y ∷ []) s ≡ 1 → ⊥

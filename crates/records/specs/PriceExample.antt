@@ -12,6 +12,8 @@ use Rattle.records.specs.Layouts.{hourPrices, layout, taken}
 use Rattle.records.specs.Changes.{Rec, filed, Input, fine, parse, change, head, rest, nameFor, bodyFor, write, headBytes, nameBytes}
 use Rattle.records.specs.Hours.{limitOf}
 use Rattle.records.specs.declared.marks.Mark.the-variants.{Pr}
+use Rattle.records.specs.declared.marks.Kind.the-variants.{File}
+use Rattle.records.specs.declared.marks.Wanted.the-variants.{Only}
 
 -- hour 1, all prices 0
 abbrev pub priceBytes : List ℕ
@@ -20,7 +22,7 @@ priceBytes = char "P" ∷ char "R" ∷ 1 ∷ replicate 52 0
 abbrev pub priceRecord : Rec
 priceRecord = record { key = record { mark = Pr; hour = 1; name = noOne }; body = replicate 52 0 }
 
-pub price-read : parse 1 priceBytes ≡ fine (filed priceRecord)
+pub price-read : parse (Only File) priceBytes ≡ fine (filed priceRecord)
 unfolding parse change head mark markAmong rest hour byte nameFor bodyFor taken layout hourPrices many price word
 price-read = refl
 

@@ -24,13 +24,14 @@ use Rattle.records.specs.declared.layouts.Export.{Export}
 use Rattle.records.specs.declared.marks.Mark.{Mark}
 use Rattle.records.specs.declared.marks.Mark.the-variants.{Pr, Im, Ex}
 use Rattle.records.specs.declared.marks.Kind.the-variants.{File}
+use Rattle.records.specs.declared.marks.Wanted.the-variants.{Only}
 
-module _ (r : Rec) (s t : List ℕ) (q : change 1 s ≡ got (filed r) t) where
+module _ (r : Rec) (s t : List ℕ) (q : change (Only File) s ≡ got (filed r) t) where
   -- behind mark, hour and name stand its own fields
   read-ahead : (m : Mark) → r .key .mark ≡ m → ahead m s ≡ got (r .key .name) (r .body ++ t)
   unfolding change ahead
   read-ahead m e =
-      let x = bind-got (head 1 s) (λ h u. rest h u) (filed r) t q in
+      let x = bind-got (head (Only File) s) (λ h u. rest h u) (filed r) t q in
       let h : Head = x .0 in
       let p = rest-parts h (x .1) (filed r) t (x .3) in
       let k = filed-made (h .kind) (record { mark = h .mark; hour = p .hour-of; name = p .name-of }) (p .body) r (p .is) in
@@ -42,7 +43,7 @@ module _ (r : Rec) (s t : List ℕ) (q : change 1 s ≡ got (filed r) t) where
       there ∙ ap (got (p .name-of)) (body-rest (h .kind) (h .mark) (p .after-name) (p .body) t (p .body-is)) ∙ ap (λ (y : Rec). got (y .key .name) (y .body ++ t)) (sym (k .1))
 
   good : Good (filed r)
-  good = change-good 1 s (filed r) t q
+  good = change-good (Only File) s (filed r) t q
 
   read-view : {A : Type 0} (f : Reader A) (m : Mark) → Layout f m → r .key .mark ≡ m → (d : A) → viewed m f s ≡ got (valueOr d (f (r .body))) t
   unfolding viewed

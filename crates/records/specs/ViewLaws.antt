@@ -22,6 +22,7 @@ use Rattle.records.specs.ChangeLaws.{Kept, good-kept, counted-head, coun
 use Rattle.records.specs.declared.marks.Mark.{Mark}
 use Rattle.records.specs.declared.marks.Mark.the-variants.{Pr, Im, Ex, Gh, Fi, Fe}
 use Rattle.records.specs.declared.marks.Kind.the-variants.{File}
+use Rattle.records.specs.declared.marks.Wanted.the-variants.{Only}
 
 -- f is the layout of a mark
 pub record Layout {A : Type 0} (f : Reader A) (m : Mark) : Type 0 where
@@ -61,7 +62,7 @@ rec-view f m l r e h u =
 
 -- ---- the views that the code gives
 
-head-file : (m : Mark) (t : List ℕ) → head 1 (markBytes m ++ t) ≡ got (record { kind = File; mark = m }) t
+head-file : (m : Mark) (t : List ℕ) → head (Only File) (markBytes m ++ t) ≡ got (record { kind = File; mark = m }) t
 unfolding head mark markAmong
 head-file Pr t = refl
 head-file Im t = refl
@@ -151,7 +152,7 @@ module _ (r : Rec) (g : Good (filed r)) (u : List ℕ) where
 counted-ahead : (m : Mark) → Counted (ahead m)
 unfolding ahead
 counted-ahead m =
-    counted-bind (head 1) _ (counted-head 1) (λ h. counted-check (sameMark (h .mark) m) 2 _ (omega arith) (counted-bind hour _ counted-hour (λ o. counted-name File m)))
+    counted-bind (head (Only File)) _ (counted-head (Only File)) (λ h. counted-check (sameMark (h .mark) m) 2 _ (omega arith) (counted-bind hour _ counted-hour (λ o. counted-name File m)))
 
 pub counted-viewed : {A : Type 0} (m : Mark) (f : Reader A) → Counted f → Counted (viewed m f)
 unfolding viewed

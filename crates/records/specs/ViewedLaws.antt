@@ -22,6 +22,8 @@ use Rattle.records.specs.FirmLaws.{change-ends, entry-alone, entry-bad, 
 use Rattle.records.specs.declared.scan.View.{View}
 use Rattle.records.specs.declared.parse.Parsed.{Parsed}
 use Rattle.records.specs.declared.parse.Front.{Front}
+use Rattle.records.specs.declared.marks.Wanted.{Wanted}
+use Rattle.records.specs.declared.marks.Wanted.the-variants.{Any}
 
 -- ---- writing
 
@@ -41,7 +43,7 @@ kind-again (filed r) = refl
 kind-again (corrected r) = refl
 kind-again (withdrawn k) = refl
 
-right-view : (want : ℕ) (s : List ℕ) (c : Change) → change want s ≡ got c [] → Right (viewOf (seen c (length (write c)))) s c
+right-view : (want : Wanted) (s : List ℕ) (c : Change) → change want s ≡ got c [] → Right (viewOf (seen c (length (write c)))) s c
 unfolding isView viewWritten write
 right-view want s c e =
     let hd : List ℕ = headBytes (kindAt (kindOf c)) (keyOf c) in
@@ -57,7 +59,7 @@ right-view want s c e =
       len = refl;
     }
 
-parse-right : (want : ℕ) (s : List ℕ) (c : Change) → parse want s ≡ fine c → Right (viewOf (seen c (length (write c)))) s c
+parse-right : (want : Wanted) (s : List ℕ) (c : Change) → parse want s ≡ fine c → Right (viewOf (seen c (length (write c)))) s c
 unfolding parse
 parse-right want s c = go (change want s) refl
   where
@@ -67,7 +69,7 @@ parse-right want s c = go (change want s) refl
     go (got d (x ∷ t)) q e = absurd (let z : _≡_ {A = ℕ} 0 1 = cc in omega arith)
 
 -- a view of what an argument is writes what the argument is
-pub viewed-put : (want : ℕ) (s : List ℕ) (v : View) → parsedOf (parse want s) ≡ record { number = 0; view = v } → (at : ℕ) (d : List ℕ)
+pub viewed-put : (want : Wanted) (s : List ℕ) (v : View) → parsedOf (parse want s) ≡ record { number = 0; view = v } → (at : ℕ) (d : List ℕ)
     → (viewedNumber v at s d ≡ putNumber (parse want s) at d) × (viewedBytes v at s d ≡ putBytes (parse want s) at d)
 viewed-put want s v e at d = go (parse want s) refl e
   where
@@ -89,7 +91,7 @@ viewed-put want s v e at d = go (parse want s) refl e
 pub record Alone (p : List ℕ) (v : View) : Type 0 where
   pub no-back : begins takeBackBytes p ≡ false
   pub no-close : begins closeBytes p ≡ false
-  pub parsed : parsedOf (parse 0 p) ≡ record { number = 0; view = v }
+  pub parsed : parsedOf (parse Any p) ≡ record { number = 0; view = v }
 
 -- bytes that are an entry by themselves
 record Apart (p : List ℕ) (x : Entry) : Type 0 where
@@ -131,7 +133,7 @@ apart-of (a ∷ b ∷ s) x e = go (is takeBackBytes a b) refl (is closeBytes a b
         let v = is-both m n a b h in
         ((λ i. v .0 i ∷ v .1 i ∷ w .0 i), w .1)
 
-    read : (r : Res Change) → change 0 (a ∷ b ∷ s) ≡ r → is takeBackBytes a b ≡ false → is closeBytes a b ≡ false → whole (r >>= λ c t. got (changed c) t) ≡ fine x → Apart (a ∷ b ∷ s) x
+    read : (r : Res Change) → change Any (a ∷ b ∷ s) ≡ r → is takeBackBytes a b ≡ false → is closeBytes a b ≡ false → whole (r >>= λ c t. got (changed c) t) ≡ fine x → Apart (a ∷ b ∷ s) x
     read (bad k) q h i f = absurd (let z : _≡_ {A = ℕ} 0 1 = cc in omega arith)
     read (got d t) q h i f =
         let w = nothing-left (changed d) x t f in
@@ -149,7 +151,7 @@ apart-of (a ∷ b ∷ s) x e = go (is takeBackBytes a b) refl (is closeBytes a b
         }
 
     go : (p : Bool) → is takeBackBytes a b ≡ p → (q : Bool) → is closeBytes a b ≡ q
-        → whole (cond p (got takingBack s) (cond q (got closing s) (change 0 (a ∷ b ∷ s) >>= λ c t. got (changed c) t))) ≡ fine x → Apart (a ∷ b ∷ s) x
+        → whole (cond p (got takingBack s) (cond q (got closing s) (change Any (a ∷ b ∷ s) >>= λ c t. got (changed c) t))) ≡ fine x → Apart (a ∷ b ∷ s) x
     go true h q i f =
         let w = here 84 66 takingBack h f in
         record {
@@ -164,7 +166,7 @@ apart-of (a ∷ b ∷ s) x e = go (is takeBackBytes a b) refl (is closeBytes a b
           close = λ z. w .0;
           alone = λ c z. let y : closing ≡ changed c = w .1 ∙ z in absurd (let z : _≡_ {A = ℕ} 0 1 = cc in omega arith);
         }
-    go false h false i f = read (change 0 (a ∷ b ∷ s)) refl h i f
+    go false h false i f = read (change Any (a ∷ b ∷ s)) refl h i f
 
 -- what the code answers of the first of several changes, where it is one: a bare mark by the view's kind, or a change with the view of it
 pub record First (s : List ℕ) (f : Front) : Type 0 where

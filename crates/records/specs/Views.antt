@@ -16,6 +16,7 @@ use Rattle.records.specs.Changes.{Rec, head, nameFor}
 use Rattle.records.specs.declared.marks.Mark.{Mark}
 use Rattle.records.specs.declared.marks.Mark.the-variants.{Pr}
 use Rattle.records.specs.declared.marks.Kind.the-variants.{File}
+use Rattle.records.specs.declared.marks.Wanted.the-variants.{Only}
 use Rattle.records.specs.declared.layouts.HourPrices.{HourPrices}
 use Rattle.records.specs.declared.layouts.Import.{Import}
 use Rattle.records.specs.declared.layouts.Export.{Export}
@@ -92,7 +93,7 @@ failureOf r = valueOr noFailure (failure (r .body))
 
 -- mark, hour and name, of which the name is given; another mark than the one asked for is "unknown" here
 unfoldable pub ahead : Mark → Reader Name
-ahead m s = head 1 s >>= λ h t. check (sameMark (h .mark) m) unknownMark (hour t >>= λ o u. nameFor File m u)
+ahead m s = head (Only File) s >>= λ h t. check (sameMark (h .mark) m) unknownMark (hour t >>= λ o u. nameFor File m u)
 
 -- and then the fields
 unfoldable pub viewed : {A : Type 0} → Mark → Reader A → Reader A

@@ -5,6 +5,7 @@ use crate::keys::Key;
 use crate::layouts::layout_then;
 use crate::marks::Kind;
 use crate::marks::Mark;
+use crate::marks::Wanted;
 use crate::marks::has_name;
 use crate::marks::head_at;
 use crate::names::NameRead;
@@ -80,7 +81,7 @@ fn fields_then(s: &[u8], e: End, kind: Kind, mark: Mark) -> End
     }
 }
 
-pub(crate) fn read_change(s: &[u8], want: u8) -> Read
+pub(crate) fn read_change(s: &[u8], want: Wanted) -> Read
     ensures { λ r. ⌜ ReadIs (now (s .entry)) want r ⌝ }
 {
     let h = head_at(s, want);

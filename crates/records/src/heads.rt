@@ -7,6 +7,7 @@ use crate::keys::KeyAnswer;
 use crate::keys::hour_ok;
 use crate::keys::key_no;
 use crate::marks::Kind;
+use crate::marks::Wanted;
 use crate::marks::has_name;
 use crate::marks::head_at;
 use crate::writing::HeadOut;
@@ -22,7 +23,7 @@ ghost use Rattle.records.specs.Heads.{headKey, keyOk, recordHead};
 pub fn head_key(s: &[u8]) -> KeyAnswer
     ensures { λ r. ⌜ r ≡ keyAnswer (headKey (now (s .entry))) ⌝ }
 {
-    let h = head_at(s, 0);
+    let h = head_at(s, Wanted::Any);
     let e1 = h.end;
     let kind = h.kind;
     let mark = h.mark;

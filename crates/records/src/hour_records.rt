@@ -4,8 +4,9 @@ use crate::fields::End;
 use crate::fields::guard_end;
 use crate::fields::hour_then;
 use crate::keys::Key;
-use crate::marks::FILED;
+use crate::marks::Kind;
 use crate::marks::Mark;
+use crate::marks::Wanted;
 use crate::marks::head_at;
 use money::names::Name;
 use money::refusals::BAD_HOUR;
@@ -47,9 +48,9 @@ fn same_as(first: u8, hour: u8) -> bool
 
 // The mark and the hour of a record, each checked at its place.
 fn start_of(s: &[u8], first: u8) -> End
-    ensures { λ r. ⌜ (hourRecord first (now (s .entry)) ≡ then (now (s .entry)) r (λ t. change 1 (now (s .entry)))) × EndIn (now (s .entry)) r ⌝ }
+    ensures { λ r. ⌜ (hourRecord first (now (s .entry)) ≡ then (now (s .entry)) r (λ t. change (Wanted.Only Kind.File) (now (s .entry)))) × EndIn (now (s .entry)) r ⌝ }
 {
-    let h = head_at(s, FILED);
+    let h = head_at(s, Wanted::Only(Kind::File));
     let e1 = h.end;
     let mark = h.mark;
     let e2 = guard_end(e1, of_hour(mark), UNKNOWN_MARK);
@@ -76,9 +77,9 @@ fn no_record(number: u8) -> HourFront
 
 // The record as filing reads it.
 fn filed_front(s: &[u8]) -> HourFront
-    ensures { λ r. ⌜ r ≡ hourFrontOf (now (s .entry)) (change 1 (now (s .entry))) ⌝ }
+    ensures { λ r. ⌜ r ≡ hourFrontOf (now (s .entry)) (change (Wanted.Only Kind.File) (now (s .entry))) ⌝ }
 {
-    let c = read_change(s, FILED);
+    let c = read_change(s, Wanted::Only(Kind::File));
     let e = c.end;
     match e {
         End::At(end) => {

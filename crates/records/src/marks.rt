@@ -7,10 +7,10 @@ ghost use Prim.Native.Nat.{_<_};
 ghost use lib.ListN.{length, getD};
 ghost use Rattle.records.specs.Reading.{from};
 ghost use Rattle.records.specs.Marks.{markBytes, is, listing, mark, hasName, isFailure, order, sameMark, limit};
-ghost use Rattle.records.specs.Changes.{number, allowed, inside, head};
+ghost use Rattle.records.specs.Changes.{number, allowed, inside, head, isFiling, isCorrection, isWithdrawal, sameKind};
 ghost use Rattle.records.specs.Inner.{shown, EndIn, headed};
 
-// The kinds of changes, as they are asked for and answered; 0 asks for any of the first three.
+// The kinds of changes, as they are answered.
 pub const FILED: u8 = 1;
 
 pub const CORRECTED: u8 = 2;
@@ -46,6 +46,12 @@ pub enum Kind {
 
 // The two bytes of a mark.
 pub(crate) struct MarkBytes(pub(crate) u8, pub(crate) u8);
+
+// What a method asks for: a change of any kind, or of its own only.
+pub enum Wanted {
+    Any,
+    Only(Kind),
+}
 
 pub struct MarkRead {
     pub end: End,
@@ -140,16 +146,56 @@ pub(crate) fn number(k: Kind) -> u8
     }
 }
 
-fn allowed(want: u8, k: Kind) -> bool
-    ensures { λ r. ⌜ r ≡ allowed want k ⌝ }
+pub fn is_filing(k: Kind) -> bool
+    ensures { λ r. ⌜ r ≡ isFiling k ⌝ }
 {
-    if want == 0 {
-        return true;
+    match k {
+        Kind::File => true,
+        Kind::Correct => false,
+        Kind::Withdraw => false,
     }
-    want == number(k)
 }
 
-fn inside_at(s: &[u8], at: usize, want: u8, kind: Kind) -> HeadRead
+pub fn is_correction(k: Kind) -> bool
+    ensures { λ r. ⌜ r ≡ isCorrection k ⌝ }
+{
+    match k {
+        Kind::File => false,
+        Kind::Correct => true,
+        Kind::Withdraw => false,
+    }
+}
+
+pub fn is_withdrawal(k: Kind) -> bool
+    ensures { λ r. ⌜ r ≡ isWithdrawal k ⌝ }
+{
+    match k {
+        Kind::File => false,
+        Kind::Correct => false,
+        Kind::Withdraw => true,
+    }
+}
+
+fn same_kind(a: Kind, b: Kind) -> bool
+    ensures { λ r. ⌜ r ≡ sameKind a b ⌝ }
+{
+    match a {
+        Kind::File => is_filing(b),
+        Kind::Correct => is_correction(b),
+        Kind::Withdraw => is_withdrawal(b),
+    }
+}
+
+fn allowed(want: Wanted, k: Kind) -> bool
+    ensures { λ r. ⌜ r ≡ allowed want k ⌝ }
+{
+    match want {
+        Wanted::Any => true,
+        Wanted::Only(w) => same_kind(w, k),
+    }
+}
+
+fn inside_at(s: &[u8], at: usize, want: Wanted, kind: Kind) -> HeadRead
     ensures { λ r. ⌜ (headed (now (s .entry)) r ≡ inside want kind (from (now (s .entry)) at)) × EndIn (now (s .entry)) (r .end) ⌝ }
 {
     if allowed(want, kind) {
@@ -166,7 +212,7 @@ fn inside_at(s: &[u8], at: usize, want: u8, kind: Kind) -> HeadRead
     }
 }
 
-pub(crate) fn head_at(s: &[u8], want: u8) -> HeadRead
+pub(crate) fn head_at(s: &[u8], want: Wanted) -> HeadRead
     ensures { λ r. ⌜ (headed (now (s .entry)) r ≡ head want (now (s .entry))) × EndIn (now (s .entry)) (r .end) ⌝ }
 {
     if s.len() < 2 {

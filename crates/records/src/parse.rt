@@ -3,6 +3,7 @@ use crate::fields::End;
 use crate::keys::Key;
 use crate::marks::CLOSE;
 use crate::marks::TAKE_BACK;
+use crate::marks::Wanted;
 use crate::marks::is;
 use crate::marks::number;
 use crate::scan::View;
@@ -44,7 +45,7 @@ fn view_no(k: u8) -> ViewRead
     }
 }
 
-fn change_at(s: &[u8], want: u8) -> ViewRead
+fn change_at(s: &[u8], want: Wanted) -> ViewRead
     ensures { λ r. ⌜ ViewIs (now (s .entry)) (changeView (change want (now (s .entry)))) r ⌝ }
 {
     let c = read_change(s, want);
@@ -94,7 +95,7 @@ fn entry_at(s: &[u8]) -> ViewRead
     if is(a, b, b'C', b'L') {
         return bare_view(CLOSE);
     }
-    change_at(s, 0)
+    change_at(s, Wanted::Any)
 }
 
 fn fault(n: u8) -> Parsed
@@ -104,8 +105,8 @@ fn fault(n: u8) -> Parsed
     Parsed { number: n, view }
 }
 
-// The change that an argument's bytes are, of a kind (1 filed, 2 corrected, 3 withdrawn; 0 any of these), or the number of their first fault.
-pub fn parse_change(s: &[u8], want: u8) -> Parsed
+// The change that an argument's bytes are, of the kind that is wanted, or the number of their first fault.
+pub fn parse_change(s: &[u8], want: Wanted) -> Parsed
     ensures { λ r. ⌜ r ≡ parsedOf (parse want (now (s .entry))) ⌝ }
 {
     let c = change_at(s, want);

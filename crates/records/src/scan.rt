@@ -2,6 +2,7 @@ use crate::changes::read_change;
 use crate::fields::End;
 use crate::keys::Key;
 use crate::marks::Mark;
+use crate::marks::Wanted;
 use crate::marks::number;
 use crate::writing::head_of;
 use money::names::Name;
@@ -52,7 +53,7 @@ pub fn nothing() -> View
 pub fn peek(s: &[u8]) -> View
     ensures { λ r. ⌜ r ≡ viewOf (scan (now (s .entry))) ⌝ }
 {
-    let c = read_change(s, 0);
+    let c = read_change(s, Wanted::Any);
     let e = c.end;
     match e {
         End::At(n) => {

@@ -10,9 +10,9 @@ use crate::layouts::failure_then;
 use crate::layouts::hour_prices_then;
 use crate::layouts::import_then;
 use crate::layouts::unit_then;
-use crate::marks::FILED;
 use crate::marks::Kind;
 use crate::marks::Mark;
+use crate::marks::Wanted;
 use crate::marks::head_at;
 use crate::marks::is_failure;
 use crate::marks::same_mark;
@@ -64,7 +64,7 @@ pub struct FailureAnswer {
 pub(crate) fn fields_at(s: &[u8], mark: Mark) -> NameRead
     ensures { λ r. ⌜ (shown (now (s .entry)) (r .end) (r .name) ≡ ahead mark (now (s .entry))) × EndIn (now (s .entry)) (r .end) ⌝ }
 {
-    let h = head_at(s, FILED);
+    let h = head_at(s, Wanted::Only(Kind::File));
     let e = h.end;
     let m = h.mark;
     let e1 = guard_end(e, same_mark(m, mark), UNKNOWN_MARK);

@@ -7,6 +7,7 @@ use crate::marks::Kind;
 use crate::marks::Mark;
 use crate::marks::WITHDRAWN;
 use crate::marks::bytes_of;
+use crate::marks::Wanted;
 use crate::marks::has_name;
 use crate::names::spelled_len;
 use crate::names::write_name;
@@ -117,7 +118,7 @@ fn copy(src: &[u8], out: &mut [u8], at: usize) -> usize
 }
 
 // Writes the change that an argument's bytes are at a place of the log. 13 where it does not fit there.
-pub fn put(log: &mut [u8], at: usize, s: &[u8], want: u8) -> u8
+pub fn put(log: &mut [u8], at: usize, s: &[u8], want: Wanted) -> u8
     ensures { λ r. ⌜ (r ≡ putNumber (parse want (now (s .entry))) at (now (log .entry))) × (now (log .exit) ≡ putBytes (parse want (now (s .entry))) at (now (log .entry))) ⌝ }
 {
     let c = read_change(s, want);

@@ -38,7 +38,7 @@ use Rattle.statement.specs.Lines.{whenBytes, kindBytes, nameBytes as lineName, 
 use Rattle.statement.specs.Statement.{hourOf, unitOf, hoursTo, eachUnit, statementLines, statementOf}
 use Rattle.statement.specs.Refusal.{refusalLine}
 use Rattle.statement.specs.Examples as statement
-use Rattle.statement.specs.Examples.{bytes}
+use Rattle.laws.specs.Text.{bytes}
 use Rattle.settling.specs.Output.{outputBy, outputOf}
 use Rattle.settling.specs.Replies.{sameReply}
 

@@ -3,9 +3,10 @@ use mathlib.Core.List.{List, [], _∷_, _++_}
 use mathlib.Core.Bool.{cond}
 use Prim.Native.Nat.{ℕ, zero, suc, _+_, _/_, _%_}
 use lib.Dec.{ltb}
+use Rattle.laws.specs.Text.{char}
 
 abbrev pub digit : ℕ → ℕ
-digit n = 48 + n
+digit n = char "0" + n
 
 unfoldable pub twoDigits : ℕ → List ℕ
 twoDigits n = digit (n / 10) ∷ digit (n % 10) ∷ []

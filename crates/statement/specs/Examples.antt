@@ -3,11 +3,11 @@ use mathlib.Core.Path.{_≡_, refl}
 use mathlib.Core.Bool.{Bool, true, _&&_}
 use mathlib.Core.List.{List, [], _∷_}
 use Prim.Native.Nat.{ℕ}
-use Prim.Native.Char.{code}
-use Prim.Native.String.{String, [] as end, _∷_ as next}
+use Prim.Native.String.{String}
 use lib.Dec.{eqb}
 use lib.IntN.{ℤ, pos, negsuc}
 use lib.ListN.{length}
+use Rattle.laws.specs.Text.{bytes}
 use Rattle.laws.specs.Sums.{every}
 use Rattle.money.specs.Units.{centsOf}
 use Rattle.money.specs.Names.{nameOk, sameBytes}
@@ -23,10 +23,6 @@ use Rattle.statement.specs.declared.lines.Kind.the-variants.{Iog, Off, I
 use Rattle.statement.specs.declared.lines.Line.{Line}
 
 -- ---- what they are made of
-abbrev pub bytes : String → List ℕ
-bytes end = []
-bytes (next c s) = code c ∷ bytes s
-
 -- no name is `-`
 abbrev line : ℕ → Kind → String → ℤ → Line
 line h k n z = record { hour = h; kind = k; name = nameOf (bytes n); cents = record { 0 = z } }

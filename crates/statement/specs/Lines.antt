@@ -4,6 +4,7 @@ use mathlib.Core.Bool.{Bool, true, false, cond}
 use Prim.Native.Nat.{ℕ, _/_, _%_}
 use lib.Dec.{eqb}
 use lib.IntN.{ℤ, pos, negsuc, natAbs}
+use Rattle.laws.specs.Text.{bytes}
 use Rattle.money.specs.Names.{nameOk}
 use Rattle.money.specs.declared.names.Name.{Name}
 use Rattle.records.specs.Names.{spell, bytesOf}
@@ -14,30 +15,30 @@ use Rattle.statement.specs.declared.lines.Line.{Line}
 
 -- "hour or `DD`"; `05`: the hour in two digits
 unfoldable pub whenBytes : ℕ → List ℕ
-whenBytes h = cond (eqb h 0) (68 ∷ 68 ∷ []) (twoDigits h)
+whenBytes h = cond (eqb h 0) (bytes "DD") (twoDigits h)
 
 -- "kind": "`IOG` per import by name, `OFF` where imports stand, `IFC`, `EFC` by name; then for each unit by name `PCG` (day total) and `REV`"; "`05 ERR - 15`"
 unfoldable pub kindBytes : Kind → List ℕ
-kindBytes Iog = 73 ∷ 79 ∷ 71 ∷ []
-kindBytes Off = 79 ∷ 70 ∷ 70 ∷ []
-kindBytes Ifc = 73 ∷ 70 ∷ 67 ∷ []
-kindBytes Efc = 69 ∷ 70 ∷ 67 ∷ []
-kindBytes Pcg = 80 ∷ 67 ∷ 71 ∷ []
-kindBytes Rev = 82 ∷ 69 ∷ 86 ∷ []
-kindBytes Err = 69 ∷ 82 ∷ 82 ∷ []
+kindBytes Iog = bytes "IOG"
+kindBytes Off = bytes "OFF"
+kindBytes Ifc = bytes "IFC"
+kindBytes Efc = bytes "EFC"
+kindBytes Pcg = bytes "PCG"
+kindBytes Rev = bytes "REV"
+kindBytes Err = bytes "ERR"
 
 -- "written name or `-`"; one that breaks the rule of a name is none
 unfoldable pub nameBytes : Name → List ℕ
-nameBytes n = cond (nameOk n) (spell (bytesOf n)) (45 ∷ [])
+nameBytes n = cond (nameOk n) (spell (bytesOf n)) (bytes "-")
 
 -- "zero without a sign"
 unfoldable pub sign : ℤ → List ℕ
 sign (pos n) = []
-sign (negsuc n) = 45 ∷ []
+sign (negsuc n) = bytes "-"
 
 -- "dollars with two decimals", of cents
 unfoldable pub dollars : ℤ → List ℕ
-dollars z = sign z ++ decimal (natAbs z / 100) ++ (46 ∷ []) ++ twoDigits (natAbs z % 100)
+dollars z = sign z ++ decimal (natAbs z / 100) ++ bytes "." ++ twoDigits (natAbs z % 100)
 
 -- "`05 ERR - 15`": the number of a refusal, plain
 unfoldable pub number : ℤ → List ℕ
@@ -57,10 +58,10 @@ unfoldable pub figure : Kind → ℤ → List ℕ
 figure k z = cond (isNumber k) (number z) (dollars z)
 
 abbrev pub space : List ℕ
-space = 32 ∷ []
+space = bytes " "
 
 abbrev pub newline : List ℕ
-newline = 10 ∷ []
+newline = bytes "\n"
 
 -- "Fields: hour or `DD`, kind, written name or `-`, dollars with two decimals"; one space between fields, one newline after each line
 unfoldable pub lineBytes : Line → List ℕ

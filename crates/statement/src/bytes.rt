@@ -30,8 +30,8 @@ pub(crate) fn put_two(out: &mut [u8], at: usize, n: u8) -> usize
     requires { ⌜ at + 2 ≤ length (now out) ⌝ }
     ensures { λ r. ⌜ Writes (now (out .entry)) at (twoDigits n) (now (out .exit)) r ⌝ }
 {
-    let second = put_byte(out, at, 48 + n / 10);
-    put_byte(out, second, 48 + n % 10)
+    let second = put_byte(out, at, b'0' + n / 10);
+    put_byte(out, second, b'0' + n % 10)
 }
 
 // A number without leading zeros: the digits of its tenth, and then the last one.
@@ -40,10 +40,10 @@ pub(crate) fn put_decimal(out: &mut [u8], at: usize, n: u64) -> usize
     ensures { λ r. ⌜ Writes (now (out .entry)) at (decimal n) (now (out .exit)) r ⌝ }
 {
     if n < 10 {
-        return put_byte(out, at, 48 + n as u8);
+        return put_byte(out, at, b'0' + n as u8);
     }
     let last = put_decimal(out, at, n / 10);
-    put_byte(out, last, 48 + (n % 10) as u8)
+    put_byte(out, last, b'0' + (n % 10) as u8)
 }
 
 pub(crate) fn put_part(out: &mut [u8], at: usize, part: &[u8]) -> usize

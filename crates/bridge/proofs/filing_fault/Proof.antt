@@ -3,6 +3,8 @@ use mathlib.Core.Bool.{Bool, cond}
 use borrow.Author.Tests.{lt-ltb, le-ltb, not-true, not-false}
 use Rattle.records.specs.Changes.{parse, parsedOf}
 use Rattle.records.specs.declared.parse.Parsed.{Parsed}
+use Rattle.records.specs.declared.marks.Kind.the-variants.{File}
+use Rattle.records.specs.declared.marks.Wanted.the-variants.{Only}
 use borrow.Author.Needs.{needs}
 use Rattle.bridge.proofs.filing_fault.Statement.{statement}
 use Rattle.bridge.proofs.filing_fault.Tie as tie
@@ -20,7 +22,7 @@ cast-result-2 : tie.Need-cast-result-2
 cast-result-2 c = search needs
 
 returns-2 : tie.Need-returns-2
-returns-2 c = rw (le-ltb _ _ ((c .before .if1) .left)) (sym (ap (λ (b : Bool). cond b (parsedOf (parse 1 ((c .before .before .before .args) .bytes .now)) .number) 2) (not-true ((c .before .before .before .args) .marked) ((c .if2) .taken))))
+returns-2 c = rw (le-ltb _ _ ((c .before .if1) .left)) (sym (ap (λ (b : Bool). cond b (parsedOf (parse (Only File) ((c .before .before .before .args) .bytes .now)) .number) 2) (not-true ((c .before .before .before .args) .marked) ((c .if2) .taken))))
 
 parse-change-requires : tie.Need-parse-change-requires
 parse-change-requires c κs = search needs
@@ -29,7 +31,7 @@ cast-result-3 : tie.Need-cast-result-3
 cast-result-3 c = search needs
 
 returns-3 : tie.Need-returns-3
-returns-3 c = rw (le-ltb _ _ ((c .before .before .before .if1) .left)) (ap (λ (x : Parsed). x .number) ((c .before .parse-change) .ensures) ∙ sym (ap (λ (b : Bool). cond b (parsedOf (parse 1 ((c .before .before .before .before .before .args) .bytes .now)) .number) 2) (not-false ((c .before .before .before .before .before .args) .marked) ((c .before .before .if2) .left))))
+returns-3 c = rw (le-ltb _ _ ((c .before .before .before .if1) .left)) (ap (λ (x : Parsed). x .number) ((c .before .parse-change) .ensures) ∙ sym (ap (λ (b : Bool). cond b (parsedOf (parse (Only File) ((c .before .before .before .before .before .args) .bytes .now)) .number) 2) (not-false ((c .before .before .before .before .before .args) .marked) ((c .before .before .if2) .left))))
 
 pub filing-fault-spec : {M : Type 1} → statement M
 filing-fault-spec =

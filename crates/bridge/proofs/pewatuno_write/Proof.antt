@@ -41,8 +41,8 @@ returns-3 : tie.Need-returns-3
 returns-3 c =
     rw (ne-eqb _ _ ((c .before .before .before .before .before .before .before .if1) .left), ne-eqb _ _ ((c .before .before .before .before .before .before .if2) .left), eq-eqb _ _ ((c .before .before .before .before .before .if3) .taken)) ((c .before .before .mark-alone2) .ensures .0 ∙ (c .before .before .before .before .parse-close) .ensures, (refl, (c .before .before .mark-alone2) .ensures .1))
 
-cast-write-change : tie.Need-cast-write-change
-cast-write-change c = search needs
+wanted-by-requires : tie.Need-wanted-by-requires
+wanted-by-requires c κs = search needs
 
 write-change-requires : tie.Need-write-change-requires
 write-change-requires c κs = search needs
@@ -54,7 +54,8 @@ same-length-6 : tie.Need-same-length-6
 same-length-6 c = search needs
 
 returns-4 : tie.Need-returns-4
-returns-4 c = rw (ne-eqb _ _ ((c .before .before .before .before .before .before .before .before .before .if1) .left), ne-eqb _ _ ((c .before .before .before .before .before .before .before .before .if2) .left), ne-eqb _ _ ((c .before .before .before .before .before .before .before .if3) .left)) ((c .before .before .before .before .write-change) .ensures)
+returns-4 c =
+    rw (ne-eqb _ _ ((c .before .before .before .before .before .before .before .before .before .before .if1) .left), ne-eqb _ _ ((c .before .before .before .before .before .before .before .before .before .if2) .left), ne-eqb _ _ ((c .before .before .before .before .before .before .before .before .if3) .left), ← ((c .before .before .before .before .before .before .before .wanted-by) .ensures)) ((c .before .before .before .before .write-change) .ensures)
 
 pub pewatuno-write-spec : {M : Type 1} → statement M
 pewatuno-write-spec =
@@ -72,7 +73,7 @@ pewatuno-write-spec =
     mark-alone-requires-2
     same-length-4
     returns-3
-    cast-write-change
+    wanted-by-requires
     write-change-requires
     same-length-5
     same-length-6

@@ -5,6 +5,7 @@ use borrow.Author.Tests.{lt-ltb, le-ltb}
 use Rattle.money.specs.UnitLaws.{kept}
 use Rattle.records.specs.Changes.{parse, parseAny, entryOf, putNumber}
 use Rattle.records.specs.declared.parse.Parsed.{Parsed}
+use Rattle.records.specs.declared.marks.Wanted.the-variants.{Any}
 use Rattle.bridge.proofs.Telling.{told-no, if-no}
 use borrow.Author.Needs.{needs}
 use Rattle.bridge.proofs.write_any.Statement.{statement}
@@ -20,7 +21,7 @@ returns : tie.Need-returns
 returns c =
     let s = (c .before .before .before .before .before .args) .bytes .now in
     let e = ap (λ (x : Parsed). x .number) ((c .before .parse-any) .ensures) in
-    (kept (cond (ltb 3 (entryOf (parseAny s) .view .kind)) 0 (putNumber (parse 0 s) 0 ((c .before .before .before .before .before .args) .out .now))) e ((c .if1) .taken), (if-no _ _ e ((c .if1) .taken), told-no _ _ _ ((c .if1) .taken)))
+    (kept (cond (ltb 3 (entryOf (parseAny s) .view .kind)) 0 (putNumber (parse Any s) 0 ((c .before .before .before .before .before .args) .out .now))) e ((c .if1) .taken), (if-no _ _ e ((c .if1) .taken), told-no _ _ _ ((c .if1) .taken)))
 
 mark-alone-requires : tie.Need-mark-alone-requires
 mark-alone-requires c κs = search needs

@@ -3,6 +3,8 @@ use mathlib.Core.Bool.{Bool}
 use Rattle.records.specs.Inner.{guarded, then}
 use Rattle.records.specs.Changes.{change}
 use Rattle.records.specs.declared.fields.End.{End}
+use Rattle.records.specs.declared.marks.Kind.the-variants.{File}
+use Rattle.records.specs.declared.marks.Wanted.the-variants.{Only}
 use Rattle.records.proofs.HourReading.{start-is}
 use Rattle.records.proofs.Step.{guarded-in}
 use borrow.Author.Needs.{needs}
@@ -37,7 +39,7 @@ guard-end-requires-2 c κs = search needs
 returns : tie.Need-returns
 returns c = (
   start-is ((c .before .before .before .before .before .before .before .args) .s .now) ((c .before .before .before .before .before .before .before .args) .first) ((c .before .before .before .before .before .head-at) .result) ((c .before .before .hour-then) .result) ((c .before .before .before .guard-end) .result) ((c .before .before .before .before .before .head-at) .ensures .0) ((c .before .before .before .guard-end) .ensures ∙ ap (λ (b : Bool). guarded ((c .before .before .before .before .before .head-at) .result .end) b 2) ((c .before .before .before .before .of-hour) .ensures)) ((c .before .before .hour-then) .ensures .0)
-      ∙ sym (ap (λ (d : End). then ((c .before .before .before .before .before .before .before .args) .s .now) d (λ t. change 1 ((c .before .before .before .before .before .before .before .args) .s .now))) ((c .guard-end2) .ensures ∙ ap (λ (b : Bool). guarded ((c .before .before .hour-then) .result .end) b 3) ((c .before .same-as) .ensures))),
+      ∙ sym (ap (λ (d : End). then ((c .before .before .before .before .before .before .before .args) .s .now) d (λ t. change (Only File) ((c .before .before .before .before .before .before .before .args) .s .now))) ((c .guard-end2) .ensures ∙ ap (λ (b : Bool). guarded ((c .before .before .hour-then) .result .end) b 3) ((c .before .same-as) .ensures))),
   rw ((c .guard-end2) .ensures) (guarded-in ((c .before .before .before .before .before .before .before .args) .s .now) ((c .before .before .hour-then) .result .end) _ 3 ((c .before .before .hour-then) .ensures .1)),
 )
 

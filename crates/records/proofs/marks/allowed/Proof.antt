@@ -1,20 +1,24 @@
-use Rattle.records.proofs.Head.{any-kind, one-kind}
-use native.Mathlib.Omega.{arith}
+use mathlib.Core.Path.{sym, ap, _∙_}
+use Rattle.records.specs.Changes.{allowed}
+use Rattle.records.specs.declared.marks.Wanted.{Wanted}
 use borrow.Author.Needs.{needs}
 use Rattle.records.proofs.marks.allowed.Statement.{statement}
 use Rattle.records.proofs.marks.allowed.Tie as tie
-use Rattle.records.proofs.marks.allowed.Reads as reads
-use Rattle.records.proofs.marks.allowed.Lts as lts
-use Rattle.records.proofs.marks.number.Reads as number-reads
+
+enum-told : tie.Need-enum-told
+enum-told c = search needs
+
+enum-known-want : tie.Need-enum-known-want
+enum-known-want c = search needs
+
+same-kind-requires : tie.Need-same-kind-requires
+same-kind-requires c κs = search needs
 
 returns : tie.Need-returns
-returns c = any-kind ((c .before .args) .want) ((c .before .args) .k) ((c .if1) .taken)
-
-number-requires : tie.Need-number-requires
-number-requires c κs = search needs
+returns c = search needs
 
 returns-2 : tie.Need-returns-2
-returns-2 c = one-kind ((c .before .before .args) .want) ((c .before .before .args) .k) ((c .number) .result) ((c .before .if1) .left) ((c .number) .ensures)
+returns-2 c = (c .same-kind) .ensures ∙ sym (ap (λ (w : Wanted). allowed w ((c .before .before .before .before .args) .k)) ((c .before .before .want) .given .1))
 
 pub allowed-spec : {M : Type 1} → statement M
-allowed-spec = tie.close (tie.spec returns number-requires returns-2)
+allowed-spec = tie.close (tie.spec enum-told enum-known-want same-kind-requires returns returns-2)

@@ -1,5 +1,6 @@
 use mathlib.Core.Path.{sym, ap, _∙_}
 use Rattle.records.specs.Changes.{begins}
+use Rattle.records.specs.declared.marks.Wanted.the-variants.{Any}
 use Rattle.records.proofs.Out.{full, read-bad, peek-yes, peek-no, peek-bad, head-part, head-fits}
 use native.Mathlib.Omega.{arith}
 use borrow.Author.Needs.{needs}
@@ -26,12 +27,12 @@ starts-requires c κs = search needs
 
 sub-len : tie.Need-sub-len
 sub-len c =
-    let f = full ((c .before .before .before .before .before .before .before .before .before .before .before .before .args) .s .now) 0 ((c .before .before .before .before .before .before .before .before .before .before .read-change) .result) ((c .before .before .before .before .before .before .before .before .before .before .read-change) .ensures) ((c .before .before .before .before .before .before .before .before .e) .given .0 .0) ((c .before .before .before .before .before .before .before .before .e) .given .1) in
+    let f = full ((c .before .before .before .before .before .before .before .before .before .before .before .before .args) .s .now) Any ((c .before .before .before .before .before .before .before .before .before .before .read-change) .result) ((c .before .before .before .before .before .before .before .before .before .before .read-change) .ensures) ((c .before .before .before .before .before .before .before .before .e) .given .0 .0) ((c .before .before .before .before .before .before .before .before .e) .given .1) in
     f .stands .low
 
 add-len : tie.Need-add-len
 add-len c =
-    let f = full ((c .before .before .before .before .before .before .before .before .before .before .before .before .args) .s .now) 0 ((c .before .before .before .before .before .before .before .before .before .before .read-change) .result) ((c .before .before .before .before .before .before .before .before .before .before .read-change) .ensures) ((c .before .before .before .before .before .before .before .before .e) .given .0 .0) ((c .before .before .before .before .before .before .before .before .e) .given .1) in
+    let f = full ((c .before .before .before .before .before .before .before .before .before .before .before .before .args) .s .now) Any ((c .before .before .before .before .before .before .before .before .before .before .read-change) .result) ((c .before .before .before .before .before .before .before .before .before .before .read-change) .ensures) ((c .before .before .before .before .before .before .before .before .e) .given .0 .0) ((c .before .before .before .before .before .before .before .before .e) .given .1) in
     omega (arith, f .stands .high, (c .before .before .before .before .before .head-of) .ensures .few)
 
 number-requires : tie.Need-number-requires
@@ -49,17 +50,17 @@ nothing-requires-2 c κs = search needs
 returns : tie.Need-returns
 returns c =
     let s = (c .before .before .before .before .before .before .before .before .before .before .before .before .before .args) .s .now in
-    let f = full s 0 ((c .before .before .before .before .before .before .before .before .before .before .before .read-change) .result) ((c .before .before .before .before .before .before .before .before .before .before .before .read-change) .ensures) ((c .before .before .before .before .before .before .before .before .before .e) .given .0 .0) ((c .before .before .before .before .before .before .before .before .before .e) .given .1) in
+    let f = full s Any ((c .before .before .before .before .before .before .before .before .before .before .before .read-change) .result) ((c .before .before .before .before .before .before .before .before .before .before .before .read-change) .ensures) ((c .before .before .before .before .before .before .before .before .before .e) .given .0 .0) ((c .before .before .before .before .before .before .before .before .before .e) .given .1) in
     peek-yes s ((c .before .before .before .before .before .before .before .before .before .e) .given .0 .0) ((c .before .before .before .before .before .before .before .before .before .before .before .read-change) .result) f ((c .before .before .before .before .before .before .head-of) .result .len) ((c .number) .result) ((c .before .before .before .before .before .before .head-of) .ensures .len) ((c .number) .ensures) (ap (λ l. begins l s) (sym ((c .before .before .before .before .before .before .head-of) .ensures .bytes)) ∙ sym ((c .before .before .before .starts) .ensures) ∙ (c .before .before .if1) .taken)
 
 returns-2 : tie.Need-returns-2
 returns-2 c =
     let s = (c .before .before .before .before .before .before .before .before .before .before .before .before .args) .s .now in
-    let f = full s 0 ((c .before .before .before .before .before .before .before .before .before .before .read-change) .result) ((c .before .before .before .before .before .before .before .before .before .before .read-change) .ensures) ((c .before .before .before .before .before .before .before .before .e) .given .0 .0) ((c .before .before .before .before .before .before .before .before .e) .given .1) in
+    let f = full s Any ((c .before .before .before .before .before .before .before .before .before .before .read-change) .result) ((c .before .before .before .before .before .before .before .before .before .before .read-change) .ensures) ((c .before .before .before .before .before .before .before .before .e) .given .0 .0) ((c .before .before .before .before .before .before .before .before .e) .given .1) in
     (c .nothing) .ensures ∙ peek-no s ((c .before .before .before .before .before .before .before .before .e) .given .0 .0) ((c .before .before .before .before .before .before .before .before .before .before .read-change) .result) f (ap (λ l. begins l s) (sym ((c .before .before .before .before .before .head-of) .ensures .bytes)) ∙ sym ((c .before .before .starts) .ensures) ∙ (c .before .if1) .left)
 
 returns-3 : tie.Need-returns-3
-returns-3 c = (c .nothing2) .ensures ∙ peek-bad ((c .before .before .before .before .before .before .args) .s .now) ((c .before .before .e2) .given .0 .0) (read-bad ((c .before .before .before .before .before .before .args) .s .now) 0 ((c .before .before .before .before .read-change) .result) ((c .before .before .before .before .read-change) .ensures) ((c .before .before .e2) .given .0 .0) ((c .before .before .e2) .given .1))
+returns-3 c = (c .nothing2) .ensures ∙ peek-bad ((c .before .before .before .before .before .before .args) .s .now) ((c .before .before .e2) .given .0 .0) (read-bad ((c .before .before .before .before .before .before .args) .s .now) Any ((c .before .before .before .before .read-change) .result) ((c .before .before .before .before .read-change) .ensures) ((c .before .before .e2) .given .0 .0) ((c .before .before .e2) .given .1))
 
 pub peek-spec : {M : Type 1} → statement M
 peek-spec =

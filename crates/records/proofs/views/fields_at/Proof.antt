@@ -4,6 +4,8 @@ use Rattle.records.specs.Changes.{head}
 use Rattle.records.specs.Inner.{then, guarded}
 use Rattle.records.specs.Marks.{sameMark}
 use Rattle.records.specs.Views.{ahead}
+use Rattle.records.specs.declared.marks.Kind.the-variants.{File}
+use Rattle.records.specs.declared.marks.Wanted.the-variants.{Only}
 use Rattle.records.proofs.Step.{first, next, test}
 use borrow.Author.Needs.{needs}
 use Rattle.records.proofs.views.fields_at.Statement.{statement}
@@ -32,7 +34,7 @@ returns c =
     let o = (c .before .hour-then) .result in
     let ok = sameMark (h .mark) ((c .before .before .before .before .before .before .args) .mark) in
     let g = (c .before .before .guard-end) .ensures ∙ ap (λ b. guarded (h .end) b 2) ((c .before .before .before .same-mark) .ensures) in (
-      sym (first s (h .end) (record { kind = h .kind; mark = h .mark }) (head 1 s) _ ((c .before .before .before .before .head-at) .ensures .0)
+      sym (first s (h .end) (record { kind = h .kind; mark = h .mark }) (head (Only File) s) _ ((c .before .before .before .before .head-at) .ensures .0)
           ∙ test s (h .end) ok 2 _
           ∙ next s (guarded (h .end) ok 2) (o .end) (o .hour) hour _ ((c .before .hour-then) .ensures .0 ∙ ap (λ d. then s d hour) g)
           ∙ sym ((c .name-then) .ensures .value)),

@@ -1,6 +1,7 @@
 use Rattle.book.proofs.Holding.{only-back, only-close, only-change, makes-by}
 use borrow.Author.Needs.{needs}
 use Rattle.book.proofs.journal.Book.held_change.Statement.{statement}
+use Rattle.book.specs.Layer.{Any}
 use Rattle.book.proofs.journal.Book.held_change.Tie as tie
 
 held-take-back-requires : tie.Need-held-take-back-requires
@@ -19,13 +20,13 @@ returns-2 : tie.Need-returns-2
 returns-2 c = makes-by (only-close ((c .before .before .before .before .before .before .before .pre) .1 .1) ((c .before .if2) .taken)) ((c .held-close) .ensures _ _ _ ((c .before .before .before .before .before .before .before .pre) .0))
 
 held-enter-requires : tie.Need-held-enter-requires
-held-enter-requires c κs = ((c .before .before .before .before .before .before .before .before .pre) .0, ((c .before .before .before .before .before .before .before .before .pre) .1 .0, record { want = 0; change = only-change ((c .before .before .before .before .before .before .before .before .pre) .1 .1) ((c .before .before .before .before .if1) .left) ((c .before .before .if2) .left) .1 }))
+held-enter-requires c κs = ((c .before .before .before .before .before .before .before .before .pre) .0, ((c .before .before .before .before .before .before .before .before .pre) .1 .0, record { want = Any; change = only-change ((c .before .before .before .before .before .before .before .before .pre) .1 .1) ((c .before .before .before .before .if1) .left) ((c .before .before .if2) .left) .1 }))
 
 same-length-2 : tie.Need-same-length-2
 same-length-2 c = search needs
 
 returns-3 : tie.Need-returns-3
-returns-3 c = let w = only-change ((c .before .before .before .before .before .before .before .before .before .before .before .pre) .1 .1) ((c .before .before .before .before .before .before .before .if1) .left) ((c .before .before .before .before .before .if2) .left) in makes-by (w .0) ((c .before .before .held-enter) .ensures 0 (w .1))
+returns-3 c = let w = only-change ((c .before .before .before .before .before .before .before .before .before .before .before .pre) .1 .1) ((c .before .before .before .before .before .before .before .if1) .left) ((c .before .before .before .before .before .if2) .left) in makes-by (w .0) ((c .before .before .held-enter) .ensures Any (w .1))
 
 pub held-change-spec : {M : Type 1} → statement M
 held-change-spec =
