@@ -5,23 +5,22 @@ use mathlib.Core.List.{List, [], _∷_, _++_}
 use mathlib.Core.Bool.{Bool, true, false, cond, _&&_}
 use native.Mathlib.Omega.{arith}
 use lib.ListN.{length, take, drop, getD}
-use borrow.Author.Tests.{eq-eqb, ne-eqb}
-use Rattle.book.specs.Layer.{Key, Rec, Change, kindOf, keyOf, sameHour, nameOf, nameBefore, limit-most}
+use Rattle.book.specs.Layer.{Kind, isCorrection, Key, Rec, Change, kindOf, keyOf, sameHour, nameOf, nameBefore, limit-most}
 use Rattle.book.specs.declared.places.Spot.{Spot}
 use Rattle.book.specs.declared.places.Places.{Places}
 use Rattle.book.specs.Register.{writeAll, standing, count}
 use Rattle.book.specs.Meaning.{Valid}
-use Rattle.book.specs.Tables.{survey, viewed}
+use Rattle.book.specs.Tables.{survey}
 use Rattle.book.specs.Places.{leadLength, liveAt, spotOf, putSpot, spots}
 use Rattle.book.specs.RegisterLaws.{valid-new, hour-few}
 use Rattle.book.specs.GatherLaws.{gather, collect, gather-standing, hourPass}
 use Rattle.book.proofs.Inserting.{Sought, sought-here, sought-on, sought-end}
 
-pub place-co : (kind q : ℕ) → kind ≡ 2 → q + 2 ≡ q + leadLength kind
-place-co kind q h = simp (eq-eqb kind 2 h)
+pub place-co : (kind : Kind) (q : ℕ) → isCorrection kind ≡ true → q + 2 ≡ q + leadLength kind
+place-co kind q h = simp h
 
-pub place-filed : (kind q : ℕ) → (kind ≡ 2 → ⊥) → q ≡ q + leadLength kind
-place-filed kind q h = simp (ne-eqb kind 2 h) (omega arith)
+pub place-filed : (kind : Kind) (q : ℕ) → isCorrection kind ≡ false → q ≡ q + leadLength kind
+place-filed kind q h = simp h (omega arith)
 
 -- ---- what is put to the rest, and what is not
 pub taken-up : {B : Type 0} (b : Bool) (x y : B) → b ≡ true → x ≡ cond b x y
@@ -44,7 +43,7 @@ fewer : (k : Key) (all : List Change) (m : ℕ) (l : List Change) → length (ga
 unfolding gather
 fewer k all zero l = omega arith
 fewer k all (suc m) [] = omega arith
-fewer k all (suc m) (c ∷ l) = go (sameHour k (keyOf c) && liveAt (survey (keyOf c) all) (viewed c) (length (writeAll l))) (fewer k all m l)
+fewer k all (suc m) (c ∷ l) = go (sameHour k (keyOf c) && liveAt (survey (keyOf c) all) (kindOf c) (length (writeAll l))) (fewer k all m l)
   where
     spot : Spot
     spot = record { name = keyOf c .name; start = length (writeAll l) + leadLength (kindOf c) }

@@ -8,7 +8,7 @@ use lib.ListN.{length, take, drop, set, getD, length-append, length-set}
 use lib.Seq.{take-append-seam, take-take}
 use lib.Dec.{eqb, ltb}
 use borrow.Author.Tests.{eq-eqb, ne-eqb, eqb-true, eqb-false}
-use Rattle.book.specs.Layer.{Key, View, Parsed, Change, keyOf, kindOf, write, Good, Input, fine, fault, parse, parsedOf, parse-fine, parse-fault, putBytes, viewedBytes, viewed-put, store-front, store-length, limitOf, Padded, good-padded, good-hour, Wanted, Any}
+use Rattle.book.specs.Layer.{Key, View, Parsed, Change, keyOf, kindOf, write, Good, Input, fine, fault, parse, parsedOf, parse-fine, parse-fault, putBytes, viewedBytes, viewed-put, store-front, store-length, limitOf, Padded, good-padded, good-hour, Wanted, Any, Kind, Record, TakeBack, Close, Nothing, isFiling, isWithdrawal, kindIn}
 use Rattle.records.specs.Changes.{entry, whole, parseAny}
 use Rattle.book.specs.Layer.{bad, Entry, changed, takingBack, closingEntry, entryView, entryOf, entry-bad, any-fault, alone, asEntry, any-back, any-close, any-change, markIs, begins, takeBackBytes, closeBytes}
 use Rattle.book.specs.declared.journal.Book.{Book}
@@ -26,7 +26,7 @@ use Rattle.book.specs.ReplayLaws.{listed-valid}
 use Rattle.book.specs.LoadLaws.{Loaded, load-whole, loaded-whole}
 use Rattle.book.proofs.Surveying.{judge-room, room-facts, valid-size}
 use Rattle.book.proofs.Indexing.{latest-few}
-use Rattle.book.proofs.Rowing.{ruled-at, ruled-seen, kind-few}
+use Rattle.book.proofs.Rowing.{ruled-at, ruled-seen}
 use Rattle.book.proofs.Ruling.{cleared-size, rows-next}
 use Rattle.book.proofs.RowAnswering.{is-rowed}
 use Rattle.book.proofs.Answering.{regOf, step-is, leaves-answered, leaves-accepted, bare-fault}
@@ -126,7 +126,7 @@ module _ {b : Book} {s rows : List ℕ} (h : Held b s rows) {want : Wanted} {rec
   module _ (t : b .closed ≡ false) {from : ℕ} (sn : Since b s (v .key) from) {x : Seek}
       (fs : (l : List Change) → Logged s rows (b .changes) l → v .key .hour < 32 → Padded (v .key .name) → latestOf (slot (v .key)) l ≤ from → Sought rows (b .changes) (v .key) x l)
       {m : ℕ} (fm : (l : List Change) → Ruled rows (b .changes) l → v .key .hour < 32 → m ≡ count (v .key) (standing l))
-      {most : ℕ} (em : most ≡ limitOf (v .key)) {w : ℕ} (ew : w ≡ judge (v .kind) (x .found) m most (b .changes) (b .used) (v .len) (length s)) where
+      {most : ℕ} (em : most ≡ limitOf (v .key)) {w : ℕ} (ew : w ≡ judge (kindIn (v .act)) (x .found) m most (b .changes) (b .used) (v .len) (length s)) where
     sought : Sought rows (b .changes) (v .key) x (h .base .list)
     sought = fs (h .base .list) (held-logged h) low padded (sn .none (h .base .list) (h .base .is))
 
@@ -138,7 +138,7 @@ module _ {b : Book} {s rows : List ℕ} (h : Held b s rows) {want : Wanted} {rec
         let fd : x .found ≡ stands (keyOf c) (standing l) = sought .found ∙ survey-found (v .key) l ∙ ap (λ (y : Key). stands y (standing l)) (sym key-is) in
         let cs : m ≡ count (keyOf c) (standing l) = fm l (held-logged h .ruled) low ∙ ap (λ (y : Key). count y (standing l)) (sym key-is) in
         let ms : most ≡ limitOf (keyOf c) = em ∙ ap limitOf (sym key-is) in
-        sym (ew ∙ (λ i. judge (r .is i .kind) (fd i) (cs i) (ms i) (sym (h .base .count-is) i) (sym (h .base .size) i) (r .is i .len) (length s)) ∙ sym (refusal-judge l (length s) c))
+        sym (ew ∙ (λ i. judge (kindIn (r .is i .act)) (fd i) (cs i) (ms i) (sym (h .base .count-is) i) (sym (h .base .size) i) (r .is i .len) (length s)) ∙ sym (refusal-judge l (length s) c))
 
     pub listed-refused : (w ≡ 0 → ⊥) → Makes (listed (parse want rec)) b s (v .key) (record { book = b; answer = Refused w }) s rows
     listed-refused z = makes-refused h w (open-or false t ∙ ap (judged (r .what) (regOf b s (h .base))) judged-is ∙ judged-no (r .what) (regOf b s (h .base)) w z)
@@ -149,19 +149,19 @@ module _ {b : Book} {s rows : List ℕ} (h : Held b s rows) {want : Wanted} {rec
       unfolding judge
       listed-few =
           room-facts (b .changes) (b .used) (v .len) (length s)
-          (judge-room (eqb (v .kind) 1) (x .found) (ltb m most) (room (b .changes) (b .used) (v .len) (length s)) (sym ew ∙ z))
+          (judge-room (isFiling (kindIn (v .act))) (x .found) (ltb m most) (room (b .changes) (b .used) (v .len) (length s)) (sym ew ∙ z))
 
       pub listed-clear : x .found ≡ true → x .at < 512
       listed-clear f = omega (arith, sought .inside f, listed-few .0)
 
-      pub listed-row : {hour : ℕ} → hour < 512 → (v .kind < 4) × (hour < 512) × (b .used < 65536)
-      listed-row hs = (omega (arith, kind-few (r .what), ap (λ (y : View). y .kind) (r .is)), hs, omega (arith, listed-few .2))
+      pub listed-row : {hour : ℕ} → hour < 512 → (hour < 512) × (b .used < 65536)
+      listed-row hs = (hs, omega (arith, listed-few .2))
 
       step-taken : stepped (listed (parse want rec)) b s (load b s) ≡ becomes (record { list = r .what ∷ h .base .list; closed = b .closed })
       step-taken = open-or false t ∙ ap (judged (r .what) (regOf b s (h .base))) (judged-is ∙ z)
 
       pub makes-listed : {hour : ℕ} → hour ≡ hourSlot (v .key) → {s′ : List ℕ} → s′ ≡ viewedBytes v (b .used) rec s
-          → {rows₁ : List ℕ} → rows₁ ≡ cleared rows x → {row : ℕ} → row ≡ packed (not (eqb (v .kind) 3)) (v .kind) hour (b .used)
+          → {rows₁ : List ℕ} → rows₁ ≡ cleared rows x → {row : ℕ} → row ≡ packed (not (isWithdrawal (kindIn (v .act)))) (kindIn (v .act)) hour (b .used)
           → Makes (listed (parse want rec)) b s (v .key) (record { book = record { changes = b .changes + 1; used = b .used + v .len; closed = b .closed }; answer = Accepted }) s′ (set rows₁ (b .changes) row)
       unfolding writeAll
       makes-listed {hour} eh {s′} ev {rows₁} ex {row} er =
@@ -176,8 +176,8 @@ module _ {b : Book} {s rows : List ℕ} (h : Held b s rows) {want : Wanted} {rec
           let st : listed (parse want rec) (length s) (regOf b s y) ≡ becomes g = sym (step-is (listed (parse want rec)) b s y) ∙ step-taken in
           let f : Sought rows (b .changes) (keyOf c) x l = subst (λ (k : Key). Sought rows (b .changes) k x l) (sym key-is) sought in
           let hr : hour ≡ hourSlot (keyOf c) = eh ∙ ap hourSlot (sym key-is) in
-          let er′ : row ≡ packed (not (eqb (kindOf c) 3)) (kindOf c) (hourSlot (keyOf c)) (length (writeAll l)) =
-          er ∙ (λ i. packed (not (eqb (r .is i .kind) 3)) (r .is i .kind) (hr i) (sym (y .size) i)) in
+          let er′ : row ≡ packed (not (isWithdrawal (kindOf c))) (kindOf c) (hourSlot (keyOf c)) (length (writeAll l)) =
+          er ∙ (λ i. packed (not (isWithdrawal (kindIn (r .is i .act)))) (kindIn (r .is i .act)) (hr i) (sym (y .size) i)) in
           makes-accepted h g _ s′ (set rows₁ (b .changes) row) step-taken
           (λ i. record { changes = u i; used = (ap (λ (k : ℕ). b .used + k) len ∙ sym n) i; closed = b .closed })
           (ap length es ∙ store-length (parse want rec) (b .used) s)
@@ -409,34 +409,43 @@ module _ (rec : List ℕ) where
       go (is-close a p) = let w = alone-taken closingEntry (changed c) (bareClose rec) (sym p ∙ e) .1 in absurd (let z : _≡_ {A = ℕ} 0 1 = cc in omega arith)
       go (is-other a p) = (a, other (parse Any rec) (sym p ∙ e))
 
--- by the kind of its view
+-- by what its view says that it is
 module _ {rec : List ℕ} {v : View} (r : IsEntry rec v) where
-  kind-is : v .kind ≡ entryView (r .what) .kind
-  kind-is = ap (λ (y : View). y .kind) (r .is)
+  act-is : v .act ≡ entryView (r .what) .act
+  act-is = ap (λ (y : View). y .act) (r .is)
 
-  pub only-back : v .kind ≡ 4 → general rec ≡ takenBack 0
-  only-back z = go (r .what) (r .input) (sym kind-is ∙ z)
+  pub only-back : v .act ≡ TakeBack → general rec ≡ takenBack 0
+  only-back z = go (r .what) (r .input) (sym act-is ∙ z)
     where
-      go : (x : Entry) → parseAny rec ≡ fine x → entryView x .kind ≡ 4 → general rec ≡ takenBack 0
-      go (changed c) e k = absurd (omega (arith, kind-few c))
+      go : (x : Entry) → parseAny rec ≡ fine x → entryView x .act ≡ TakeBack → general rec ≡ takenBack 0
+      go (changed c) e k = absurd (let y : _≡_ {A = ℕ} 0 1 = cc in omega arith)
       go takingBack e k = general-back rec e
-      go closingEntry e k = absurd (omega arith)
+      go closingEntry e k = absurd (let y : _≡_ {A = ℕ} 0 1 = cc in omega arith)
 
-  pub only-close : v .kind ≡ 5 → general rec ≡ closing 0
-  only-close z = go (r .what) (r .input) (sym kind-is ∙ z)
+  pub only-close : v .act ≡ Close → general rec ≡ closing 0
+  only-close z = go (r .what) (r .input) (sym act-is ∙ z)
     where
-      go : (x : Entry) → parseAny rec ≡ fine x → entryView x .kind ≡ 5 → general rec ≡ closing 0
-      go (changed c) e k = absurd (omega (arith, kind-few c))
-      go takingBack e k = absurd (omega arith)
+      go : (x : Entry) → parseAny rec ≡ fine x → entryView x .act ≡ Close → general rec ≡ closing 0
+      go (changed c) e k = absurd (let y : _≡_ {A = ℕ} 0 1 = cc in omega arith)
+      go takingBack e k = absurd (let y : _≡_ {A = ℕ} 0 1 = cc in omega arith)
       go closingEntry e k = general-close rec e
 
-  pub only-change : (v .kind ≡ 4 → ⊥) → (v .kind ≡ 5 → ⊥) → (general rec ≡ listed (parse Any rec)) × IsChange Any rec v
-  only-change z y = go (r .what) (r .input) (r .is)
+  pub only-record : {k : Kind} → v .act ≡ Record k → (general rec ≡ listed (parse Any rec)) × IsChange Any rec v
+  only-record {k} z = go (r .what) (r .input) (r .is) (sym act-is ∙ z)
     where
-      go : (x : Entry) → parseAny rec ≡ fine x → v ≡ entryView x → (general rec ≡ listed (parse Any rec)) × IsChange Any rec v
-      go (changed c) e k = let g = general-change rec c e in (g .0, record { what = c; input = g .1; is = k })
-      go takingBack e k = absurd (z (ap (λ (y : View). y .kind) k))
-      go closingEntry e k = absurd (y (ap (λ (y : View). y .kind) k))
+      go : (x : Entry) → parseAny rec ≡ fine x → v ≡ entryView x → entryView x .act ≡ Record k → (general rec ≡ listed (parse Any rec)) × IsChange Any rec v
+      go (changed c) e i a = let g = general-change rec c e in (g .0, record { what = c; input = g .1; is = i })
+      go takingBack e i a = absurd (let y : _≡_ {A = ℕ} 0 1 = cc in omega arith)
+      go closingEntry e i a = absurd (let y : _≡_ {A = ℕ} 0 1 = cc in omega arith)
+
+  -- an entry is something
+  pub only-none : {A : Type 0} → v .act ≡ Nothing → A
+  only-none {A} z = go (r .what) (sym act-is ∙ z)
+    where
+      go : (x : Entry) → entryView x .act ≡ Nothing → A
+      go (changed c) a = absurd (let y : _≡_ {A = ℕ} 0 1 = cc in omega arith)
+      go takingBack a = absurd (let y : _≡_ {A = ℕ} 0 1 = cc in omega arith)
+      go closingEntry a = absurd (let y : _≡_ {A = ℕ} 0 1 = cc in omega arith)
 
 pub makes-by : {f g : ℕ → Reg → Step} {b : Book} {s : List ℕ} {k : Key} {d : Done} {s′ rows′ : List ℕ} → g ≡ f → Makes f b s k d s′ rows′ → Makes g b s k d s′ rows′
 makes-by {b = b} {s = s} {k = k} {d = d} {s′ = s′} {rows′ = rows′} e m = subst⁻¹ (λ (y : ℕ → Reg → Step). Makes y b s k d s′ rows′) e m

@@ -15,7 +15,7 @@ use Rattle.book.specs.declared.hours.HourPlace.{HourPlace}
 use Rattle.book.specs.Register.{writeAll, standing}
 use Rattle.book.specs.ByName.{sameMark}
 use Rattle.book.specs.Meaning.{Valid}
-use Rattle.book.specs.Tables.{survey, viewed}
+use Rattle.book.specs.Tables.{survey}
 use Rattle.book.specs.Places.{leadLength, liveAt}
 use Rattle.book.specs.Rows.{rowLive, rowSlot, rowPlace, Logged, Log}
 use Rattle.book.specs.Hours.{PlaceIs, DayIs, markHour, nameHour, Written}
@@ -55,7 +55,7 @@ module _ {s rows : List ℕ} {n i : ℕ} (lt : i < n) {l : List Change} (g : Log
   begun-at = length (writeAll (drop (n - i) l))
 
   abbrev pub lives : Bool
-  lives = liveAt (survey (keyOf turned) l) (viewed turned) begun-at
+  lives = liveAt (survey (keyOf turned) l) (kindOf turned) begun-at
 
   abbrev pub hourOf : (Key → Bool) → ℕ
   hourOf pick = cond (pick (keyOf turned) && lives) (keyOf turned .hour) 0
@@ -195,7 +195,7 @@ module _ {s rows : List ℕ} {n m : ℕ} {name : List ℕ} {i : ℕ} {hours : Li
 gathered-size : {A : Type 0} (pick : Key → Bool) (v : ℕ → A) (none : List A) (all l : List Change) → length (gather (byHour pick v none) all l) ≡ length none
 unfolding gather
 gathered-size pick v none all [] = refl
-gathered-size {A} pick v none all (c ∷ l) = go (pick (keyOf c) && liveAt (survey (keyOf c) all) (viewed c) (length (writeAll l))) (gathered-size pick v none all l)
+gathered-size {A} pick v none all (c ∷ l) = go (pick (keyOf c) && liveAt (survey (keyOf c) all) (kindOf c) (length (writeAll l))) (gathered-size pick v none all l)
   where
     t : List A
     t = gather (byHour pick v none) all l
@@ -220,8 +220,8 @@ hour-hit : (k : Key) (all l : List Change) → Valid l → (j : ℕ) → j < 24 
     → getD (gather (byHour (sameName k) placeAt (replicate 24 noPlace)) all l) j d ≡ hitPlace (gather (findPass (atHour k (1 + j))) all l)
 unfolding gather Valid
 hour-hit k all [] v j lt d = blank-at 24 j lt d
-hour-hit k all (c ∷ l) v j lt d = go (sameName k (keyOf c)) (liveAt (survey (keyOf c) all) (viewed c) q) (eqb (1 + j) (keyOf c .hour)) refl (hour-hit k all l (v .2) j lt d)
-    ∙ sym (ap (λ (b : Bool). hitPlace (cond (b && liveAt (survey (keyOf c) all) (viewed c) q) (record { found = true; start = x }) u)) (same-at k (keyOf c) (1 + j)))
+hour-hit k all (c ∷ l) v j lt d = go (sameName k (keyOf c)) (liveAt (survey (keyOf c) all) (kindOf c) q) (eqb (1 + j) (keyOf c .hour)) refl (hour-hit k all l (v .2) j lt d)
+    ∙ sym (ap (λ (b : Bool). hitPlace (cond (b && liveAt (survey (keyOf c) all) (kindOf c) q) (record { found = true; start = x }) u)) (same-at k (keyOf c) (1 + j)))
   where
     q : ℕ
     q = length (writeAll l)

@@ -10,7 +10,7 @@ use lib.ListN.{length, drop, getD, set, drop-of-length-le}
 use lib.Seq.{drop-cons, getD-set-same, getD-set-other}
 use lib.Dec.{leb, eqb}
 use borrow.Author.Tests.{eq-eqb, eqb-true, leb-true}
-use Rattle.book.specs.Layer.{Key, Change, Good, keyOf, kindOf, same, sameHour, Mark, order, every-mark, Padded, good-padded, same-true, hour-parts, parts-hour}
+use Rattle.book.specs.Layer.{Key, Change, Good, keyOf, kindOf, same, sameHour, Mark, order, every-mark, Padded, good-padded, same-true, hour-parts, parts-hour, Pr, Im, Ex, Gh, Fi, Fe, isFiling, isWithdrawal}
 use Rattle.book.specs.Tables.{survey}
 use Rattle.book.specs.Index.{hourSlot, weighed, slot, latestOf}
 use Rattle.book.specs.RegisterLaws.{by-test, true≠false}
@@ -83,13 +83,13 @@ apart : (a b : Key) → a .hour < 32 → b .hour < 32 → sameHour a b ≡ false
 apart a b h k n e = true≠false (parts-hour a b (omega arith) (omega arith)) n
 
 pub counts-next : (counts : List ℕ) (c : Change) (l : List Change) (k : Key) (n : ℕ) → hourSlot (keyOf c) < length counts → keyOf c .hour < 32 → k .hour < 32
-    → getD counts (hourSlot k) 0 ≡ survey k l .count → n ≡ cond (eqb (kindOf c) 1) (getD counts (hourSlot (keyOf c)) 0 + 1) (cond (eqb (kindOf c) 3) (getD counts (hourSlot (keyOf c)) 0 - 1) (getD counts (hourSlot (keyOf c)) 0))
+    → getD counts (hourSlot k) 0 ≡ survey k l .count → n ≡ cond (isFiling (kindOf c)) (getD counts (hourSlot (keyOf c)) 0 + 1) (cond (isWithdrawal (kindOf c)) (getD counts (hourSlot (keyOf c)) 0 - 1) (getD counts (hourSlot (keyOf c)) 0))
     → getD (set counts (hourSlot (keyOf c)) n) (hourSlot k) 0 ≡ survey k (c ∷ l) .count
 unfolding survey
 counts-next counts c l k n fits h j is e = by-test (sameHour k (keyOf c)) with-it beside
   where
     after : ℕ → ℕ
-    after m = cond (eqb (kindOf c) 1) (m + 1) (cond (eqb (kindOf c) 3) (m - 1) m)
+    after m = cond (isFiling (kindOf c)) (m + 1) (cond (isWithdrawal (kindOf c)) (m - 1) m)
 
     with-it : sameHour k (keyOf c) ≡ true → getD (set counts (hourSlot (keyOf c)) n) (hourSlot k) 0 ≡ cond (sameHour k (keyOf c)) (after (survey k l .count)) (survey k l .count)
     with-it t =

@@ -8,12 +8,12 @@ use lib.ListN.{length, take, drop, getD, set, length-set, drop-of-length-le}
 use lib.Dec.{eqb}
 use borrow.Author.Tests.{eq-eqb, ne-eqb, eqb-true, le-leb, lt-leb}
 use lib.Seq.{length-take-le}
-use Rattle.book.specs.Layer.{Key, Name, Change, keyOf, order, nameOf, nameBefore, noOne, pad}
+use Rattle.book.specs.Layer.{Key, Name, Change, keyOf, order, nameOf, nameBefore, noOne, pad, kindOf}
 use Rattle.book.specs.declared.units.Units.{Units}
 use Rattle.book.specs.Register.{writeAll, standing}
 use Rattle.book.specs.ByName.{addName, sameMark, namesOf}
 use Rattle.book.specs.Meaning.{Load, belongs}
-use Rattle.book.specs.Tables.{survey, viewed}
+use Rattle.book.specs.Tables.{survey}
 use Rattle.book.specs.Places.{liveAt}
 use Rattle.book.specs.Units.{ghKey, namesIn, named, unitNames}
 use Rattle.book.specs.Handed.{unitsOf}
@@ -83,10 +83,10 @@ turned a b = by-test (eqb a b) (λ t. t ∙ sym (eq-eqb b a (sym (eqb-true a b t
 
 -- a row that stands, of the mark
 picked-mark : {row : ℕ} {all : List Change} {q : ℕ} {c : Change} → Seen row all q c → (k : Key) (mark : ℕ) → mark ≡ order (k .mark)
-    → ofMark row mark ≡ (sameMark k (keyOf c) && liveAt (survey (keyOf c) all) (viewed c) q)
+    → ofMark row mark ≡ (sameMark k (keyOf c) && liveAt (survey (keyOf c) all) (kindOf c) q)
 picked-mark {row} {all} {q} {c} s k mark e =
     let m : rowSlot row / 32 ≡ order (keyOf c .mark) = omega (arith, s .slot, s .low) in
-    ap₂ _&&_ (s .live) (ap₂ eqb m e ∙ turned (order (keyOf c .mark)) (order (k .mark))) ∙ and-turned (liveAt (survey (keyOf c) all) (viewed c) q) (sameMark k (keyOf c))
+    ap₂ _&&_ (s .live) (ap₂ eqb m e ∙ turned (order (keyOf c .mark)) (order (k .mark))) ∙ and-turned (liveAt (survey (keyOf c) all) (kindOf c) q) (sameMark k (keyOf c))
 
 pub mark-gone : (row mark : ℕ) → row < 134217728 → false ≡ ofMark row mark
 mark-gone row mark h = sym (ap (λ (b : Bool). b && eqb (rowSlot row / 32) mark) (lt-leb 134217728 row h))
@@ -133,7 +133,7 @@ module _ {s rows : List ℕ} {n mark i : ℕ} {u : Units} (h : Listed s rows n m
         let q = length (writeAll (drop (n - i) l)) in
         let sn = ruled-seen (g .ruled) lt in
         let old = gather (markPass k) l (drop (n - i) l) in
-        let live = sameMark k (keyOf c) && liveAt (survey (keyOf c) l) (viewed c) q in
+        let live = sameMark k (keyOf c) && liveAt (survey (keyOf c) l) (kindOf c) q in
         let e : live ≡ b = sym (picked-mark sn k mark ek) ∙ eb in
         go b e (h .is l g k ek) (λ t. en t ∙ ap (λ (x : ℕ). keyAt s x .name) (sn .place)
         ∙ ap (λ (y : Key). y .name) (key-at (written-at g c (ruled-good (g .ruled) lt) q (sym (sn .live) ∙ left-of (rowLive (getD rows i 0)) (eqb (rowSlot (getD rows i 0) / 32) mark) (eb ∙ t)))))

@@ -17,7 +17,7 @@ use Rattle.book.specs.declared.prices.HourPrice.{HourPrice}
 use Rattle.book.specs.declared.rows.Seek.{Seek}
 use Rattle.book.specs.Register.{writeAll, standing}
 use Rattle.book.specs.Amounts.{is, pick, priced, hourKey, priceFrom, priceOf}
-use Rattle.book.specs.Tables.{survey, viewed}
+use Rattle.book.specs.Tables.{survey}
 use Rattle.book.specs.Index.{slot, latestOf, hourSlot}
 use Rattle.book.specs.Places.{leadLength, liveAt}
 use Rattle.book.specs.Rows.{rowLive, rowSlot, rowPlace, Logged, Log, Sought}
@@ -164,8 +164,8 @@ above zero z = absurd (z refl)
 above (suc m) z = omega arith
 
 -- the hour that a row tells
-price-row : {row : ℕ} {all : List Change} {q : ℕ} {c : Change} → Seen row all q c → priceHour row ≡ cond (isPrice (keyOf c) && liveAt (survey (keyOf c) all) (viewed c) q) (keyOf c .hour) 0
-price-row {row} {all} {q} {c} sn = ap₂ (λ (b : Bool) (x : ℕ). cond (b && ltb x 32) x 0) (sn .live) (sn .slot) ∙ go (liveAt (survey (keyOf c) all) (viewed c) q) (isPrice (keyOf c)) refl
+price-row : {row : ℕ} {all : List Change} {q : ℕ} {c : Change} → Seen row all q c → priceHour row ≡ cond (isPrice (keyOf c) && liveAt (survey (keyOf c) all) (kindOf c) q) (keyOf c .hour) 0
+price-row {row} {all} {q} {c} sn = ap₂ (λ (b : Bool) (x : ℕ). cond (b && ltb x 32) x 0) (sn .live) (sn .slot) ∙ go (liveAt (survey (keyOf c) all) (kindOf c) q) (isPrice (keyOf c)) refl
   where
     k : Key
     k = keyOf c
@@ -191,7 +191,7 @@ module _ {s rows : List ℕ} {n : ℕ} {none hours : List HourPrice} {i : ℕ} (
     q = length (writeAll (drop (n - i) l))
 
     abbrev live : Bool
-    live = isPrice (keyOf c) && liveAt (survey (keyOf c) l) (viewed c) q
+    live = isPrice (keyOf c) && liveAt (survey (keyOf c) l) (kindOf c) q
 
     told : priceHour (getD rows i 0) ≡ cond live (keyOf c .hour) 0
     told = price-row (ruled-seen (g .ruled) lt)
@@ -233,7 +233,7 @@ module _ {s rows : List ℕ} {n : ℕ} {none hours : List HourPrice} {i : ℕ} (
         let l = o .list in
         let g = o .logged in
         let k = keyOf (c l g) in
-        let v = live-true (survey k l) (viewed (c l g)) (q l g) (and-right (isPrice k) (liveAt (survey k l) (viewed (c l g)) (q l g)) (hit l g (λ y. z (e ∙ y)))) in
+        let v = live-true (survey k l) (kindOf (c l g)) (q l g) (and-right (isPrice k) (liveAt (survey k l) (kindOf (c l g)) (q l g)) (hit l g (λ y. z (e ∙ y)))) in
         omega (arith, ex, ruled-seen (g .ruled) lt .place, v .1, logged-at g k (v .0) .at .inside)
 
     pub tabling-put : {x : ℕ} → x ≡ rowPlace (getD rows i 0) → (p : HourPrice) → p ≡ priceAt s x → Tabling s rows n none (i + 1) (set hours (hr - 1) p)

@@ -7,11 +7,11 @@ use native.Mathlib.Omega.{arith}
 use lib.ListN.{length, take, drop, getD, set, length-append, length-set, take-append-drop, drop-of-length-le}
 use lib.Seq.{getD-set-same, getD-set-other, drop-at, drop-drop, drop-append-le}
 use lib.Dec.{eqb}
-use borrow.Author.Tests.{eq-eqb, ne-eqb, eqb-true, eqb-false}
-use Rattle.book.specs.Layer.{Change, filed, corrected, withdrawn, keyOf, kindOf, write, write-co, good-co, Good, good-hour, good-padded, begins, same, same-sym, same-alike, order, KeyAnswer, keyAnswer, headKey, head-written, recordHead}
+use borrow.Author.Tests.{eq-eqb, eqb-true, eqb-false}
+use Rattle.book.specs.Layer.{Change, filed, corrected, withdrawn, keyOf, kindOf, write, write-co, good-co, Good, good-hour, good-padded, begins, same, same-sym, same-alike, order, KeyAnswer, keyAnswer, headKey, head-written, recordHead, Kind, isFiling, isCorrection, isWithdrawal}
 use Rattle.book.specs.Register.{writeAll}
 use Rattle.book.specs.Meaning.{Valid}
-use Rattle.book.specs.Tables.{Survey, survey, viewed}
+use Rattle.book.specs.Tables.{Survey, survey}
 use Rattle.book.specs.Index.{hourSlot}
 use Rattle.book.specs.Places.{leadLength, liveAt}
 use Rattle.book.specs.Rows.{packed, rowStart, rowSlot, rowKind, rowPlace, rowOf, Rows, Logged, Log}
@@ -19,12 +19,16 @@ use Rattle.book.specs.Held.{rowStands, Undoing, Wrote}
 use Rattle.book.specs.StandLaws.{At}
 use Rattle.book.specs.RegisterLaws.{by-test, true≠false, survey-found, refusal-found}
 use Rattle.book.proofs.Surveying.{to-end, valid-size, valid-drop}
-use Rattle.book.proofs.Rowing.{Seen, row-seen, rows-at, ruled-at, ruled-few, ruled-seen, ruled-good, kind-few, slot-few, live-true, survey-same, Bears, head-at, and-left}
+use Rattle.book.proofs.Rowing.{Seen, row-seen, rows-at, ruled-at, ruled-few, ruled-seen, ruled-good, code-few, slot-few, live-true, survey-same, Bears, head-at, and-left}
 use Rattle.book.proofs.Ruling.{place-one, live-passed, live-over, rows-build, rows-back, under}
 
-stands-packed : (b : Bool) (k s q : ℕ) → k < 4 → s < 512 → q < 65536 → rowStands (packed b k s q) ≡ packed true k s q
-stands-packed true k s q hk hs hq = omega arith
-stands-packed false k s q hk hs hq = omega arith
+not-not : (b : Bool) → not b ≡ true → b ≡ false
+not-not true h = true≠false h refl
+not-not false h = refl
+
+stands-packed : (b : Bool) (k : Kind) (s q : ℕ) → s < 512 → q < 65536 → rowStands (packed b k s q) ≡ packed true k s q
+stands-packed true k s q hs hq = omega (arith, code-few k)
+stands-packed false k s q hs hq = omega (arith, code-few k)
 
 module _ {s rows : List ℕ} {n : ℕ} {c : Change} {l : List Change} (g : Logged s rows n (c ∷ l)) where
   l-valid : Valid l
@@ -60,12 +64,12 @@ module _ {s rows : List ℕ} {n : ℕ} {c : Change} {l : List Change} (g : Logge
     place-is = row-seen _ (c ∷ l) (length (writeAll m)) d row-is low q-few .place
 
     live : List Change → Bool
-    live y = liveAt (survey (keyOf d) y) (viewed d) (length (writeAll m))
+    live y = liveAt (survey (keyOf d) y) (kindOf d) (length (writeAll m))
 
     -- where its record stands under the key of the last one, it is written where that key's record stands
     live-place : same (keyOf d) (keyOf c) ≡ true → live l ≡ true → rowPlace (getD rows j 0) ≡ survey (keyOf c) l .start
     unfolding live
-    live-place t o = place-is ∙ sym (live-true (survey (keyOf d) l) (viewed d) (length (writeAll m)) o .1) ∙ ap (λ (y : Survey). y .start) (survey-same (keyOf d) (keyOf c) t l)
+    live-place t o = place-is ∙ sym (live-true (survey (keyOf d) l) (kindOf d) (length (writeAll m)) o .1) ∙ ap (λ (y : Survey). y .start) (survey-same (keyOf d) (keyOf c) t l)
 
   rows-restored : length rows ≡ 512 → (r : ℕ) → Wrote (length l) (keyOf c) r l → Rows (set rows r (rowStands (getD rows r 0))) l l
   unfolding live
@@ -83,19 +87,19 @@ module _ {s rows : List ℕ} {n : ℕ} {c : Change} {l : List Change} (g : Logge
       at : (j : ℕ) (d : Change) (m : List Change) → j < length l → drop (length l - (j + 1)) l ≡ d ∷ m → getD (set rows r x) j 0 ≡ rowOf l (length (writeAll m)) d
       at j d m lt e =
           let q = length (writeAll m) in
-          let old = liveAt (survey (keyOf d) (c ∷ l)) (viewed d) q in
-          let new = liveAt (survey (keyOf d) l) (viewed d) q in
+          let old = liveAt (survey (keyOf d) (c ∷ l)) (kindOf d) q in
+          let new = liveAt (survey (keyOf d) l) (kindOf d) q in
           let row : Bool → ℕ = λ (b : Bool). packed b (kindOf d) (hourSlot (keyOf d)) q in
           by-test (eqb j r)
           (λ t. let ej = eqb-true j r t in
           let o : new ≡ true = w .live d m (ap (λ (y : ℕ). drop (length l - (y + 1)) l) (sym ej) ∙ e) .1 in
           ap (λ (y : ℕ). getD (set rows r x) y 0) ej ∙ getD-set-same rows r x 0 (omega (arith, w .inside, valid-size l l-valid .0)) ∙ ap (λ (y : ℕ). rowStands (getD rows y 0)) (sym ej)
-          ∙ ap rowStands (row-is j lt d m e) ∙ stands-packed old (kindOf d) (hourSlot (keyOf d)) q (kind-few d) (slot-few (keyOf d) (low j lt d m e)) (q-few j lt d m e) ∙ ap row (sym o))
+          ∙ ap rowStands (row-is j lt d m e) ∙ stands-packed old (kindOf d) (hourSlot (keyOf d)) q (slot-few (keyOf d) (low j lt d m e)) (q-few j lt d m e) ∙ ap row (sym o))
           (λ t. getD-set-other rows r j x 0 (eqb-false j r t) ∙ row-is j lt d m e
           ∙ ap row (by-test (same (keyOf d) (keyOf c))
-          (λ u. live-over c l (keyOf d) (viewed d) q u (under d m l (length l - (j + 1)) e)
+          (λ u. live-over c l (keyOf d) (kindOf d) q u (under d m l (length l - (j + 1)) e)
           ∙ sym (by-test new (λ o. absurd (eqb-false j r t (there j lt (live-place j lt d m e u o)))) (λ o. o)))
-          (λ u. live-passed c l (keyOf d) (viewed d) q u)))
+          (λ u. live-passed c l (keyOf d) (kindOf d) q u)))
 
 pub restored : {s rows : List ℕ} {n : ℕ} → length rows ≡ 512 → (r : ℕ) → ((c : Change) (l : List Change) → Logged s rows n (c ∷ l) → Wrote (length l) (keyOf c) r l)
     → ((c : Change) (l : List Change) → Logged s rows n (c ∷ l) → Rows (set rows r (rowStands (getD rows r 0))) l l) × (length (set rows r (rowStands (getD rows r 0))) ≡ 512)
@@ -139,7 +143,7 @@ stands-at {s} {l = l} g m d r e =
     }
 
 -- a record, behind the mark of a correction
-bears-at : {s : List ℕ} {q : ℕ} (d : Change) → Stands-at s q d → Good d → (kindOf d ≡ 3 → ⊥) → Bears s (q + leadLength (kindOf d)) (keyOf d)
+bears-at : {s : List ℕ} {q : ℕ} (d : Change) → Stands-at s q d → Good d → isWithdrawal (kindOf d) ≡ false → Bears s (q + leadLength (kindOf d)) (keyOf d)
 bears-at {s} {q} (filed r) w g z = record { what = r; at = subst (λ (x : ℕ). At s x r) (sym (zero-more q)) (record { inside = omega (arith, w .inside); rest = w .rest; bytes = w .bytes; good = g }); key = refl }
   where
     zero-more : (q : ℕ) → q + 0 ≡ q
@@ -154,7 +158,7 @@ bears-at {s} {q} (corrected r) w g z = record {
   };
   key = refl;
 }
-bears-at (withdrawn k) w g z = absurd (z refl)
+bears-at (withdrawn k) w g z = true≠false refl z
 
 -- ---- the search for the change that wrote the record which stands again, the newest first
 
@@ -209,9 +213,9 @@ module _ {s rows : List ℕ} {n hs : ℕ} {head : List ℕ} {i : ℕ} (h : Backw
         subst (λ (y : List Change). (survey (keyOf c) y .found ≡ true) × (survey (keyOf c) y .start ≡ survey (keyOf c) l .start)) (ap (λ (m : ℕ). drop m (c ∷ l)) e ∙ older-is (u .logged)) (h .is c l u)
 
     -- of the key it is no withdrawal
-    turn-wrote : same (keyOf c) (keyOf (what (u .logged))) ≡ true → not (eqb (kindOf (what (u .logged))) 3) ≡ true
+    turn-wrote : same (keyOf c) (keyOf (what (u .logged))) ≡ true → not (isWithdrawal (kindOf (what (u .logged)))) ≡ true
     unfolding survey
-    turn-wrote t = sym (ap (λ (b : Bool). cond b (not (eqb (kindOf (what (u .logged))) 3)) (survey (keyOf c) (older (u .logged)) .found)) t) ∙ turn .0
+    turn-wrote t = sym (ap (λ (b : Bool). cond b (not (isWithdrawal (kindOf (what (u .logged))))) (survey (keyOf c) (older (u .logged)) .found)) t) ∙ turn .0
 
   skip : ((c : Change) (l : List Change) (u : Undoing s rows n hs head c l) → same (keyOf c) (keyOf (what (u .logged))) ≡ false) → Backward s rows n hs head j
   unfolding survey older
@@ -224,8 +228,8 @@ module _ {s rows : List ℕ} {n hs : ℕ} {head : List ℕ} {i : ℕ} (h : Backw
         let q = length (writeAll m) in
         let t = turn u in
         let e = f c l u in (
-          sym (ap (λ (b : Bool). cond b (not (eqb (kindOf x) 3)) (survey k m .found)) e) ∙ t .0,
-          sym (ap (λ (b : Bool). cond b (cond (eqb (kindOf x) 2) (q + 2) q) (survey k m .start)) e) ∙ t .1,
+          sym (ap (λ (b : Bool). cond b (not (isWithdrawal (kindOf x))) (survey k m .found)) e) ∙ t .0,
+          sym (ap (λ (b : Bool). cond b (cond (isCorrection (kindOf x)) (q + 2) q) (survey k m .start)) e) ∙ t .1,
         );
   }
 
@@ -233,22 +237,22 @@ module _ {s rows : List ℕ} {n hs : ℕ} {head : List ℕ} {i : ℕ} (h : Backw
   row = getD rows j 0
 
   -- a withdrawal, or of another mark or hour
-  pub back-skip : (not (eqb (rowKind row) 3) && eqb (rowSlot row) hs) ≡ false → Backward s rows n hs head j
+  pub back-skip : (not (isWithdrawal (rowKind row)) && eqb (rowSlot row) hs) ≡ false → Backward s rows n hs head j
   back-skip e = skip (λ c l u.
       let x = what (u .logged) in
       by-test (same (keyOf c) (keyOf x))
       (λ t. let w = same-alike (keyOf c) (keyOf x) t in
       let sl : rowSlot row ≡ hs = seen-at (u .logged) .slot ∙ sym (u .slot-is ∙ (λ i. order (w .mark i) * 32 + w .hour i)) in
-      true≠false (ap₂ (λ (a : ℕ) (b : Bool). not (eqb a 3) && b) (seen-at (u .logged) .kind) (eq-eqb (rowSlot row) hs sl) ∙ ap (λ (b : Bool). b && true) (turn-wrote u t)) e)
+      true≠false (ap₂ (λ (a : Kind) (b : Bool). not (isWithdrawal a) && b) (seen-at (u .logged) .kind) (eq-eqb (rowSlot row) hs sl) ∙ ap (λ (b : Bool). b && true) (turn-wrote u t)) e)
       (λ t. t))
 
   -- it filed or corrected a record of the mark and hour
-  module _ (e : (not (eqb (rowKind row) 3) && eqb (rowSlot row) hs) ≡ true) (x : ℕ) (ex : x ≡ rowPlace row) where
+  module _ (e : (not (isWithdrawal (rowKind row)) && eqb (rowSlot row) hs) ≡ true) (x : ℕ) (ex : x ≡ rowPlace row) where
     there : {l : List Change} (g : Logged s rows n l) → Bears s x (keyOf (what g))
     there g =
         subst (λ (y : ℕ). Bears s y (keyOf (what g))) (sym (ex ∙ seen-at g .place))
         (bears-at (what g) (stands-at g (n - (j + 1)) (what g) (older g) (older-is g)) (good-there g)
-        (λ z. true≠false (and-left (not (eqb (rowKind row) 3)) (eqb (rowSlot row) hs) e) (ap not (eq-eqb (rowKind row) 3 (seen-at g .kind ∙ z)))))
+        (ap isWithdrawal (sym (seen-at g .kind)) ∙ not-not (isWithdrawal (rowKind row)) (and-left (not (isWithdrawal (rowKind row))) (eqb (rowSlot row) hs) e)))
 
     pub back-within : Log s rows n → x ≤ length s
     back-within o = there (o .logged) .at .inside
@@ -278,16 +282,16 @@ module _ {s rows : List ℕ} {n hs : ℕ} {head : List ℕ} {i : ℕ} (h : Backw
         sc : same (keyOf c) (keyOf (what g)) ≡ true
         sc = sym (same-there u) ∙ t
 
-        wrote : (d : Change) (m : List Change) → what g ≡ d → older g ≡ m → (same (keyOf d) (keyOf c) ≡ true) × (liveAt (survey (keyOf d) l) (viewed d) (length (writeAll m)) ≡ true)
+        wrote : (d : Change) (m : List Change) → what g ≡ d → older g ≡ m → (same (keyOf d) (keyOf c) ≡ true) × (liveAt (survey (keyOf d) l) (kindOf d) (length (writeAll m)) ≡ true)
         wrote d m y z =
             let q = length (writeAll m) in
             let sd : same (keyOf c) (keyOf d) ≡ true = ap (λ (v : Change). same (keyOf c) (keyOf v)) (sym y) ∙ sc in
             let dc = same-sym (keyOf d) (keyOf c) ∙ sd in
             let sv = survey-same (keyOf d) (keyOf c) dc l in
-            let k3 : eqb (kindOf d) 3 ≡ false = off (eqb (kindOf d) 3) (ap (λ (v : Change). not (eqb (kindOf v) 3)) (sym y) ∙ turn-wrote u sc) in
+            let k3 : isWithdrawal (kindOf d) ≡ false = off (isWithdrawal (kindOf d)) (ap (λ (v : Change). not (isWithdrawal (kindOf v))) (sym y) ∙ turn-wrote u sc) in
             let st : survey (keyOf d) l .start ≡ q + leadLength (kindOf d) =
-            ap (λ (v : Survey). v .start) sv ∙ sym (turn u .1) ∙ (λ i. survey (keyOf c) (y i ∷ z i) .start) ∙ ap (λ (b : Bool). cond b (cond (eqb (kindOf d) 2) (q + 2) q) (survey (keyOf c) m .start)) sd
-            ∙ lead (eqb (kindOf d) 2) q in (
+            ap (λ (v : Survey). v .start) sv ∙ sym (turn u .1) ∙ (λ i. survey (keyOf c) (y i ∷ z i) .start) ∙ ap (λ (b : Bool). cond b (cond (isCorrection (kindOf d)) (q + 2) q) (survey (keyOf c) m .start)) sd
+            ∙ lead (isCorrection (kindOf d)) q in (
               dc,
               ap (λ (b : Bool). cond b false (cond (survey (keyOf d) l .found) (eqb (survey (keyOf d) l .start) (q + leadLength (kindOf d))) false)) k3
                   ∙ ap₂ (λ (a b : Bool). cond a b false) (ap (λ (v : Survey). v .found) sv ∙ u .stood) (eq-eqb (survey (keyOf d) l .start) (q + leadLength (kindOf d)) st),
@@ -328,7 +332,7 @@ module _ {s rows : List ℕ} {n : ℕ} {c : Change} {l : List Change} (g : Logge
   last-within : {x : ℕ} → x ≡ rowStart (getD rows (n - 1) 0) → x ≤ length s
   last-within ex = omega (arith, ex, last-seen .start, last-at .inside)
 
-  pub undoing : {kind : ℕ} → kind ≡ rowKind (getD rows (n - 1) 0) → (kind ≡ 1 → ⊥) → {x : ℕ} → x ≡ rowStart (getD rows (n - 1) 0)
+  pub undoing : {kind : Kind} → kind ≡ rowKind (getD rows (n - 1) 0) → isFiling kind ≡ false → {x : ℕ} → x ≡ rowStart (getD rows (n - 1) 0)
       → {a : KeyAnswer} → a ≡ keyAnswer (headKey (take (length s - x) (drop x s))) → {hs : ℕ} → hs ≡ hourSlot (a .key) → {head : List ℕ} → head ≡ recordHead (a .key)
       → Undoing s rows n hs head c l
   unfolding Valid
@@ -341,17 +345,17 @@ module _ {s rows : List ℕ} {n : ℕ} {c : Change} {l : List Change} (g : Logge
         logged = g;
         slot-is = es ∙ ap hourSlot key;
         head-is = eh ∙ ap recordHead key;
-        stood = survey-found (keyOf c) l ∙ refusal-found l 65535 c (g .ruled .valid .1) ∙ ap not (ne-eqb (kindOf c) 1 (λ w. z (ek ∙ last-seen .kind ∙ w)));
+        stood = survey-found (keyOf c) l ∙ refusal-found l 65535 c (g .ruled .valid .1) ∙ ap not (ap isFiling (sym (ek ∙ last-seen .kind)) ∙ z);
       }
 
   -- a filing
-  pub back-rows : {kind : ℕ} → kind ≡ rowKind (getD rows (n - 1) 0) → kind ≡ 1 → Rows rows l l
-  back-rows {kind} ek one = go c g (sym (last-seen .kind) ∙ sym ek ∙ one)
+  pub back-rows : {kind : Kind} → kind ≡ rowKind (getD rows (n - 1) 0) → isFiling kind ≡ true → Rows rows l l
+  back-rows {kind} ek one = go c g (ap isFiling (sym (ek ∙ last-seen .kind)) ∙ one)
     where
-      go : (d : Change) → Logged s rows n (d ∷ l) → kindOf d ≡ 1 → Rows rows l l
+      go : (d : Change) → Logged s rows n (d ∷ l) → isFiling (kindOf d) ≡ true → Rows rows l l
       go (filed r) o z = rows-back rows r l (o .ruled .valid) (o .ruled .kept)
-      go (corrected r) o z = absurd (omega arith)
-      go (withdrawn k) o z = absurd (omega arith)
+      go (corrected r) o z = true≠false z refl
+      go (withdrawn k) o z = true≠false z refl
 
 module _ {s rows : List ℕ} {n : ℕ} (o : Log s rows n) (h : 0 < n) where
   pub newest-few : n - 1 < 512

@@ -11,7 +11,7 @@ use Rattle.book.specs.declared.places.Spot.{Spot}
 use Rattle.book.specs.declared.places.Places.{Places}
 use Rattle.book.specs.Register.{writeAll, standing}
 use Rattle.book.specs.ByName.{byName}
-use Rattle.book.specs.Tables.{survey, viewed}
+use Rattle.book.specs.Tables.{survey}
 use Rattle.book.specs.Index.{hourSlot}
 use Rattle.book.specs.Places.{leadLength, liveAt, spotOf, putSpot, spots}
 use Rattle.book.specs.Rows.{rowSlot, rowLive, rowPlace, Logged, Log, keyAt}
@@ -60,11 +60,11 @@ module _ {s rows : List ℕ} {n slot i : ℕ} {p : Places} (h : Gathered s rows 
         let q = length (writeAll (drop (n - i) l)) in
         let row = getD rows i 0 in
         let sn = ruled-seen (g .ruled) lt in
-        let b = sameHour k (keyOf c) && liveAt (survey (keyOf c) l) (viewed c) q in
+        let b = sameHour k (keyOf c) && liveAt (survey (keyOf c) l) (kindOf c) q in
         let eb : standsIn row slot ≡ b = picked sn k slot ek hk in
         let old = gather (hourPass k) l (drop (n - i) l) in
         by-test (standsIn row slot)
-        (λ t. let live : liveAt (survey (keyOf c) l) (viewed c) q ≡ true = sym (sn .live) ∙ left-of (rowLive row) (eqb (rowSlot row) slot) t in
+        (λ t. let live : liveAt (survey (keyOf c) l) (kindOf c) q ≡ true = sym (sn .live) ∙ left-of (rowLive row) (eqb (rowSlot row) slot) t in
         let e : spotIn s row ≡ record { name = keyOf c .name; start = q + leadLength (kindOf c) } =
         (λ j. record { name = keyAt s (sn .place j) .name; start = sn .place j }) ∙ ap (λ (y : Key). record { name = y .name; start = q + leadLength (kindOf c) }) (key-at (written-at g c (ruled-good (g .ruled) lt) q live)) in
         ap (λ (y : Bool). cond y (putSpot (spotIn s row) (spots p)) (spots p)) t ∙ ap₂ putSpot e (h .is l g k ek hk)

@@ -1,5 +1,5 @@
 -- The rows of a checked book: what a row says of its change, and the loops over the rows.
-use Prim.Native.Nat.{ℕ, suc, _+_, _*_, _-_, _≤_, _<_}
+use Prim.Native.Nat.{ℕ, suc, _+_, _*_, _-_, _/_, _%_, _≤_, _<_}
 use mathlib.Core.Path.{_≡_, refl, sym, ap, ap₂, _∙_, subst}
 use mathlib.Core.List.{List, [], _∷_}
 use mathlib.Core.Bool.{Bool, true, false, cond, not, _&&_}
@@ -7,80 +7,87 @@ use native.Mathlib.Omega.{arith}
 use lib.ListN.{length, take, drop, getD, drop-of-length-le}
 use lib.Dec.{eqb, leb}
 use borrow.Author.Tests.{eq-eqb, ne-eqb, eqb-true, le-leb, lt-leb, leb-true, leb-false}
-use Rattle.book.specs.Layer.{Key, View, Rec, Change, filed, corrected, withdrawn, kindOf, keyOf, write, begins, Good, headKey, recordHead, head-written, head-same, keyAnswer, Res, same, sameHour, same-left, same-alike, same-true, Padded, good-padded, sameHour-same, order, good-hour, hour-parts, parts-hour, order-few}
+use Rattle.book.specs.Layer.{Key, View, Rec, Change, filed, corrected, withdrawn, kindOf, keyOf, write, begins, Good, headKey, recordHead, head-written, head-same, keyAnswer, Res, same, sameHour, same-left, same-alike, same-true, Padded, good-padded, sameHour-same, order, good-hour, hour-parts, parts-hour, order-few, Kind, File, Correct, Withdraw, isFiling, isCorrection, isWithdrawal}
 use Rattle.book.specs.Register.{writeAll, standing, stands, count}
 use Rattle.book.specs.Meaning.{Valid}
-use Rattle.book.specs.Tables.{Survey, survey, viewed}
+use Rattle.book.specs.Tables.{Survey, survey}
 use Rattle.book.specs.Index.{hourSlot, slot as keyNumber, latestOf}
 use Rattle.book.specs.Places.{leadLength, liveAt}
 use Rattle.book.specs.Worked.{begun}
 use Rattle.book.specs.StandLaws.{At, Found, found-at, pick-key}
 use Rattle.book.specs.RegisterLaws.{by-test, true≠false, valid-new, survey-found}
 use Rattle.book.specs.GatherLaws.{Pass, gather, collect, gather-standing}
-use Rattle.book.specs.Rows.{packed, rowStart, rowSlot, rowKind, rowLive, rowPlace, rowOf, Rows, Ruled, Rules, Logged, Log, keyAt, Search, Sought}
+use Rattle.book.specs.Rows.{kindCode, kindAt, packed, rowStart, rowSlot, rowKind, rowLive, rowPlace, rowOf, Rows, Ruled, Rules, Logged, Log, keyAt, Search, Sought}
 use Rattle.book.proofs.Surveying.{to-end, valid-size, valid-drop}
 use Rattle.book.proofs.Indexing.{other-slot}
 
 -- ---- a number taken apart
 
-module _ (b : Bool) (kind slot q : ℕ) (hk : kind < 4) (hs : slot < 512) (hq : q < 65536) where
+pub code-few : (kind : Kind) → kindCode kind < 4
+code-few File = omega arith
+code-few Correct = omega arith
+code-few Withdraw = omega arith
+
+code-back : (kind : Kind) → kindAt (kindCode kind) ≡ kind
+code-back File = refl
+code-back Correct = refl
+code-back Withdraw = refl
+
+module _ (b : Bool) (kind : Kind) (slot q : ℕ) (hs : slot < 512) (hq : q < 65536) where
+  hk : kindCode kind < 4
+  hk = code-few kind
+
   unpack-start : rowStart (packed b kind slot q) ≡ q
   unpack-start = go b
     where
       go : (b : Bool) → rowStart (packed b kind slot q) ≡ q
-      go true = omega arith
-      go false = omega arith
+      go true = omega (arith, hk)
+      go false = omega (arith, hk)
 
   unpack-slot : rowSlot (packed b kind slot q) ≡ slot
   unpack-slot = go b
     where
       go : (b : Bool) → rowSlot (packed b kind slot q) ≡ slot
-      go true = omega arith
-      go false = omega arith
+      go true = omega (arith, hk)
+      go false = omega (arith, hk)
 
   unpack-kind : rowKind (packed b kind slot q) ≡ kind
-  unpack-kind = go b
+  unpack-kind = ap kindAt (go b) ∙ code-back kind
     where
-      go : (b : Bool) → rowKind (packed b kind slot q) ≡ kind
-      go true = omega arith
-      go false = omega arith
+      go : (b : Bool) → packed b kind slot q / 33554432 % 4 ≡ kindCode kind
+      go true = omega (arith, hk)
+      go false = omega (arith, hk)
 
   unpack-live : rowLive (packed b kind slot q) ≡ b
   unpack-live = go b
     where
       go : (b : Bool) → rowLive (packed b kind slot q) ≡ b
-      go true = le-leb 134217728 (packed true kind slot q) (omega arith)
-      go false = lt-leb 134217728 (packed false kind slot q) (omega arith)
+      go true = le-leb 134217728 (packed true kind slot q) (omega (arith, hk))
+      go false = lt-leb 134217728 (packed false kind slot q) (omega (arith, hk))
 
 -- ---- what a row says of its change
 
 pub record Seen (row : ℕ) (all : List Change) (q : ℕ) (c : Change) : Type 0 where
-  pub live : rowLive row ≡ liveAt (survey (keyOf c) all) (viewed c) q
+  pub live : rowLive row ≡ liveAt (survey (keyOf c) all) (kindOf c) q
   pub slot : rowSlot row ≡ hourSlot (keyOf c)
   pub kind : rowKind row ≡ kindOf c
   pub start : rowStart row ≡ q
   pub place : rowPlace row ≡ q + leadLength (kindOf c)
   pub low : keyOf c .hour < 32
 
-pub kind-few : (c : Change) → kindOf c < 4
-kind-few (filed r) = omega arith
-kind-few (corrected r) = omega arith
-kind-few (withdrawn k) = omega arith
-
 pub slot-few : (k : Key) → k .hour < 32 → hourSlot k < 512
 slot-few k h = omega (arith, order-few (k .mark))
 
 pub row-seen : (row : ℕ) (all : List Change) (q : ℕ) (c : Change) → row ≡ rowOf all q c → keyOf c .hour < 32 → q < 65536 → Seen row all q c
 row-seen row all q c e low hq =
-    let b = liveAt (survey (keyOf c) all) (viewed c) q in
+    let b = liveAt (survey (keyOf c) all) (kindOf c) q in
     let hs = slot-few (keyOf c) low in
-    let hk = kind-few c in
     record {
-      live = ap rowLive e ∙ unpack-live b (kindOf c) (hourSlot (keyOf c)) q hk hs hq;
-      slot = ap rowSlot e ∙ unpack-slot b (kindOf c) (hourSlot (keyOf c)) q hk hs hq;
-      kind = ap rowKind e ∙ unpack-kind b (kindOf c) (hourSlot (keyOf c)) q hk hs hq;
-      start = ap rowStart e ∙ unpack-start b (kindOf c) (hourSlot (keyOf c)) q hk hs hq;
-      place = ap rowPlace e ∙ ap₂ (λ (x y : ℕ). x + leadLength y) (unpack-start b (kindOf c) (hourSlot (keyOf c)) q hk hs hq) (unpack-kind b (kindOf c) (hourSlot (keyOf c)) q hk hs hq);
+      live = ap rowLive e ∙ unpack-live b (kindOf c) (hourSlot (keyOf c)) q hs hq;
+      slot = ap rowSlot e ∙ unpack-slot b (kindOf c) (hourSlot (keyOf c)) q hs hq;
+      kind = ap rowKind e ∙ unpack-kind b (kindOf c) (hourSlot (keyOf c)) q hs hq;
+      start = ap rowStart e ∙ unpack-start b (kindOf c) (hourSlot (keyOf c)) q hs hq;
+      place = ap rowPlace e ∙ ap₂ (λ (x : ℕ) (y : Kind). x + leadLength y) (unpack-start b (kindOf c) (hourSlot (keyOf c)) q hs hq) (unpack-kind b (kindOf c) (hourSlot (keyOf c)) q hs hq);
       low = low;
     }
 
@@ -158,9 +165,9 @@ slot-same a b ha hb =
 
 -- a row that stands, of the mark and hour
 pub picked : {row : ℕ} {all : List Change} {q : ℕ} {c : Change} → Seen row all q c → (k : Key) (slot : ℕ) → slot ≡ hourSlot k → k .hour < 32
-    → (rowLive row && eqb (rowSlot row) slot) ≡ (sameHour k (keyOf c) && liveAt (survey (keyOf c) all) (viewed c) q)
+    → (rowLive row && eqb (rowSlot row) slot) ≡ (sameHour k (keyOf c) && liveAt (survey (keyOf c) all) (kindOf c) q)
 picked {row} {all} {q} {c} s k slot e h =
-    ap₂ _&&_ (s .live) (ap₂ eqb (s .slot) e ∙ slot-same (keyOf c) k (s .low) h) ∙ and-turned (liveAt (survey (keyOf c) all) (viewed c) q) (sameHour k (keyOf c))
+    ap₂ _&&_ (s .live) (ap₂ eqb (s .slot) e ∙ slot-same (keyOf c) k (s .low) h) ∙ and-turned (liveAt (survey (keyOf c) all) (kindOf c) q) (sameHour k (keyOf c))
 
 -- ---- the loop of any pass over the rows
 
@@ -183,7 +190,7 @@ module _ {B : Type 0} {p : Key → Pass B} {rows : List ℕ} {n slot i : ℕ} {x
   pub ran-next : (lt : i < n) (ys : B)
       → ((l : List Change) (r : Ruled rows n l) (k : Key) → slot ≡ hourSlot k → k .hour < 32
       → let w = ruled-at r lt in let q = length (writeAll (drop (n - i) l)) in
-      ys ≡ cond (p k .pick (keyOf (w .what)) && liveAt (survey (keyOf (w .what)) l) (viewed (w .what)) q) (p k .put (keyOf (w .what)) (q + leadLength (kindOf (w .what))) xs) xs)
+      ys ≡ cond (p k .pick (keyOf (w .what)) && liveAt (survey (keyOf (w .what)) l) (kindOf (w .what)) q) (p k .put (keyOf (w .what)) (q + leadLength (kindOf (w .what))) xs) xs)
       → Ran p rows n slot (i + 1) ys
   unfolding gather
   ran-next lt ys e = record {
@@ -192,7 +199,7 @@ module _ {B : Type 0} {p : Key → Pass B} {rows : List ℕ} {n slot i : ℕ} {x
         let w = ruled-at r lt in
         let q = length (writeAll (drop (n - i) l)) in
         e l r k ek hk
-        ∙ ap (λ (y : B). cond (p k .pick (keyOf (w .what)) && liveAt (survey (keyOf (w .what)) l) (viewed (w .what)) q) (p k .put (keyOf (w .what)) (q + leadLength (kindOf (w .what))) y) y) (h .is l r k ek hk)
+        ∙ ap (λ (y : B). cond (p k .pick (keyOf (w .what)) && liveAt (survey (keyOf (w .what)) l) (kindOf (w .what)) q) (p k .put (keyOf (w .what)) (q + leadLength (kindOf (w .what))) y) y) (h .is l r k ek hk)
         ∙ ap (gather (p k) l) (sym (w .rest));
   }
 
@@ -233,18 +240,18 @@ counting-end h le key e l r hk = ran-end (h .ran) le l r key e hk ∙ collect-co
 
 -- ---- what is live, by the survey of its key
 
-pub live-true : (s : Survey) (v : View) (q : ℕ) → liveAt s v q ≡ true → (s .found ≡ true) × (s .start ≡ q + leadLength (v .kind))
+pub live-true : (s : Survey) (v : Kind) (q : ℕ) → liveAt s v q ≡ true → (s .found ≡ true) × (s .start ≡ q + leadLength v)
 unfolding liveAt
-live-true s v q = go (eqb (v .kind) 3) (s .found) refl (eqb (s .start) (q + leadLength (v .kind))) refl
+live-true s v q = go (isWithdrawal v) (s .found) refl (eqb (s .start) (q + leadLength v)) refl
   where
-    go : (a f : Bool) → s .found ≡ f → (e : Bool) → eqb (s .start) (q + leadLength (v .kind)) ≡ e → cond a false (cond f e false) ≡ true
-        → (s .found ≡ true) × (s .start ≡ q + leadLength (v .kind))
+    go : (a f : Bool) → s .found ≡ f → (e : Bool) → eqb (s .start) (q + leadLength v) ≡ e → cond a false (cond f e false) ≡ true
+        → (s .found ≡ true) × (s .start ≡ q + leadLength v)
     go true f ef e ee h = true≠false h refl
-    go false true ef true ee h = (ef, eqb-true (s .start) (q + leadLength (v .kind)) ee)
+    go false true ef true ee h = (ef, eqb-true (s .start) (q + leadLength v) ee)
     go false true ef false ee h = true≠false h refl
     go false false ef e ee h = true≠false h refl
 
-pub live-away : (s : Survey) (v : View) (q : ℕ) → (s .start ≡ q + leadLength (v .kind) → ⊥) → liveAt s v q ≡ false
+pub live-away : (s : Survey) (v : Kind) (q : ℕ) → (s .start ≡ q + leadLength v → ⊥) → liveAt s v q ≡ false
 live-away s v q z = by-test (liveAt s v q) (λ t. absurd (z (live-true s v q t .1))) (λ t. t)
 
 -- a test of the bytes from a place on
@@ -271,9 +278,9 @@ module _ {s rows : List ℕ} {n : ℕ} {l : List Change} (g : Logged s rows n l)
   logged-at k h = found-at (begun g) k h
 
   -- what is written where a change wrote the record that stands
-  pub written-at : (c : Change) → Good c → (q : ℕ) → liveAt (survey (keyOf c) l) (viewed c) q ≡ true → Bears s (q + leadLength (kindOf c)) (keyOf c)
+  pub written-at : (c : Change) → Good c → (q : ℕ) → liveAt (survey (keyOf c) l) (kindOf c) q ≡ true → Bears s (q + leadLength (kindOf c)) (keyOf c)
   written-at c gc q h =
-      let e = live-true (survey (keyOf c) l) (viewed c) q h in
+      let e = live-true (survey (keyOf c) l) (kindOf c) q h in
       let f = logged-at (keyOf c) (e .0) in
       record {
         what = f .what;
@@ -312,10 +319,10 @@ survey-same j k h (c ∷ l) =
     let e = same-left j k h (keyOf c) in
     let ih = survey-same j k h l in
     λ i. record {
-      found = cond (e i) (not (eqb (kindOf c) 3)) (ih i .found);
-      start = cond (e i) (cond (eqb (kindOf c) 2) (q + 2) q) (ih i .start);
-      len = cond (e i) (cond (eqb (kindOf c) 2) (length (write c) - 2) (length (write c))) (ih i .len);
-      count = cond (sameHour-same j k sh (keyOf c) i) (cond (eqb (kindOf c) 1) (ih i .count + 1) (cond (eqb (kindOf c) 3) (ih i .count - 1) (ih i .count))) (ih i .count);
+      found = cond (e i) (not (isWithdrawal (kindOf c))) (ih i .found);
+      start = cond (e i) (cond (isCorrection (kindOf c)) (q + 2) q) (ih i .start);
+      len = cond (e i) (cond (isCorrection (kindOf c)) (length (write c) - 2) (length (write c))) (ih i .len);
+      count = cond (sameHour-same j k sh (keyOf c) i) (cond (isFiling (kindOf c)) (ih i .count + 1) (cond (isWithdrawal (kindOf c)) (ih i .count - 1) (ih i .count))) (ih i .count);
     }
 
 collect-find : (k : Key) (all : List Change) (rs : List Rec) → collect (findPass k) all rs ≡ hit-or (stands k rs) (survey k all .start)
@@ -360,7 +367,7 @@ skip-newer k p all (c ∷ l) v from h le = by-test (leb from (length l)) (inside
         (λ u. absurd (omega (arith, h, ap (λ (b : Bool). cond b (length l + 1) (latestOf (keyNumber k) l)) u)))
         (λ u. let o = other-slot k p c (v .0) u in
         let q = length (writeAll l) in
-        ap (λ (b : Bool). cond (b && liveAt (survey (keyOf c) all) (viewed c) q) (record { found = true; start = q + leadLength (kindOf c) }) (gather (findPass k) all l)) o
+        ap (λ (b : Bool). cond (b && liveAt (survey (keyOf c) all) (kindOf c) q) (record { found = true; start = q + leadLength (kindOf c) }) (gather (findPass k) all l)) o
         ∙ ih (omega (arith, h, ap (λ (b : Bool). cond b (length l + 1) (latestOf (keyNumber k) l)) u)) lt
         ∙ ap (λ (m : ℕ). gather (findPass k) all (drop m (c ∷ l))) (sym e))
 
@@ -402,7 +409,7 @@ module _ {s rows : List ℕ} {n from hs : ℕ} {head : List ℕ} {i : ℕ} (h : 
     begun-at = length (writeAll (drop (n - j) l))
 
     live : Bool
-    live = liveAt (survey (keyOf what) l) (viewed what) begun-at
+    live = liveAt (survey (keyOf what) l) (kindOf what) begun-at
 
   turn-is : (k : Key) (l : List Change) (w : Search s rows n from hs head k l)
       → gather (findPass k) l l ≡ cond (same k (keyOf (what (w .logged))) && live (w .logged)) (record { found = true; start = begun-at (w .logged) + leadLength (kindOf (what (w .logged))) }) (gather (findPass k) l (drop (n - j) l))

@@ -8,10 +8,10 @@ use lib.ListN.{length, take, drop, getD, set, replicate, length-replicate, lengt
 use lib.Seq.{drop-drop, getD-set-same, getD-set-other, take-length, take-append-le}
 use lib.Dec.{eqb, ltb}
 use borrow.Author.Tests.{eq-eqb, ne-eqb, eqb-true, ltb-true, ltb-false}
-use Rattle.book.specs.Layer.{Key, View, Rec, Change, filed, corrected, withdrawn, keyOf, kindOf, write, write-pos, write-co, blind, scan, limitOf, Found, scan-got, Read, good-hour, good-padded, Padded, same, same-refl}
+use Rattle.book.specs.Layer.{Key, View, Rec, Change, filed, corrected, withdrawn, keyOf, kindOf, write, write-pos, write-co, blind, scan, limitOf, Found, scan-got, Read, good-hour, good-padded, Padded, same, same-refl, Kind, isFiling, isCorrection, isWithdrawal, kindIn}
 use Rattle.book.specs.Register.{writeAll, refusal, room, stands, count, standing}
 use Rattle.book.specs.Meaning.{Load, belongs, astray, onward, ended, replay, Valid}
-use Rattle.book.specs.Tables.{Survey, together, survey, viewed, judge}
+use Rattle.book.specs.Tables.{Survey, together, survey, judge}
 use Rattle.book.specs.Index.{hourSlot, slot, latestOf}
 use Rattle.book.specs.Places.{leadLength, liveAt}
 use Rattle.book.specs.declared.rows.Seek.{Seek}
@@ -19,7 +19,7 @@ use Rattle.book.specs.Rows.{packed, rowPlace, rowOf, Rows, Rowed, Ruled,
 use Rattle.book.specs.RegisterLaws.{by-test, true≠false, survey-found, survey-count, refusal-judge, refusal-found}
 use Rattle.book.proofs.Surveying.{survey-few, judge-room, room-facts}
 use Rattle.book.proofs.Indexing.{latest-few, latest-next, counts-next}
-use Rattle.book.proofs.Rowing.{rows-at, ruled-at, ruled-low, ruled-start, ruled-seen, kind-few, slot-few, live-true, live-away, survey-same}
+use Rattle.book.proofs.Rowing.{rows-at, ruled-at, ruled-low, ruled-start, ruled-seen, code-few, slot-few, live-true, live-away, survey-same}
 
 -- ---- no two changes wrote at one place
 
@@ -62,7 +62,7 @@ module _ {rows : List ℕ} {n : ℕ} {l : List Change} (r : Ruled rows n l) wher
 
 -- ---- what stands after one change more
 
-live-newest : (c : Change) (l : List Change) → liveAt (survey (keyOf c) (c ∷ l)) (viewed c) (length (writeAll l)) ≡ not (eqb (kindOf c) 3)
+live-newest : (c : Change) (l : List Change) → liveAt (survey (keyOf c) (c ∷ l)) (kindOf c) (length (writeAll l)) ≡ not (isWithdrawal (kindOf c))
 unfolding survey liveAt
 live-newest (filed r) l =
     let q = length (writeAll l) in
@@ -72,27 +72,27 @@ live-newest (corrected r) l =
     ap (λ (b : Bool). cond (cond b true (survey (r .key) l .found)) (eqb (cond b (q + 2) (survey (r .key) l .start)) (q + 2)) false) (same-refl (r .key)) ∙ eq-eqb (q + 2) (q + 2) refl
 live-newest (withdrawn k) l = refl
 
-module _ (c : Change) (l : List Change) (k : Key) (v : View) (q : ℕ) where
+module _ (c : Change) (l : List Change) (k : Key) (v : Kind) (q : ℕ) where
   pub live-passed : same k (keyOf c) ≡ false → liveAt (survey k (c ∷ l)) v q ≡ liveAt (survey k l) v q
   unfolding survey liveAt
   live-passed t =
       let Q = length (writeAll l) in
-      ap (λ (b : Bool). cond (eqb (v .kind) 3) false (cond (cond b (not (eqb (kindOf c) 3)) (survey k l .found)) (eqb (cond b (cond (eqb (kindOf c) 2) (Q + 2) Q) (survey k l .start)) (q + leadLength (v .kind))) false)) t
+      ap (λ (b : Bool). cond (isWithdrawal v) false (cond (cond b (not (isWithdrawal (kindOf c))) (survey k l .found)) (eqb (cond b (cond (isCorrection (kindOf c)) (Q + 2) Q) (survey k l .start)) (q + leadLength v)) false)) t
 
-  pub live-over : same k (keyOf c) ≡ true → q + leadLength (v .kind) < length (writeAll l) → liveAt (survey k (c ∷ l)) v q ≡ false
+  pub live-over : same k (keyOf c) ≡ true → q + leadLength v < length (writeAll l) → liveAt (survey k (c ∷ l)) v q ≡ false
   unfolding survey
   live-over t h =
       let Q = length (writeAll l) in
-      let e : survey k (c ∷ l) .start ≡ cond (eqb (kindOf c) 2) (Q + 2) Q = ap (λ (b : Bool). cond b (cond (eqb (kindOf c) 2) (Q + 2) Q) (survey k l .start)) t in
-      live-away (survey k (c ∷ l)) v q (λ z. omega (arith, z, e, h, least (eqb (kindOf c) 2) Q))
+      let e : survey k (c ∷ l) .start ≡ cond (isCorrection (kindOf c)) (Q + 2) Q = ap (λ (b : Bool). cond b (cond (isCorrection (kindOf c)) (Q + 2) Q) (survey k l .start)) t in
+      live-away (survey k (c ∷ l)) v q (λ z. omega (arith, z, e, h, least (isCorrection (kindOf c)) Q))
     where
       least : (b : Bool) (m : ℕ) → m ≤ cond b (m + 2) m
       least true m = omega arith
       least false m = omega arith
 
-gone-packed : (b : Bool) (k s q : ℕ) → k < 4 → s < 512 → q < 65536 → rowGone (packed b k s q) ≡ packed false k s q
-gone-packed true k s q hk hs hq = omega arith
-gone-packed false k s q hk hs hq = omega arith
+gone-packed : (b : Bool) (k : Kind) (s q : ℕ) → s < 512 → q < 65536 → rowGone (packed b k s q) ≡ packed false k s q
+gone-packed true k s q hs hq = omega (arith, code-few k)
+gone-packed false k s q hs hq = omega (arith, code-few k)
 
 pub rows-build : (rows : List ℕ) (all l : List Change) (n : ℕ) → length l ≡ n
     → ((j : ℕ) (d : Change) (m : List Change) → j < n → drop (n - (j + 1)) l ≡ d ∷ m → getD rows j 0 ≡ rowOf all (length (writeAll m)) d) → Rows rows all l
@@ -157,17 +157,17 @@ module _ {s rows : List ℕ} {n : ℕ} {l : List Change} (g : Logged s rows n l)
     below = omega (arith, short d, length-append (writeAll m) (write d), ap (λ (y : List Change). length (writeAll y)) e, drops (n - (j + 1)) l)
 
     old : Bool
-    old = liveAt (survey (keyOf d) l) (viewed d) (length (writeAll m))
+    old = liveAt (survey (keyOf d) l) (kindOf d) (length (writeAll m))
 
     new : Bool
-    new = liveAt (survey (keyOf d) (c ∷ l)) (viewed d) (length (writeAll m))
+    new = liveAt (survey (keyOf d) (c ∷ l)) (kindOf d) (length (writeAll m))
 
     -- the record of the key that stood is the one that was found
     old-false : same (keyOf d) (keyOf c) ≡ true → (x .found && eqb j (x .at)) ≡ false → old ≡ false
     unfolding old
     old-false t h =
         by-test old
-        (λ o. let w = live-true (survey (keyOf d) l) (viewed d) (length (writeAll m)) o in
+        (λ o. let w = live-true (survey (keyOf d) l) (kindOf d) (length (writeAll m)) o in
         let kd = survey-same (keyOf d) (keyOf c) t l in
         let fd : x .found ≡ true = f .found ∙ ap (λ (y : Survey). y .found) (sym kd) ∙ w .0 in
         let p : rowPlace (getD rows (x .at) 0) ≡ rowPlace (getD rows j 0) = f .place fd ∙ f .start fd ∙ ap (λ (y : Survey). y .start) (sym kd) ∙ w .1 ∙ sym place-is in
@@ -185,14 +185,14 @@ module _ {s rows : List ℕ} {n : ℕ} {l : List Change} (g : Logged s rows n l)
         (λ h. let fd = and-left (x .found) (eqb j (x .at)) h in
         let a = eqb-true j (x .at) (and-right (x .found) (eqb j (x .at)) h) in
         let kd : keyOf d ≡ keyOf c = f .wrote fd d m (ap (λ (y : ℕ). drop (n - (y + 1)) l) (sym a) ∙ e) in
-        let nf : new ≡ false = live-over c l (keyOf d) (viewed d) q (ap (same (keyOf d)) (sym kd) ∙ same-refl (keyOf d)) below in
+        let nf : new ≡ false = live-over c l (keyOf d) (kindOf d) q (ap (same (keyOf d)) (sym kd) ∙ same-refl (keyOf d)) below in
         ap (λ (b : Bool). cond b (rowGone (getD rows j 0)) (getD rows j 0)) h ∙ ap rowGone row-is
-        ∙ gone-packed old k sl q (kind-few d) (slot-few (keyOf d) low) q-few ∙ ap (λ (b : Bool). packed b k sl q) (sym nf))
+        ∙ gone-packed old k sl q (slot-few (keyOf d) low) q-few ∙ ap (λ (b : Bool). packed b k sl q) (sym nf))
         (λ h. ap (λ (b : Bool). cond b (rowGone (getD rows j 0)) (getD rows j 0)) h ∙ row-is
         ∙ ap (λ (b : Bool). packed b k sl q)
         (by-test (same (keyOf d) (keyOf c))
-        (λ t. old-false t h ∙ sym (live-over c l (keyOf d) (viewed d) q t below))
-        (λ t. sym (live-passed c l (keyOf d) (viewed d) q t))))
+        (λ t. old-false t h ∙ sym (live-over c l (keyOf d) (kindOf d) q t below))
+        (λ t. sym (live-passed c l (keyOf d) (kindOf d) q t))))
       where
         and-left : (a b : Bool) → (a && b) ≡ true → a ≡ true
         and-left true b h = refl
@@ -203,7 +203,7 @@ module _ {s rows : List ℕ} {n : ℕ} {l : List Change} (g : Logged s rows n l)
         and-right false b h = true≠false h refl
 
   -- the rows with the change in them
-  pub rows-next : (row : ℕ) → row ≡ packed (not (eqb (kindOf c) 3)) (kindOf c) (hourSlot (keyOf c)) (length (writeAll l))
+  pub rows-next : (row : ℕ) → row ≡ packed (not (isWithdrawal (kindOf c))) (kindOf c) (hourSlot (keyOf c)) (length (writeAll l))
       → Rows (set (cleared rows x) n row) (c ∷ l) (c ∷ l)
   unfolding Rows
   rows-next row er = (
@@ -215,9 +215,9 @@ module _ {s rows : List ℕ} {n : ℕ} {l : List Change} (g : Logged s rows n l)
 
 -- ---- the loop over the changes
 
-judge-few : (kind : ℕ) (f : Bool) (n most changes used len : ℕ) → judge kind f n most changes used len 65535 ≡ 0 → (changes < 512) × (used + len ≤ 65535)
+judge-few : (kind : Kind) (f : Bool) (n most changes used len : ℕ) → judge kind f n most changes used len 65535 ≡ 0 → (changes < 512) × (used + len ≤ 65535)
 unfolding judge
-judge-few kind f n most changes used len e = let r = room-facts changes used len 65535 (judge-room (eqb kind 1) f (ltb n most) (room changes used len 65535) e) in (r .0, r .2)
+judge-few kind f n most changes used len e = let r = room-facts changes used len 65535 (judge-room (isFiling kind) f (ltb n most) (room changes used len 65535) e) in (r .0, r .2)
 
 belongs-one : (a b : List Change) → belongs a ≡ belongs b → a ≡ b
 belongs-one a b e = cc
@@ -347,7 +347,7 @@ module _ {part : List ℕ} {n : ℕ} {rows latest counts : List ℕ} {q i : ℕ}
       pub head-fewer : getD counts hour 0 < 65536
       head-fewer = omega (arith, head-count, survey-few (v .key) (h .acc), h .count, h .few)
 
-      module _ {most : ℕ} (em : most ≡ limitOf (v .key)) {w : ℕ} (e : w ≡ judge (v .kind) (x .found) (getD counts hour 0) most i q (v .len) 65535) where
+      module _ {most : ℕ} (em : most ≡ limitOf (v .key)) {w : ℕ} (e : w ≡ judge (kindIn (v .act)) (x .found) (getD counts hour 0) most i q (v .len) 65535) where
         -- the code's judgement is the register's
         judged-is : refusal (h .acc) 65535 (r .what) ≡ w
         judged-is =
@@ -355,7 +355,7 @@ module _ {part : List ℕ} {n : ℕ} {rows latest counts : List ℕ} {q i : ℕ}
             let fd : x .found ≡ stands (keyOf c) (standing (h .acc)) = sought .found ∙ ap (λ (y : Key). survey y (h .acc) .found) (sym c-is) ∙ survey-found (keyOf c) (h .acc) in
             let cs : getD counts hour 0 ≡ count (keyOf c) (standing (h .acc)) = head-count ∙ ap (λ (y : Key). survey y (h .acc) .count) (sym c-is) ∙ survey-count (keyOf c) (h .acc) (h .valid) in
             let ms : most ≡ limitOf (keyOf c) = em ∙ ap limitOf (sym c-is) in
-            sym (e ∙ (λ s. judge (r .view-is s .kind) (fd s) (cs s) (ms s) (sym (h .count) s) (sym (h .at) s) (r .view-is s .len) 65535) ∙ sym (refusal-judge (h .acc) 65535 c))
+            sym (e ∙ (λ s. judge (kindIn (r .view-is s .act)) (fd s) (cs s) (ms s) (sym (h .count) s) (sym (h .at) s) (r .view-is s .len) 65535) ∙ sym (refusal-judge (h .acc) 65535 c))
 
         pub head-refused : (w ≡ 0 → ⊥) → Rowed (replay n [] part) false rows
         head-refused z =
@@ -366,13 +366,13 @@ module _ {part : List ℕ} {n : ℕ} {rows latest counts : List ℕ} {q i : ℕ}
         -- it is taken
         module _ (z : w ≡ 0) where
           pub head-few : (i < 512) × (q + v .len ≤ 65535)
-          head-few = judge-few (v .kind) (x .found) (getD counts hour 0) most i q (v .len) (sym e ∙ z)
+          head-few = judge-few (kindIn (v .act)) (x .found) (getD counts hour 0) most i q (v .len) (sym e ∙ z)
 
-          pub head-row : (v .kind < 4) × (hour < 512) × (q < 65536)
-          head-row = (omega (arith, kind-few (r .what), ap (λ (y : View). y .kind) (r .view-is)), omega (arith, eh, slot-few (v .key) low-key), omega (arith, head-few .1))
+          pub head-row : (hour < 512) × (q < 65536)
+          head-row = (omega (arith, eh, slot-few (v .key) low-key), omega (arith, head-few .1))
 
-          pub head-next : sl < 8192 → {rows′ : List ℕ} → rows′ ≡ cleared rows x → {row : ℕ} → row ≡ packed (not (eqb (v .kind) 3)) (v .kind) hour q
-              → {m : ℕ} → m ≡ cond (eqb (v .kind) 1) (getD counts hour 0 + 1) (cond (eqb (v .kind) 3) (getD counts hour 0 - 1) (getD counts hour 0))
+          pub head-next : sl < 8192 → {rows′ : List ℕ} → rows′ ≡ cleared rows x → {row : ℕ} → row ≡ packed (not (isWithdrawal (kindIn (v .act)))) (kindIn (v .act)) hour q
+              → {m : ℕ} → m ≡ cond (isFiling (kindIn (v .act))) (getD counts hour 0 + 1) (cond (isWithdrawal (kindIn (v .act))) (getD counts hour 0 - 1) (getD counts hour 0))
               → Head part n (set rows′ i row) (set latest sl (i + 1)) (set counts hour m) (q + v .len) (i + 1)
           unfolding Valid writeAll
           head-next sl-in {rows′} ex {row} er {m} em′ =
@@ -383,8 +383,8 @@ module _ {part : List ℕ} {n : ℕ} {rows latest counts : List ℕ} {q i : ℕ}
               let i-is : i + 1 ≡ length (h .acc) + 1 = omega (arith, h .count) in
               let hr : hour ≡ hourSlot (keyOf c) = eh ∙ ap hourSlot (sym c-is) in
               let f : Sought rows i (keyOf c) x (h .acc) = subst (λ (k : Key). Sought rows i k x (h .acc)) (sym c-is) sought in
-              let er′ : row ≡ packed (not (eqb (kindOf c) 3)) (kindOf c) (hourSlot (keyOf c)) (length (writeAll (h .acc))) =
-              er ∙ (λ t. packed (not (eqb (r .view-is t .kind) 3)) (r .view-is t .kind) (hr t) (sym (h .at) t)) in
+              let er′ : row ≡ packed (not (isWithdrawal (kindOf c))) (kindOf c) (hourSlot (keyOf c)) (length (writeAll (h .acc))) =
+              er ∙ (λ t. packed (not (isWithdrawal (kindIn (r .view-is t .act)))) (kindIn (r .view-is t .act)) (hr t) (sym (h .at) t)) in
               record {
                 acc = c ∷ h .acc;
                 valid = (good .good, y, h .valid);
@@ -396,8 +396,8 @@ module _ {part : List ℕ} {n : ℕ} {rows latest counts : List ℕ} {q i : ℕ}
                 latest-is = λ k. (λ j. getD (set latest (sk j) (i-is j)) k 0) ∙ latest-next latest c (h .acc) k (omega (arith, sk, h .latest-size)) (h .latest-is k);
                 counts-size = length-set counts hour m ∙ h .counts-size;
                 counts-is = λ k lk. ap (λ (t : ℕ). getD (set counts t m) (hourSlot k) 0) hr
-                    ∙ counts-next counts c (h .acc) k m (omega (arith, hr, h .counts-size, head-row .1)) (omega (arith, low-key, ap (λ (t : Key). t .hour) c-is)) lk (h .counts-is k lk)
-                    (em′ ∙ (λ j. cond (eqb (r .view-is j .kind) 1) (getD counts (hr j) 0 + 1) (cond (eqb (r .view-is j .kind) 3) (getD counts (hr j) 0 - 1) (getD counts (hr j) 0))));
+                    ∙ counts-next counts c (h .acc) k m (omega (arith, hr, h .counts-size, head-row .0)) (omega (arith, low-key, ap (λ (t : Key). t .hour) c-is)) lk (h .counts-is k lk)
+                    (em′ ∙ (λ j. cond (isFiling (kindIn (r .view-is j .act))) (getD counts (hr j) 0 + 1) (cond (isWithdrawal (kindIn (r .view-is j .act))) (getD counts (hr j) 0 - 1) (getD counts (hr j) 0))));
                 count = omega (arith, h .count);
                 at = length-append (writeAll (h .acc)) (write c) ∙ ap₂ _+_ (h .at) (sym (good .len));
                 split = h .split ∙ ap (λ (t : List ℕ). writeAll (h .acc) ++ t) (good .bytes ∙ ap (λ (t : List ℕ). write c ++ t) (drop-drop (v .len) q part))
@@ -428,11 +428,11 @@ rows-back rows r l v k = rows-build rows l l (length l) refl at
         let wm : drop (length l - j) l ≡ m = cc in
         let q = length (writeAll m) in
         let low : q + leadLength (kindOf d) < length (writeAll l) = under d m l (length l - (j + 1)) e in
-        let live : liveAt (survey (keyOf d) (filed r ∷ l)) (viewed d) q ≡ liveAt (survey (keyOf d) l) (viewed d) q =
+        let live : liveAt (survey (keyOf d) (filed r ∷ l)) (kindOf d) q ≡ liveAt (survey (keyOf d) l) (kindOf d) q =
         by-test (same (keyOf d) (r .key))
-        (λ t. live-over (filed r) l (keyOf d) (viewed d) q t low
-        ∙ sym (by-test (liveAt (survey (keyOf d) l) (viewed d) q)
-        (λ o. true≠false (sym (ap (λ (y : Survey). y .found) (survey-same (keyOf d) (r .key) t l)) ∙ live-true (survey (keyOf d) l) (viewed d) q o .0) gone)
+        (λ t. live-over (filed r) l (keyOf d) (kindOf d) q t low
+        ∙ sym (by-test (liveAt (survey (keyOf d) l) (kindOf d) q)
+        (λ o. true≠false (sym (ap (λ (y : Survey). y .found) (survey-same (keyOf d) (r .key) t l)) ∙ live-true (survey (keyOf d) l) (kindOf d) q o .0) gone)
         (λ o. o)))
-        (λ t. live-passed (filed r) l (keyOf d) (viewed d) q t) in
+        (λ t. live-passed (filed r) l (keyOf d) (kindOf d) q t) in
         w .row ∙ (λ i. rowOf (filed r ∷ l) (length (writeAll (wm i))) (wd i)) ∙ ap (λ (b : Bool). packed b (kindOf d) (hourSlot (keyOf d)) q) live

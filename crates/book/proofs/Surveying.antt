@@ -6,19 +6,18 @@ use mathlib.Core.Bool.{Bool, true, false, cond}
 use native.Mathlib.Omega.{arith}
 use lib.ListN.{length, take, drop, length-drop}
 use lib.Seq.{take-all}
-use lib.Dec.{eqb}
-use Rattle.book.specs.Layer.{Key, View, Change, sameHour}
+use Rattle.book.specs.Layer.{Key, Change, keyOf, kindOf, isFiling, isWithdrawal, sameHour}
 use Rattle.book.specs.Register.{writeAll}
 use Rattle.book.specs.Meaning.{Valid}
-use Rattle.book.specs.Tables.{Survey, survey, noted, viewed}
+use Rattle.book.specs.Tables.{Survey, survey, noted}
 pub use Rattle.book.specs.ValidLaws.{judge-room, room-facts, valid-size}
 
 -- a part to the end is what is left
 pub to-end : (q : ℕ) (log : List ℕ) → take (length log - q) (drop q log) ≡ drop q log
 to-end q log = take-all (length log - q) (drop q log) (omega (arith, length-drop q log))
 
-pub counted : (k : Key) (q : ℕ) (v : View) (s : Survey) → noted k q v s .count ≤ s .count + 1
-counted k q v s = go (sameHour k (v .key)) (eqb (v .kind) 1) (eqb (v .kind) 3) (s .count)
+pub counted : (k : Key) (q : ℕ) (d : Change) (s : Survey) → noted k q d s .count ≤ s .count + 1
+counted k q d s = go (sameHour k (keyOf d)) (isFiling (kindOf d)) (isWithdrawal (kindOf d)) (s .count)
   where
     go : (a b c : Bool) (n : ℕ) → cond a (cond b (n + 1) (cond c (n - 1) n)) n ≤ n + 1
     go true true c n = omega arith
@@ -29,7 +28,7 @@ counted k q v s = go (sameHour k (v .key)) (eqb (v .kind) 1) (eqb (v .kind) 3) (
 pub survey-few : (k : Key) (l : List Change) → survey k l .count ≤ length l
 unfolding survey
 survey-few k [] = omega arith
-survey-few k (c ∷ l) = omega (arith, counted k (length (writeAll l)) (viewed c) (survey k l), survey-few k l)
+survey-few k (c ∷ l) = omega (arith, counted k (length (writeAll l)) c (survey k l), survey-few k l)
 
 pub valid-drop : (m : ℕ) (l : List Change) → Valid l → Valid (drop m l)
 unfolding Valid

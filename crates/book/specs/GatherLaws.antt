@@ -7,11 +7,11 @@ use native.Mathlib.Omega.{arith}
 use lib.ListN.{length, length-append}
 use lib.Dec.{eqb}
 use borrow.Author.Tests.{eq-eqb, ne-eqb}
-use Rattle.book.specs.Layer.{Key, Name, Rec, Change, filed, corrected, withdrawn, keyOf, kindOf, write, same, sameHour, nameOf, nameBefore, same-refl, same-sym, write-pos, write-co}
+use Rattle.book.specs.Layer.{Key, Name, Rec, Change, filed, corrected, withdrawn, keyOf, kindOf, write, same, sameHour, nameOf, nameBefore, same-refl, same-sym, write-pos, write-co, isCorrection, isWithdrawal}
 use Rattle.book.specs.Register.{writeAll, without, standing}
 use Rattle.book.specs.declared.places.Spot.{Spot}
 use Rattle.book.specs.ByName.{inOrder, byName, addName, sameMark, namesOf}
-use Rattle.book.specs.Tables.{survey, viewed}
+use Rattle.book.specs.Tables.{survey}
 use Rattle.book.specs.Places.{leadLength, liveAt, spotOf, putSpot}
 use Rattle.book.specs.RegisterLaws.{by-test, true≠false, same-turned, New, new-without}
 
@@ -25,7 +25,7 @@ pub record Pass (B : Type 0) : Type 0 where
 unfoldable pub gather : {B : Type 0} → Pass B → List Change → List Change → B
 gather p all [] = p .none
 gather p all (c ∷ l) =
-    cond (p .pick (keyOf c) && liveAt (survey (keyOf c) all) (viewed c) (length (writeAll l))) (p .put (keyOf c) (length (writeAll l) + leadLength (kindOf c)) (gather p all l)) (gather p all l)
+    cond (p .pick (keyOf c) && liveAt (survey (keyOf c) all) (kindOf c) (length (writeAll l))) (p .put (keyOf c) (length (writeAll l) + leadLength (kindOf c)) (gather p all l)) (gather p all l)
 
 -- from the records themselves
 unfoldable pub collect : {B : Type 0} → Pass B → List Change → List Rec → B
@@ -54,8 +54,8 @@ passed k (c ∷ cs) l h =
     (λ t. true≠false (ap (λ (b : Bool). cond b true (touched k cs)) t) h)
     (λ t. let w = passed k cs l (sym (ap (λ (b : Bool). cond b true (touched k cs)) t) ∙ h) in
     let q = length (writeAll (cs ++ l)) in (
-      ap (λ (b : Bool). cond b (not (eqb (kindOf c) 3)) (survey k (cs ++ l) .found)) t ∙ w .0,
-      ap (λ (b : Bool). cond b (cond (eqb (kindOf c) 2) (q + 2) q) (survey k (cs ++ l) .start)) t ∙ w .1,
+      ap (λ (b : Bool). cond b (not (isWithdrawal (kindOf c))) (survey k (cs ++ l) .found)) t ∙ w .0,
+      ap (λ (b : Bool). cond b (cond (isCorrection (kindOf c)) (q + 2) q) (survey k (cs ++ l) .start)) t ∙ w .1,
     ))
 
 beyond : (k : Key) (newer l : List Change) → touched k newer ≡ true → length (writeAll l) ≤ survey k (newer ++ l) .start
@@ -63,9 +63,9 @@ unfolding touched survey
 beyond k [] l h = true≠false h refl
 beyond k (c ∷ cs) l h =
     by-test (same k (keyOf c))
-    (λ t. subst (λ (b : Bool). length (writeAll l) ≤ cond b (cond (eqb (kindOf c) 2) (length (writeAll (cs ++ l)) + 2) (length (writeAll (cs ++ l)))) (survey k (cs ++ l) .start)) (sym t)
-    (go (eqb (kindOf c) 2) (grows cs l)))
-    (λ t. subst (λ (b : Bool). length (writeAll l) ≤ cond b (cond (eqb (kindOf c) 2) (length (writeAll (cs ++ l)) + 2) (length (writeAll (cs ++ l)))) (survey k (cs ++ l) .start)) (sym t)
+    (λ t. subst (λ (b : Bool). length (writeAll l) ≤ cond b (cond (isCorrection (kindOf c)) (length (writeAll (cs ++ l)) + 2) (length (writeAll (cs ++ l)))) (survey k (cs ++ l) .start)) (sym t)
+    (go (isCorrection (kindOf c)) (grows cs l)))
+    (λ t. subst (λ (b : Bool). length (writeAll l) ≤ cond b (cond (isCorrection (kindOf c)) (length (writeAll (cs ++ l)) + 2) (length (writeAll (cs ++ l)))) (survey k (cs ++ l) .start)) (sym t)
     (beyond k cs l (sym (ap (λ (b : Bool). cond b true (touched k cs)) t) ∙ h)))
   where
     go : (b : Bool) → length (writeAll l) ≤ length (writeAll (cs ++ l)) → length (writeAll l) ≤ cond b (length (writeAll (cs ++ l)) + 2) (length (writeAll (cs ++ l)))
@@ -99,7 +99,7 @@ left-snoc newer c (r ∷ rs) =
     ∙ sym (ap (λ (b : Bool). left newer (cond b (without (keyOf c) rs) (r ∷ without (keyOf c) rs))) t))
 
 -- what the newest change of a key says of it
-own : (c : Change) (l : List Change) → eqb (kindOf c) 3 ≡ false → (survey (keyOf c) (c ∷ l) .found ≡ true) × (survey (keyOf c) (c ∷ l) .start ≡ length (writeAll l) + leadLength (kindOf c))
+own : (c : Change) (l : List Change) → isWithdrawal (kindOf c) ≡ false → (survey (keyOf c) (c ∷ l) .found ≡ true) × (survey (keyOf c) (c ∷ l) .start ≡ length (writeAll l) + leadLength (kindOf c))
 unfolding survey
 own (filed r) l n = (ap (λ (b : Bool). cond b true (survey (r .key) l .found)) (same-refl (r .key)), ap (λ (b : Bool). cond b (length (writeAll l)) (survey (r .key) l .start)) (same-refl (r .key)) ∙ omega arith)
 own (corrected r) l n = (ap (λ (b : Bool). cond b true (survey (r .key) l .found)) (same-refl (r .key)), ap (λ (b : Bool). cond b (length (writeAll l) + 2) (survey (r .key) l .start)) (same-refl (r .key)))
@@ -110,8 +110,8 @@ short (filed r) = write-pos (filed r)
 short (corrected r) = omega (arith, write-co r .0, write-pos (filed r))
 short (withdrawn k) = write-pos (withdrawn k)
 
-module _ (newer : List Change) (c : Change) (l : List Change) (n : eqb (kindOf c) 3 ≡ false) where
-  live-touched : touched (keyOf c) newer ≡ true → liveAt (survey (keyOf c) (newer ++ (c ∷ l))) (viewed c) (length (writeAll l)) ≡ false
+module _ (newer : List Change) (c : Change) (l : List Change) (n : isWithdrawal (kindOf c) ≡ false) where
+  live-touched : touched (keyOf c) newer ≡ true → liveAt (survey (keyOf c) (newer ++ (c ∷ l))) (kindOf c) (length (writeAll l)) ≡ false
   unfolding writeAll liveAt
   live-touched h =
       let s = survey (keyOf c) (newer ++ (c ∷ l)) in
@@ -126,7 +126,7 @@ module _ (newer : List Change) (c : Change) (l : List Change) (n : eqb (kindOf c
       go false = refl
 
   live-own : touched (keyOf c) newer ≡ false
-      → (liveAt (survey (keyOf c) (newer ++ (c ∷ l))) (viewed c) (length (writeAll l)) ≡ true) × (survey (keyOf c) (newer ++ (c ∷ l)) .start ≡ length (writeAll l) + leadLength (kindOf c))
+      → (liveAt (survey (keyOf c) (newer ++ (c ∷ l))) (kindOf c) (length (writeAll l)) ≡ true) × (survey (keyOf c) (newer ++ (c ∷ l)) .start ≡ length (writeAll l) + leadLength (kindOf c))
   unfolding liveAt
   live-own h =
       let s = survey (keyOf c) (newer ++ (c ∷ l)) in
@@ -147,9 +147,9 @@ picked true x y = refl
 picked false x y = refl
 
 -- the pass at a record, against the record itself
-module _ {B : Type 0} (p : Pass B) (newer : List Change) (c : Change) (l : List Change) (n : eqb (kindOf c) 3 ≡ false) where
+module _ {B : Type 0} (p : Pass B) (newer : List Change) (c : Change) (l : List Change) (n : isWithdrawal (kindOf c) ≡ false) where
   at-own : (r : Rec) → keyOf c ≡ r .key → (rs : List Rec) (t : B) → t ≡ collect p (newer ++ (c ∷ l)) (left newer rs)
-      → cond (p .pick (keyOf c) && liveAt (survey (keyOf c) (newer ++ (c ∷ l))) (viewed c) (length (writeAll l))) (p .put (keyOf c) (length (writeAll l) + leadLength (kindOf c)) t) t
+      → cond (p .pick (keyOf c) && liveAt (survey (keyOf c) (newer ++ (c ∷ l))) (kindOf c) (length (writeAll l))) (p .put (keyOf c) (length (writeAll l) + leadLength (kindOf c)) t) t
       ≡ collect p (newer ++ (c ∷ l)) (left newer (r ∷ rs))
   unfolding left collect
   at-own r e rs t et =

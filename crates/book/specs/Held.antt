@@ -4,7 +4,7 @@ use mathlib.Core.Path.{_≡_}
 use mathlib.Core.List.{List, _∷_}
 use mathlib.Core.Bool.{true}
 use lib.ListN.{length, drop}
-use Rattle.book.specs.Layer.{Key, View, Change, Entry, keyOf, fine, parse, parseAny, entryView, same, recordHead, Wanted}
+use Rattle.book.specs.Layer.{Key, View, Change, Entry, keyOf, fine, parse, parseAny, entryView, same, recordHead, Wanted, kindOf}
 use Rattle.book.specs.declared.journal.Book.{Book}
 use Rattle.book.specs.declared.answers.Done.{Done}
 use Rattle.book.specs.Register.{Reg, Step, writeAll}
@@ -66,4 +66,4 @@ pub record Undoing (s rows : List ℕ) (n hs : ℕ) (head : List ℕ) (c : Chang
 -- which of n changes wrote the record that stands under a key
 pub record Wrote (n : ℕ) (k : Key) (r : ℕ) (l : List Change) : Type 0 where
   pub inside : r < n
-  pub live : (d : Change) (m : List Change) → drop (n - (r + 1)) l ≡ d ∷ m → (same (keyOf d) k ≡ true) × (liveAt (survey (keyOf d) l) (viewed d) (length (writeAll m)) ≡ true)
+  pub live : (d : Change) (m : List Change) → drop (n - (r + 1)) l ≡ d ∷ m → (same (keyOf d) k ≡ true) × (liveAt (survey (keyOf d) l) (kindOf d) (length (writeAll m)) ≡ true)

@@ -9,10 +9,12 @@ pub use Rattle.records.specs.declared.keys.KeyAnswer.{KeyAnswer}
 -- kinds of changes, and what a method asks for
 pub use Rattle.records.specs.declared.marks.Kind.{Kind}
 pub use Rattle.records.specs.declared.marks.Kind.the-variants.{File, Correct, Withdraw}
+pub use Rattle.records.specs.declared.marks.Act.{Act}
+pub use Rattle.records.specs.declared.marks.Act.the-variants.{Record, TakeBack, Close, Nothing}
 pub use Rattle.records.specs.declared.marks.Wanted.{Wanted}
 pub use Rattle.records.specs.declared.marks.Wanted.the-variants.{Any, Only}
 -- changes, their written form, and reading it
-pub use Rattle.records.specs.Changes.{Rec, Change, filed, corrected, withdrawn, keyOf, kindOf, write, Good, Input, fine, fault, parse, Scan, seen, blind, scan, bare, begins, takeBackBytes, closeBytes, viewOf, parsedOf, putBytes}
+pub use Rattle.records.specs.Changes.{Rec, Change, filed, corrected, withdrawn, keyOf, kind as kindOf, isFiling, isCorrection, isWithdrawal, isRecord, kindIn, write, Good, Input, fine, fault, parse, Scan, seen, blind, scan, bare, begins, takeBackBytes, closeBytes, viewOf, parsedOf, putBytes}
 -- the first of several changes, of any mark
 pub use Rattle.records.specs.Changes.{Entry, changed, takingBack, closing as closingEntry, entry as readEntry, parseAny, entryView, entryOf, frontOf}
 pub use Rattle.records.specs.declared.parse.Front.{Front}

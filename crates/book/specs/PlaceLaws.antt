@@ -6,8 +6,7 @@ use mathlib.Core.Bool.{Bool, true, false, cond, not}
 use native.Mathlib.Omega.{arith}
 use lib.ListN.{length, take, drop, length-append, length-drop}
 use lib.Seq.{take-length, drop-append-seam, drop-append-add, drop-append-le, take-append-le}
-use lib.Dec.{eqb}
-use Rattle.book.specs.Layer.{Key, Rec, Change, filed, corrected, withdrawn, keyOf, kindOf, write, same, same-right, write-co}
+use Rattle.book.specs.Layer.{Key, Rec, Change, filed, corrected, withdrawn, keyOf, kindOf, write, same, same-right, write-co, isCorrection, isWithdrawal}
 use Rattle.book.specs.Register.{writeAll, without, play, standing, stands, place, refused, written, placeOf}
 use Rattle.book.specs.Tables.{survey}
 use Rattle.book.specs.Session.{Shows}
@@ -50,8 +49,8 @@ module _ (k : Key) (c : Change) (l : List Change) where
       }
 
 -- the newest change of the key says where it is
-newest : (k : Key) (c : Change) (l : List Change) → same k (keyOf c) ≡ true → not (eqb (kindOf c) 3) ≡ true
-    → Written k (c ∷ l) (cond (eqb (kindOf c) 2) (length (writeAll l) + 2) (length (writeAll l))) (cond (eqb (kindOf c) 2) (length (write c) - 2) (length (write c)))
+newest : (k : Key) (c : Change) (l : List Change) → same k (keyOf c) ≡ true → not (isWithdrawal (kindOf c)) ≡ true
+    → Written k (c ∷ l) (cond (isCorrection (kindOf c)) (length (writeAll l) + 2) (length (writeAll l))) (cond (isCorrection (kindOf c)) (length (write c) - 2) (length (write c)))
 unfolding writeAll standing
 newest k (filed r) l t f =
     record {
@@ -77,17 +76,17 @@ survey-written k [] h = true≠false h refl
 survey-written k (c ∷ l) h =
     by-test (same k (keyOf c))
     (λ t. subst⁻¹ (λ (b : Bool). Written k (c ∷ l)
-    (cond b (cond (eqb (kindOf c) 2) (length (writeAll l) + 2) (length (writeAll l))) (survey k l .start))
-    (cond b (cond (eqb (kindOf c) 2) (length (write c) - 2) (length (write c))) (survey k l .len))) t
-    (newest k c l t (sym (ap (λ (b : Bool). cond b (not (eqb (kindOf c) 3)) (survey k l .found)) t) ∙ h)))
+    (cond b (cond (isCorrection (kindOf c)) (length (writeAll l) + 2) (length (writeAll l))) (survey k l .start))
+    (cond b (cond (isCorrection (kindOf c)) (length (write c) - 2) (length (write c))) (survey k l .len))) t
+    (newest k c l t (sym (ap (λ (b : Bool). cond b (not (isWithdrawal (kindOf c))) (survey k l .found)) t) ∙ h)))
     (λ t. subst⁻¹ (λ (b : Bool). Written k (c ∷ l)
-    (cond b (cond (eqb (kindOf c) 2) (length (writeAll l) + 2) (length (writeAll l))) (survey k l .start))
-    (cond b (cond (eqb (kindOf c) 2) (length (write c) - 2) (length (write c))) (survey k l .len))) t
+    (cond b (cond (isCorrection (kindOf c)) (length (writeAll l) + 2) (length (writeAll l))) (survey k l .start))
+    (cond b (cond (isCorrection (kindOf c)) (length (write c) - 2) (length (write c))) (survey k l .len))) t
     (written-on k c l (survey k l .start) (survey k l .len) t
-    (survey-written k l (sym (ap (λ (b : Bool). cond b (not (eqb (kindOf c) 3)) (survey k l .found)) t) ∙ h))))
+    (survey-written k l (sym (ap (λ (b : Bool). cond b (not (isWithdrawal (kindOf c))) (survey k l .found)) t) ∙ h))))
 
 -- the register's place of a key is the surveyed one
-place-newest : (c : Change) (q : ℕ) → written c q ≡ cond (not (eqb (kindOf c) 3)) (place (cond (eqb (kindOf c) 2) (q + 2) q) (cond (eqb (kindOf c) 2) (length (write c) - 2) (length (write c)))) (refused 11)
+place-newest : (c : Change) (q : ℕ) → written c q ≡ cond (not (isWithdrawal (kindOf c))) (place (cond (isCorrection (kindOf c)) (q + 2) q) (cond (isCorrection (kindOf c)) (length (write c) - 2) (length (write c)))) (refused 11)
 place-newest (filed r) q = refl
 place-newest (corrected r) q = let e : length (write (filed r)) ≡ length (write (corrected r)) - 2 = omega (arith, write-co r .0) in ap (place (q + 2)) e
 place-newest (withdrawn k) q = refl
@@ -102,8 +101,8 @@ survey-place k (c ∷ l) = go (same k (keyOf c)) (survey-place k l)
 
     go : (b : Bool) → placeOf k l ≡ cond (survey k l .found) (place (survey k l .start) (survey k l .len)) (refused 11)
         → cond b (written c q) (placeOf k l)
-        ≡ cond (cond b (not (eqb (kindOf c) 3)) (survey k l .found))
-        (place (cond b (cond (eqb (kindOf c) 2) (q + 2) q) (survey k l .start)) (cond b (cond (eqb (kindOf c) 2) (length (write c) - 2) (length (write c))) (survey k l .len))) (refused 11)
+        ≡ cond (cond b (not (isWithdrawal (kindOf c))) (survey k l .found))
+        (place (cond b (cond (isCorrection (kindOf c)) (q + 2) q) (survey k l .start)) (cond b (cond (isCorrection (kindOf c)) (length (write c) - 2) (length (write c))) (survey k l .len))) (refused 11)
     go true ih = place-newest c q
     go false ih = ih
 

@@ -4,7 +4,7 @@ use mathlib.Core.List.{List, [], _∷_}
 use mathlib.Core.Bool.{Bool, false, cond}
 use lib.ListN.{take}
 use lib.Dec.{eqb}
-use Rattle.book.specs.Layer.{View, Rec, Change, nameOf, nameBefore}
+use Rattle.book.specs.Layer.{Kind, isCorrection, isWithdrawal, Rec, Change, nameOf, nameBefore}
 use Rattle.book.specs.declared.places.Spot.{Spot}
 use Rattle.book.specs.declared.places.Places.{Places}
 use Rattle.book.specs.Tables.{Survey, survey}
@@ -14,12 +14,12 @@ abbrev pub maxPlaces : ℕ
 maxPlaces = 16
 
 -- the length of the mark before a corrected record
-abbrev pub leadLength : ℕ → ℕ
-leadLength kind = cond (eqb kind 2) 2 0
+abbrev pub leadLength : Kind → ℕ
+leadLength kind = cond (isCorrection kind) 2 0
 
 -- whether the change at q wrote the record that stands under its key, by the survey of its key
-unfoldable pub liveAt : Survey → View → ℕ → Bool
-liveAt s v q = cond (eqb (v .kind) 3) false (cond (s .found) (eqb (s .start) (q + leadLength (v .kind))) false)
+unfoldable pub liveAt : Survey → Kind → ℕ → Bool
+liveAt s kind q = cond (isWithdrawal kind) false (cond (s .found) (eqb (s .start) (q + leadLength kind)) false)
 
 -- a standing record's decoded name, and where it is written
 abbrev pub spotOf : List Change → Rec → Spot

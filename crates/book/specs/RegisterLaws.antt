@@ -5,9 +5,9 @@ use mathlib.Core.List.{List, [], _∷_}
 use mathlib.Core.Bool.{Bool, true, false, cond, not}
 use native.Mathlib.Omega.{arith}
 use lib.ListN.{length}
-use lib.Dec.{ltb, eqb}
+use lib.Dec.{ltb}
 use borrow.Author.Tests.{ltb-true}
-use Rattle.book.specs.Layer.{Key, Rec, Change, filed, corrected, withdrawn, keyOf, kindOf, write, same, sameHour, limitOf, same-sym, same-left, same-right, hour-right, sameHour-same, limit-same}
+use Rattle.book.specs.Layer.{Key, Rec, Change, filed, corrected, withdrawn, keyOf, kindOf, write, same, sameHour, limitOf, same-sym, same-left, same-right, hour-right, sameHour-same, limit-same, isFiling}
 use Rattle.book.specs.Register.{writeAll, standing, stands, count, without, room, refusal}
 use Rattle.book.specs.Meaning.{Valid}
 use Rattle.book.specs.Tables.{survey, judge}
@@ -116,22 +116,22 @@ judge-found true false w r h = refl
 judge-found false true w r h = refl
 judge-found false false w r h = absurd (omega arith)
 
-pub refusal-found : (l : List Change) (lent : ℕ) (c : Change) → refusal l lent c ≡ 0 → stands (keyOf c) (standing l) ≡ not (eqb (kindOf c) 1)
+pub refusal-found : (l : List Change) (lent : ℕ) (c : Change) → refusal l lent c ≡ 0 → stands (keyOf c) (standing l) ≡ not (isFiling (kindOf c))
 unfolding judge
 refusal-found l lent c h =
-    judge-found (eqb (kindOf c) 1) (stands (keyOf c) (standing l)) (ltb (count (keyOf c) (standing l)) (limitOf (keyOf c)))
+    judge-found (isFiling (kindOf c)) (stands (keyOf c) (standing l)) (ltb (count (keyOf c) (standing l)) (limitOf (keyOf c)))
     (room (length l) (length (writeAll l)) (length (write c)) lent) (sym (refusal-judge l lent c) ∙ h)
 
 -- ---- what is filed did not stand: "key stands already" is refused
 
 unfoldable pub New : List Change → Type 0
 New [] = Unit {0}
-New (c ∷ l) = (kindOf c ≡ 1 → stands (keyOf c) (standing l) ≡ false) × New l
+New (c ∷ l) = (isFiling (kindOf c) ≡ true → stands (keyOf c) (standing l) ≡ false) × New l
 
 pub valid-new : (l : List Change) → Valid l → New l
 unfolding Valid New
 valid-new [] v = tt
-valid-new (c ∷ l) v = ((λ e. refusal-found l 65535 c (v .1) ∙ ap (λ (n : ℕ). not (eqb n 1)) e), valid-new l (v .2))
+valid-new (c ∷ l) v = ((λ e. refusal-found l 65535 c (v .1) ∙ ap not e), valid-new l (v .2))
 
 -- so a filing, too, leaves no other record of its key
 pub new-without : (r : Rec) (l : List Change) → New (filed r ∷ l) → without (r .key) (standing l) ≡ standing l

@@ -4,19 +4,28 @@ use mathlib.Core.Path.{_≡_}
 use mathlib.Core.List.{List, [], _∷_}
 use mathlib.Core.Bool.{Bool, true, cond}
 use lib.ListN.{length, take, drop, getD, set}
-use lib.Dec.{leb}
-use Rattle.book.specs.Layer.{Key, Change, Padded, keyOf, kindOf, headKey, keyAnswer, recordHead}
+use lib.Dec.{leb, eqb}
+use Rattle.book.specs.Layer.{Kind, File, Correct, Withdraw, Key, Change, Padded, keyOf, kindOf, headKey, keyAnswer, recordHead}
 use Rattle.book.specs.Register.{writeAll}
 use Rattle.book.specs.Meaning.{Load, belongs, Valid}
-use Rattle.book.specs.Tables.{survey, viewed, together}
+use Rattle.book.specs.Tables.{survey, together}
 use Rattle.book.specs.Index.{hourSlot, slot, latestOf}
 use Rattle.book.specs.Places.{leadLength, liveAt}
 use Rattle.book.specs.declared.rows.Seek.{Seek}
 
 -- ---- one change as a number: where it begins, its mark and hour, its kind, and whether the record that it wrote stands
 
-abbrev pub packed : Bool → ℕ → ℕ → ℕ → ℕ
-packed live kind slot q = cond live 134217728 0 + kind * 33554432 + slot * 65536 + q
+-- a kind in two bits, and back
+abbrev pub kindCode : Kind → ℕ
+kindCode File = 1
+kindCode Correct = 2
+kindCode Withdraw = 3
+
+abbrev pub kindAt : ℕ → Kind
+kindAt code = cond (eqb code 1) File (cond (eqb code 2) Correct Withdraw)
+
+abbrev pub packed : Bool → Kind → ℕ → ℕ → ℕ
+packed live kind slot q = cond live 134217728 0 + kindCode kind * 33554432 + slot * 65536 + q
 
 abbrev pub rowStart : ℕ → ℕ
 rowStart row = row % 65536
@@ -24,8 +33,8 @@ rowStart row = row % 65536
 abbrev pub rowSlot : ℕ → ℕ
 rowSlot row = row / 65536 % 512
 
-abbrev pub rowKind : ℕ → ℕ
-rowKind row = row / 33554432 % 4
+abbrev pub rowKind : ℕ → Kind
+rowKind row = kindAt (row / 33554432 % 4)
 
 abbrev pub rowLive : ℕ → Bool
 rowLive row = leb 134217728 row
@@ -36,7 +45,7 @@ rowPlace row = rowStart row + leadLength (rowKind row)
 
 -- a change at q, of which all are listed
 abbrev pub rowOf : List Change → ℕ → Change → ℕ
-rowOf all q c = packed (liveAt (survey (keyOf c) all) (viewed c) q) (kindOf c) (hourSlot (keyOf c)) q
+rowOf all q c = packed (liveAt (survey (keyOf c) all) (kindOf c) q) (kindOf c) (hourSlot (keyOf c)) q
 
 -- ---- what the rows hold: each change's at its place
 

@@ -3,15 +3,15 @@ use Prim.Native.Nat.{ℕ, _+_, _-_}
 use mathlib.Core.List.{List, [], _∷_}
 use mathlib.Core.Bool.{Bool, true, false, cond, not}
 use lib.ListN.{length}
-use lib.Dec.{eqb, ltb}
+use lib.Dec.{ltb}
 use Rattle.money.specs.Refusals.{keyStands, noSuchKey, hourFull}
-use Rattle.book.specs.Layer.{Key, View, Change, keyOf, kindOf, write, same, sameHour}
+use Rattle.book.specs.Layer.{Key, View, Kind, Record, Change, keyOf, kindOf, isFiling, isCorrection, isWithdrawal, write, same, sameHour}
 pub use Rattle.book.specs.Replies.{replied}
 use Rattle.book.specs.Register.{writeAll, room, Step, answered, becomes}
 use Rattle.book.specs.Meaning.{Load, belongs, astray}
 
 abbrev pub viewed : Change → View
-viewed c = record { kind = kindOf c; key = keyOf c; len = length (write c) }
+viewed c = record { act = Record (kindOf c); key = keyOf c; len = length (write c) }
 
 -- ---- what the changes say of a key, the newest last
 
@@ -26,18 +26,18 @@ abbrev pub none : Survey
 none = record { found = false; start = 0; len = 0; count = 0 }
 
 -- one change more, which begins at q
-abbrev pub noted : Key → ℕ → View → Survey → Survey
-noted k q v s =
+abbrev pub noted : Key → ℕ → Change → Survey → Survey
+noted k q c s =
     record {
-      found = cond (same k (v .key)) (not (eqb (v .kind) 3)) (s .found);
-      start = cond (same k (v .key)) (cond (eqb (v .kind) 2) (q + 2) q) (s .start);
-      len = cond (same k (v .key)) (cond (eqb (v .kind) 2) (v .len - 2) (v .len)) (s .len);
-      count = cond (sameHour k (v .key)) (cond (eqb (v .kind) 1) (s .count + 1) (cond (eqb (v .kind) 3) (s .count - 1) (s .count))) (s .count);
+      found = cond (same k (keyOf c)) (not (isWithdrawal (kindOf c))) (s .found);
+      start = cond (same k (keyOf c)) (cond (isCorrection (kindOf c)) (q + 2) q) (s .start);
+      len = cond (same k (keyOf c)) (cond (isCorrection (kindOf c)) (length (write c) - 2) (length (write c))) (s .len);
+      count = cond (sameHour k (keyOf c)) (cond (isFiling (kindOf c)) (s .count + 1) (cond (isWithdrawal (kindOf c)) (s .count - 1) (s .count))) (s .count);
     }
 
 unfoldable pub survey : Key → List Change → Survey
 survey k [] = none
-survey k (c ∷ l) = noted k (length (writeAll l)) (viewed c) (survey k l)
+survey k (c ∷ l) = noted k (length (writeAll l)) c (survey k l)
 
 -- whether book and bytes belong together
 abbrev pub together : Load → Bool
@@ -45,10 +45,10 @@ together (belongs l) = true
 together astray = false
 
 -- ---- the refusal of a change, by what the code knows of it
--- kind 1 is a filing; n of its mark stand in the hour, which holds at most most
-unfoldable pub judge : ℕ → Bool → ℕ → ℕ → ℕ → ℕ → ℕ → ℕ → ℕ
+-- n of its mark stand in the hour, which holds at most most
+unfoldable pub judge : Kind → Bool → ℕ → ℕ → ℕ → ℕ → ℕ → ℕ → ℕ
 judge kind found n most changes used len lent =
-    cond (eqb kind 1) (cond found keyStands (cond (ltb n most) (room changes used len lent) hourFull)) (cond found (room changes used len lent) noSuchKey)
+    cond (isFiling kind) (cond found keyStands (cond (ltb n most) (room changes used len lent) hourFull)) (cond found (room changes used len lent) noSuchKey)
 
 -- ---- the number of a step; 0 where it is none
 

@@ -5,9 +5,9 @@ use mathlib.Core.List.{List, [], _∷_}
 use mathlib.Core.Bool.{Bool, true, false, cond}
 use native.Mathlib.Omega.{arith}
 use lib.ListN.{length, length-append}
-use lib.Dec.{eqb, leb, ltb}
+use lib.Dec.{leb, ltb}
 use borrow.Author.Tests.{leb-true, ltb-true, ltb-false}
-use Rattle.book.specs.Layer.{Key, Name, Rec, Change, filed, corrected, withdrawn, keyOf, kindOf, write, same, sameHour, nameOf, nameBefore, limitOf, limit-most}
+use Rattle.book.specs.Layer.{Key, Name, Rec, Change, filed, corrected, withdrawn, keyOf, kindOf, write, same, sameHour, nameOf, nameBefore, limitOf, limit-most, isFiling}
 use Rattle.book.specs.Register.{writeAll, room, without, standing, stands, count}
 use Rattle.book.specs.ByName.{inOrder, byName, addName, sameMark, namesOf}
 use Rattle.book.specs.Meaning.{Valid}
@@ -40,7 +40,7 @@ unfolding Valid writeAll judge
 valid-size [] v = (omega arith, omega arith)
 valid-size (c ∷ l) v =
     let f = room-facts (length l) (length (writeAll l)) (length (write c)) 65535
-    (judge-room (eqb (kindOf c) 1) (stands (keyOf c) (standing l)) (ltb (count (keyOf c) (standing l)) (limitOf (keyOf c))) (room (length l) (length (writeAll l)) (length (write c)) 65535) (sym (refusal-judge l 65535 c) ∙ v .1)) in
+    (judge-room (isFiling (kindOf c)) (stands (keyOf c) (standing l)) (ltb (count (keyOf c) (standing l)) (limitOf (keyOf c))) (room (length l) (length (writeAll l)) (length (write c)) 65535) (sym (refusal-judge l 65535 c) ∙ v .1)) in
     (omega (arith, f .0), omega (arith, f .1, length-append (writeAll l) (write c)))
 
 -- ---- what stands

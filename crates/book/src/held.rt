@@ -16,11 +16,10 @@ use money::refusals::NOTHING_TO_TAKE_BACK;
 use records::heads::head_key;
 use records::heads::record_head;
 use records::hours::limit_of;
-use records::marks::CLOSE;
-use records::marks::FILED;
-use records::marks::TAKE_BACK;
-use records::marks::WITHDRAWN;
+use records::marks::Act;
 use records::marks::Wanted;
+use records::marks::is_filing;
+use records::marks::is_withdrawal;
 use records::scan::View;
 use records::scan::starts;
 use records::writing::put_viewed;
@@ -30,16 +29,16 @@ ghost use mathlib.Core.List.{List, _∷_};
 ghost use lib.Dec.{eqb};
 ghost use lib.ListN.{length};
 ghost use Prim.Native.Nat.{ℕ, _<_};
-ghost use Rattle.book.specs.Layer.{Key, Change, keyOf, parse};
+ghost use Rattle.book.specs.Layer.{Key, Change, keyOf, isWithdrawal, parse};
 ghost use Rattle.book.specs.Register.{listed, takenBack, closing, general};
 ghost use Rattle.book.specs.Rows.{rowSlot, rowKind, Rows, Logged, Log};
 ghost use Rattle.book.specs.Held.{Held, Makes, Since, IsChange, Viewing, IsEntry, Undoing, Wrote};
 
 // Whether a change filed or corrected a record of the mark and hour.
 fn wrote_in(row: u32, slot: usize) -> bool
-    ensures { λ r. ⌜ r ≡ (not (eqb (rowKind row) 3) && eqb (rowSlot row) slot) ⌝ }
+    ensures { λ r. ⌜ r ≡ (not (isWithdrawal (rowKind row)) && eqb (rowSlot row) slot) ⌝ }
 {
-    if kind_in(row) == WITHDRAWN {
+    if is_withdrawal(kind_in(row)) {
         return false;
     }
     (row / 65536 % 512) as usize == slot
@@ -71,7 +70,7 @@ fn restore(log: &[u8], rows: &mut [u32; 512], n: usize)
     ensures { λ _. ⌜ ((c : Change) (l : List Change) → Logged (now (log .entry)) (now (rows .entry)) n (c ∷ l) → Rows (now (rows .exit)) l l) × (length (now (rows .exit)) ≡ 512) ⌝ }
 {
     let row = rows[n - 1];
-    if kind_in(row) == FILED {
+    if is_filing(kind_in(row)) {
         return;
     }
     let start = start_in(row);
@@ -110,7 +109,7 @@ impl Book {
         let s = find_in(log, rows, n, from, view.key);
         let count = count_in(rows, n, view.key);
         let most = limit_of(view.key);
-        let refusal = weigh(view.kind, s.found, count, most, n, at, view.len, log.len());
+        let refusal = weigh(view, s.found, count, most, n, at, log.len());
         if refusal != 0 {
             return Done {
                 book: self,
@@ -120,7 +119,7 @@ impl Book {
         put_viewed(log, at, rec, view);
         clear_row(rows, s);
         let hour = hour_slot(view.key);
-        let row = row_for(view.kind, hour, at);
+        let row = row_for(view, hour, at);
         rows[n] = row;
         self.used = (at + view.len) as u32;
         self.changes = self.changes + 1;
@@ -186,12 +185,12 @@ impl Book {
         requires { ⌜ Held self (now log) (now rows) ⌝ ∗ ⌜ Since self (now log) (view .key) from ⌝ ∗ ⌜ IsEntry (now rec) view ⌝ }
         ensures { λ r. ⌜ Makes (general (now (rec .entry))) self (now (log .entry)) (view .key) r (now (log .exit)) (now (rows .exit)) ⌝ }
     {
-        if view.kind == TAKE_BACK {
-            return self.held_take_back(log, rows);
+        let act = view.act;
+        match act {
+            Act::Record(_k) => self.held_enter(log, rows, from, view, rec),
+            Act::TakeBack => self.held_take_back(log, rows),
+            Act::Close => self.held_close(),
+            Act::Nothing => self.held_enter(log, rows, from, view, rec),
         }
-        if view.kind == CLOSE {
-            return self.held_close();
-        }
-        self.held_enter(log, rows, from, view, rec)
     }
 }

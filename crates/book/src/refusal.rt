@@ -3,8 +3,11 @@ use money::refusals::HOUR_FULL;
 use money::refusals::KEY_STANDS;
 use money::refusals::NO_SPACE;
 use money::refusals::NO_SUCH_KEY;
-use records::marks::FILED;
+use records::marks::is_filing;
+use records::scan::View;
+use records::scan::kind_of;
 ghost use mathlib.Core.Path.{_≡_};
+ghost use Rattle.book.specs.Layer.{kindIn};
 ghost use Rattle.book.specs.Register.{capped, room};
 ghost use Rattle.book.specs.Tables.{judge};
 
@@ -35,28 +38,28 @@ fn has_room(changes: usize, used: usize, len: usize, lent: usize) -> u8
 
 // The number with which a change is refused, by what stands and what is free.
 pub(crate) fn weigh(
-    kind: u8,
+    view: View,
     found: bool,
     count: usize,
     most: usize,
     changes: usize,
     used: usize,
-    len: usize,
     lent: usize,
 ) -> u8
-    ensures { λ r. ⌜ r ≡ judge kind found count most changes used len lent ⌝ }
+    ensures { λ r. ⌜ r ≡ judge (kindIn (view .act)) found count most changes used (view .len) lent ⌝ }
 {
-    if kind == FILED {
+    let kind = kind_of(view);
+    if is_filing(kind) {
         if found {
             return KEY_STANDS;
         }
         if count < most {
-            return has_room(changes, used, len, lent);
+            return has_room(changes, used, view.len, lent);
         }
         return HOUR_FULL;
     }
     if found {
-        return has_room(changes, used, len, lent);
+        return has_room(changes, used, view.len, lent);
     }
     NO_SUCH_KEY
 }

@@ -6,27 +6,31 @@ use crate::rows::clear_row;
 use crate::rows::find_in;
 use crate::rows::row_for;
 use records::hours::limit_of;
-use records::marks::FILED;
-use records::marks::WITHDRAWN;
+use records::marks::is_filing;
+use records::marks::is_withdrawal;
+use records::scan::View;
+use records::scan::is_record;
+use records::scan::kind_of;
 use records::scan::peek;
 ghost use mathlib.Core.Path.{_≡_};
 ghost use mathlib.Core.Bool.{cond};
 ghost use mathlib.Core.List.{[]};
-ghost use lib.Dec.{eqb};
 ghost use lib.ListN.{length};
 ghost use Prim.Native.Nat.{_<_, _+_, _-_};
+ghost use Rattle.book.specs.Layer.{isFiling, isWithdrawal, kindIn};
 ghost use Rattle.book.specs.Meaning.{replay};
 ghost use Rattle.book.specs.Rows.{Rowed};
 
 // How many records of a mark and hour stand after a change of theirs.
-fn count_with(kind: u8, count: usize) -> usize
+fn count_with(view: View, count: usize) -> usize
     requires { ⌜ count < 65536 ⌝ }
-    ensures { λ r. ⌜ r ≡ cond (eqb kind 1) (count + 1) (cond (eqb kind 3) (count - 1) count) ⌝ }
+    ensures { λ r. ⌜ r ≡ cond (isFiling (kindIn (view .act))) (count + 1) (cond (isWithdrawal (kindIn (view .act))) (count - 1) count) ⌝ }
 {
-    if kind == FILED {
+    let kind = kind_of(view);
+    if is_filing(kind) {
         return count + 1;
     }
-    if kind == WITHDRAWN {
+    if is_withdrawal(kind) {
         if count == 0 {
             return 0;
         }
@@ -48,7 +52,7 @@ pub(crate) fn replayed_rows(part: &[u8], n: u16, rows: &mut [u32; 512]) -> bool
     let end = n as usize;
     while i < end {
         let v = peek(&part[q..]);
-        if v.kind == 0 {
+        if !is_record(v) {
             return false;
         }
         let slot = slot_of(v.key);
@@ -57,14 +61,14 @@ pub(crate) fn replayed_rows(part: &[u8], n: u16, rows: &mut [u32; 512]) -> bool
         let hour = hour_slot(v.key);
         let count = counts[hour];
         let most = limit_of(v.key);
-        if weigh(v.kind, s.found, count, most, i, q, v.len, 65535) != 0 {
+        if weigh(v, s.found, count, most, i, q, 65535) != 0 {
             return false;
         }
         clear_row(rows, s);
-        let row = row_for(v.kind, hour, q);
+        let row = row_for(v, hour, q);
         rows[i] = row;
         latest[slot] = (i + 1) as u16;
-        counts[hour] = count_with(v.kind, count);
+        counts[hour] = count_with(v, count);
         q = q + v.len;
         i = i + 1;
     }

@@ -2,8 +2,11 @@
 use crate::index::hour_slot;
 use records::heads::record_head;
 use records::keys::Key;
-use records::marks::CORRECTED;
-use records::marks::WITHDRAWN;
+use records::marks::Kind;
+use records::marks::is_correction;
+use records::marks::is_withdrawal;
+use records::scan::View;
+use records::scan::kind_of;
 use records::scan::peek;
 use records::scan::starts;
 ghost use mathlib.Core.Path.{_≡_};
@@ -12,10 +15,10 @@ ghost use mathlib.Core.List.{List};
 ghost use lib.Dec.{eqb};
 ghost use lib.ListN.{length, drop};
 ghost use Prim.Native.Nat.{_<_, _≤_, _+_, _%_, _/_};
-ghost use Rattle.book.specs.Layer.{Key, Change, Padded, scan, viewOf};
+ghost use Rattle.book.specs.Layer.{Key, Change, Padded, isWithdrawal, kindIn, scan, viewOf};
 ghost use Rattle.book.specs.Register.{standing, count};
 ghost use Rattle.book.specs.Index.{slot, latestOf};
-ghost use Rattle.book.specs.Rows.{rowSlot, rowLive, rowPlace, rowStart, rowKind, packed, Ruled, Rules, Logged, Log, Search, Sought, cleared};
+ghost use Rattle.book.specs.Rows.{rowSlot, rowLive, rowPlace, rowStart, rowKind, kindCode, packed, Ruled, Rules, Logged, Log, Search, Sought, cleared};
 
 pub(crate) fn start_in(row: u32) -> usize
     ensures { λ r. ⌜ (r ≡ rowStart row) × (r < 65536) ⌝ }
@@ -23,17 +26,35 @@ pub(crate) fn start_in(row: u32) -> usize
     (row % 65536) as usize
 }
 
-pub(crate) fn kind_in(row: u32) -> u8
+// A kind in two bits of a row.
+fn code_of(kind: Kind) -> u32
+    ensures { λ r. ⌜ (r ≡ kindCode kind) × (r < 4) ⌝ }
+{
+    match kind {
+        Kind::File => 1,
+        Kind::Correct => 2,
+        Kind::Withdraw => 3,
+    }
+}
+
+pub(crate) fn kind_in(row: u32) -> Kind
     ensures { λ r. ⌜ r ≡ rowKind row ⌝ }
 {
-    (row / 33554432 % 4) as u8
+    let code = row / 33554432 % 4;
+    if code == 1 {
+        return Kind::File;
+    }
+    if code == 2 {
+        return Kind::Correct;
+    }
+    Kind::Withdraw
 }
 
 // Where the change wrote its record.
 pub(crate) fn place_in(row: u32) -> usize
     ensures { λ r. ⌜ (r ≡ rowPlace row) × (r < 65538) ⌝ }
 {
-    if kind_in(row) == CORRECTED {
+    if is_correction(kind_in(row)) {
         return start_in(row) + 2;
     }
     start_in(row)
@@ -140,12 +161,13 @@ pub(crate) fn find_in(log: &[u8], rows: &[u32; 512], n: usize, from: usize, key:
 }
 
 // A change at q whose record stands, unless it is a withdrawal.
-pub(crate) fn row_for(kind: u8, slot: usize, q: usize) -> u32
-    requires { ⌜ (kind < 4) × (slot < 512) × (q < 65536) ⌝ }
-    ensures { λ r. ⌜ r ≡ packed (not (eqb kind 3)) kind slot q ⌝ }
+pub(crate) fn row_for(view: View, slot: usize, q: usize) -> u32
+    requires { ⌜ (slot < 512) × (q < 65536) ⌝ }
+    ensures { λ r. ⌜ r ≡ packed (not (isWithdrawal (kindIn (view .act)))) (kindIn (view .act)) slot q ⌝ }
 {
-    let row = kind as u32 * 33554432 + slot as u32 * 65536 + q as u32;
-    if kind == WITHDRAWN {
+    let kind = kind_of(view);
+    let row = code_of(kind) * 33554432 + slot as u32 * 65536 + q as u32;
+    if is_withdrawal(kind) {
         return row;
     }
     134217728 + row

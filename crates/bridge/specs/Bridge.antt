@@ -18,7 +18,7 @@ use Rattle.records.specs.declared.marks.Mark.the-variants.{Im, Fi, Fe}
 use Rattle.records.specs.Marks.{markBytes}
 use Rattle.records.specs.Views.{pricesIn}
 use Rattle.records.specs.Amounts.{creditIn, unitAmountIn, chargeIn}
-use Rattle.records.specs.Changes.{begins, parsedOf, parse, parseAny, entryOf, putNumber, putBytes, bare, takeBackBytes, closeBytes, viewOf, scan}
+use Rattle.records.specs.Changes.{begins, isRecord, parsedOf, parse, parseAny, entryOf, putNumber, putBytes, bare, takeBackBytes, closeBytes, viewOf, scan}
 use Rattle.records.specs.declared.marks.Kind.the-variants.{File, Correct, Withdraw}
 use Rattle.records.specs.declared.marks.Wanted.{Wanted}
 use Rattle.records.specs.declared.marks.Wanted.the-variants.{Any, Only}
@@ -60,7 +60,7 @@ orderOf a b = cond (nameBefore (nameOf (nameIn a)) (nameOf (nameIn b))) 0 (cond 
 
 -- whether a change that was read is `TB` or `CL`, which have no written form
 abbrev pub alone : List ℕ → Bool
-alone s = ltb 3 (entryOf (parseAny s) .view .kind)
+alone s = not (isRecord (entryOf (parseAny s) .view .act))
 
 -- a change of any mark, written at the start of d: its number, what is then in d, and the length told
 abbrev pub anyNumber : List ℕ → List ℕ → ℕ

@@ -32,6 +32,8 @@ use records::parse::parse_any;
 use records::parse::parse_change;
 use records::parse::parse_close;
 use records::parse::parse_take_back;
+use records::scan::is_record;
+use records::scan::peek;
 use records::views::prices_of;
 use records::writing::put;
 use statement::day::statement;
@@ -124,7 +126,7 @@ fn write_any(bytes: &[u8], out: &mut [u8], sizes: &mut [u64]) -> u32
         return n as u32;
     }
     let v = p.view;
-    if WITHDRAWN < v.kind {
+    if !is_record(v) {
         return mark_alone(0, sizes);
     }
     write_change(Wanted::Any, bytes, out, sizes)

@@ -3,6 +3,7 @@
 // implementation.
 use records::marks::Wanted;
 use records::parse::parse_any;
+use records::scan::is_record;
 use records::writing::put;
 
 const DIGITS: [u8; 16] = *b"0123456789ABCDEF";
@@ -37,9 +38,8 @@ fn show(s: &[u8]) {
         return;
     }
     let v = p.view;
-    let kind = v.kind;
     let len = v.len;
-    if 3 < kind {
+    if !is_record(v) {
         print_written(s, s.len());
         return;
     }

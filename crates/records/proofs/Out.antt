@@ -12,7 +12,7 @@ use lib.Seq.{take-suc, drop-cons, take-all, length-take-le, take-at, drop-drop}
 use borrow.Author.Tests.{le-leb, lt-leb, ne-eqb, eq-eqb, eqb-true}
 use Rattle.records.specs.Reading.{Res, bad, got, Reader, _>>=_, from}
 use Rattle.records.specs.Names.{spell, bytesOf}
-use Rattle.records.specs.Marks.{hasName, order}
+use Rattle.records.specs.Marks.{hasName, order, markBytes}
 use Rattle.records.specs.MarkLaws.{mark-two}
 use Rattle.records.specs.Changes.{changeView, put, putNumber, putBytes, Change, kind, keyOf, kindOf, bodyOf, number, made, leadBytes, noName, nameBytes, headBytes, bodyFor, change, write, Input, fine, fault, whole, parse, Scan, seen, blind, begins, written, scan, viewOf, parsedOf}
 use Rattle.money.specs.Names.{sameName}
@@ -30,6 +30,7 @@ use Rattle.records.specs.declared.marks.Kind.{Kind}
 use Rattle.records.specs.declared.marks.Kind.the-variants.{File, Correct, Withdraw}
 use Rattle.records.specs.declared.marks.Wanted.{Wanted}
 use Rattle.records.specs.declared.marks.Wanted.the-variants.{Any}
+use Rattle.records.specs.declared.marks.Act.the-variants.{Record}
 use Rattle.records.specs.declared.keys.Key.{Key}
 use Rattle.records.specs.declared.scan.View.{View}
 use Rattle.records.specs.declared.parse.Parsed.{Parsed}
@@ -145,7 +146,7 @@ write-made File x y e = refl
 write-made Correct x y e = refl
 write-made Withdraw x y e = ap (λ l. headBytes Withdraw x ++ l) e
 
-made-view : (k : Kind) (x : Key) (y : List ℕ) (n : ℕ) → _≡_ {A = View} (record { kind = kindOf (made k x y); key = keyOf (made k x y); len = n }) (record { kind = number k; key = x; len = n })
+made-view : (k : Kind) (x : Key) (y : List ℕ) (n : ℕ) → _≡_ {A = View} (record { act = Record (kind (made k x y)); key = keyOf (made k x y); len = n }) (record { act = Record k; key = x; len = n })
 made-view File x y n = refl
 made-view Correct x y n = refl
 made-view Withdraw x y n = refl
@@ -185,14 +186,14 @@ module _ (s : List ℕ) (want : Wanted) (n : ℕ) (c : Read) (h : Full s want n 
   unfolding parse
   parse-fine l = rw (h .value, at-end s n l)
 
-  full-view : (m k : ℕ) → m ≡ length (headBytes (c .kind) (c .key)) → k ≡ number (c .kind)
-      → _≡_ {A = View} (record { kind = k; key = c .key; len = m + (n - c .body) }) (record { kind = kindOf (readOf s n c); key = keyOf (readOf s n c); len = length (write (readOf s n c)) })
-  full-view m k e f =
-      (λ i. record { kind = f i; key = c .key; len = sym (full-length m e) i }) ∙ sym (made-view (c .kind) (c .key) _ (length (write (readOf s n c))))
+  full-view : (m : ℕ) → m ≡ length (headBytes (c .kind) (c .key))
+      → _≡_ {A = View} (record { act = Record (c .kind); key = c .key; len = m + (n - c .body) }) (record { act = Record (kind (readOf s n c)); key = keyOf (readOf s n c); len = length (write (readOf s n c)) })
+  full-view m e =
+      (λ i. record { act = Record (c .kind); key = c .key; len = sym (full-length m e) i }) ∙ sym (made-view (c .kind) (c .key) _ (length (write (readOf s n c))))
 
-  pub view-full : (m k : ℕ) → m ≡ length (headBytes (c .kind) (c .key)) → k ≡ number (c .kind)
-      → got (record { kind = k; key = c .key; len = m + (n - c .body) }) (from s n) ≡ changeView (change want s)
-  view-full m k e f = ap (λ v. got v (from s n)) (full-view m k e f) ∙ sym (ap changeView (h .value))
+  pub view-full : (m : ℕ) → m ≡ length (headBytes (c .kind) (c .key))
+      → got (record { act = Record (c .kind); key = c .key; len = m + (n - c .body) }) (from s n) ≡ changeView (change want s)
+  view-full m e = ap (λ v. got v (from s n)) (full-view m e) ∙ sym (ap changeView (h .value))
 
 -- the bytes begin with the written form exactly where they begin with its head
 begins-body : (s : List ℕ) (d : Change) (y v : List ℕ) → bodyOf d ≡ y → s ≡ headBytes (kind d) (keyOf d) ++ (y ++ v) → begins (write d) s ≡ true
@@ -213,12 +214,12 @@ begins-yes s d t f b =
     begins-body s d (x .0) (x .1) q (w ∙ ap (λ l. hd ++ l) z)
 
 module _ (s : List ℕ) (n : ℕ) (c : Read) (h : Full s Any n c) where
-  pub peek-yes : (m k : ℕ) → m ≡ length (headBytes (c .kind) (c .key)) → k ≡ number (c .kind) → begins (headBytes (c .kind) (c .key)) s ≡ true
-      → _≡_ {A = View} (record { kind = k; key = c .key; len = m + (n - c .body) }) (viewOf (scan s))
+  pub peek-yes : (m : ℕ) → m ≡ length (headBytes (c .kind) (c .key)) → begins (headBytes (c .kind) (c .key)) s ≡ true
+      → _≡_ {A = View} (record { act = Record (c .kind); key = c .key; len = m + (n - c .body) }) (viewOf (scan s))
   unfolding scan
-  peek-yes m k e f b =
+  peek-yes m e b =
       let g = begins-yes s (readOf s n c) (from s n) (h .value) (ap (λ l. begins l s) (made-kind (c .kind) (c .key) _) ∙ b) in
-      full-view s Any n c h m k e f ∙ sym (ap (λ r. viewOf (written s r)) (h .value) ∙ ap (λ t. viewOf (cond t (seen (readOf s n c) (length (write (readOf s n c)))) blind)) g)
+      full-view s Any n c h m e ∙ sym (ap (λ r. viewOf (written s r)) (h .value) ∙ ap (λ t. viewOf (cond t (seen (readOf s n c) (length (write (readOf s n c)))) blind)) g)
 
   pub peek-no : begins (headBytes (c .kind) (c .key)) s ≡ false → viewOf blind ≡ viewOf (scan s)
   unfolding scan

@@ -1,15 +1,14 @@
 -- Writing a change of which the view is known: what a view is, by the tests that the code makes, and the parts that are written.
 use mathlib.Core.Path.{_≡_, refl, sym, ap, _∙_}
 use mathlib.Core.List.{List, _++_}
-use mathlib.Core.Bool.{Bool, true, false, cond, _&&_, and-false}
+use mathlib.Core.Bool.{Bool, true, false, cond, _&&_}
 use Prim.Native.Nat.{ℕ, _+_, _-_, _≤_, _<_}
 use native.Mathlib.Omega.{arith}
-use lib.Dec.{leb, eqb}
+use lib.Dec.{leb}
 use lib.ListN.{length, take, drop, length-drop}
 use lib.Seq.{take-all}
 use borrow.Author.Tests.{le-leb, lt-leb, leb-true}
-use Rattle.records.specs.Numbers.{between}
-use Rattle.records.specs.Changes.{headBytes, put}
+use Rattle.records.specs.Changes.{isRecord, headBytes, put}
 use Rattle.records.specs.Viewed.{viewHead, viewRest, isView, viewWritten, viewedNumber, viewedBytes}
 use Rattle.records.specs.Inner.{Wrote}
 use Rattle.records.specs.ChangeLaws.{and-left, and-right}
@@ -17,30 +16,23 @@ use Rattle.records.specs.declared.scan.View.{View}
 use Rattle.records.proofs.Putting.{wrote-then}
 
 module _ (v : View) (n : ℕ) where
-  pub no-kind : v .kind ≡ 0 → false ≡ isView v n
+  pub no-record : isRecord (v .act) ≡ false → false ≡ isView v n
   unfolding isView
-  no-kind e = rw (lt-leb 1 (v .kind) (omega arith)) refl
+  no-record e = rw e refl
 
-  pub other-kind : 3 < v .kind → false ≡ isView v n
-  unfolding isView
-  other-kind h = rw (lt-leb (v .kind) 3 h, and-false (leb 1 (v .kind))) refl
-
-  module _ (low : v .kind ≡ 0 → ⊥) (high : v .kind ≤ 3) where
-    kind-is : between 1 3 (v .kind) ≡ true
-    kind-is = rw (le-leb 1 (v .kind) (omega arith), le-leb (v .kind) 3 high) refl
-
+  module _ (act-is : isRecord (v .act) ≡ true) where
     pub long-name : 12 < v .key .name .len → false ≡ isView v n
     unfolding isView
-    long-name h = rw (kind-is, lt-leb (v .key .name .len) 12 h) refl
+    long-name h = rw (act-is, lt-leb (v .key .name .len) 12 h) refl
 
     module _ (few : v .key .name .len ≤ 12) where
       pub long-head : v .len < length (viewHead v) → false ≡ isView v n
       unfolding isView
-      long-head h = rw (kind-is, le-leb (v .key .name .len) 12 few, lt-leb (length (viewHead v)) (v .len) h) refl
+      long-head h = rw (act-is, le-leb (v .key .name .len) 12 few, lt-leb (length (viewHead v)) (v .len) h) refl
 
       pub by-rest : length (viewHead v) ≤ v .len → leb (viewRest v) n ≡ isView v n
       unfolding isView
-      by-rest h = rw (kind-is, le-leb (v .key .name .len) 12 few, le-leb (length (viewHead v)) (v .len) h) refl
+      by-rest h = rw (act-is, le-leb (v .key .name .len) 12 few, le-leb (length (viewHead v)) (v .len) h) refl
 
 -- a view
 pub record Seen (v : View) (n : ℕ) : Type 0 where
@@ -51,7 +43,7 @@ pub record Seen (v : View) (n : ℕ) : Type 0 where
 pub seen-view : (v : View) (n : ℕ) → isView v n ≡ true → Seen v n
 unfolding isView
 seen-view v n e =
-    let a = and-right (between 1 3 (v .kind)) _ e in
+    let a = and-right (isRecord (v .act)) _ e in
     let b = and-right (leb (v .key .name .len) 12) _ a in
     record {
       few = leb-true _ _ (and-left (leb (v .key .name .len) 12) _ a);

@@ -7,7 +7,7 @@ pub use Rattle.records.specs.ChangeLaws.{Taken, parse-fine, parse-fault}
 -- the written length is above 0; a correction's bytes behind its mark are the filed record's, which may stand too
 pub use Rattle.records.specs.ChangeLaws.{write-pos, write-co, good-co}
 -- what the view of some bytes says of them
-pub use Rattle.records.specs.ChangeLaws.{kind-pos, Read, view-bad, view-got}
+pub use Rattle.records.specs.ChangeLaws.{Read, view-bad, view-got}
 -- a mark by itself
 pub use Rattle.records.specs.ChangeLaws.{bare-exact}
 -- any mark, and changes one after the other

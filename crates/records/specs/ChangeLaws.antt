@@ -2,19 +2,19 @@
 -- Assumes nothing.
 use mathlib.Core.Path.{_≡_, refl, sym, ap, ap₂, _∙_, subst}
 use mathlib.Core.List.{List, [], _∷_, _++_, append-assoc}
-use mathlib.Core.Bool.{Bool, true, false, cond, _&&_}
+use mathlib.Core.Bool.{Bool, true, false, cond, _&&_, true≢false}
 use Prim.Native.Nat.{ℕ, zero, suc, _+_, _*_, _<_}
 use native.Mathlib.Omega.{arith}
 use lib.Dec.{ltb, leb, eqb}
 use lib.ListN.{length, take, drop, length-append}
-use borrow.Author.Tests.{ne-eqb, eq-eqb, eqb-true}
+use borrow.Author.Tests.{eq-eqb, eqb-true}
 use Rattle.records.specs.Reading.{Res, bad, got, _>>=_, check, byte, some}
 use Rattle.records.specs.Numbers.{between, hour}
 use Rattle.records.specs.Names.{decodeName, upTo, one, escaped, hexVal, visible, spell, bytesOf, nameField, nameOf}
 use Rattle.records.specs.Marks.{is, listing, markAmong, mark, markBytes, hasName}
 use Rattle.records.specs.MarkLaws.{mark-two}
 use Rattle.records.specs.Layouts.{layout}
-use Rattle.records.specs.Changes.{Rec, Change, filed, corrected, withdrawn, keyOf, kind, number, kindOf, bodyOf, made, Head, allowed, inside, head, nameless, nameFor, bodyFor, rest, change, leadBytes, noName, nameBytes, headBytes, write, fine, fault, whole, parse, Scan, seen, blind, begins, written, scan, Good, bare, viewOf}
+use Rattle.records.specs.Changes.{Rec, Change, filed, corrected, withdrawn, keyOf, kind, isRecord, bodyOf, made, Head, allowed, inside, head, nameless, nameFor, bodyFor, rest, change, leadBytes, noName, nameBytes, headBytes, write, fine, fault, whole, parse, Scan, seen, blind, begins, written, scan, Good, bare, viewOf}
 use Rattle.money.specs.declared.names.Name.{Name}
 use Rattle.records.specs.NameLaws.{take-pad, field-again, field-spelled}
 use Rattle.records.specs.declared.marks.Mark.{Mark}
@@ -23,6 +23,7 @@ use Rattle.records.specs.declared.marks.Kind.{Kind}
 use Rattle.records.specs.declared.marks.Kind.the-variants.{File, Correct, Withdraw}
 use Rattle.records.specs.declared.marks.Wanted.{Wanted}
 use Rattle.records.specs.declared.marks.Wanted.the-variants.{Any}
+use Rattle.records.specs.declared.marks.Act.the-variants.{Record}
 use Rattle.records.specs.declared.keys.Key.{Key}
 use Rattle.records.specs.declared.scan.View.{View}
 use Rattle.records.specs.ReaderLaws.{bad-got, check-got, bind-got, Counted, counted-got, counted-bad, counted-bind, counted-check, counted-cond, lawful-byte, lawful-layout, taken-got, counted-taken}
@@ -403,30 +404,25 @@ pub write-co : (r : Rec) → (length (write (corrected r)) ≡ 2 + length (write
 unfolding write headBytes nameBytes
 write-co r = (omega arith, refl)
 
-pub kind-pos : (c : Change) → kindOf c ≡ 0 → ⊥
-kind-pos (filed r) h = omega arith
-kind-pos (corrected r) h = omega arith
-kind-pos (withdrawn k) h = omega arith
-
 -- ---- what the view of some bytes says of them
 
 pub record Read (s : List ℕ) (v : View) : Type 0 where
   pub what : Change
   pub scanned : scan s ≡ seen what (v .len)
-  pub view-is : v ≡ record { kind = kindOf what; key = keyOf what; len = length (write what) }
+  pub view-is : v ≡ record { act = Record (kind what); key = keyOf what; len = length (write what) }
 
-pub view-bad : (s : List ℕ) (v : View) → v ≡ viewOf (scan s) → v .kind ≡ 0 → scan s ≡ blind
+pub view-bad : (s : List ℕ) (v : View) → v ≡ viewOf (scan s) → isRecord (v .act) ≡ false → scan s ≡ blind
 view-bad s v e h = go (scan s) e
   where
     go : (r : Scan) → v ≡ viewOf r → r ≡ blind
     go blind p = refl
-    go (seen c n) p = absurd (kind-pos c (sym (ap (λ (x : View). x .kind) p) ∙ h))
+    go (seen c n) p = absurd (true≢false (sym (ap (λ (x : View). isRecord (x .act)) p) ∙ h))
 
-pub view-got : (s : List ℕ) (v : View) → v ≡ viewOf (scan s) → (v .kind ≡ 0 → ⊥) → Read s v
+pub view-got : (s : List ℕ) (v : View) → v ≡ viewOf (scan s) → isRecord (v .act) ≡ true → Read s v
 view-got s v e h = go (scan s) refl
   where
     go : (r : Scan) → scan s ≡ r → Read s v
-    go blind q = absurd (h (ap (λ (x : View). x .kind) (e ∙ ap viewOf q)))
+    go blind q = absurd (true≢false (sym h ∙ ap (λ (x : View). isRecord (x .act)) (e ∙ ap viewOf q)))
     go (seen c n) q =
         let p = e ∙ ap viewOf q in
         record {

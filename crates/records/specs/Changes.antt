@@ -20,6 +20,8 @@ use Rattle.records.specs.declared.marks.Kind.{Kind}
 use Rattle.records.specs.declared.marks.Kind.the-variants.{File, Correct, Withdraw}
 use Rattle.records.specs.declared.marks.Wanted.{Wanted}
 use Rattle.records.specs.declared.marks.Wanted.the-variants.{Any, Only}
+use Rattle.records.specs.declared.marks.Act.{Act}
+use Rattle.records.specs.declared.marks.Act.the-variants.{Record, TakeBack, Close, Nothing}
 use Rattle.records.specs.declared.keys.Key.{Key}
 use Rattle.records.specs.declared.scan.View.{View}
 use Rattle.records.specs.declared.parse.Parsed.{Parsed}
@@ -68,21 +70,6 @@ takeBackBytes = bytes "TB"
 
 abbrev pub closeBytes : List ℕ
 closeBytes = bytes "CL"
-
--- a kind of change as the number under which the code answers it
-abbrev pub number : Kind → ℕ
-number File = 1
-number Correct = 2
-number Withdraw = 3
-
-abbrev pub takeBackNumber : ℕ
-takeBackNumber = 4
-
-abbrev pub closeNumber : ℕ
-closeNumber = 5
-
-abbrev pub kindOf : Change → ℕ
-kindOf c = number (kind c)
 
 -- ---- reading
 
@@ -251,15 +238,28 @@ Good c = (t : List ℕ) → change Any (write c ++ t) ≡ got c t
 abbrev pub noKey : Key
 noKey = record { mark = Pr; hour = 0; name = noOne }
 
--- kind 0: nothing
+-- a change of a record
+abbrev pub isRecord : Act → Bool
+isRecord (Record k) = true
+isRecord TakeBack = false
+isRecord Close = false
+isRecord Nothing = false
+
+-- and its kind; `File` where it is none
+abbrev pub kindIn : Act → Kind
+kindIn (Record k) = k
+kindIn TakeBack = File
+kindIn Close = File
+kindIn Nothing = File
+
 abbrev pub viewOf : Scan → View
-viewOf (seen c n) = record { kind = kindOf c; key = keyOf c; len = n }
-viewOf blind = record { kind = 0; key = noKey; len = 0 }
+viewOf (seen c n) = record { act = Record (kind c); key = keyOf c; len = n }
+viewOf blind = record { act = Nothing; key = noKey; len = 0 }
 
 abbrev pub entryView : Entry → View
 entryView (changed c) = viewOf (seen c (length (write c)))
-entryView takingBack = record { kind = takeBackNumber; key = noKey; len = 0 }
-entryView closing = record { kind = closeNumber; key = noKey; len = 0 }
+entryView takingBack = record { act = TakeBack; key = noKey; len = 0 }
+entryView closing = record { act = Close; key = noKey; len = 0 }
 
 -- a reader's result with its change as the code answers it
 abbrev pub changeView : Res Change → Res View

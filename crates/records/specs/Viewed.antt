@@ -2,21 +2,14 @@
 use mathlib.Core.List.{List, _++_}
 use mathlib.Core.Bool.{Bool, cond, _&&_}
 use Prim.Native.Nat.{ℕ, _+_, _-_}
-use lib.Dec.{leb, eqb}
+use lib.Dec.{leb}
 use lib.ListN.{length, drop}
 use Rattle.money.specs.Refusals.{unknownMark, noSpace}
-use Rattle.records.specs.Numbers.{between}
-use Rattle.records.specs.Changes.{headBytes, put}
-use Rattle.records.specs.declared.marks.Kind.{Kind}
-use Rattle.records.specs.declared.marks.Kind.the-variants.{File, Correct, Withdraw}
+use Rattle.records.specs.Changes.{isRecord, kindIn, headBytes, put}
 use Rattle.records.specs.declared.scan.View.{View}
 
--- the kind of change under a number from 1 to 3
-abbrev pub kindAt : ℕ → Kind
-kindAt n = cond (eqb n 1) File (cond (eqb n 2) Correct Withdraw)
-
 abbrev pub viewHead : View → List ℕ
-viewHead v = headBytes (kindAt (v .kind)) (v .key)
+viewHead v = headBytes (kindIn (v .act)) (v .key)
 
 -- how many of the bytes are its body
 abbrev pub viewRest : View → ℕ
@@ -24,7 +17,7 @@ viewRest v = v .len - length (viewHead v)
 
 -- a view of a filed, corrected or withdrawn record whose body n bytes have room for
 unfoldable pub isView : View → ℕ → Bool
-isView v n = between 1 3 (v .kind) && (leb (v .key .name .len) 12 && (leb (length (viewHead v)) (v .len) && leb (viewRest v) n))
+isView v n = isRecord (v .act) && (leb (v .key .name .len) 12 && (leb (length (viewHead v)) (v .len) && leb (viewRest v) n))
 
 unfoldable pub viewWritten : View → List ℕ → List ℕ
 viewWritten v s = viewHead v ++ drop (length s - viewRest v) s

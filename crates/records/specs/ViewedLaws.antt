@@ -10,11 +10,10 @@ use lib.Seq.{drop-at}
 use borrow.Author.Tests.{le-leb, eq-eqb, ne-eqb, eqb-true}
 use Rattle.money.specs.Refusals.{unknownMark, noSpace}
 use Rattle.records.specs.Reading.{Res, bad, got, _>>=_}
-use Rattle.records.specs.Numbers.{between}
 use Rattle.records.specs.Marks.{is}
-use Rattle.records.specs.Changes.{Change, kind, keyOf, kindOf, bodyOf, headBytes, change, write, put, putNumber, putBytes, Entry, changed, takingBack, closing, entry, takeBackBytes, closeBytes, Input, fine, fault, whole, parse, parseAny, begins, viewOf, seen, entryView, parsedOf, frontOf}
+use Rattle.records.specs.Changes.{Change, kind, keyOf, bodyOf, headBytes, change, write, put, putNumber, putBytes, Entry, changed, takingBack, closing, entry, takeBackBytes, closeBytes, Input, fine, fault, whole, parse, parseAny, begins, viewOf, seen, entryView, parsedOf, frontOf}
 use Rattle.records.specs.Changes.{filed, corrected, withdrawn}
-use Rattle.records.specs.Viewed.{kindAt, viewHead, viewRest, isView, viewWritten, viewedNumber, viewedBytes}
+use Rattle.records.specs.Viewed.{viewHead, viewRest, isView, viewWritten, viewedNumber, viewedBytes}
 use Rattle.records.specs.ChangeLaws.{and-left, and-right, change-good, parse-fault}
 use Rattle.records.specs.KeyLaws.{good-few}
 use Rattle.records.specs.EntryLaws.{entry-got, entry-fault}
@@ -24,6 +23,7 @@ use Rattle.records.specs.declared.parse.Parsed.{Parsed}
 use Rattle.records.specs.declared.parse.Front.{Front}
 use Rattle.records.specs.declared.marks.Wanted.{Wanted}
 use Rattle.records.specs.declared.marks.Wanted.the-variants.{Any}
+use Rattle.records.specs.declared.marks.Act.the-variants.{TakeBack, Close}
 
 -- ---- writing
 
@@ -33,29 +33,18 @@ record Right (v : View) (s : List ℕ) (c : Change) : Type 0 where
   bytes : viewWritten v s ≡ write c
   len : v .len ≡ length (write c)
 
-kind-there : (c : Change) → between 1 3 (kindOf c) ≡ true
-kind-there (filed r) = refl
-kind-there (corrected r) = refl
-kind-there (withdrawn k) = refl
-
-kind-again : (c : Change) → kindAt (kindOf c) ≡ kind c
-kind-again (filed r) = refl
-kind-again (corrected r) = refl
-kind-again (withdrawn k) = refl
-
 right-view : (want : Wanted) (s : List ℕ) (c : Change) → change want s ≡ got c [] → Right (viewOf (seen c (length (write c)))) s c
 unfolding isView viewWritten write
 right-view want s c e =
-    let hd : List ℕ = headBytes (kindAt (kindOf c)) (keyOf c) in
-    let same : hd ≡ headBytes (kind c) (keyOf c) = ap (λ k. headBytes k (keyOf c)) (kind-again c) in
-    let size : length (write c) ≡ length hd + length (bodyOf c) = length-append (headBytes (kind c) (keyOf c)) (bodyOf c) ∙ ap (λ l. length l + length (bodyOf c)) (sym same) in
+    let hd : List ℕ = headBytes (kind c) (keyOf c) in
+    let size : length (write c) ≡ length hd + length (bodyOf c) = length-append (headBytes (kind c) (keyOf c)) (bodyOf c) in
     let x = change-ends want s c [] e in
     let all : s ≡ x .front ++ bodyOf c = x .whole ∙ ap (λ l. x .front ++ l) (append-nil (bodyOf c)) in
     let sizes : length s ≡ length (x .front) + length (bodyOf c) = ap length all ∙ length-append (x .front) (bodyOf c) in
     let n : length s - (length (write c) - length hd) ≡ length (x .front) = omega (arith, size, sizes) in
     record {
-      is = rw (kind-there c, le-leb (keyOf c .name .len) 12 (good-few c (change-good want s c [] e)), le-leb (length hd) (length (write c)) (omega (arith, size)), le-leb (length (write c) - length hd) (length s) (omega (arith, size, sizes))) refl;
-      bytes = ap₂ _++_ same (ap₂ drop n all ∙ drop-at (x .front) (bodyOf c) (length (x .front)) refl);
+      is = rw (le-leb (keyOf c .name .len) 12 (good-few c (change-good want s c [] e)), le-leb (length hd) (length (write c)) (omega (arith, size)), le-leb (length (write c) - length hd) (length s) (omega (arith, size, sizes))) refl;
+      bytes = ap (λ l. hd ++ l) (ap₂ drop n all ∙ drop-at (x .front) (bodyOf c) (length (x .front)) refl);
       len = refl;
     }
 
@@ -168,13 +157,13 @@ apart-of (a ∷ b ∷ s) x e = go (is takeBackBytes a b) refl (is closeBytes a b
         }
     go false h false i f = read (change Any (a ∷ b ∷ s)) refl h i f
 
--- what the code answers of the first of several changes, where it is one: a bare mark by the view's kind, or a change with the view of it
+-- what the code answers of the first of several changes, where it is one: a bare mark by the view's act, or a change with the view of it
 pub record First (s : List ℕ) (f : Front) : Type 0 where
   pub some : 2 ≤ f .end
   pub within : f .end ≤ length s
-  pub back : f .view .kind ≡ 4 → take (f .end) s ≡ takeBackBytes
-  pub close : f .view .kind ≡ 5 → take (f .end) s ≡ closeBytes
-  pub change : (f .view .kind ≡ 4 → ⊥) → (f .view .kind ≡ 5 → ⊥) → Alone (take (f .end) s) (f .view)
+  pub back : f .view .act ≡ TakeBack → take (f .end) s ≡ takeBackBytes
+  pub close : f .view .act ≡ Close → take (f .end) s ≡ closeBytes
+  pub change : (f .view .act ≡ TakeBack → ⊥) → (f .view .act ≡ Close → ⊥) → Alone (take (f .end) s) (f .view)
 
 module _ (s : List ℕ) where
   first-of : (x : Entry) (t : List ℕ) → entry s ≡ got x t → First s (frontOf s (got x t))
@@ -189,22 +178,17 @@ module _ (s : List ℕ) where
       apart : Apart (take (length s - length t) s) x
       apart = apart-of (take (length s - length t) s) x (entry-alone s x t q)
 
-      kind-less : (c : Change) → kindOf c ≤ 3
-      kind-less (filed r) = omega arith
-      kind-less (corrected r) = omega arith
-      kind-less (withdrawn k) = omega arith
-
-      by-back : (x : Entry) → entryView x .kind ≡ 4 → x ≡ takingBack
-      by-back (changed c) z = absurd (omega (arith, kind-less c))
+      by-back : (x : Entry) → entryView x .act ≡ TakeBack → x ≡ takingBack
+      by-back (changed c) z = absurd (let y : _≡_ {A = ℕ} 0 1 = cc in omega arith)
       by-back takingBack z = refl
-      by-back closing z = absurd (omega arith)
+      by-back closing z = absurd (let y : _≡_ {A = ℕ} 0 1 = cc in omega arith)
 
-      by-close : (x : Entry) → entryView x .kind ≡ 5 → x ≡ closing
-      by-close (changed c) z = absurd (omega (arith, kind-less c))
-      by-close takingBack z = absurd (omega arith)
+      by-close : (x : Entry) → entryView x .act ≡ Close → x ≡ closing
+      by-close (changed c) z = absurd (let y : _≡_ {A = ℕ} 0 1 = cc in omega arith)
+      by-close takingBack z = absurd (let y : _≡_ {A = ℕ} 0 1 = cc in omega arith)
       by-close closing z = refl
 
-      by-change : (x : Entry) → Apart (take (length s - length t) s) x → (entryView x .kind ≡ 4 → ⊥) → (entryView x .kind ≡ 5 → ⊥) → Alone (take (length s - length t) s) (entryView x)
+      by-change : (x : Entry) → Apart (take (length s - length t) s) x → (entryView x .act ≡ TakeBack → ⊥) → (entryView x .act ≡ Close → ⊥) → Alone (take (length s - length t) s) (entryView x)
       by-change (changed c) y a b = y .alone c refl
       by-change takingBack y a b = absurd (a refl)
       by-change closing y a b = absurd (b refl)

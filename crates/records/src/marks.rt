@@ -10,17 +10,6 @@ ghost use Rattle.records.specs.Marks.{markBytes, is, listing, mark, hasN
 ghost use Rattle.records.specs.Changes.{number, allowed, inside, head, isFiling, isCorrection, isWithdrawal, sameKind};
 ghost use Rattle.records.specs.Inner.{shown, EndIn, headed};
 
-// The kinds of changes, as they are answered.
-pub const FILED: u8 = 1;
-
-pub const CORRECTED: u8 = 2;
-
-pub const WITHDRAWN: u8 = 3;
-
-pub const TAKE_BACK: u8 = 4;
-
-pub const CLOSE: u8 = 5;
-
 // How many marks the listing has.
 const MARKS: usize = 6;
 
@@ -46,6 +35,14 @@ pub enum Kind {
 
 // The two bytes of a mark.
 pub(crate) struct MarkBytes(pub(crate) u8, pub(crate) u8);
+
+// What some bytes are: a change of a record, a mark that stands alone, or nothing that is written so.
+pub enum Act {
+    Record(Kind),
+    TakeBack,
+    Close,
+    Nothing,
+}
 
 // What a method asks for: a change of any kind, or of its own only.
 pub enum Wanted {
@@ -134,16 +131,6 @@ pub(crate) fn mark_at(s: &[u8], at: usize) -> MarkRead
         i += 1;
     }
     mark_no(UNKNOWN_MARK)
-}
-
-pub(crate) fn number(k: Kind) -> u8
-    ensures { λ r. ⌜ r ≡ number k ⌝ }
-{
-    match k {
-        Kind::File => FILED,
-        Kind::Correct => CORRECTED,
-        Kind::Withdraw => WITHDRAWN,
-    }
 }
 
 pub fn is_filing(k: Kind) -> bool

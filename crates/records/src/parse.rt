@@ -1,11 +1,9 @@
 use crate::changes::read_change;
 use crate::fields::End;
 use crate::keys::Key;
-use crate::marks::CLOSE;
-use crate::marks::TAKE_BACK;
+use crate::marks::Act;
 use crate::marks::Wanted;
 use crate::marks::is;
-use crate::marks::number;
 use crate::scan::View;
 use crate::scan::nothing;
 use crate::writing::head_of;
@@ -59,7 +57,7 @@ fn change_at(s: &[u8], want: Wanted) -> ViewRead
             ViewRead {
                 end: End::At(n),
                 view: View {
-                    kind: number(kind),
+                    act: Act::Record(kind),
                     key,
                     len,
                 },
@@ -70,14 +68,14 @@ fn change_at(s: &[u8], want: Wanted) -> ViewRead
 }
 
 // A mark by itself, as a view.
-fn bare_view(kind: u8) -> ViewRead
-    ensures { λ r. ⌜ r ≡ record { end = End.At 2; view = record { kind = kind; key = viewOf blind .key; len = 0 } } ⌝ }
+fn bare_view(act: Act) -> ViewRead
+    ensures { λ r. ⌜ r ≡ record { end = End.At 2; view = record { act = act; key = viewOf blind .key; len = 0 } } ⌝ }
 {
     let v = nothing();
     let key = v.key;
     ViewRead {
         end: End::At(2),
-        view: View { kind, key, len: 0 },
+        view: View { act, key, len: 0 },
     }
 }
 
@@ -90,10 +88,10 @@ fn entry_at(s: &[u8]) -> ViewRead
     let a = s[0];
     let b = s[1];
     if is(a, b, b'T', b'B') {
-        return bare_view(TAKE_BACK);
+        return bare_view(Act::TakeBack);
     }
     if is(a, b, b'C', b'L') {
-        return bare_view(CLOSE);
+        return bare_view(Act::Close);
     }
     change_at(s, Wanted::Any)
 }
@@ -123,7 +121,7 @@ pub fn parse_change(s: &[u8], want: Wanted) -> Parsed
     }
 }
 
-// The change of any mark that an argument's bytes are (4 taken back, 5 closed), or the number of their first fault.
+// The change of any mark that an argument's bytes are, or the number of their first fault.
 pub fn parse_any(s: &[u8]) -> Parsed
     ensures { λ r. ⌜ r ≡ entryOf (parseAny (now (s .entry))) ⌝ }
 {

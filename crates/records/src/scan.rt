@@ -1,19 +1,46 @@
 use crate::changes::read_change;
 use crate::fields::End;
 use crate::keys::Key;
+use crate::marks::Act;
+use crate::marks::Kind;
 use crate::marks::Mark;
 use crate::marks::Wanted;
-use crate::marks::number;
 use crate::writing::head_of;
 use money::names::Name;
 ghost use mathlib.Core.Path.{_≡_};
-ghost use Rattle.records.specs.Changes.{blind, begins, scan, viewOf};
+ghost use Rattle.records.specs.Changes.{isRecord, kindIn, blind, begins, scan, viewOf};
 
-// A change as the book sees it: its kind (0 for none), its key, and its written length.
+// A change as the book sees it: what it is, its key, and its written length.
 pub struct View {
-    pub kind: u8,
+    pub act: Act,
     pub key: Key,
     pub len: usize,
+}
+
+// Whether a view is one of a change of a record.
+pub fn is_record(v: View) -> bool
+    ensures { λ r. ⌜ r ≡ isRecord (v .act) ⌝ }
+{
+    let act = v.act;
+    match act {
+        Act::Record(_k) => true,
+        Act::TakeBack => false,
+        Act::Close => false,
+        Act::Nothing => false,
+    }
+}
+
+// The kind of the change; `File` where it is none.
+pub fn kind_of(v: View) -> Kind
+    ensures { λ r. ⌜ r ≡ kindIn (v .act) ⌝ }
+{
+    let act = v.act;
+    match act {
+        Act::Record(k) => k,
+        Act::TakeBack => Kind::File,
+        Act::Close => Kind::File,
+        Act::Nothing => Kind::File,
+    }
 }
 
 // Whether bytes begin with others.
@@ -39,7 +66,7 @@ pub fn nothing() -> View
 {
     let bytes = [0u8; 12];
     View {
-        kind: 0,
+        act: Act::Nothing,
         key: Key {
             mark: Mark::Pr,
             hour: 0,
@@ -65,7 +92,7 @@ pub fn peek(s: &[u8]) -> View
             if starts(s, &bytes[..m]) {
                 let len = m + (n - c.body);
                 View {
-                    kind: number(kind),
+                    act: Act::Record(kind),
                     key,
                     len,
                 }

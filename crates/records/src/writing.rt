@@ -1,8 +1,6 @@
 use crate::changes::read_change;
 use crate::fields::End;
 use crate::keys::Key;
-use crate::marks::CORRECTED;
-use crate::marks::FILED;
 use crate::marks::Kind;
 use crate::marks::Mark;
 use crate::marks::WITHDRAWN;
@@ -12,6 +10,8 @@ use crate::marks::has_name;
 use crate::names::spelled_len;
 use crate::names::write_name;
 use crate::scan::View;
+use crate::scan::is_record;
+use crate::scan::kind_of;
 use money::names::Name;
 use money::refusals::LEFT_OVER;
 use money::refusals::NO_SPACE;
@@ -21,7 +21,7 @@ ghost use Prim.Native.Nat.{ℕ, _+_, _≤_};
 ghost use lib.ListN.{length};
 ghost use Rattle.records.specs.Marks.{markBytes};
 ghost use Rattle.records.specs.Changes.{leadBytes, noName, nameBytes, headBytes, parse, putNumber, putBytes};
-ghost use Rattle.records.specs.Viewed.{kindAt, isView, viewedNumber, viewedBytes};
+ghost use Rattle.records.specs.Viewed.{isView, viewedNumber, viewedBytes};
 ghost use Rattle.records.specs.Inner.{Wrote, HeadIs};
 
 // The bytes of a change before its fields.
@@ -148,28 +148,11 @@ pub fn put(log: &mut [u8], at: usize, s: &[u8], want: Wanted) -> u8
     }
 }
 
-// The kind of change under a number.
-fn kind_at(n: u8) -> Kind
-    ensures { λ r. ⌜ r ≡ kindAt n ⌝ }
-{
-    if n == FILED {
-        return Kind::File;
-    }
-    if n == CORRECTED {
-        return Kind::Correct;
-    }
-    Kind::Withdraw
-}
-
 // Whether a view is one of a change whose body has room in some bytes.
 fn is_view(view: View, lent: usize) -> bool
     ensures { λ r. ⌜ r ≡ isView view lent ⌝ }
 {
-    let n = view.kind;
-    if n == 0 {
-        return false;
-    }
-    if WITHDRAWN < n {
+    if !is_record(view) {
         return false;
     }
     let key = view.key;
@@ -177,7 +160,7 @@ fn is_view(view: View, lent: usize) -> bool
     if 12 < name.len {
         return false;
     }
-    let kind = kind_at(n);
+    let kind = kind_of(view);
     let h = head_of(kind, key);
     if view.len < h.len {
         return false;
@@ -199,7 +182,7 @@ pub fn put_viewed(log: &mut [u8], at: usize, s: &[u8], view: View) -> u8
     if log.len() - at < len {
         return NO_SPACE;
     }
-    let kind = kind_at(view.kind);
+    let kind = kind_of(view);
     let key = view.key;
     let h = head_of(kind, key);
     let m = h.len;

@@ -8,7 +8,6 @@ use Rattle.records.proofs.parse.change_at.Tie as tie
 use Rattle.records.proofs.parse.change_at.Reads as reads
 use Rattle.records.proofs.parse.change_at.Lts as lts
 use Rattle.records.proofs.changes.read_change.Reads as read-change-reads
-use Rattle.records.proofs.marks.number.Reads as number-reads
 use Rattle.records.proofs.parse.view_no.Reads as view-no-reads
 use Rattle.records.proofs.writing.head_of.Reads as head-of-reads
 
@@ -37,9 +36,6 @@ add-len c =
     let f = full s ((c .before .before .before .before .before .before .before .before .before .args) .want) c′ ((c .before .before .before .before .before .before .before .read-change) .ensures) n ((c .before .before .before .before .before .e) .given .1) in
     omega (arith, f .stands .high, (c .before .before .head-of) .ensures .few)
 
-number-requires : tie.Need-number-requires
-number-requires c κs = search needs
-
 enum-known-e-2 : tie.Need-enum-known-e-2
 enum-known-e-2 c = search needs
 
@@ -48,11 +44,11 @@ view-no-requires c κs = search needs
 
 returns : tie.Need-returns
 returns c =
-    let s = (c .before .before .before .before .before .before .before .before .before .before .args) .s .now in
-    let c′ = (c .before .before .before .before .before .before .before .before .read-change) .result in
-    let n = (c .before .before .before .before .before .before .e) .given .0 .0 in
-    let f = full s ((c .before .before .before .before .before .before .before .before .before .before .args) .want) c′ ((c .before .before .before .before .before .before .before .before .read-change) .ensures) n ((c .before .before .before .before .before .before .e) .given .1) in
-    record { value = view-full s ((c .before .before .before .before .before .before .before .before .before .before .args) .want) n c′ f ((c .before .before .before .head-of) .result .len) ((c .number) .result) ((c .before .before .before .head-of) .ensures .len) ((c .number) .ensures); placed = f .stands .high }
+    let s = (c .before .before .before .before .before .before .before .before .before .args) .s .now in
+    let c′ = (c .before .before .before .before .before .before .before .read-change) .result in
+    let n = (c .before .before .before .before .before .e) .given .0 .0 in
+    let f = full s ((c .before .before .before .before .before .before .before .before .before .args) .want) c′ ((c .before .before .before .before .before .before .before .read-change) .ensures) n ((c .before .before .before .before .before .e) .given .1) in
+    record { value = view-full s ((c .before .before .before .before .before .before .before .before .before .args) .want) n c′ f ((c .before .before .head-of) .result .len) ((c .before .before .head-of) .ensures .len); placed = f .stands .high }
 
 returns-2 : tie.Need-returns-2
 returns-2 c =
@@ -68,7 +64,6 @@ change-at-spec =
     head-of-requires
     sub-len
     add-len
-    number-requires
     enum-known-e-2
     view-no-requires
     returns

@@ -35,9 +35,6 @@ add-len c =
     let f = full ((c .before .before .before .before .before .before .before .before .before .before .before .before .args) .s .now) Any ((c .before .before .before .before .before .before .before .before .before .before .read-change) .result) ((c .before .before .before .before .before .before .before .before .before .before .read-change) .ensures) ((c .before .before .before .before .before .before .before .before .e) .given .0 .0) ((c .before .before .before .before .before .before .before .before .e) .given .1) in
     omega (arith, f .stands .high, (c .before .before .before .before .before .head-of) .ensures .few)
 
-number-requires : tie.Need-number-requires
-number-requires c κs = search needs
-
 nothing-requires : tie.Need-nothing-requires
 nothing-requires c κs = search needs
 
@@ -49,9 +46,9 @@ nothing-requires-2 c κs = search needs
 
 returns : tie.Need-returns
 returns c =
-    let s = (c .before .before .before .before .before .before .before .before .before .before .before .before .before .args) .s .now in
-    let f = full s Any ((c .before .before .before .before .before .before .before .before .before .before .before .read-change) .result) ((c .before .before .before .before .before .before .before .before .before .before .before .read-change) .ensures) ((c .before .before .before .before .before .before .before .before .before .e) .given .0 .0) ((c .before .before .before .before .before .before .before .before .before .e) .given .1) in
-    peek-yes s ((c .before .before .before .before .before .before .before .before .before .e) .given .0 .0) ((c .before .before .before .before .before .before .before .before .before .before .before .read-change) .result) f ((c .before .before .before .before .before .before .head-of) .result .len) ((c .number) .result) ((c .before .before .before .before .before .before .head-of) .ensures .len) ((c .number) .ensures) (ap (λ l. begins l s) (sym ((c .before .before .before .before .before .before .head-of) .ensures .bytes)) ∙ sym ((c .before .before .before .starts) .ensures) ∙ (c .before .before .if1) .taken)
+    let s = (c .before .before .before .before .before .before .before .before .before .before .before .before .args) .s .now in
+    let f = full s Any ((c .before .before .before .before .before .before .before .before .before .before .read-change) .result) ((c .before .before .before .before .before .before .before .before .before .before .read-change) .ensures) ((c .before .before .before .before .before .before .before .before .e) .given .0 .0) ((c .before .before .before .before .before .before .before .before .e) .given .1) in
+    peek-yes s ((c .before .before .before .before .before .before .before .before .e) .given .0 .0) ((c .before .before .before .before .before .before .before .before .before .before .read-change) .result) f ((c .before .before .before .before .before .head-of) .result .len) ((c .before .before .before .before .before .head-of) .ensures .len) (ap (λ l. begins l s) (sym ((c .before .before .before .before .before .head-of) .ensures .bytes)) ∙ sym ((c .before .before .starts) .ensures) ∙ (c .before .if1) .taken)
 
 returns-2 : tie.Need-returns-2
 returns-2 c =
@@ -74,7 +71,6 @@ peek-spec =
     starts-requires
     sub-len
     add-len
-    number-requires
     nothing-requires
     enum-known-e-2
     nothing-requires-2
