@@ -7,7 +7,8 @@ use native.Mathlib.Omega.{arith}
 use lib.ListN.{length, take, drop, getD, set, length-set, length-map}
 use lib.Seq.{length-take-le}
 use borrow.Author.Tests.{ne-eqb}
-use Rattle.book.specs.Layer.{Key, KeyAnswer, Change, Mark, HourPrices, Ticks, Answer, isFailure, noTicks, chargeIn, Asked, got, bad, askHourOf, askFailure, keyAnswer, askHourOf-fault, askFailure-fault, hour-asked, failure-marked, Wellformed, mark-hour-formed}
+use Rattle.book.specs.Layer.{Key, KeyAnswer, Change, Mark, HourPrices, Ticks, Answer, isFailure, noTicks, chargeIn, Asked, got, bad, askHourOf, askFailure, keyAnswer}
+use Rattle.book.specs.LayerLaws.{askHourOf-fault, askFailure-fault, hour-asked, failure-marked, Wellformed, mark-hour-formed}
 use Rattle.book.specs.declared.journal.Book.{Book}
 use Rattle.book.specs.declared.rows.Seek.{Seek}
 use Rattle.book.specs.declared.places.Spot.{Spot}

@@ -6,8 +6,10 @@ use mathlib.Core.Bool.{Bool, true, false, cond, not, _||_}
 use native.Mathlib.Omega.{arith}
 use lib.ListN.{length, take, drop, getD, set, replicate, length-set}
 use lib.Seq.{getD-set-same, getD-set-other}
-use Rattle.laws.specs.Sums.{every, every-ext, last-or}
-use Rattle.book.specs.Layer.{Key, KeyAnswer, Change, Gh, Ticks, CentsPerStart, UnitPart, PartAnswer, DayAnswer, noPart, unitPartIn, atHour, dayAnswer, reversal, noTicks, noStart, Asked, got, bad, askUnit, keyAnswer, askUnit-fault, unit-marked}
+use Rattle.laws.specs.Sums.{every}
+use Rattle.laws.specs.SumLaws.{every-ext, last-or}
+use Rattle.book.specs.Layer.{Key, KeyAnswer, Change, Gh, Ticks, CentsPerStart, UnitPart, PartAnswer, DayAnswer, noPart, unitPartIn, atHour, dayAnswer, reversal, noTicks, noStart, Asked, got, bad, askUnit, keyAnswer}
+use Rattle.book.specs.LayerLaws.{askUnit-fault, unit-marked}
 use Rattle.book.specs.declared.journal.Book.{Book}
 use Rattle.book.specs.declared.answers.UnitDay.{UnitDay}
 use Rattle.book.specs.declared.hours.HourPlace.{HourPlace}

@@ -8,13 +8,14 @@ use lib.ListN.{length, take, drop, getD, set, replicate, length-take, length-dro
 use lib.Seq.{take-all, drop-drop, drop-length, getD-set-same, getD-set-other}
 use lib.Dec.{eqb}
 use borrow.Author.Tests.{ne-eqb, eq-eqb, eqb-true, eqb-false}
-use Rattle.book.specs.Layer.{Key, Change, Res, bad, got, Entry, readEntry, frontOf, Front, entry-fault}
+use Rattle.book.specs.Layer.{Key, Change, Res, bad, got, Entry, readEntry, frontOf, Front}
+use Rattle.book.specs.LayerLaws.{entry-fault}
 use Rattle.book.specs.declared.journal.Book.{Book}
 use Rattle.book.specs.declared.answers.Done.{Done}
 use Rattle.book.specs.declared.feed.Fed.{Fed as Result}
 use Rattle.book.specs.Register.{Reg, change, general, Reply, refused, Step, answered, becomes, called, after, writeAll}
 use Rattle.book.specs.Meaning.{belongs, astray, load, Valid, bookOf, Meets, replyOf}
-use Rattle.book.specs.Tables.{replied}
+use Rattle.book.specs.Replies.{replied}
 use Rattle.book.specs.ReplayLaws.{called-valid}
 use Rattle.book.specs.Held.{Held, Makes, Since, IsEntry}
 use Rattle.book.specs.Index.{slot, latestOf}

@@ -5,7 +5,8 @@ use mathlib.Core.List.{List, [], _∷_, _++_}
 use mathlib.Core.Bool.{Bool, true, false, cond, _&&_}
 use native.Mathlib.Omega.{arith}
 use lib.ListN.{length, take, drop, getD}
-use Rattle.book.specs.Layer.{Kind, isCorrection, Key, Rec, Change, kindOf, keyOf, sameHour, nameOf, nameBefore, limit-most}
+use Rattle.book.specs.Layer.{Kind, isCorrection, Key, Rec, Change, kindOf, keyOf, sameHour, nameOf, nameBefore}
+use Rattle.book.specs.LayerLaws.{limit-most}
 use Rattle.book.specs.declared.places.Spot.{Spot}
 use Rattle.book.specs.declared.places.Places.{Places}
 use Rattle.book.specs.Register.{writeAll, standing, count}

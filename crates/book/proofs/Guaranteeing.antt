@@ -9,7 +9,8 @@ use lib.Seq.{getD-take, length-take-le}
 use lib.IntN.{pos}
 use Rattle.records.specs.Amounts.{noImport}
 use Rattle.money.specs.declared.units.Answer.the-variants.{Amount, Refused}
-use Rattle.book.specs.Layer.{Key, KeyAnswer, Rec, Change, Asked, got, bad, askHourOf, keyAnswer, hour-asked, askHourOf-fault, Im, Ex, HourPrices, Quantity, Ticks, Import, offset, offsetAnswer, offsetEntry, answer-front}
+use Rattle.book.specs.Layer.{Key, KeyAnswer, Rec, Change, Asked, got, bad, askHourOf, keyAnswer, Im, Ex, HourPrices, Quantity, Ticks, Import, offset, offsetAnswer, offsetEntry}
+use Rattle.book.specs.LayerLaws.{hour-asked, askHourOf-fault, answer-front}
 use Rattle.book.specs.declared.answers.NamedAmount.{NamedAmount}
 use Rattle.book.specs.declared.answers.Credits.{Credits}
 use Rattle.book.specs.declared.places.Places.{Places}

@@ -8,9 +8,12 @@ use lib.ListN.{length, take, drop, set, getD, length-append, length-set}
 use lib.Seq.{take-append-seam, take-take}
 use lib.Dec.{eqb, ltb}
 use borrow.Author.Tests.{eq-eqb, ne-eqb, eqb-true, eqb-false}
-use Rattle.book.specs.Layer.{Key, View, Parsed, Change, keyOf, kindOf, write, Good, Input, fine, fault, parse, parsedOf, parse-fine, parse-fault, putBytes, viewedBytes, viewed-put, store-front, store-length, limitOf, Padded, good-padded, good-hour, Wanted, Any, Kind, Record, TakeBack, Close, Nothing, isFiling, isWithdrawal, kindIn}
+use Rattle.book.specs.Layer.{Key, View, Parsed, Change, keyOf, kindOf, write, Good, Input, fine, fault, parse, parsedOf, putBytes, limitOf, Wanted, Any, Kind, Record, TakeBack, Close, Nothing, isFiling, isWithdrawal, kindIn}
+use Rattle.book.specs.LayerTables.{viewedBytes}
+use Rattle.book.specs.LayerLaws.{parse-fine, parse-fault, viewed-put, store-front, store-length, Padded, good-padded, good-hour}
 use Rattle.records.specs.Changes.{entry, whole, parseAny}
-use Rattle.book.specs.Layer.{bad, Entry, changed, takingBack, closingEntry, entryView, entryOf, entry-bad, any-fault, alone, asEntry, any-back, any-close, any-change, markIs, begins, takeBackBytes, closeBytes}
+use Rattle.book.specs.Layer.{bad, Entry, changed, takingBack, closingEntry, entryView, entryOf, markIs, begins, takeBackBytes, closeBytes}
+use Rattle.book.specs.LayerLaws.{entry-bad, any-fault, alone, asEntry, any-back, any-close, any-change}
 use Rattle.book.specs.declared.journal.Book.{Book}
 use Rattle.book.specs.declared.answers.Answer.the-variants.{Accepted, Refused}
 use Rattle.book.specs.declared.answers.Done.{Done}

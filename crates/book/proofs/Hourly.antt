@@ -9,7 +9,9 @@ use lib.ListN.{length, take, drop, getD, set, replicate, length-set, length-appe
 use lib.Seq.{drop-drop, take-nil, length-take-le, getD-set-same, getD-set-other}
 use lib.Dec.{eqb}
 use borrow.Author.Tests.{eq-eqb, ne-eqb, eqb-true, eqb-false, le-leb, lt-leb}
-use Rattle.book.specs.Layer.{Key, Change, filed, keyOf, kindOf, write, begins, order, same, sameName, atHour, recordHead, Padded, good-hour, same-at, at-hour, same-alike, hour-parts, parts-hour, name-same, name-none, write-long}
+use Rattle.book.specs.Layer.{Key, Change, filed, keyOf, kindOf, write, begins, order, same, sameName, atHour}
+use Rattle.book.specs.LayerTables.{recordHead}
+use Rattle.book.specs.LayerLaws.{Padded, good-hour, same-at, at-hour, same-alike, hour-parts, parts-hour, name-same, name-none, write-long}
 use Rattle.records.specs.declared.writing.HeadOut.{HeadOut}
 use Rattle.book.specs.declared.hours.HourPlace.{HourPlace}
 use Rattle.book.specs.Register.{writeAll, standing}

@@ -10,7 +10,8 @@ use lib.ListN.{length, drop, getD, set, drop-of-length-le}
 use lib.Seq.{drop-cons, getD-set-same, getD-set-other}
 use lib.Dec.{leb, eqb}
 use borrow.Author.Tests.{eq-eqb, eqb-true, leb-true}
-use Rattle.book.specs.Layer.{Key, Change, Good, keyOf, kindOf, same, sameHour, Mark, order, every-mark, Padded, good-padded, same-true, hour-parts, parts-hour, Pr, Im, Ex, Gh, Fi, Fe, isFiling, isWithdrawal}
+use Rattle.book.specs.Layer.{Key, Change, Good, keyOf, kindOf, same, sameHour, Mark, order, Pr, Im, Ex, Gh, Fi, Fe, isFiling, isWithdrawal}
+use Rattle.book.specs.LayerLaws.{every-mark, Padded, good-padded, same-true, hour-parts, parts-hour}
 use Rattle.book.specs.Tables.{survey}
 use Rattle.book.specs.Index.{hourSlot, weighed, slot, latestOf}
 use Rattle.book.specs.RegisterLaws.{by-test, true≠false}

@@ -15,7 +15,7 @@ use Rattle.book.specs.ByName.{addName, sameMark, namesOf}
 use Rattle.book.specs.Meaning.{Load, belongs}
 use Rattle.book.specs.Tables.{survey}
 use Rattle.book.specs.Places.{liveAt}
-use Rattle.book.specs.Units.{ghKey, namesIn, named, unitNames}
+use Rattle.book.specs.UnitNames.{ghKey, namesIn, named, unitNames}
 use Rattle.book.specs.Handed.{unitsOf}
 use Rattle.book.specs.HandedLaws.{pad-behind, pad-front}
 use Rattle.book.specs.Rows.{rowSlot, rowLive, rowPlace, Logged, Log, keyAt}

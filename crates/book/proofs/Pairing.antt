@@ -6,7 +6,7 @@ use native.Mathlib.Omega.{arith}
 use native.Mathlib.Nat.{not-suc-le-zero, le-of-suc-le-suc}
 use lib.ListN.{length, take, drop, getD, set, length-set}
 use lib.Seq.{getD-set-same, getD-set-other, drop-set-lt, drop-drop, length-take-le}
-use Rattle.laws.specs.Sums.{last-or}
+use Rattle.laws.specs.SumLaws.{last-or}
 use Rattle.book.specs.Layer.{Ticks, noTicks, pad}
 use Rattle.book.specs.declared.answers.NamedAmount.{NamedAmount}
 use Rattle.book.specs.declared.answers.Credits.{Credits}

@@ -12,7 +12,8 @@ use borrow.Author.Tests.{eqb-true, eqb-false, lt-ltb, le-ltb, lt-leb, le-leb}
 use Rattle.money.specs.Names.{sameName}
 use Rattle.records.specs.Marks.{hasName}
 use Rattle.records.specs.Keys.{same, sameHour}
-use Rattle.book.specs.Layer.{Key, Rec, Change, filed, keyOf, kindOf, Good, Pr, order, noOne, same-refl, hour-parts, good-hour, own-unnamed, pricesOf, Padded, Wellformed}
+use Rattle.book.specs.Layer.{Key, Rec, Change, filed, keyOf, kindOf, Good, Pr, order, noOne, pricesOf}
+use Rattle.book.specs.LayerLaws.{same-refl, hour-parts, good-hour, own-unnamed, Padded, Wellformed}
 use Rattle.book.specs.declared.prices.HourPrice.{HourPrice}
 use Rattle.book.specs.declared.rows.Seek.{Seek}
 use Rattle.book.specs.Register.{writeAll, standing}
@@ -24,7 +25,8 @@ use Rattle.book.specs.Rows.{rowLive, rowSlot, rowPlace, Logged, Log, Sou
 use Rattle.book.specs.Prices.{PriceIs, TableOf, priceAt, priceHour}
 use Rattle.book.specs.Worked.{Begun, begun}
 use Rattle.book.specs.RegisterLaws.{by-test, valid-new}
-use Rattle.book.specs.StandLaws.{All, also, Stands, all-stand}
+use Rattle.book.specs.StandLaws.{Stands, all-stand}
+use Rattle.laws.specs.Lists.{All, also}
 use Rattle.book.specs.PriceLaws.{price-written, price-unknown, price-found, price-gone}
 use Rattle.book.specs.GatherLaws.{Pass, gather, collect, gather-standing}
 use Rattle.book.proofs.Indexing.{latest-few}

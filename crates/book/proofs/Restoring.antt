@@ -8,7 +8,9 @@ use lib.ListN.{length, take, drop, getD, set, length-append, length-set, take-ap
 use lib.Seq.{getD-set-same, getD-set-other, drop-at, drop-drop, drop-append-le}
 use lib.Dec.{eqb}
 use borrow.Author.Tests.{eq-eqb, eqb-true, eqb-false}
-use Rattle.book.specs.Layer.{Change, filed, corrected, withdrawn, keyOf, kindOf, write, write-co, good-co, Good, good-hour, good-padded, begins, same, same-sym, same-alike, order, KeyAnswer, keyAnswer, headKey, head-written, recordHead, Kind, isFiling, isCorrection, isWithdrawal}
+use Rattle.book.specs.Layer.{Change, filed, corrected, withdrawn, keyOf, kindOf, write, Good, begins, same, order, KeyAnswer, keyAnswer, Kind, isFiling, isCorrection, isWithdrawal}
+use Rattle.book.specs.LayerTables.{headKey, recordHead}
+use Rattle.book.specs.LayerLaws.{write-co, good-co, good-hour, good-padded, same-sym, same-alike, head-written}
 use Rattle.book.specs.Register.{writeAll}
 use Rattle.book.specs.Meaning.{Valid}
 use Rattle.book.specs.Tables.{Survey, survey}

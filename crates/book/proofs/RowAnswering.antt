@@ -6,7 +6,8 @@ use mathlib.Core.Bool.{Bool, true, false}
 use native.Mathlib.Omega.{arith}
 use lib.ListN.{length, take, drop, length-take, length-drop}
 use Rattle.records.specs.Keys.{ask as askKey, askHour}
-use Rattle.book.specs.Layer.{Key, Rec, Change, filed, write, scan, scan-write, viewOf, KeyAnswer, keyAnswer, Padded, key-formed, hour-formed}
+use Rattle.book.specs.Layer.{Key, Rec, Change, filed, write, scan, viewOf, KeyAnswer, keyAnswer}
+use Rattle.book.specs.LayerLaws.{scan-write, Padded, key-formed, hour-formed}
 use Rattle.book.specs.declared.journal.Book.{Book}
 use Rattle.book.specs.Register.{writeAll, standing, count, ask, countOf, recordOf, Reply, number, place, refused}
 use Rattle.book.specs.Meaning.{Load, load, belongs, astray, Meets}

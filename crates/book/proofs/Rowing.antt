@@ -7,7 +7,9 @@ use native.Mathlib.Omega.{arith}
 use lib.ListN.{length, take, drop, getD, drop-of-length-le}
 use lib.Dec.{eqb, leb}
 use borrow.Author.Tests.{eq-eqb, ne-eqb, eqb-true, le-leb, lt-leb, leb-true, leb-false}
-use Rattle.book.specs.Layer.{Key, View, Rec, Change, filed, corrected, withdrawn, kindOf, keyOf, write, begins, Good, headKey, recordHead, head-written, head-same, keyAnswer, Res, same, sameHour, same-left, same-alike, same-true, Padded, good-padded, sameHour-same, order, good-hour, hour-parts, parts-hour, order-few, Kind, File, Correct, Withdraw, isFiling, isCorrection, isWithdrawal}
+use Rattle.book.specs.Layer.{Key, View, Rec, Change, filed, corrected, withdrawn, kindOf, keyOf, write, begins, Good, keyAnswer, Res, same, sameHour, order, Kind, File, Correct, Withdraw, isFiling, isCorrection, isWithdrawal}
+use Rattle.book.specs.LayerTables.{headKey, recordHead}
+use Rattle.book.specs.LayerLaws.{head-written, head-same, same-left, same-alike, same-true, Padded, good-padded, sameHour-same, good-hour, hour-parts, parts-hour, order-few}
 use Rattle.book.specs.Register.{writeAll, standing, stands, count}
 use Rattle.book.specs.Meaning.{Valid}
 use Rattle.book.specs.Tables.{Survey, survey}

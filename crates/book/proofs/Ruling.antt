@@ -8,7 +8,8 @@ use lib.ListN.{length, take, drop, getD, set, replicate, length-replicate, lengt
 use lib.Seq.{drop-drop, getD-set-same, getD-set-other, take-length, take-append-le}
 use lib.Dec.{eqb, ltb}
 use borrow.Author.Tests.{eq-eqb, ne-eqb, eqb-true, ltb-true, ltb-false}
-use Rattle.book.specs.Layer.{Key, View, Rec, Change, filed, corrected, withdrawn, keyOf, kindOf, write, write-pos, write-co, blind, scan, limitOf, Found, scan-got, Read, good-hour, good-padded, Padded, same, same-refl, Kind, isFiling, isCorrection, isWithdrawal, kindIn}
+use Rattle.book.specs.Layer.{Key, View, Rec, Change, filed, corrected, withdrawn, keyOf, kindOf, write, blind, scan, limitOf, same, Kind, isFiling, isCorrection, isWithdrawal, kindIn}
+use Rattle.book.specs.LayerLaws.{write-pos, write-co, Found, scan-got, Read, good-hour, good-padded, Padded, same-refl}
 use Rattle.book.specs.Register.{writeAll, refusal, room, stands, count, standing}
 use Rattle.book.specs.Meaning.{Load, belongs, astray, onward, ended, replay, Valid}
 use Rattle.book.specs.Tables.{Survey, together, survey, judge}

@@ -6,7 +6,8 @@ use native.Mathlib.Omega.{arith}
 use native.Mathlib.Nat.{not-suc-le-zero}
 use lib.ListN.{length, take, drop, getD, set, replicate, length-set, length-map}
 use lib.Seq.{ext-getD, drop-set-lt, drop-drop, getD-take, length-take-le}
-use Rattle.book.specs.Layer.{Name, Change, filed, Gh, Fi, Fe, Padded, Wellformed, good-padded, noOne, pad}
+use Rattle.book.specs.Layer.{Name, Change, filed, Gh, Fi, Fe, noOne, pad}
+use Rattle.book.specs.LayerLaws.{Padded, Wellformed, good-padded}
 use Rattle.book.specs.declared.answers.Guarantees.{Guarantees}
 use Rattle.book.specs.declared.answers.Charges.{Charges}
 use Rattle.book.specs.declared.answers.UnitDay.{UnitDay}
@@ -20,14 +21,16 @@ use Rattle.book.specs.Register.{standing}
 use Rattle.book.specs.Amounts.{HourPricing, hourKey, priceOf, guaranteesOf, chargesOf, unitDayOf}
 use Rattle.book.specs.ByName.{namesOf}
 use Rattle.book.specs.Meaning.{Load, belongs, astray, Valid, guaranteesReply, chargesReply, dayReply}
-use Rattle.book.specs.Units.{ghKey, unitKey, namesIn, Named}
+use Rattle.book.specs.Units.{Named}
+use Rattle.book.specs.UnitNames.{ghKey, unitKey, namesIn}
 use Rattle.book.specs.Handed.{guaranteesFrom, chargesFrom, unitDayFrom}
 use Rattle.book.specs.HandedLaws.{pad-none, pad-length, pad-front}
 use Rattle.book.specs.Built.{Built, built-none, built-more, built-all}
 use Rattle.book.specs.Worked.{noGuarantees, noCharges}
 use Rattle.book.specs.Rows.{Logged}
 use Rattle.book.specs.Prices.{PriceIs, TableOf}
-use Rattle.book.specs.StandLaws.{All, all-map, all-at, all-names, standing-good}
+use Rattle.book.specs.StandLaws.{all-map, all-at, all-names, standing-good}
+use Rattle.laws.specs.Lists.{All}
 use Rattle.book.specs.ChargeLaws.{getD-same}
 use Rattle.book.specs.WholeDay.{hourReply, unitReply, hoursFrom, wholeOf, dayAmounts, hourFrom, unitFrom, noHour, noUnit, wholeHanded, dayFrom}
 use Rattle.book.specs.WholeDayLaws.{hours-at}

@@ -6,7 +6,7 @@ use native.Mathlib.Nat.{not-suc-le-zero, le-of-suc-le-suc}
 use native.Mathlib.Omega.{arith}
 use lib.ListN.{length, take, getD, set, length-set}
 use lib.Seq.{getD-set-same, getD-set-other}
-use Rattle.laws.specs.Sums.{last-or}
+use Rattle.laws.specs.SumLaws.{last-or}
 
 -- the first i of the row are made from the first i of the list
 pub record Built {A B : Type 0} (f : A → B) (xs : List A) (d : A) (row : List B) (e : B) (i : ℕ) : Type 0 where

@@ -8,7 +8,8 @@ use lib.ListN.{length, take, length-take}
 use lib.Seq.{take-all}
 use lib.Dec.{ltb}
 use borrow.Author.Tests.{le-ltb}
-use Rattle.book.specs.Layer.{Key, Rec, Change, Im, Ex, Input, fine, fault, parse, begins, takeBackBytes, closeBytes, Asked, got, bad, askHourOf, askHourOf-fault, parse-fault, Unread, File, Wanted, Any, Only}
+use Rattle.book.specs.Layer.{Key, Rec, Change, Im, Ex, Input, fine, fault, parse, begins, takeBackBytes, closeBytes, Asked, got, bad, askHourOf, File, Wanted, Any, Only}
+use Rattle.book.specs.LayerLaws.{askHourOf-fault, parse-fault, Unread}
 use Rattle.book.specs.declared.journal.Book.{Book}
 use Rattle.book.specs.ByName.{byName}
 use Rattle.book.specs.Amounts.{HourPricing, priced, unpriced, hourKey, priceOf, guaranteesAt, guaranteesOf}

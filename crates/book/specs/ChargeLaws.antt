@@ -7,7 +7,8 @@ use native.Mathlib.Omega.{arith}
 use native.Mathlib.Nat.{not-suc-le-zero, le-of-suc-le-suc}
 use lib.ListN.{length, drop, getD}
 use Rattle.money.specs.Refusals.{noSuchKey, priceMissing}
-use Rattle.book.specs.Layer.{Key, Rec, Change, Mark, HourPrices, PricesFit, Ticks, isFailure, hour-parts, chargeIn, chargeTicks, Amount, charge-written}
+use Rattle.book.specs.Layer.{Key, Rec, Change, Mark, HourPrices, Ticks, isFailure, chargeIn, chargeTicks, Amount}
+use Rattle.book.specs.LayerLaws.{PricesFit, hour-parts, charge-written}
 use Rattle.book.specs.declared.answers.NamedAmount.{NamedAmount}
 use Rattle.book.specs.Register.{standing, refused}
 use Rattle.book.specs.Amounts.{Pick, HourPricing, priced, unpriced, hourKey, chargeAt, chargeOf, charged, no, chargeLine, chargesAt, chargesOf}
@@ -15,7 +16,8 @@ use Rattle.book.specs.ByName.{byName}
 use Rattle.book.specs.Tables.{survey}
 use Rattle.book.specs.Places.{spotOf}
 use Rattle.book.specs.Worked.{Begun, ticksOf, chargeReply, chargesIn, namedOf}
-use Rattle.book.specs.StandLaws.{All, also, At, found-at, none-at}
+use Rattle.book.specs.StandLaws.{At, found-at, none-at}
+use Rattle.laws.specs.Lists.{All, also}
 use Rattle.book.specs.WorkedLaws.{Here, here}
 
 -- an element is the same by any default

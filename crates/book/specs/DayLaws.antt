@@ -6,8 +6,10 @@ use mathlib.Core.Bool.{Bool, true, false, cond, not, _||_}
 use native.Mathlib.Omega.{arith}
 use lib.ListN.{drop}
 use lib.IntN.{ℤ, pos, _+ℤ_}
-use Rattle.laws.specs.Sums.{Σℤ-ext, every, every-at, every-ext}
-use Rattle.book.specs.Layer.{Key, Rec, Change, Gh, Ticks, CentsPerStart, UnitPart, PartAnswer, noPart, atHour, at-hour, unitPartIn, unit-written, unit-ready, unitTicks, startCents, unitHourOf, dayAnswer, day-amount, amount-ok, amountOk, noTicks, noStart, hourPart, daySum, day-sum, reversal}
+use Rattle.laws.specs.Sums.{every}
+use Rattle.laws.specs.SumLaws.{Σℤ-ext, every-at, every-ext}
+use Rattle.book.specs.Layer.{Key, Rec, Change, Gh, Ticks, CentsPerStart, UnitPart, PartAnswer, noPart, atHour, unitPartIn, unitTicks, startCents, unitHourOf, dayAnswer, amountOk, noTicks, noStart, hourPart, daySum, reversal}
+use Rattle.book.specs.LayerLaws.{at-hour, unit-written, unit-ready, day-amount, amount-ok, day-sum}
 use Rattle.book.specs.declared.hours.HourPlace.{HourPlace}
 use Rattle.book.specs.declared.hours.Day.{Day}
 use Rattle.book.specs.declared.prices.PriceTable.{PriceTable}

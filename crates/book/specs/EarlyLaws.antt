@@ -6,9 +6,10 @@ use Prim.Native.Nat.{ℕ, zero, suc, _+_}
 use native.Mathlib.Omega.{arith}
 use lib.Dec.{ltb, leb}
 use lib.ListN.{length}
-use Rattle.book.specs.Layer.{Change, filed, corrected, withdrawn, write, Input, fine, fault, parse, begins, takeBackBytes, closeBytes, limitOf, Unread, bare-early, Any}
+use Rattle.book.specs.Layer.{Change, filed, corrected, withdrawn, write, Input, fine, fault, parse, begins, takeBackBytes, closeBytes, limitOf, Any}
+use Rattle.book.specs.LayerLaws.{Unread, bare-early}
 use Rattle.book.specs.Register.{Reg, change, Reply, refused, Step, answered, becomes, called, listed, judged, takenBack, closing, shorter, unless-closed, bareTakeBack, bareClose, refusal, capped, stands, count, standing, writeAll}
-use Rattle.book.specs.Tables.{replied}
+use Rattle.book.specs.Replies.{replied}
 
 -- a step that says something else
 abbrev Else : Step → Type 0

@@ -7,7 +7,8 @@ use lib.Dec.{ltb}
 use lib.ListN.{length}
 use native.Mathlib.Omega.{arith}
 use borrow.Author.Tests.{le-ltb}
-use Rattle.book.specs.Layer.{Change, filed, write, Input, parse, same-refl, bare-exact, priceBytes, priceRecord, price-read, price-length, price-limit, takeBackBytes, closeBytes, File, Only}
+use Rattle.book.specs.Layer.{Change, filed, write, Input, parse, takeBackBytes, closeBytes, File, Only}
+use Rattle.book.specs.LayerLaws.{same-refl, bare-exact, priceBytes, priceRecord, price-read, price-length, price-limit}
 use Rattle.book.specs.Register.{Reg, fresh, file, takeBack, close, ask, freeBytes, Reply, refused, accepted, Step, answered, becomes, listed, judged, unless-closed, shorter, reply, after, room, refusal, stands, count, standing, writeAll, called, stepOf, Turn, run}
 
 pub record Case : Type 0 where

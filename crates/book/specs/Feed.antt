@@ -4,7 +4,7 @@ use Prim.Native.Nat.{ℕ, zero, suc, _+_, _-_}
 use lib.ListN.{length, take, drop}
 use Rattle.book.specs.Layer.{Res, bad, got, Entry, readEntry}
 use Rattle.book.specs.Register.{Reg, fresh, change, Step, answered, becomes, called}
-use Rattle.book.specs.Tables.{replied}
+use Rattle.book.specs.Replies.{replied}
 
 -- ---- "records back to back"
 

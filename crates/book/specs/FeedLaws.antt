@@ -5,7 +5,8 @@ use Prim.Native.Nat.{ℕ, zero, suc, _+_, _-_, _≤_, _<_}
 use native.Mathlib.Omega.{arith}
 use lib.ListN.{length, take, drop, length-append, length-take, length-drop}
 use lib.Seq.{take-length, take-append-le, length-take-le}
-use Rattle.book.specs.Layer.{Res, bad, got, fine, Entry, readEntry, parseAny, entry-got, entry-more, entry-alone}
+use Rattle.book.specs.Layer.{Res, bad, got, fine, Entry, readEntry, parseAny}
+use Rattle.book.specs.LayerLaws.{entry-got, entry-more, entry-alone}
 use Rattle.book.specs.Register.{Reg, change, Step, answered, becomes, called}
 use Rattle.book.specs.Feed.{front, firstRecord, Fed, stopped, later, onward, fed, feeding}
 

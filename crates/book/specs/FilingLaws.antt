@@ -7,13 +7,14 @@ use native.Mathlib.Omega.{arith}
 use lib.Dec.{ltb}
 use lib.ListN.{length, length-append}
 use Rattle.records.specs.Amounts.{sameName}
-use Rattle.book.specs.Layer.{Key, Name, Rec, Change, filed, write, Good, Pr, same, sameHour, same-refl, sameHour-same, hour-parts, same-by, price-name, limitOf, nameOf, nameBefore}
+use Rattle.book.specs.Layer.{Key, Name, Rec, Change, filed, write, Good, Pr, same, sameHour, limitOf, nameOf, nameBefore}
+use Rattle.book.specs.LayerLaws.{same-refl, sameHour-same, hour-parts, same-by, price-name}
 use Rattle.book.specs.Register.{writeAll, standing, stands, count, roomFor, refusal}
 use Rattle.book.specs.Amounts.{is, nil, pick, hourKey, absent}
 use Rattle.book.specs.ByName.{inOrder, byName}
 use Rattle.book.specs.Meaning.{Valid}
 use Rattle.book.specs.RegisterLaws.{by-test, true≠false}
-use Rattle.book.specs.StandLaws.{All, done, also}
+use Rattle.laws.specs.Lists.{All, done, also}
 
 -- ---- the records of a mark and hour
 

@@ -7,7 +7,8 @@ use native.Mathlib.Omega.{arith}
 use lib.ListN.{length, length-append}
 use lib.Dec.{eqb}
 use borrow.Author.Tests.{eq-eqb, ne-eqb}
-use Rattle.book.specs.Layer.{Key, Name, Rec, Change, filed, corrected, withdrawn, keyOf, kindOf, write, same, sameHour, nameOf, nameBefore, same-refl, same-sym, write-pos, write-co, isCorrection, isWithdrawal}
+use Rattle.book.specs.Layer.{Key, Name, Rec, Change, filed, corrected, withdrawn, keyOf, kindOf, write, same, sameHour, nameOf, nameBefore, isCorrection, isWithdrawal}
+use Rattle.book.specs.LayerLaws.{same-refl, same-sym, write-pos, write-co}
 use Rattle.book.specs.Register.{writeAll, without, standing}
 use Rattle.book.specs.declared.places.Spot.{Spot}
 use Rattle.book.specs.ByName.{inOrder, byName, addName, sameMark, namesOf}

@@ -15,7 +15,7 @@ use Rattle.book.specs.declared.units.Units.{Units}
 use Rattle.book.specs.declared.units.UnitList.{UnitList}
 use Rattle.book.specs.Replies.{Reply, refused, accepted, place, number, guarantees, unitDay, charge}
 use Rattle.book.specs.Amounts.{ChargesReply, charged, no}
-use Rattle.book.specs.Units.{NameList, named, no as unlisted}
+use Rattle.book.specs.UnitNames.{NameList, named, no as unlisted}
 
 -- ---- credits and charges by name
 

@@ -15,7 +15,7 @@ use Rattle.book.specs.declared.answers.UnitDay.{UnitDay}
 use Rattle.book.specs.declared.units.UnitList.{UnitList}
 use Rattle.book.specs.Register.{ask, hourGuarantees, dayOf, Reply, refused, accepted, place, number, guarantees, unitDay, charge}
 use Rattle.book.specs.Meaning.{load, Meets, guaranteesReply, dayReply, hourCharges, chargesReply}
-use Rattle.book.specs.Units.{unitNames, unitListOf}
+use Rattle.book.specs.UnitNames.{unitNames, unitListOf}
 use Rattle.book.specs.Handed.{guaranteesFrom, unitDayFrom, chargesFrom, unitListFrom}
 
 -- ---- the same call on the same book and bytes has one answer

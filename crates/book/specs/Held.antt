@@ -4,7 +4,8 @@ use mathlib.Core.Path.{_≡_}
 use mathlib.Core.List.{List, _∷_}
 use mathlib.Core.Bool.{true}
 use lib.ListN.{length, drop}
-use Rattle.book.specs.Layer.{Key, View, Change, Entry, keyOf, fine, parse, parseAny, entryView, same, recordHead, Wanted, kindOf}
+use Rattle.book.specs.Layer.{Key, View, Change, Entry, keyOf, fine, parse, parseAny, entryView, same, Wanted, kindOf}
+use Rattle.book.specs.LayerTables.{recordHead}
 use Rattle.book.specs.declared.journal.Book.{Book}
 use Rattle.book.specs.declared.answers.Done.{Done}
 use Rattle.book.specs.Register.{Reg, Step, writeAll}

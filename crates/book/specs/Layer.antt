@@ -1,4 +1,4 @@
--- What the book knows of the record layer: all names that it cites of it, and none of them opened.
+-- What the book knows of the record layer: the definitions that it cites of it, and none of them opened. Their laws stand in LayerLaws.
 use Prim.Native.Nat.{ℕ}
 use mathlib.Core.List.{List}
 use Rattle.records.specs.Keys.{ask}
@@ -18,18 +18,12 @@ pub use Rattle.records.specs.Changes.{Rec, Change, filed, corrected, withdrawn,
 -- the first of several changes, of any mark
 pub use Rattle.records.specs.Changes.{Entry, changed, takingBack, closing as closingEntry, entry as readEntry, parseAny, entryView, entryOf, frontOf}
 pub use Rattle.records.specs.declared.parse.Front.{Front}
-pub use Rattle.records.specs.BookLaws.{entry-got, entry-fault, entry-more, entry-alone, entry-firm, entry-bad, any-fault, alone, asEntry, any-back, any-close, any-change}
--- a change that is written of its view
-pub use Rattle.records.specs.Viewed.{viewedBytes}
-pub use Rattle.records.specs.BookLaws.{viewed-put}
--- the head of a change: its key, and what the records of a key begin with
-pub use Rattle.records.specs.Heads.{headKey, recordHead}
 -- keys, the keys of questions, limits, marks
 pub use Rattle.records.specs.Reading.{Res, bad, got}
 pub use Rattle.records.specs.declared.marks.Mark.{Mark}
 pub use Rattle.records.specs.declared.marks.Mark.the-variants.{Pr, Im, Ex, Gh, Fi, Fe}
 pub use Rattle.records.specs.Marks.{is as markIs, markBytes, order, isFailure}
-pub use Rattle.records.specs.Keys.{same, sameHour, askHour, askHourOf, askUnit, askFailure, keyAnswer}
+pub use Rattle.records.specs.Keys.{askBytes, same, sameHour, askHour, askHourOf, askUnit, askFailure, keyAnswer}
 pub use Rattle.records.specs.Hours.{limitOf, sameName, atHour}
 -- decoded names and their order
 pub use Rattle.money.specs.declared.names.Name.{Name}
@@ -54,15 +48,6 @@ pub use Rattle.money.specs.declared.units.Answer.the-variants.{Amount, Refused 
 pub use Rattle.money.specs.declared.production.DayAnswer.{DayAnswer}
 pub use Rattle.money.specs.declared.production.DayAnswer.the-variants.{Day, Refused}
 pub use Rattle.money.specs.declared.units.CentsPerStart.{CentsPerStart}
--- laws
-pub use Rattle.records.specs.BookLaws.{scan-write, Found, scan-got, Taken, parse-fine, parse-fault, Unread, write-pos, write-co, good-co, same-refl, same-sym, same-left, same-right, hour-right, same-alike, Padded, good-padded, same-true, sameHour-same, hour-parts, parts-hour, bare-exact, Read, view-bad, view-got, askBytes, asked, ask-fault, askHour-fault, askHourOf-fault, askUnit-fault, askFailure-fault, hour-asked, unit-marked, failure-marked, names-apart, own-unnamed, head-written, head-same, name-same, name-none, write-long, every-mark, order-few, limit-most, limit-same, good-hour, same-at, at-hour, store-front, store-length}
-pub use Rattle.records.specs.BookLaws.{PricesFit, prices-there, standing-prices, totals-written, standing-export, unit-written, charge-written, entry-view, entry-sound, unit-ready}
-pub use Rattle.records.specs.BookLaws.{row-at, row-same, row-none, quantity-most, totals-more, rates-ok, offset-amount, answer-front, day-amount, day-sum, amount-ok, same-names, name-trans, name-tri, name-self}
-pub use Rattle.records.specs.BookLaws.{Wellformed, key-formed, failure-formed, hour-formed, mark-hour-formed, unit-formed}
-pub use Rattle.records.specs.BookLaws.{Unread, bare-early}
--- a key by its mark and hour and its name; a `PR` has none
-pub use Rattle.records.specs.BookLaws.{same-by, price-name}
-pub use Rattle.records.specs.PriceExample.{priceBytes, priceRecord, price-read, price-length, price-limit}
 
 -- a key that was asked for, or the number of the first fault
 abbrev pub Asked : Type 0

@@ -1,4 +1,6 @@
 pub mod Layer
+pub mod LayerLaws
+pub mod LayerTables
 pub mod Replies
 pub mod Amounts
 pub mod Register
@@ -35,6 +37,7 @@ pub mod WorkedLaws
 pub mod DayLaws
 pub mod ChargeLaws
 pub mod OrderLaws
+pub mod UnitNames
 pub mod Units
 pub mod Handed
 pub mod HandedLaws

@@ -7,7 +7,8 @@ use native.Mathlib.Omega.{arith}
 use native.Mathlib.Nat.{not-suc-le-zero, le-of-suc-le-suc}
 use lib.ListN.{length, drop, getD}
 use Rattle.records.specs.Amounts.{sameName}
-use Rattle.book.specs.Layer.{Key, Name, Rec, Change, filed, Good, HourPrices, PricesFit, Quantity, Import, Amount, Pr, Im, Ex, nameOf, nameBefore, quantityAt, rowOf, row-none, row-at, row-same, totalsWith, totalsWithIn, totals-more, quantity-most, rates-ok, entry, entryFault, offset, offsetAnswer, offset-amount, offsetEntry, exportOf, standing-export, entry-sound, same-names, sameHour, hour-parts}
+use Rattle.book.specs.Layer.{Key, Name, Rec, Change, filed, Good, HourPrices, Quantity, Import, Amount, Pr, Im, Ex, nameOf, nameBefore, quantityAt, rowOf, totalsWith, totalsWithIn, entry, entryFault, offset, offsetAnswer, offsetEntry, exportOf, sameHour}
+use Rattle.book.specs.LayerLaws.{PricesFit, row-none, row-at, row-same, totals-more, quantity-most, rates-ok, offset-amount, standing-export, entry-sound, same-names, hour-parts}
 use Rattle.book.specs.declared.places.Spot.{Spot}
 use Rattle.book.specs.Register.{standing, guarantees}
 use Rattle.book.specs.Amounts.{priced, priceOf, priceFrom, pick, hourKey, creditAt, exported, totalsOf, guaranteesAt, guaranteesOf}
@@ -17,7 +18,8 @@ use Rattle.book.specs.Places.{putSpot}
 use Rattle.book.specs.Worked.{entryAt, entriesIn, totalsFrom, totalsIn}
 use Rattle.book.specs.RegisterLaws.{by-test, valid-new, once-standing}
 use Rattle.book.specs.StandLaws.{all-at, all-by-name, apart-at, apart-by-name}
-pub use Rattle.book.specs.StandLaws.{All, done, also, all-pick, pick-key, standing-good}
+pub use Rattle.book.specs.StandLaws.{all-pick, pick-key, standing-good}
+pub use Rattle.laws.specs.Lists.{All, done, also}
 
 -- an element of what a list is mapped to
 pub getD-mapped : {A B : Type 0} (f : A → B) (l : List A) (i : ℕ) (d : A) (e : B) → i < length l → getD (map f l) i e ≡ f (getD l i d)

@@ -4,8 +4,9 @@ use mathlib.Core.Path.{_≡_, refl, sym, ap, ap₂, _∙_}
 use mathlib.Core.Logic.{_⊎_, inl, inr}
 use mathlib.Core.List.{List, [], _∷_}
 use mathlib.Core.Bool.{Bool, true, false, cond}
-use Rattle.laws.specs.Sums.{Σℤ-ext, every-ext}
-use Rattle.book.specs.Layer.{Key, Rec, Im, Ex, Pr, same, sameHour, same-left, sameHour-same, nameOf, nameBefore, names-apart, name-trans, name-tri, name-self, reversal, atHour}
+use Rattle.laws.specs.SumLaws.{Σℤ-ext, every-ext}
+use Rattle.book.specs.Layer.{Key, Rec, Im, Ex, Pr, same, sameHour, nameOf, nameBefore, reversal, atHour}
+use Rattle.book.specs.LayerLaws.{same-left, sameHour-same, names-apart, name-trans, name-tri, name-self}
 use Rattle.book.specs.Register.{stands, refused, unitDay}
 use Rattle.book.specs.Amounts.{Pick, is, pick, HourPricing, priceFrom, priceOf, hourKey, guaranteesAt, guaranteesOf, hourTicks, absent, payable, unitAt, dayTotal, unitDayOf, chargeAt, chargeOf, chargesAt, chargesOf}
 use Rattle.book.specs.ByName.{inOrder, byName}

@@ -7,9 +7,10 @@ use native.Mathlib.Omega.{arith}
 use lib.ListN.{length, drop, length-append, length-drop}
 use lib.Seq.{drop-append-le, drop-drop, drop-length}
 use lib.Dec.{ltb}
-use Rattle.book.specs.Layer.{Res, bad, got, Entry, readEntry, entry-bad, entry-firm}
+use Rattle.book.specs.Layer.{Res, bad, got, Entry, readEntry}
+use Rattle.book.specs.LayerLaws.{entry-bad, entry-firm}
 use Rattle.book.specs.Register.{Reg, change, Reply, Step, answered, becomes, refused, called, writeAll}
-use Rattle.book.specs.Tables.{replied}
+use Rattle.book.specs.Replies.{replied}
 use Rattle.book.specs.CallLaws.{Decided, decided-change, called-unread, called-short}
 use Rattle.book.specs.Feed.{front, firstRecord, Fed, later, onward, fed, feeding}
 use Rattle.book.specs.FeedLaws.{first-within, first-some, first-more, first-then, none-before, both-before}

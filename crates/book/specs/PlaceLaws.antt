@@ -6,7 +6,8 @@ use mathlib.Core.Bool.{Bool, true, false, cond, not}
 use native.Mathlib.Omega.{arith}
 use lib.ListN.{length, take, drop, length-append, length-drop}
 use lib.Seq.{take-length, drop-append-seam, drop-append-add, drop-append-le, take-append-le}
-use Rattle.book.specs.Layer.{Key, Rec, Change, filed, corrected, withdrawn, keyOf, kindOf, write, same, same-right, write-co, isCorrection, isWithdrawal}
+use Rattle.book.specs.Layer.{Key, Rec, Change, filed, corrected, withdrawn, keyOf, kindOf, write, same, isCorrection, isWithdrawal}
+use Rattle.book.specs.LayerLaws.{same-right, write-co}
 use Rattle.book.specs.Register.{writeAll, without, play, standing, stands, place, refused, written, placeOf}
 use Rattle.book.specs.Tables.{survey}
 use Rattle.book.specs.Session.{Shows}

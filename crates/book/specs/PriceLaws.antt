@@ -3,7 +3,8 @@ use Prim.Native.Nat.{ℕ}
 use mathlib.Core.Path.{_≡_, sym, ap, _∙_, subst, subst⁻¹}
 use mathlib.Core.List.{List}
 use mathlib.Core.Bool.{Bool, true, false, cond}
-use Rattle.book.specs.Layer.{Rec, Change, Pr, PricesFit, pricesOf, pricesIn, prices-there, standing-prices}
+use Rattle.book.specs.Layer.{Rec, Change, Pr, pricesOf, pricesIn}
+use Rattle.book.specs.LayerLaws.{PricesFit, prices-there, standing-prices}
 use Rattle.book.specs.declared.prices.HourPrice.{HourPrice}
 use Rattle.book.specs.Register.{standing}
 use Rattle.book.specs.Amounts.{HourPricing, priced, unpriced, hourKey, priceFrom, priceOf}

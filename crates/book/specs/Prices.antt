@@ -5,7 +5,8 @@ use mathlib.Core.Bool.{true, cond, _&&_}
 use mathlib.Core.List.{List}
 use lib.ListN.{length, drop, getD}
 use lib.Dec.{ltb}
-use Rattle.book.specs.Layer.{PricesFit, pricesIn}
+use Rattle.book.specs.Layer.{pricesIn}
+use Rattle.book.specs.LayerLaws.{PricesFit}
 use Rattle.book.specs.declared.prices.HourPrice.{HourPrice}
 use Rattle.book.specs.declared.prices.PriceTable.{PriceTable}
 use Rattle.book.specs.Amounts.{HourPricing, priced, unpriced}

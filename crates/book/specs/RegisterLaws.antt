@@ -7,7 +7,8 @@ use native.Mathlib.Omega.{arith}
 use lib.ListN.{length}
 use lib.Dec.{ltb}
 use borrow.Author.Tests.{ltb-true}
-use Rattle.book.specs.Layer.{Key, Rec, Change, filed, corrected, withdrawn, keyOf, kindOf, write, same, sameHour, limitOf, same-sym, same-left, same-right, hour-right, sameHour-same, limit-same, isFiling}
+use Rattle.book.specs.Layer.{Key, Rec, Change, filed, corrected, withdrawn, keyOf, kindOf, write, same, sameHour, limitOf, isFiling}
+use Rattle.book.specs.LayerLaws.{same-sym, same-left, same-right, hour-right, sameHour-same, limit-same}
 use Rattle.book.specs.Register.{writeAll, standing, stands, count, without, room, refusal}
 use Rattle.book.specs.Meaning.{Valid}
 use Rattle.book.specs.Tables.{survey, judge}

@@ -8,7 +8,8 @@ use lib.ListN.{length, take, drop}
 use lib.Seq.{drop-append-seam, take-all}
 use lib.Dec.{ltb, leb, eqb}
 use borrow.Author.Tests.{eq-eqb, eqb-true, le-leb, lt-leb, ltb-true, ltb-false, leb-true}
-use Rattle.book.specs.Layer.{Change, kindOf, keyOf, write, Good, Scan, seen, blind, scan, Input, fine, fault, parse, begins, takeBackBytes, closeBytes, limitOf, scan-write, scan-got, parse-fine, File, Correct, Withdraw, Any, Only, isFiling}
+use Rattle.book.specs.Layer.{Change, kindOf, keyOf, write, Good, Scan, seen, blind, scan, Input, fine, fault, parse, begins, takeBackBytes, closeBytes, limitOf, File, Correct, Withdraw, Any, Only, isFiling}
+use Rattle.book.specs.LayerLaws.{scan-write, scan-got, parse-fine}
 use Rattle.book.specs.Register.{Reg, Call, file, correct, withdraw, takeBack, close, change, ask, answered, becomes, refused, stepOf, called, listed, judged, takenBack, closing, shorter, unless-closed, bareTakeBack, bareClose, after, writeAll, refusal, room, stands, count, standing}
 use Rattle.book.specs.Meaning.{belongs, astray, onward, replay, load, Valid, bookOf, leaving, stepped, outcome}
 use Rattle.book.specs.Tables.{judge}

@@ -5,7 +5,9 @@ use mathlib.Core.List.{List, [], _∷_}
 use mathlib.Core.Bool.{Bool, true, cond}
 use lib.ListN.{length, take, drop, getD, set}
 use lib.Dec.{leb, eqb}
-use Rattle.book.specs.Layer.{Kind, File, Correct, Withdraw, Key, Change, Padded, keyOf, kindOf, headKey, keyAnswer, recordHead}
+use Rattle.book.specs.Layer.{Kind, File, Correct, Withdraw, Key, Change, keyOf, kindOf, keyAnswer}
+use Rattle.book.specs.LayerTables.{headKey, recordHead}
+use Rattle.book.specs.LayerLaws.{Padded}
 use Rattle.book.specs.Register.{writeAll}
 use Rattle.book.specs.Meaning.{Load, belongs, Valid}
 use Rattle.book.specs.Tables.{survey, together}

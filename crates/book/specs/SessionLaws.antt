@@ -8,7 +8,8 @@ use lib.ListN.{length, take, drop, length-take, take-append-drop, replicate}
 use lib.Seq.{take-all, take-append-le, take-length}
 use lib.Dec.{ltb}
 use borrow.Author.Tests.{le-ltb, ltb-true, ltb-false}
-use Rattle.book.specs.Layer.{Change, bare-exact, takeBackBytes}
+use Rattle.book.specs.Layer.{Change, takeBackBytes}
+use Rattle.book.specs.LayerLaws.{bare-exact}
 use Rattle.book.specs.declared.journal.Book.{Book}
 use Rattle.book.specs.Register.{Reg, Call, takeBack, ask, answer, placeOf, standing, Step, answered, becomes, refused, accepted, stepOf, called, shorter, unless-closed, after, writeAll, Reply, reply, Turn, run, told}
 use Rattle.book.specs.Meaning.{After, bookOf, leaving, Meets, Valid}

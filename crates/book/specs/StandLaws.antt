@@ -7,7 +7,9 @@ use native.Mathlib.Omega.{arith}
 use native.Mathlib.Nat.{not-suc-le-zero, le-of-suc-le-suc}
 use lib.ListN.{length, drop, getD, take-append-drop}
 use lib.Seq.{drop-append-le}
-use Rattle.book.specs.Layer.{Key, Name, Rec, Change, filed, corrected, withdrawn, write, Good, good-co, same, sameHour, same-refl, same-alike, nameOf, nameBefore, names-apart, sameHour-same, keyAsked, got, markBytes, askBytes, asked}
+use Rattle.book.specs.Layer.{Key, Name, Rec, Change, filed, corrected, withdrawn, write, Good, same, sameHour, nameOf, nameBefore, keyAsked, got, markBytes}
+use Rattle.book.specs.LayerLaws.{good-co, same-refl, same-alike, names-apart, sameHour-same, asked}
+use Rattle.book.specs.Layer.{askBytes}
 use Rattle.book.specs.Register.{writeAll, without, standing, stands}
 use Rattle.book.specs.Amounts.{is, nil, pick}
 use Rattle.book.specs.ByName.{inOrder, byName, addName, sameMark, namesOf}
@@ -16,12 +18,9 @@ use Rattle.book.specs.Tables.{survey}
 use Rattle.book.specs.Worked.{Begun}
 use Rattle.book.specs.RegisterLaws.{by-test, true≠false, same-turned, survey-found, Once, valid-new, once-standing}
 use Rattle.book.specs.PlaceLaws.{survey-written, pick-none}
+use Rattle.laws.specs.Lists.{All, done, also}
 
 -- ---- a property of all of a list
-
-pub data All {A : Type 0} (P : A → Type 0) : List A → Type 0 where
-  done : All P []
-  also : {r : A} {rs : List A} → P r → All P rs → All P (r ∷ rs)
 
 pub all-map : {A : Type 0} {P Q : A → Type 0} (f : (r : A) → P r → Q r) {rs : List A} → All P rs → All Q rs
 all-map f done = done

@@ -9,7 +9,7 @@ use Rattle.records.specs.Reading.{Res, bad, got}
 use Rattle.records.specs.Changes.{Entry, entry}
 use Rattle.records.specs.BookLaws.{entry-early, unread-early, whole-early}
 use Rattle.book.specs.Register.{Reg, change, Reply, Step, answered, becomes, called}
-use Rattle.book.specs.Tables.{replied}
+use Rattle.book.specs.Replies.{replied}
 use Rattle.book.specs.EarlyLaws.{early}
 use Rattle.book.specs.Feed.{front, firstRecord, Fed, onward, fed, feeding}
 use Rattle.book.specs.FeedLaws.{first-within, first-some, first-whole, first-then}

@@ -6,7 +6,7 @@ use lib.ListN.{length}
 use lib.Dec.{ltb}
 use Rattle.money.specs.Refusals.{keyStands, noSuchKey, hourFull}
 use Rattle.book.specs.Layer.{Key, View, Kind, Record, Change, keyOf, kindOf, isFiling, isCorrection, isWithdrawal, write, same, sameHour}
-pub use Rattle.book.specs.Replies.{replied}
+use Rattle.book.specs.Replies.{replied}
 use Rattle.book.specs.Register.{writeAll, room, Step, answered, becomes}
 use Rattle.book.specs.Meaning.{Load, belongs, astray}
 

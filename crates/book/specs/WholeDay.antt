@@ -11,7 +11,7 @@ use Rattle.book.specs.Amounts.{HourPricing, ChargesReply, charged, hourK
 use Rattle.book.specs.ByName.{namesOf}
 use Rattle.book.specs.Register.{Reply, standing}
 use Rattle.book.specs.Meaning.{Load, belongs, astray}
-use Rattle.book.specs.Units.{ghKey, unitKey}
+use Rattle.book.specs.UnitNames.{ghKey, unitKey}
 use Rattle.book.specs.Handed.{hourHanded, guaranteesFrom, chargesFrom, dayHanded, unitDayFrom}
 
 -- an hour: its guarantees, its charges of failed imports and those of failed exports

@@ -17,7 +17,7 @@ use Rattle.book.specs.Amounts.{HourPricing, priced, unpriced, ChargesRep
 use Rattle.book.specs.ByName.{byName, namesOf}
 use Rattle.book.specs.Register.{Reply, refused, guarantees, unitDay, standing}
 use Rattle.book.specs.Meaning.{belongs, astray, Valid, guaranteesReply, chargesReply, dayReply}
-use Rattle.book.specs.Units.{ghKey, unitKey}
+use Rattle.book.specs.UnitNames.{ghKey, unitKey}
 use Rattle.book.specs.Handed.{maxCredits, maxCharges, noAmount, creditsOf, chargeListOf, guaranteesFrom, chargesFrom, unitDayFrom}
 use Rattle.book.specs.HandedLaws.{pad-take}
 use Rattle.book.specs.ValidLaws.{by-name-few, names-few}

@@ -6,7 +6,8 @@ use mathlib.Core.Bool.{true}
 use native.Mathlib.Omega.{arith}
 use lib.ListN.{length, getD, length-map}
 use lib.Seq.{getD-take, length-take-le}
-use Rattle.book.specs.Layer.{Key, Rec, Change, HourPrices, PricesFit, Im, Ex, totalsWithIn, totals-written, entry, offsetEntry, offsetEntryIn, EntryAnswer, TotalsAnswer, entry-view, sameHour, hour-parts}
+use Rattle.book.specs.Layer.{Key, Rec, Change, HourPrices, Im, Ex, totalsWithIn, entry, offsetEntry, offsetEntryIn, EntryAnswer, TotalsAnswer, sameHour}
+use Rattle.book.specs.LayerLaws.{PricesFit, totals-written, entry-view, hour-parts}
 use Rattle.book.specs.declared.answers.NamedAmount.{NamedAmount}
 use Rattle.book.specs.declared.places.Spot.{Spot}
 use Rattle.book.specs.declared.places.Places.{Places}
@@ -15,7 +16,8 @@ use Rattle.book.specs.Amounts.{hourKey, creditAt, totalsOf}
 use Rattle.book.specs.ByName.{byName}
 use Rattle.book.specs.Places.{spotOf, spots}
 use Rattle.book.specs.Worked.{Begun, noSpot, Inside, entryAt, entriesIn, entryCredit, totalsIn, namedOf}
-use Rattle.book.specs.StandLaws.{All, all-map, all-at, Stands, all-stand, all-by-name}
+use Rattle.book.specs.StandLaws.{all-map, all-at, Stands, all-stand, all-by-name}
+use Rattle.laws.specs.Lists.{All}
 use Rattle.book.specs.OffsetLaws.{getD-mapped, each-own, entries-at, Adds, totals-at}
 
 pub named-are : (l : List Change) (p : HourPrices) (rs : List Rec) → namedOf (map (spotOf l) rs) (map entryCredit (map (offsetEntry p) rs)) ≡ map (creditAt p) rs

@@ -5,7 +5,7 @@ use money::units::Ticks;
 use records::names::no_name;
 ghost use mathlib.Core.Path.{_≡_};
 ghost use Rattle.book.specs.Meaning.{replyOf};
-ghost use Rattle.book.specs.Tables.{replied};
+ghost use Rattle.book.specs.Replies.{replied};
 ghost use Rattle.book.specs.Handed.{noAmount};
 
 pub enum Answer {

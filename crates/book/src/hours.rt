@@ -10,7 +10,8 @@ ghost use mathlib.Core.List.{List};
 ghost use lib.Dec.{eqb};
 ghost use lib.ListN.{length};
 ghost use Prim.Native.Nat.{_≤_, _+_, _/_};
-ghost use Rattle.book.specs.Layer.{Change, Wellformed};
+ghost use Rattle.book.specs.Layer.{Change};
+ghost use Rattle.book.specs.LayerLaws.{Wellformed};
 ghost use Rattle.book.specs.Rows.{rowLive, rowSlot, rowPlace, Log, Logged};
 ghost use Rattle.book.specs.Hours.{markHour, nameHour, Written, DayIs};
 

@@ -21,7 +21,7 @@ ghost use Rattle.book.specs.Register.{standing};
 ghost use Rattle.book.specs.ByName.{addName, namesOf};
 ghost use Rattle.book.specs.Meaning.{load};
 ghost use Rattle.book.specs.Rows.{rowLive, rowSlot, Log, Logged};
-ghost use Rattle.book.specs.Units.{namesIn, unitNames, unitListOf};
+ghost use Rattle.book.specs.UnitNames.{namesIn, unitNames, unitListOf};
 ghost use Rattle.book.specs.Handed.{unitsOf, unitListFrom};
 
 // Decoded names in byte order, each once: the first n of `names`.

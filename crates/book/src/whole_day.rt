@@ -30,7 +30,8 @@ ghost use Rattle.book.specs.Amounts.{HourPricing};
 ghost use Rattle.book.specs.ByName.{namesOf};
 ghost use Rattle.book.specs.Rows.{Log, Logged};
 ghost use Rattle.book.specs.Prices.{PriceIs, TableOf};
-ghost use Rattle.book.specs.Units.{ghKey, namesIn, Named};
+ghost use Rattle.book.specs.Units.{Named};
+ghost use Rattle.book.specs.UnitNames.{ghKey, namesIn};
 ghost use Rattle.book.specs.WholeDay.{hourReply, hourFrom, noHour, noUnit, wholeOf, dayAmounts, dayFrom};
 
 // An hour without amounts.

@@ -7,7 +7,7 @@ use Rattle.book.specs.declared.journal.Book.{Book}
 use Rattle.book.specs.declared.feed.Fed.{Fed}
 use Rattle.book.specs.Register.{Reply}
 use Rattle.book.specs.Meaning.{Meets, Load, belongs, astray, load}
-use Rattle.book.specs.Tables.{replied}
+use Rattle.book.specs.Replies.{replied}
 use Rattle.book.specs.FeedPromise.{Feeds}
 use Rattle.demands.specs.Script.{changeOf}
 use Rattle.bridge.specs.Bridge.{bookIn, methodIn, handedBack, Changed, feedOf, FeedBytes}

@@ -28,7 +28,7 @@ use Rattle.book.specs.declared.feed.Fed.{Fed}
 use Rattle.book.specs.Register.{Call, ask, Question, recordOf, Reply, refused, accepted, place, number, guarantees, unitDay, charge, stepOf, writeAll}
 use Rattle.book.specs.Meaning.{outcome, bookOf, Load, belongs, astray, load}
 use Rattle.book.specs.Layer.{Change}
-use Rattle.book.specs.Tables.{replied}
+use Rattle.book.specs.Replies.{replied}
 use Rattle.book.specs.Feed as feeds
 use Rattle.statement.specs.Statement.{Outcome, outcomeOf}
 

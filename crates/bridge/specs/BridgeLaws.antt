@@ -12,7 +12,7 @@ use Rattle.book.specs.declared.journal.Book.{Book}
 use Rattle.book.specs.Register.{Call, ask, Question, refused, stepOf}
 use Rattle.book.specs.Meaning.{After, Load, astray, load, replay, leaving, stepped, outcome}
 use Rattle.book.specs.LoadLaws.{load-long}
-use Rattle.book.specs.Tables.{replied}
+use Rattle.book.specs.Replies.{replied}
 use Rattle.bridge.specs.Bridge.{noBook, bookIn, handedBack, Changed, asked, feedOf, feedIn}
 
 -- the book of three numbers that fit

@@ -45,7 +45,7 @@ ghost use lib.ListN.{take};
 ghost use Rattle.records.specs.Changes.{parse, parsedOf, putNumber, putBytes, entry, frontOf};
 ghost use Rattle.book.specs.Register.{recordOf, countOf, freeBytes, hourGuarantees, dayOf, failureCharge};
 ghost use Rattle.book.specs.Meaning.{replyOf, guaranteesReply, dayReply};
-ghost use Rattle.book.specs.Tables.{replied};
+ghost use Rattle.book.specs.Replies.{replied};
 ghost use Rattle.book.specs.Handed.{maxCredits};
 ghost use Rattle.bridge.specs.Bridge.{stored, told, compareNumber, orderOf, anyNumber, anySize, anyBytes, writeNumber, writeSize, writeBytes, wantedBy};
 ghost use Rattle.bridge.specs.Bridge.{filingNumber, hasAmount, amountIn, answerNumber, amountNumber, ticksTold, amountTold};

@@ -12,7 +12,8 @@ use Rattle.money.specs.Offset.{offset}
 use Rattle.records.specs.Amounts.{chargeTicks}
 use Rattle.records.specs.BookLaws.{parse-fine, spelled-back, decoded-valid}
 use Rattle.records.specs.Changes.{Good}
-use Rattle.book.specs.Layer.{Key, Rec, Change, write, scan-got, Im, Ex, Asked, HourPrices, offsetEntry, reversal}
+use Rattle.book.specs.Layer.{Key, Rec, Change, write, Im, Ex, Asked, HourPrices, offsetEntry, reversal}
+use Rattle.book.specs.LayerLaws.{scan-got}
 use Rattle.book.specs.declared.journal.Book.{Book}
 use Rattle.book.specs.ByName.{byName}
 use Rattle.book.specs.Amounts.{Pick, is, HourPricing, priced, priceOf, hourKey, creditAt, totalsOf, unitAt, absent, payable, guaranteesAt, guaranteesOf, unitDayOf, dayTotal, chargeAt, chargeOf}

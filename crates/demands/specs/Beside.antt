@@ -14,7 +14,7 @@ use Rattle.book.specs.Register.{Reg, standing, writeAll, change, Reply, refused
 use Rattle.book.specs.Meaning.{belongs, load, bookOf}
 use Rattle.book.specs.Feed.{firstRecord}
 use Rattle.book.specs.Session.{Session}
-use Rattle.book.specs.StandLaws.{All}
+use Rattle.laws.specs.Lists.{All}
 
 -- ---- `feed`: "reads records back to back"
 

@@ -5,20 +5,22 @@ use mathlib.Core.List.{List, [], _∷_, _++_, map, append-assoc}
 use mathlib.Core.Bool.{Bool, true, cond}
 use native.Mathlib.Omega.{arith}
 use lib.ListN.{length, take, drop, replicate}
-use Rattle.book.specs.Layer.{Change, HourPrices, Mark, Rec, Asked, got, askHourOf, isFailure, sameHour, hour-parts}
+use Rattle.book.specs.Layer.{Change, HourPrices, Mark, Rec, Asked, got, askHourOf, isFailure, sameHour}
+use Rattle.book.specs.LayerLaws.{hour-parts}
 use Rattle.book.specs.ByName.{byName}
 use Rattle.book.specs.declared.journal.Book.{Book}
 use Rattle.book.specs.declared.feed.Fed.{Fed as Result}
 use Rattle.book.specs.Amounts.{Pick, is, pick, HourPricing, ChargesReply, charged, no, chargeLine, chargesAt, chargesOf, chargeAt, chargeOf, hourKey, priceOf, priced}
 use Rattle.book.specs.Register.{Reg, standing, writeAll, change, Reply, refused, accepted, Step, answered, becomes, called, after, reply, Turn, run, told}
 use Rattle.book.specs.Meaning.{Load, belongs, load, bookOf, chargesKeyed, hourCharges, Valid}
-use Rattle.book.specs.Tables.{replied}
+use Rattle.book.specs.Replies.{replied}
 use Rattle.book.specs.Feed.{firstRecord, Fed, stopped, later, onward, fed, feeding}
 use Rattle.book.specs.FeedPromise.{Feeds}
 use Rattle.book.specs.CallLaws.{Refusal, Decided, decided-change}
 use Rattle.book.specs.LoadLaws.{load-whole, loaded-valid}
 use Rattle.book.specs.RegisterLaws.{New, valid-new, once-standing}
-use Rattle.book.specs.StandLaws.{All, all-map, all-by-name, own-pick}
+use Rattle.book.specs.StandLaws.{all-map, all-by-name, own-pick}
+use Rattle.laws.specs.Lists.{All}
 use Rattle.book.specs.Session.{Session, Agrees}
 use Rattle.demands.specs.ListLaws.{agreed}
 use Rattle.demands.specs.Beside.{changing, thenOthers, recordTurns, ending, afterInput, CallsMade, ReadAsCalls, AsAsked, ChargesByKey}

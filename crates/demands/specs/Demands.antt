@@ -11,7 +11,8 @@ use Rattle.records.specs.Names.{decodeName, spell}
 use Rattle.records.specs.Changes.{change as readChange}
 use Rattle.records.specs.Views.{failureOf}
 use Rattle.records.specs.Amounts.{chargeTicksFor}
-use Rattle.book.specs.Layer.{Key, Rec, Change, fine, parse, write, Scan, seen, scan, keyAsked, askHourOf, askUnit, askFailure, got, markBytes, askBytes, Im, Ex, HourPrices, offset, offsetEntry, Wanted, Any}
+use Rattle.book.specs.Layer.{Key, Rec, Change, fine, parse, write, Scan, seen, scan, keyAsked, askHourOf, askUnit, askFailure, got, markBytes, Im, Ex, HourPrices, offset, offsetEntry, Wanted, Any}
+use Rattle.book.specs.Layer.{askBytes}
 use Rattle.book.specs.ByName.{byName}
 use Rattle.book.specs.declared.journal.Book.{Book}
 use Rattle.book.specs.Amounts.{pick, is, priced, priceOf, hourKey, creditAt, totalsOf, unitAt, hourTicks}

@@ -13,7 +13,8 @@ use lib.Signed.{mag, ltZ, leZ, nonNeg, _≤ℤ_, yes-nonNeg, pos-natAbs}
 use mir.Syntax.{Width, w32, w64}
 use mir.Val.{Fits, SFits, toZ, ofZ, bits, hbits}
 use mir.Facts.{toZ-ofZ, toZ-pos, sfits-widen, fits-natAbs}
-use Rattle.laws.specs.Ints.{minℤ, maxℤ, add-within, sub-within, mul-within, min-within, max-within, abs-neg}
+use Rattle.laws.specs.Ints.{minℤ, maxℤ}
+use Rattle.laws.specs.IntLaws.{add-within, sub-within, mul-within, min-within, max-within, abs-neg}
 
 mag-le : (z : ℤ) → mag z ≤ natAbs z
 mag-le (pos n) = le-refl n

@@ -1,5 +1,8 @@
 pub mod Text
 pub mod Ints
+pub mod IntLaws
 pub mod Held
 pub mod Exp
 pub mod Sums
+pub mod SumLaws
+pub mod Lists

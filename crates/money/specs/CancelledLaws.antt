@@ -10,8 +10,10 @@ use borrow.Author.Tests.{eq-eqb, eqb-true}
 use lib.Dec.{eqb}
 use lib.IntN.{ℤ, pos, _-ℤ_}
 use lib.Signed.{ltZ, _<ℤ_, _≤ℤ_, <ℤ-irrefl}
-use Rattle.laws.specs.Ints.{ints, dif, pos-dif, by₃, minℤ, maxℤ, lt-true, lt-false, ≤ℤ-antisym}
-use Rattle.laws.specs.Sums.{Σℕ, Σℕ-ext, Σℕ-cut, Σℕ-apart, last-or, never, on, every-at, or-cases, or-left, or-right, firstOf-zero}
+use Rattle.laws.specs.Ints.{minℤ, maxℤ}
+use Rattle.laws.specs.IntLaws.{ints, dif, pos-dif, by₃, lt-true, lt-false, ≤ℤ-antisym}
+use Rattle.laws.specs.Sums.{Σℕ}
+use Rattle.laws.specs.SumLaws.{Σℕ-ext, Σℕ-cut, Σℕ-apart, last-or, never, on, every-at, or-cases, or-left, or-right, firstOf-zero}
 use Rattle.money.specs.declared.units.Price.{Price}
 use Rattle.money.specs.declared.units.Quantity.{Quantity}
 use Rattle.money.specs.declared.imports.Import.{Import}

@@ -6,8 +6,9 @@ use native.Mathlib.Omega.{arith}
 use borrow.Author.Tests.{leb-true}
 use lib.IntN.{ℤ, pos, natAbs, _-ℤ_, _*ℤ_}
 use lib.Signed.{_≤ℤ_, _<ℤ_}
-use Rattle.laws.specs.Ints.{ints, dif, pos-dif, by₂, minℤ, maxℤ}
-use Rattle.laws.specs.Sums.{and-true}
+use Rattle.laws.specs.Ints.{minℤ, maxℤ}
+use Rattle.laws.specs.IntLaws.{ints, dif, pos-dif, by₂}
+use Rattle.laws.specs.SumLaws.{and-true}
 use Rattle.money.specs.declared.units.Price.{Price}
 use Rattle.money.specs.declared.units.Answer.the-variants.{Amount}
 use Rattle.money.specs.declared.failure.Failure.{Failure}

@@ -5,8 +5,10 @@ use mathlib.Core.List.{List}
 use Prim.Native.Nat.{ℕ, _+_, _-_, _*_, _≤_, _<_}
 use native.Mathlib.Omega.{arith}
 use lib.IntN.{ℤ, pos, negℤ, natAbs, _+ℤ_, _-ℤ_, _*ℤ_}
-use Rattle.laws.specs.Ints.{ints, by₁, minℤ, sub-within}
-use Rattle.laws.specs.Sums.{Σℤ, Σℤ-ext, Σℤ-within, Summed, summed-all, orElse}
+use Rattle.laws.specs.Ints.{minℤ}
+use Rattle.laws.specs.IntLaws.{ints, by₁, sub-within}
+use Rattle.laws.specs.Sums.{Σℤ, orElse}
+use Rattle.laws.specs.SumLaws.{Σℤ-ext, Σℤ-within, Summed, summed-all}
 use Rattle.money.specs.declared.units.Price.{Price}
 use Rattle.money.specs.declared.units.Quantity.{Quantity}
 use Rattle.money.specs.declared.units.Answer.the-variants.{Amount}

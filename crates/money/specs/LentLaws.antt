@@ -9,7 +9,8 @@ use lib.Dec.{ltb, leb}
 use lib.IntN.{ℤ, pos, _-ℤ_}
 use lib.ListN.{getD, set, length, length-set, replicate}
 use lib.Seq.{getD-set-same, getD-set-other}
-use Rattle.laws.specs.Sums.{Σℤ-ext, Σℕ-ext, every-ext, firstOf-ext, orElse, below-or}
+use Rattle.laws.specs.Sums.{orElse}
+use Rattle.laws.specs.SumLaws.{Σℤ-ext, Σℕ-ext, every-ext, firstOf-ext, below-or}
 use Rattle.money.specs.declared.units.Price.{Price}
 use Rattle.money.specs.declared.units.Quantity.{Quantity}
 use Rattle.money.specs.declared.units.Answer.{Answer}

@@ -10,7 +10,8 @@ use borrow.Author.Tests.{lt-ltb, le-ltb, ltb-true, ltb-false, eq-eqb, ne-eqb, eq
 use lib.Dec.{ltb, leb, eqb}
 use lib.ListN.{getD, take, drop, length, length-take, drop-of-length-le}
 use lib.Seq.{drop-cons, getD-take, take-all}
-use Rattle.laws.specs.Sums.{never, on, below-or, and-true, every, every-yes}
+use Rattle.laws.specs.Sums.{every}
+use Rattle.laws.specs.SumLaws.{never, on, below-or, and-true, every-yes}
 use Rattle.money.specs.declared.names.Name.{Name}
 use Rattle.money.specs.Names.{nameOf, nameBefore, sameBytes, sameName, nameByteOk, nameOk}
 

@@ -12,8 +12,9 @@ use lib.IntN.{ℤ, pos, natAbs, _+ℤ_, _*ℤ_, +ℤ-idr, +ℤ-idl}
 use lib.Signed.{leZ}
 use lib.ListN.{length, getD, set, length-set}
 use lib.Seq.{getD-set-same, getD-set-other}
-use Rattle.laws.specs.Ints.{ints, by₁, add-within, mul-within}
-use Rattle.laws.specs.Sums.{Σℤ, Σℕ, Σℤ-ext, Σℤ-cut, Σℤ-more, Σℕ-cut, Σℕ-ones, Σℤ-within, last-or, below-step, every, every-at, and-true}
+use Rattle.laws.specs.IntLaws.{ints, by₁, add-within, mul-within}
+use Rattle.laws.specs.Sums.{Σℤ, Σℕ, every}
+use Rattle.laws.specs.SumLaws.{Σℤ-ext, Σℤ-cut, Σℤ-more, Σℕ-cut, Σℕ-ones, Σℤ-within, last-or, below-step, every-at, and-true}
 use Rattle.money.specs.declared.units.Price.{Price}
 use Rattle.money.specs.declared.units.Ticks.{Ticks}
 use Rattle.money.specs.declared.offers.Offer.{Offer}

@@ -7,8 +7,9 @@ use native.Mathlib.Omega.{arith}
 use borrow.Author.Tests.{le-leb}
 use lib.IntN.{ℤ, pos, negℤ, natAbs, _+ℤ_, _-ℤ_}
 use lib.ListN.{getD, length}
-use Rattle.laws.specs.Ints.{sub-within}
-use Rattle.laws.specs.Sums.{Σℤ, Σℕ, Summed, summed-all, Σℕ-more, Σℤ-sub, Σℤ-within, Σℕ-within, every-at, every-yes, and-true, orElse, firstOf-zero, firstOf-none}
+use Rattle.laws.specs.IntLaws.{sub-within}
+use Rattle.laws.specs.Sums.{Σℤ, Σℕ, orElse}
+use Rattle.laws.specs.SumLaws.{Summed, summed-all, Σℕ-more, Σℤ-sub, Σℤ-within, Σℕ-within, every-at, every-yes, and-true, firstOf-zero, firstOf-none}
 use Rattle.money.specs.declared.units.Price.{Price}
 use Rattle.money.specs.declared.units.Quantity.{Quantity}
 use Rattle.money.specs.declared.units.Answer.the-variants.{Amount, Refused}

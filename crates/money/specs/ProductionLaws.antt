@@ -10,8 +10,10 @@ use lib.Dec.{leb, ltb}
 use lib.IntN.{ℤ, pos, negℤ, natAbs, _+ℤ_, _-ℤ_, _*ℤ_, +ℤ-idr}
 use lib.Signed.{leZ, _≤ℤ_}
 use lib.ListN.{getD}
-use Rattle.laws.specs.Ints.{ints, dif, pos-dif, by₁, by₃, by₄, by₅, minℤ, maxℤ, le-true, true-le, min-max-neg, add-within, sub-within}
-use Rattle.laws.specs.Sums.{Σℤ, Σℤ-ext, Σℤ-cut, Σℤ-sub, Σℤ-within, Summed, every-at, every-yes, and-true, orElse}
+use Rattle.laws.specs.Ints.{minℤ, maxℤ}
+use Rattle.laws.specs.IntLaws.{ints, dif, pos-dif, by₁, by₃, by₄, by₅, le-true, true-le, min-max-neg, add-within, sub-within}
+use Rattle.laws.specs.Sums.{Σℤ, orElse}
+use Rattle.laws.specs.SumLaws.{Σℤ-ext, Σℤ-cut, Σℤ-sub, Σℤ-within, Summed, every-at, every-yes, and-true}
 use Rattle.money.specs.declared.units.Price.{Price}
 use Rattle.money.specs.declared.units.Ticks.{Ticks}
 use Rattle.money.specs.declared.units.Answer.the-variants.{Amount}

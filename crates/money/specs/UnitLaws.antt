@@ -14,8 +14,10 @@ use mir.Syntax.{w64}
 use mir.Val.{SFits, toZ, ofZ}
 use mir.Facts.{toZ-ofZ}
 use Rattle.laws.specs.Held.{Held}
-use Rattle.laws.specs.Ints.{ints, by₁, by₂, dif, dif-abs, pos-dif, neg-*, minℤ, le-true, ≤ℤ-antisym}
-use Rattle.laws.specs.Sums.{every, every-yes, every-at, and-true, orElse, last-or}
+use Rattle.laws.specs.Ints.{minℤ}
+use Rattle.laws.specs.IntLaws.{ints, by₁, by₂, dif, dif-abs, pos-dif, neg-*, le-true, ≤ℤ-antisym}
+use Rattle.laws.specs.Sums.{every, orElse}
+use Rattle.laws.specs.SumLaws.{every-yes, every-at, and-true, last-or}
 use Rattle.money.specs.declared.units.Price.{Price}
 use Rattle.money.specs.declared.units.Quantity.{Quantity}
 use Rattle.money.specs.declared.units.Answer.the-variants.{Amount, Refused}

@@ -25,7 +25,7 @@ pub use Rattle.records.specs.KeyLaws.{same-by, same-alike, same-refl, sa
 -- keys whose names have zeros behind their bytes, as those of changes that may stand, are equal then
 pub use Rattle.records.specs.KeyLaws.{Padded, good-padded, same-true}
 -- keys of one mark and hour, and the key of a question
-pub use Rattle.records.specs.KeyLaws.{sameHour-same, hour-parts, parts-hour, askBytes, asked, ask-fault, askFailure-fault, askHour-fault, name-fault}
+pub use Rattle.records.specs.KeyLaws.{sameHour-same, hour-parts, parts-hour, asked, ask-fault, askFailure-fault, askHour-fault, name-fault}
 -- the key of a mark and hour, and of a unit: no fault is 0
 pub use Rattle.records.specs.KeyLaws.{askHourOf-fault, askUnit-fault}
 -- what such a key is; a failure's key has a failure's mark

@@ -8,7 +8,8 @@ use lib.Dec.{eqb, leb}
 use lib.ListN.{length, take, drop, getD}
 use lib.Seq.{getD-take}
 use borrow.Author.Tests.{leb-true, eqb-true, ne-eqb}
-use Rattle.laws.specs.Sums.{every, every-at}
+use Rattle.laws.specs.Sums.{every}
+use Rattle.laws.specs.SumLaws.{every-at}
 use Rattle.money.specs.Names.{nameByteOk, nameOk}
 use Rattle.money.specs.declared.names.Name.{Name}
 use Rattle.records.specs.Reading.{Res, got, _>>=_, byte}

@@ -16,7 +16,7 @@ use Rattle.records.specs.Names.{decodeName, nameField, spell, nameOf, no
 use Rattle.records.specs.Marks.{markBytes, markAmong, mark, hasName, isFailure, order}
 use Rattle.records.specs.MarkLaws.{order-same}
 use Rattle.records.specs.Changes.{Rec, Change, filed, keyOf, kind, Good, nameless, nameFor, noName, nameBytes}
-use Rattle.records.specs.Keys.{sameHour, same, askMark, askName, askFailureMark, askFrom, ask, askFailure, askHourOf, askHour, askUnit, keyAnswer}
+use Rattle.records.specs.Keys.{sameHour, same, askMark, askName, askFailureMark, askFrom, ask, askFailure, askHourOf, askHour, askUnit, keyAnswer, askBytes}
 use Rattle.records.specs.ReaderLaws.{bad-got, check-got, bind-got}
 use Rattle.records.specs.NameLaws.{take-pad, field-spelled, Valid, decoded-valid}
 use Rattle.records.specs.ChangeLaws.{and-left, and-right, good-kept, hour-range, counted-mark, counted-decode}
@@ -109,10 +109,6 @@ askMark-bytes Ex = refl
 askMark-bytes Gh = refl
 askMark-bytes Fi = refl
 askMark-bytes Fe = refl
-
--- the bytes that ask for a key's name: its written spelling, none where the mark has none
-abbrev pub askBytes : Key → List ℕ
-askBytes k = cond (hasName (k .mark)) (spell (bytesOf (k .name))) []
 
 name-asked : (k : Kind) (m : Mark) (n : Name) → nameFor k m (nameBytes k m n ++ []) ≡ got n [] → askName m (cond (hasName m) (spell (bytesOf n)) []) ≡ got n []
 unfolding nameFor nameBytes askName

@@ -9,7 +9,7 @@ use Rattle.money.specs.Names.{sameName}
 use Rattle.money.specs.declared.names.Name.{Name}
 use Rattle.records.specs.Reading.{Res, bad, got, _>>=_, check}
 use Rattle.records.specs.Numbers.{between}
-use Rattle.records.specs.Names.{decodeName, noOne, held}
+use Rattle.records.specs.Names.{decodeName, noOne, held, spell, bytesOf}
 use Rattle.records.specs.Marks.{mark, hasName, isFailure, order}
 use Rattle.records.specs.Changes.{noKey}
 use Rattle.records.specs.declared.marks.Mark.{Mark}
@@ -71,3 +71,7 @@ keyAnswer (got k t) = record { number = 0; key = k }
 abbrev pub nameAnswer : Res Name → NameAnswer
 nameAnswer (bad n) = record { number = n; name = noOne }
 nameAnswer (got x t) = record { number = 0; name = x }
+
+-- the bytes that ask for a key's name: its written spelling, none where the mark has none
+abbrev pub askBytes : Key → List ℕ
+askBytes k = cond (hasName (k .mark)) (spell (bytesOf (k .name))) []

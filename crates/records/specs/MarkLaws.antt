@@ -9,7 +9,7 @@ use native.Mathlib.Omega.{arith}
 use lib.Dec.{ltb, eqb, leb}
 use lib.ListN.{length, getD, List·getD-eq-default}
 use borrow.Author.Tests.{ltb-true, ltb-false, eqb-true, leb-true}
-use Rattle.laws.specs.Sums.{on}
+use Rattle.laws.specs.SumLaws.{on}
 use Rattle.records.specs.Marks.{markBytes, listing, order, isFailure, sameMark}
 use Rattle.records.specs.declared.marks.Mark.{Mark}
 use Rattle.records.specs.declared.marks.Mark.the-variants.{Pr, Im, Ex, Gh, Fi, Fe}

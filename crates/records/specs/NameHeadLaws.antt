@@ -7,7 +7,7 @@ use native.Mathlib.Omega.{arith}
 use lib.Dec.{eqb}
 use lib.ListN.{length, drop, getD, length-append}
 use borrow.Author.Tests.{eq-eqb}
-use Rattle.laws.specs.Sums.{on}
+use Rattle.laws.specs.SumLaws.{on}
 use Rattle.money.specs.Names.{nameOk}
 use Rattle.records.specs.Numbers.{between}
 use Rattle.records.specs.Marks.{markBytes, hasName}

@@ -7,7 +7,7 @@ use native.Mathlib.Omega.{arith}
 use lib.Dec.{eqb}
 use lib.IntN.{ℤ, natAbs}
 use borrow.Author.Tests.{eqb-true}
-use Rattle.laws.specs.Sums.{and-true}
+use Rattle.laws.specs.SumLaws.{and-true}
 use Rattle.money.specs.Names.{sameBytes}
 use Rattle.money.specs.NameLaws.{bytes-is}
 use Rattle.money.specs.UnitLaws.{same-is}

@@ -7,7 +7,7 @@ use native.Mathlib.Omega.{arith}
 use lib.Dec.{eqb}
 use lib.ListN.{length}
 use borrow.Author.Tests.{le-ltb, eqb-true}
-use Rattle.laws.specs.Sums.{and-true}
+use Rattle.laws.specs.SumLaws.{and-true}
 use Rattle.records.specs.Reading.{Res, bad, got}
 use Rattle.records.specs.Changes.{Change, Entry, entry}
 use Rattle.records.specs.BookLaws.{entry-bad}

@@ -15,7 +15,7 @@ use Rattle.book.specs.declared.answers.NamedAmount.{NamedAmount}
 use Rattle.book.specs.Replies.{Reply, refused, accepted, place, number, guarantees, unitDay, charge}
 use Rattle.book.specs.Amounts.{HourPricing, ChargesReply, charged, no, hourKey, priceOf, guaranteesOf, chargesOf, unitDayOf}
 use Rattle.book.specs.ByName.{namesOf}
-use Rattle.book.specs.Units.{ghKey, unitKey}
+use Rattle.book.specs.UnitNames.{ghKey, unitKey}
 use Rattle.book.specs.Register.{standing}
 use Rattle.book.specs.Meaning.{Load, belongs, astray}
 use Rattle.statement.specs.Lines.{textOf}

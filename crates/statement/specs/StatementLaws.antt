@@ -14,7 +14,7 @@ use Rattle.book.specs.declared.answers.DayAmounts.{DayAmounts}
 use Rattle.book.specs.Amounts.{priceOf}
 use Rattle.book.specs.ByName.{namesOf}
 use Rattle.book.specs.ChargeLaws.{getD-same}
-use Rattle.book.specs.Units.{ghKey, unitKey}
+use Rattle.book.specs.UnitNames.{ghKey, unitKey}
 use Rattle.book.specs.Register.{standing}
 use Rattle.book.specs.Meaning.{belongs, Valid}
 use Rattle.book.specs.WholeDay.{noHour, dayAmounts, dayFrom}

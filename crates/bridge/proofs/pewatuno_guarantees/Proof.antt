@@ -1,7 +1,7 @@
 use mathlib.Core.Path.{ap, _∙_}
 use Rattle.book.specs.Register.{Reply, ask, hourGuarantees, stepOf}
 use Rattle.book.specs.Meaning.{outcome, guaranteesReply}
-use Rattle.book.specs.Tables.{replied}
+use Rattle.book.specs.Replies.{replied}
 use Rattle.bridge.specs.Bridge.{bookIn, hourIn, asked, hourSizes, hourAmounts}
 use borrow.Author.Needs.{needs}
 use Rattle.bridge.proofs.pewatuno_guarantees.Statement.{statement}

@@ -2,7 +2,7 @@ use mathlib.Core.Path.{sym, _∙_}
 use Prim.Native.Nat.{ℕ, _-_}
 use borrow.Author.Needs.{needs}
 use borrow.Author.Tests.{not-true, not-false}
-use Rattle.laws.specs.Sums.{Passed, passed-none, passed-more, passed-all, every-no}
+use Rattle.laws.specs.SumLaws.{Passed, passed-none, passed-more, passed-all, every-no}
 use Rattle.book.specs.Worked.{placeIn, priceFor, paid}
 use native.Mathlib.Omega.{arith}
 use Rattle.book.proofs.days.payable.Statement.{statement}

@@ -1,5 +1,6 @@
 use mathlib.Core.Path.{_∙_, ap}
-use Rattle.book.specs.Layer.{KeyAnswer, keyAnswer, headKey}
+use Rattle.book.specs.Layer.{KeyAnswer, keyAnswer}
+use Rattle.book.specs.LayerTables.{headKey}
 use Rattle.book.proofs.Surveying.{to-end}
 use borrow.Author.Needs.{needs}
 use Rattle.book.proofs.places.name_at.Statement.{statement}

@@ -3,7 +3,8 @@ use mathlib.Core.Path.{sym, ap, _∙_}
 use native.Mathlib.Omega.{arith}
 use borrow.Author.Needs.{needs}
 use borrow.Author.Tests.{not-true, not-false}
-use Rattle.book.specs.Layer.{view-bad, view-got, scan, viewOf}
+use Rattle.book.specs.Layer.{scan, viewOf}
+use Rattle.book.specs.LayerLaws.{view-bad, view-got}
 use Rattle.book.proofs.Surveying.{to-end}
 use Rattle.book.proofs.Ruling.{Head, head-start, head-within, head-log, head-near, head-bad, head-end, head-clear, head-fewer, head-refused, head-few, head-row, head-next}
 use Rattle.book.proofs.replay.replayed_rows.Statement.{statement}

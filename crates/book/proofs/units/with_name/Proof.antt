@@ -1,4 +1,4 @@
-use Rattle.book.specs.Units.{namesIn}
+use Rattle.book.specs.UnitNames.{namesIn}
 use Rattle.book.proofs.Gathering.{taken-up, left-out}
 use mathlib.Core.Path.{sym, _∙_}
 use native.Mathlib.Omega.{arith}

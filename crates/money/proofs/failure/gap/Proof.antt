@@ -2,7 +2,7 @@ use mathlib.Core.Path.{_∙_}
 use lib.Dec.{lit<}
 use mir.Syntax.{w32}
 use mir.Facts.{toZ-ofZ}
-use Rattle.laws.specs.Ints.{lt-true, lt-false}
+use Rattle.laws.specs.IntLaws.{lt-true, lt-false}
 use Rattle.laws.specs.Held as h
 use Rattle.money.specs.FailureLaws.{gap-none, gap-some}
 use native.Mathlib.Omega.{arith}

@@ -1,6 +1,7 @@
 use mathlib.Core.Path.{_≡_}
 use Prim.Native.Nat.{ℕ, _-_, _<_}
-use Rattle.laws.specs.Sums.{Σℤ, Summed, summed-none, summed-more}
+use Rattle.laws.specs.Sums.{Σℤ}
+use Rattle.laws.specs.SumLaws.{Summed, summed-none, summed-more}
 use Rattle.money.specs.Units.{intervals, priceAt, quantityAt}
 use Rattle.money.specs.Offers.{maxPairs, piece}
 use Rattle.money.specs.OfferLaws.{Walk, ticksAt, starts, short, in-range, pieces-room, spent-room, found-on, found}

@@ -1,7 +1,7 @@
 use mathlib.Core.Path.{sym, _∙_, ap}
 use mathlib.Core.Bool.{Bool, not}
 use Prim.Native.Nat.{_-_}
-use Rattle.laws.specs.Sums.{Passed, passed-none, passed-more, passed-all, every-no}
+use Rattle.laws.specs.SumLaws.{Passed, passed-none, passed-more, passed-all, every-no}
 use Rattle.money.specs.Names.{sameName}
 use Rattle.money.specs.Offset.{entry, freshName}
 use borrow.Author.Needs.{needs}

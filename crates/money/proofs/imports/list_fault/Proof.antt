@@ -1,7 +1,7 @@
 use mathlib.Core.Path.{sym, _∙_}
 use Prim.Native.Nat.{_-_}
 use Rattle.money.specs.Offset.{faultAt, listFault}
-use Rattle.laws.specs.Sums.{Clean, clean-none, clean-more, clean-all, clean-no}
+use Rattle.laws.specs.SumLaws.{Clean, clean-none, clean-more, clean-all, clean-no}
 use borrow.Author.Needs.{needs}
 use native.Mathlib.Omega.{arith}
 use Rattle.money.proofs.imports.list_fault.Statement.{statement}

@@ -2,7 +2,7 @@ use mathlib.Core.Path.{sym, _∙_}
 use Prim.Native.Nat.{_-_}
 use borrow.Author.Tests.{not-true, not-false}
 use Rattle.money.specs.Offers.{numberOk, numbersOk}
-use Rattle.laws.specs.Sums.{Passed, passed-none, passed-more, passed-all, every-no}
+use Rattle.laws.specs.SumLaws.{Passed, passed-none, passed-more, passed-all, every-no}
 use borrow.Author.Needs.{needs}
 use native.Mathlib.Omega.{arith}
 use Rattle.money.proofs.offers.numbers_ok.Statement.{statement}

@@ -1,6 +1,6 @@
 use Prim.Native.Nat.{_-_}
 use Rattle.money.specs.OffsetLaws.{gives, adj-ready, offsets-room, gives-is, gives-room, offsets-all}
-use Rattle.laws.specs.Sums.{Summed, summed-none, summed-more}
+use Rattle.laws.specs.SumLaws.{Summed, summed-none, summed-more}
 use Rattle.money.specs.GuaranteeLaws.{credit-room}
 use Rattle.money.specs.Units.{quantityAt}
 use Rattle.money.specs.Offset.{adj}

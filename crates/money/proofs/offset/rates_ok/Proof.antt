@@ -1,7 +1,7 @@
 use mathlib.Core.Path.{sym, _∙_}
 use Prim.Native.Nat.{_-_}
 use borrow.Author.Tests.{not-true, not-false}
-use Rattle.laws.specs.Sums.{Passed, passed-none, passed-more, passed-all, every-no}
+use Rattle.laws.specs.SumLaws.{Passed, passed-none, passed-more, passed-all, every-no}
 use Rattle.money.specs.Offset.{rateOk, ratesOk}
 use Rattle.money.specs.Units.{intervals}
 use borrow.Author.Needs.{needs}

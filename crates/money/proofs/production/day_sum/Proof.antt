@@ -1,4 +1,4 @@
-use Rattle.laws.specs.Sums.{Summed, summed-none, summed-more, summed-all}
+use Rattle.laws.specs.SumLaws.{Summed, summed-none, summed-more, summed-all}
 use Prim.Native.Nat.{_-_}
 use lib.IntN.{pos}
 use lib.ListN.{getD}

@@ -3,7 +3,7 @@ use mathlib.Core.Bool.{true, false}
 use mir.Syntax.{w64}
 use mir.Val.{SFits}
 use Rattle.laws.specs.Held as h
-use Rattle.laws.specs.Ints.{le-lt}
+use Rattle.laws.specs.IntLaws.{le-lt}
 use borrow.Author.Needs.{needs}
 use Rattle.money.proofs.production.hour_ok.Statement.{statement}
 use Rattle.money.proofs.production.hour_ok.Tie as tie

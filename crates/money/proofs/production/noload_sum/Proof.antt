@@ -1,5 +1,5 @@
 use Prim.Native.Nat.{ℕ, _-_}
-use Rattle.laws.specs.Sums.{Summed, summed-none, summed-more, summed-all}
+use Rattle.laws.specs.SumLaws.{Summed, summed-none, summed-more, summed-all}
 use Rattle.money.specs.Units.{intervals, quantityAt}
 use Rattle.money.specs.ProductionLaws.{running, running-room, runs-room}
 use borrow.Author.Needs.{needs}

@@ -4,7 +4,7 @@ use lib.Dec.{leb}
 use borrow.Author.Tests.{le-leb, lt-leb}
 use Rattle.money.specs.Units.{quantityAt}
 use Rattle.money.specs.UnitLaws.{within-every}
-use Rattle.laws.specs.Sums.{Passed, passed-none, passed-more, passed-all, every-no}
+use Rattle.laws.specs.SumLaws.{Passed, passed-none, passed-more, passed-all, every-no}
 use borrow.Author.Needs.{needs}
 use Rattle.records.proofs.rows.within.Statement.{statement}
 use Rattle.records.proofs.rows.within.Tie as tie

@@ -5,7 +5,7 @@ use Prim.Native.Nat.{_+_}
 use mir.Syntax.{w64}
 use mir.Val.{SFits}
 use Rattle.laws.specs.Held as h
-use Rattle.laws.specs.Ints.{lt-true, lt-false}
+use Rattle.laws.specs.IntLaws.{lt-true, lt-false}
 use Rattle.money.specs.UnitLaws.{flip-abs, flip-above, abs-most, flipped}
 use borrow.Author.Needs.{needs}
 use native.Mathlib.Omega.{arith}

@@ -2,7 +2,7 @@ use lib.IntN.{pos}
 use mir.Syntax.{w64}
 use mir.Val.{SFits}
 use Rattle.laws.specs.Held as h
-use Rattle.laws.specs.Ints.{lt-true, lt-false}
+use Rattle.laws.specs.IntLaws.{lt-true, lt-false}
 use Rattle.statement.specs.LineLaws.{sign-below, sign-above}
 use Rattle.statement.proofs.Writing.{writes-none}
 use native.Mathlib.Omega.{arith}

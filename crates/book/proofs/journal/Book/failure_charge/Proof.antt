@@ -1,4 +1,4 @@
-use Rattle.book.specs.Layer.{failure-formed}
+use Rattle.book.specs.LayerLaws.{failure-formed}
 use Rattle.book.specs.Register.{standing}
 use Rattle.book.specs.Amounts.{priceOf}
 use Rattle.book.proofs.Answering.{leaves-16}

@@ -1,6 +1,6 @@
 use Rattle.book.specs.Register.{refused, standing}
 use Rattle.book.specs.Amounts.{priceOf}
-use Rattle.book.specs.Layer.{unit-formed}
+use Rattle.book.specs.LayerLaws.{unit-formed}
 use Rattle.book.proofs.RowAnswering.{is-rowed, not-rowed, rowed-logged, rowed-log}
 use Rattle.book.proofs.DayAnswering.{unit-wrong, unit-right, unit-astray, handed-whole}
 use native.Mathlib.Omega.{arith}

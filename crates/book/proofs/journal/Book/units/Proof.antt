@@ -1,6 +1,6 @@
 use Rattle.book.proofs.RowAnswering.{is-rowed, not-rowed, rowed-log, rowed-logged}
 use Rattle.book.specs.Meaning.{load}
-use Rattle.book.specs.Units.{unitNames, namesIn}
+use Rattle.book.specs.UnitNames.{unitNames, namesIn}
 use Rattle.book.proofs.Handing.{with-units, no-names-few}
 use mathlib.Core.List.{[]}
 use Rattle.book.proofs.Naming.{units-at}

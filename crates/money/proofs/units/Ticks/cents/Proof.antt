@@ -4,7 +4,7 @@ use mathlib.Core.Path.{_≡_, ap, _∙_}
 use mir.Syntax.{w64}
 use mir.Val.{SFits}
 use Rattle.laws.specs.Held as h
-use Rattle.laws.specs.Ints.{lt-true, lt-false}
+use Rattle.laws.specs.IntLaws.{lt-true, lt-false}
 use Rattle.laws.specs.Exp.{u32, neg, fits, same}
 use Rattle.money.specs.UnitLaws.{cents-below, cents-above}
 use native.Mathlib.Omega.{arith}

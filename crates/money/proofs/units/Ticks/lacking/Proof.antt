@@ -1,6 +1,6 @@
 use mathlib.Core.Path.{_∙_}
 use lib.IntN.{pos}
-use Rattle.laws.specs.Ints.{lt-true, lt-false}
+use Rattle.laws.specs.IntLaws.{lt-true, lt-false}
 use Rattle.laws.specs.Held as h
 use Rattle.laws.specs.Exp.{i64, neg, fits, same, held}
 use Rattle.money.specs.UnitLaws.{lacks, lacks-none}

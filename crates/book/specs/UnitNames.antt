@@ -1,0 +1,38 @@
+-- The names under which units stand, as `units` answers them.
+use Prim.Native.Nat.{ℕ, _≤_, _<_}
+use mathlib.Core.List.{List}
+use mathlib.Core.Bool.{cond}
+use lib.ListN.{take, getD}
+use lib.Dec.{eqb}
+use Rattle.money.specs.Refusals.{notTogether}
+use Rattle.book.specs.Layer.{Key, Name, Gh, noOne}
+use Rattle.book.specs.LayerLaws.{Padded}
+use Rattle.book.specs.declared.units.Units.{Units}
+use Rattle.book.specs.declared.units.UnitList.{UnitList}
+use Rattle.book.specs.Register.{standing}
+use Rattle.book.specs.ByName.{namesOf}
+use Rattle.book.specs.Meaning.{Load, belongs, astray}
+
+-- the key of a unit's day: its hour is not used
+abbrev pub unitKey : Name → Key
+unitKey n = record { mark = Gh; hour = 1; name = n }
+
+-- a key of the units' mark
+abbrev pub ghKey : Key
+ghKey = unitKey noOne
+
+abbrev pub namesIn : Units → List Name
+namesIn u = take (u .n) (u .names)
+
+-- the answer: names, or a number
+pub data NameList : Type 0 where
+  named : List Name → NameList
+  no : ℕ → NameList
+
+-- 16; then the names under which a `GH` stands, by name
+abbrev pub unitNames : Load → NameList
+unitNames astray = no notTogether
+unitNames (belongs l) = named (namesOf ghKey (standing l))
+
+abbrev pub unitListOf : UnitList → NameList
+unitListOf r = cond (eqb (r .number) 0) (named (namesIn (r .units))) (no (r .number))
