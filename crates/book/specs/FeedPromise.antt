@@ -7,7 +7,7 @@ use lib.Dec.{eqb}
 use lib.ListN.{length, take}
 use Rattle.money.specs.Refusals.{notTogether}
 use Rattle.book.specs.Layer.{Change}
-use Rattle.book.specs.declared.journal.Book.{Book}
+use Rattle.book.specs.declared.book.Book.{Book}
 use Rattle.book.specs.Register.{writeAll}
 use Rattle.book.specs.Meaning.{belongs, astray, load, bookOf}
 use Rattle.book.specs.Feed.{Fed, feeding}

@@ -11,8 +11,8 @@ use Rattle.book.specs.declared.answers.ChargeList.{ChargeList}
 use Rattle.book.specs.declared.answers.Charges.{Charges}
 use Rattle.book.specs.declared.answers.Guarantees.{Guarantees}
 use Rattle.book.specs.declared.answers.UnitDay.{UnitDay}
-use Rattle.book.specs.declared.units.Units.{Units}
-use Rattle.book.specs.declared.units.UnitList.{UnitList}
+use Rattle.book.specs.declared.amounts.units.Units.{Units}
+use Rattle.book.specs.declared.amounts.units.UnitList.{UnitList}
 use Rattle.book.specs.Replies.{Reply, refused, accepted, place, number, guarantees, unitDay, charge}
 use Rattle.book.specs.Amounts.{ChargesReply, charged, no}
 use Rattle.book.specs.UnitNames.{NameList, named, no as unlisted}

@@ -7,7 +7,7 @@ use lib.ListN.{length, take, drop}
 use lib.Dec.{leb, eqb}
 use Rattle.money.specs.Refusals.{unknownMark, notTogether}
 use Rattle.book.specs.Layer.{Change, Good, Scan, seen, blind, scan, Mark, isFailure, Asked, got, bad, askHourOf}
-use Rattle.book.specs.declared.journal.Book.{Book}
+use Rattle.book.specs.declared.book.Book.{Book}
 use Rattle.book.specs.declared.answers.Answer.{Answer}
 use Rattle.book.specs.declared.answers.Answer.the-variants.{Accepted, Refused, Place, Number, Charge}
 use Rattle.book.specs.declared.answers.Guarantees.{Guarantees}

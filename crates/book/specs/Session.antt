@@ -5,7 +5,7 @@ use mathlib.Core.List.{List, [], _∷_, _++_}
 use mathlib.Core.Bool.{false}
 use lib.ListN.{length, take, drop, replicate}
 use Rattle.money.specs.Refusals.{noSuchKey}
-use Rattle.book.specs.declared.journal.Book.{Book}
+use Rattle.book.specs.declared.book.Book.{Book}
 use Rattle.book.specs.Layer.{Key, Rec, filed, write, keyAsked, got, markBytes, takeBackBytes}
 use Rattle.book.specs.Layer.{askBytes}
 use Rattle.book.specs.Register.{Call, takeBack, ask, Question, answer, placeOf, standing, writeAll, Reply, refused, accepted, place, Turn, run, told}

@@ -6,9 +6,9 @@ use lib.ListN.{take, getD}
 use lib.Dec.{eqb}
 use Rattle.money.specs.Refusals.{notTogether}
 use Rattle.book.specs.Layer.{Key, Name, Gh, noOne}
-use Rattle.book.specs.LayerLaws.{Padded}
-use Rattle.book.specs.declared.units.Units.{Units}
-use Rattle.book.specs.declared.units.UnitList.{UnitList}
+use Rattle.book.specs.laws.LayerLaws.{Padded}
+use Rattle.book.specs.declared.amounts.units.Units.{Units}
+use Rattle.book.specs.declared.amounts.units.UnitList.{UnitList}
 use Rattle.book.specs.Register.{standing}
 use Rattle.book.specs.ByName.{namesOf}
 use Rattle.book.specs.Meaning.{Load, belongs, astray}

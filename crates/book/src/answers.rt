@@ -1,5 +1,5 @@
 // What a call brings back.
-use crate::journal::Book;
+use crate::book::Book;
 use money::names::Name;
 use money::units::Ticks;
 use records::names::no_name;

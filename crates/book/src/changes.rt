@@ -1,7 +1,7 @@
 // The five changes. Each takes the bytes lent as its record, with its mark.
 use crate::answers::Answer;
 use crate::answers::Done;
-use crate::journal::Book;
+use crate::book::Book;
 use money::refusals::NOT_TOGETHER;
 use records::marks::Kind;
 use records::marks::Wanted;

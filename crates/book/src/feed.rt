@@ -1,7 +1,7 @@
 // The records of an input, taken back to back into a book.
 use crate::answers::refusal_in;
-use crate::index::slot_of;
-use crate::journal::Book;
+use crate::log::index::slot_of;
+use crate::book::Book;
 use money::refusals::NOT_TOGETHER;
 use records::parse::first_change;
 ghost use mathlib.Core.Path.{_≡_};
@@ -10,7 +10,7 @@ ghost use Prim.Native.Nat.{ℕ, _≤_};
 ghost use lib.ListN.{length};
 ghost use Rattle.book.specs.Layer.{Change};
 ghost use Rattle.book.specs.Meaning.{belongs, load};
-ghost use Rattle.book.specs.Held.{Held};
+ghost use Rattle.book.specs.tables.Held.{Held};
 ghost use Rattle.book.specs.Feed.{feeding};
 ghost use Rattle.book.specs.FeedPromise.{Ends, Feeds};
 

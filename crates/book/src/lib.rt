@@ -1,19 +1,8 @@
 // The book: a participant's day as written changes in lent bytes, and three numbers that the caller keeps.
+pub mod amounts;
 pub mod answers;
+pub mod book;
 pub mod changes;
-pub mod days;
-pub mod failures;
 pub mod feed;
-pub mod guarantees;
-mod held;
-pub mod hours;
-mod index;
-pub mod journal;
-pub mod places;
-mod prices;
+mod log;
 pub mod questions;
-mod refusal;
-mod replay;
-mod rows;
-pub mod units;
-pub mod whole_day;

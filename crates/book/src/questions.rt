@@ -1,10 +1,10 @@
 // The questions of a key, of a mark and hour, and for free bytes.
 use crate::answers::Answer;
-use crate::journal::Book;
-use crate::refusal;
-use crate::rows::count_in;
-use crate::rows::find_in;
-use crate::rows::written_len;
+use crate::book::Book;
+use crate::log::refusal;
+use crate::log::rows::count_in;
+use crate::log::rows::find_in;
+use crate::log::rows::written_len;
 use money::refusals::NO_SUCH_KEY;
 use money::refusals::NOT_TOGETHER;
 use records::keys::ask_hour;

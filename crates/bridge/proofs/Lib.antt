@@ -1,2 +1,2 @@
-pub mod Telling
-pub mod Changing
+pub mod Tell
+pub mod Changes

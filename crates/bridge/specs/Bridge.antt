@@ -22,7 +22,7 @@ use Rattle.records.specs.Changes.{begins, isRecord, parsedOf, parse, parseAny, 
 use Rattle.records.specs.declared.marks.Kind.the-variants.{File, Correct, Withdraw}
 use Rattle.records.specs.declared.marks.Wanted.{Wanted}
 use Rattle.records.specs.declared.marks.Wanted.the-variants.{Any, Only}
-use Rattle.book.specs.declared.journal.Book.{Book}
+use Rattle.book.specs.declared.book.Book.{Book}
 use Rattle.book.specs.declared.answers.NamedAmount.{NamedAmount}
 use Rattle.book.specs.declared.feed.Fed.{Fed}
 use Rattle.book.specs.Register.{Call, ask, Question, recordOf, Reply, refused, accepted, place, number, guarantees, unitDay, charge, stepOf, writeAll}

@@ -1,2 +1,2 @@
 pub mod Bridge
-pub mod BridgeLaws
+pub mod laws

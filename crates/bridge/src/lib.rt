@@ -8,7 +8,7 @@ use book::answers::NamedAmount;
 use book::answers::UnitDay;
 use book::answers::refusal_in;
 use book::feed::feed;
-use book::journal::Book;
+use book::book::Book;
 use demands::make_change;
 use money::names::Name;
 use money::names::name_before;

@@ -7,7 +7,7 @@ use mathlib.Core.Bool.{true}
 use lib.ListN.{length, take, drop, replicate}
 use Rattle.book.specs.Layer.{Change, HourPrices, Mark, Rec, got, askHourOf, isFailure, chargeTicks}
 use Rattle.book.specs.ByName.{byName}
-use Rattle.book.specs.declared.journal.Book.{Book}
+use Rattle.book.specs.declared.book.Book.{Book}
 use Rattle.book.specs.declared.feed.Fed.{Fed}
 use Rattle.book.specs.Amounts.{ChargesReply, charged, chargeLine, chargeOf, hourKey, priceOf, priced}
 use Rattle.book.specs.Register.{Reg, standing, writeAll, change, Reply, refused, accepted, charge, Step, answered, becomes, called, Turn, run, told}

@@ -14,7 +14,7 @@ use Rattle.records.specs.Amounts.{chargeTicksFor}
 use Rattle.book.specs.Layer.{Key, Rec, Change, fine, parse, write, Scan, seen, scan, keyAsked, askHourOf, askUnit, askFailure, got, markBytes, Im, Ex, HourPrices, offset, offsetEntry, Wanted, Any}
 use Rattle.book.specs.Layer.{askBytes}
 use Rattle.book.specs.ByName.{byName}
-use Rattle.book.specs.declared.journal.Book.{Book}
+use Rattle.book.specs.declared.book.Book.{Book}
 use Rattle.book.specs.Amounts.{pick, is, priced, priceOf, hourKey, creditAt, totalsOf, unitAt, hourTicks}
 use Rattle.book.specs.Register.{Reg, standing, capped, writeAll, Call, file, correct, withdraw, takeBack, close, change, ask, becomes, stepOf, Turn, run, told}
 use Rattle.book.specs.Register.{Question, recordOf, freeBytes, hourGuarantees, dayOf, failureCharge, answer, Reply, refused, accepted, place, number, guarantees, unitDay, charge}

@@ -1,14 +1,6 @@
 pub mod Demands
 pub mod Checks
 pub mod Formulas
-pub mod DemandLaws
-pub mod CheckLaws
-pub mod FormulaLaws
-pub mod AmountLaws
-pub mod ListLaws
-pub mod RealLaws
-pub mod UndoLaws
 pub mod Script
-pub mod ScriptLaws
 pub mod Beside
-pub mod BesideLaws
+pub mod laws

@@ -10,7 +10,7 @@ use book::answers::NamedAmount;
 use book::answers::UnitDay;
 use book::feed::Fed;
 use book::feed::feed;
-use book::journal::Book;
+use book::book::Book;
 use money::units::Ticks;
 use records::marks::Mark;
 use records::names::no_name;

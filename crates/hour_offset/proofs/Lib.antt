@@ -1,5 +1,3 @@
 pub mod Bits
-pub mod Calling
-pub mod Placing
-pub mod Ending
-pub mod Tallying
+pub mod Call
+pub mod OffsetOfHour

@@ -1,6 +1,3 @@
 pub mod HourOffset
-pub mod HourOffsetLaws
-pub mod BytesLaws
-pub mod Tally
-pub mod TallyLaws
-pub mod EndLaws
+pub mod tables
+pub mod laws

@@ -1,12 +1,12 @@
 // What is kept of an hour's records as they are read: where its prices, imports and exports stand in the lent bytes.
-use book::guarantees::entries_at;
-use book::guarantees::totals_at;
-use book::places::PLACES_MAX;
-use book::places::Places;
-use book::places::Spot;
-use book::places::inserted;
-use book::places::no_spots;
-use book::places::slot_for;
+use book::amounts::guarantees::entries_at;
+use book::amounts::guarantees::totals_at;
+use book::amounts::places::PLACES_MAX;
+use book::amounts::places::Places;
+use book::amounts::places::Spot;
+use book::amounts::places::inserted;
+use book::amounts::places::no_spots;
+use book::amounts::places::slot_for;
 use money::names::Name;
 use money::names::same_name;
 use money::refusals::HOUR_FULL;
@@ -25,8 +25,8 @@ ghost use mathlib.Core.Bool.{cond};
 ghost use lib.ListN.{length, drop};
 ghost use Prim.Native.Nat.{_≤_};
 ghost use Rattle.records.specs.Views.{pricesIn};
-ghost use Rattle.book.specs.Places.{maxPlaces, putSpot, spots};
-ghost use Rattle.hour_offset.specs.Tally.{Few, sheetOf, noSheet, among, placedNumber, withPrice, withImport, withExport, addNumber, adding, Ready, endOf};
+ghost use Rattle.book.specs.tables.Places.{maxPlaces, putSpot, spots};
+ghost use Rattle.hour_offset.specs.tables.Tally.{Few, sheetOf, noSheet, among, placedNumber, withPrice, withImport, withExport, addNumber, adding, Ready, endOf};
 
 // The place of the hour's prices, if there is one, and those of its imports and its exports, by name.
 pub struct Tally {

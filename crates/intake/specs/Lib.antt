@@ -1,2 +1,2 @@
 pub mod Rounds
-pub mod RoundLaws
+pub mod laws

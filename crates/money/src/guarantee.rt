@@ -1,7 +1,7 @@
 ghost use mathlib.Core.Path.{_≡_};
 ghost use Rattle.money.specs.Units.{quantityAt};
 ghost use Rattle.money.specs.Guarantee.{profits, credit, creditAnswer};
-ghost use Rattle.money.specs.GuaranteeLaws.{Ready};
+ghost use Rattle.money.specs.laws.GuaranteeLaws.{Ready};
 use crate::offers::Offer;
 use crate::offers::costs_before;
 use crate::offers::last_of;

@@ -1,7 +1,7 @@
 ghost use mathlib.Core.Path.{_≡_};
 ghost use Prim.Native.Nat.{ℕ, _<_, _≤_};
 ghost use Rattle.money.specs.Offset.{maxImports, precedes, upTo, entryFault, freshName, faultAt, listFault};
-ghost use Rattle.money.specs.UnitLaws.{Rates};
+ghost use Rattle.money.specs.laws.UnitLaws.{Rates};
 use crate::guarantee::credit_of;
 use crate::names::Name;
 use crate::names::name_before;

@@ -4,7 +4,7 @@ ghost use mathlib.Core.Bool.{_&&_};
 ghost use Rattle.money.specs.Units.{priceOk, quantityOk};
 ghost use Rattle.laws.specs.Sums.{Σℤ};
 ghost use Rattle.money.specs.Offers.{maxPairs, numbersOk, rises, orderOk, offerFault, lastQ, piece, cost, costAnswer};
-ghost use Rattle.money.specs.OfferLaws.{Good, ticksAt};
+ghost use Rattle.money.specs.laws.OfferLaws.{Good, ticksAt};
 use crate::refusals::BAD_LIST;
 use crate::refusals::BEYOND_LIST;
 use crate::refusals::OUT_OF_RANGE;

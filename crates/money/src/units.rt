@@ -3,7 +3,7 @@ ghost use Prim.Native.Nat.{ℕ, _<_, _≤_, _+_, _-_, _*_, min, max};
 ghost use lib.IntN.{ℤ, pos, negℤ, natAbs, _+ℤ_, _-ℤ_, _*ℤ_};
 ghost use Rattle.laws.specs.Ints.{minℤ};
 ghost use Rattle.money.specs.Units.{maxGap, priceOk, quantityOk, priceRead, quantityRead, pricesOk, quantitiesOk, withinOk, sameℤ, centsOf};
-ghost use Rattle.money.specs.UnitLaws.{Moderate};
+ghost use Rattle.money.specs.laws.UnitLaws.{Moderate};
 use crate::refusals::OUT_OF_RANGE;
 
 // The intervals of an hour.

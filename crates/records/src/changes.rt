@@ -16,7 +16,7 @@ use money::refusals::ENDS_EARLY;
 ghost use mathlib.Core.Path.{_≡_};
 ghost use Rattle.records.specs.Names.{noOne};
 ghost use Rattle.records.specs.Changes.{nameless, nameFor};
-ghost use Rattle.records.specs.Inner.{shown, EndIn, then, Named, layoutFor, ReadIs};
+ghost use Rattle.records.specs.tables.Inner.{shown, EndIn, then, Named, layoutFor, ReadIs};
 
 // A change that was read: its body stands from `body` to the end.
 pub struct Read {

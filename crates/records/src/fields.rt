@@ -8,7 +8,7 @@ use money::units::QuantityRead;
 ghost use mathlib.Core.Path.{_≡_};
 ghost use Rattle.records.specs.Reading.{from, byte};
 ghost use Rattle.records.specs.Numbers.{le32, word, signed, price, quantity, amount, hour};
-ghost use Rattle.records.specs.Inner.{num, NumIn, priceAt, PriceIn, quantityAt, QuantityIn, shown, EndIn, then, guarded, placeOf};
+ghost use Rattle.records.specs.tables.Inner.{num, NumIn, priceAt, PriceIn, quantityAt, QuantityIn, shown, EndIn, then, guarded, placeOf};
 
 // Where a reader stopped: at a place of the bytes, or with the number of the first fault.
 pub enum End {

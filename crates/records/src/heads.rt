@@ -17,7 +17,7 @@ ghost use mathlib.Core.Path.{_≡_};
 ghost use Prim.Native.Nat.{_≤_};
 ghost use lib.ListN.{take};
 ghost use Rattle.records.specs.Keys.{keyAnswer};
-ghost use Rattle.records.specs.Heads.{headKey, keyOk, recordHead};
+ghost use Rattle.records.specs.tables.Heads.{headKey, keyOk, recordHead};
 
 // The key of the change that bytes begin with, or the number of the first fault in its head. Its fields are not read.
 pub fn head_key(s: &[u8]) -> KeyAnswer

@@ -14,7 +14,7 @@ use money::refusals::UNKNOWN_MARK;
 ghost use mathlib.Core.Path.{_≡_};
 ghost use Rattle.records.specs.HourRecord.{ofHour, sameAs, hourRecord, hourFrontOf};
 ghost use Rattle.records.specs.Changes.{change, noKey};
-ghost use Rattle.records.specs.Inner.{then, EndIn};
+ghost use Rattle.records.specs.tables.Inner.{then, EndIn};
 
 // The first of them: its key and the place where it ends, or the number of its first fault.
 pub struct HourFront {

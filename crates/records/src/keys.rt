@@ -24,7 +24,7 @@ ghost use Rattle.records.specs.Numbers.{between};
 ghost use Rattle.records.specs.Names.{decodeName, noOne, held};
 ghost use Rattle.records.specs.Changes.{noKey};
 ghost use Rattle.records.specs.Keys.{sameHour, same, askMark, askName, askFailureMark, askFrom, ask, askFailure, askHourOf, askHour, askUnit, keyAnswer, nameAnswer};
-ghost use Rattle.records.specs.Inner.{shown, EndIn, Named};
+ghost use Rattle.records.specs.tables.Inner.{shown, EndIn, Named};
 
 pub struct Key {
     pub mark: Mark,

@@ -16,7 +16,7 @@ ghost use lib.ListN.{length};
 ghost use Rattle.money.specs.Offers.{lastQ};
 ghost use Rattle.records.specs.Reading.{from};
 ghost use Rattle.records.specs.Numbers.{pair, pairs, listOk, listFrom};
-ghost use Rattle.records.specs.Inner.{pairAt, PairIn, OfferIs, then};
+ghost use Rattle.records.specs.tables.Inner.{pairAt, PairIn, OfferIs, then};
 
 pub enum PairAt {
     Got(Price, Quantity, usize),

@@ -8,7 +8,7 @@ ghost use lib.ListN.{length, getD};
 ghost use Rattle.records.specs.Reading.{from};
 ghost use Rattle.records.specs.Marks.{markBytes, is, listing, mark, hasName, isFailure, order, sameMark, limit};
 ghost use Rattle.records.specs.Changes.{number, allowed, inside, head, isFiling, isCorrection, isWithdrawal, sameKind};
-ghost use Rattle.records.specs.Inner.{shown, EndIn, headed};
+ghost use Rattle.records.specs.tables.Inner.{shown, EndIn, headed};
 
 // How many marks the listing has.
 const MARKS: usize = 6;

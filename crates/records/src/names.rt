@@ -12,7 +12,7 @@ ghost use lib.ListN.{length};
 ghost use Rattle.money.specs.Names.{nameOf, nameBefore};
 ghost use Rattle.records.specs.Reading.{from};
 ghost use Rattle.records.specs.Names.{visible, hexVal, escaped, one, decodeName, unreserved, digit, spellByte, spell, nameField, noOne, bytesOf, held, spellingOf};
-ghost use Rattle.records.specs.Inner.{then, Named, chr, ChrIn, Wrote};
+ghost use Rattle.records.specs.tables.Inner.{then, Named, chr, ChrIn, Wrote};
 
 pub struct NameRead {
     pub end: End,

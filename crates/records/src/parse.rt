@@ -13,7 +13,7 @@ use money::refusals::UNKNOWN_MARK;
 ghost use mathlib.Core.Path.{_≡_};
 ghost use mathlib.Core.List.{List, [], _∷_};
 ghost use Rattle.records.specs.Changes.{change, changeView, entry, entryRead, parse, parseAny, bare, takeBackBytes, closeBytes, blind, viewOf, parsedOf, entryOf, frontOf};
-ghost use Rattle.records.specs.Inner.{ViewIs};
+ghost use Rattle.records.specs.tables.Inner.{ViewIs};
 
 // What an argument is, or the number of its first fault.
 pub struct Parsed {

@@ -9,7 +9,7 @@ ghost use mathlib.Core.Path.{_≡_};
 ghost use Rattle.money.specs.Units.{withinOk};
 ghost use Rattle.records.specs.Reading.{from, many};
 ghost use Rattle.records.specs.Numbers.{price, quantity};
-ghost use Rattle.records.specs.Inner.{shown, EndIn, then};
+ghost use Rattle.records.specs.tables.Inner.{shown, EndIn, then};
 
 pub struct PriceRow {
     pub end: End,

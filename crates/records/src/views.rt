@@ -30,7 +30,7 @@ ghost use mathlib.Core.Path.{_≡_};
 ghost use mathlib.Core.Bool.{Bool, true, false};
 ghost use Rattle.records.specs.Layouts.{hourPrices, import, export, unit};
 ghost use Rattle.records.specs.Views.{ahead, noOffer, noImport, noReserve, noUnit, noFailure, viewed, viewedFailure, pricesAnswer, importAnswer, exportAnswer, unitAnswer, failureAnswer};
-ghost use Rattle.records.specs.Inner.{shown, EndIn};
+ghost use Rattle.records.specs.tables.Inner.{shown, EndIn};
 
 // What stands in bytes that begin with a record as it was filed: its fields as the money rules take them.
 // Each view answers number 0 and the fields, or the number of the first fault and zeros throughout.

@@ -21,8 +21,8 @@ ghost use Prim.Native.Nat.{ℕ, _+_, _≤_};
 ghost use lib.ListN.{length};
 ghost use Rattle.records.specs.Marks.{markBytes};
 ghost use Rattle.records.specs.Changes.{leadBytes, noName, nameBytes, headBytes, parse, putNumber, putBytes};
-ghost use Rattle.records.specs.Viewed.{isView, viewedNumber, viewedBytes};
-ghost use Rattle.records.specs.Inner.{Wrote, HeadIs};
+ghost use Rattle.records.specs.tables.Viewed.{isView, viewedNumber, viewedBytes};
+ghost use Rattle.records.specs.tables.Inner.{Wrote, HeadIs};
 
 // The bytes of a change before its fields.
 pub struct HeadOut {

@@ -1,9 +1,4 @@
 pub mod Output
 pub mod Reading
 pub mod Program
-pub mod Replies
-pub mod MoveLaws
-pub mod WaitLaws
-pub mod OutputLaws
-pub mod Examples
-pub mod ReplyLaws
+pub mod laws

@@ -1,7 +1,7 @@
 // Records that arrive in pieces of any size.
 use book::feed::Fed;
 use book::feed::feed;
-use book::journal::Book;
+use book::book::Book;
 use money::refusals::ENDS_EARLY;
 use records::parse::first_change;
 ghost use mathlib.Core.Path.{_≡_};

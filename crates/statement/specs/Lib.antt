@@ -1,10 +1,6 @@
 pub mod Decimal
-pub mod DecimalLaws
 pub mod Lines
-pub mod LineLaws
-pub mod PutLaws
 pub mod Statement
 pub mod Refusal
-pub mod Inner
-pub mod StatementLaws
-pub mod Examples
+pub mod tables
+pub mod laws

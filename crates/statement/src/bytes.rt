@@ -6,7 +6,7 @@ ghost use Prim.Native.Nat.{_+_, _≤_, _<_};
 ghost use lib.ListN.{length};
 ghost use Rattle.statement.specs.Decimal.{decimal, twoDigits};
 ghost use Rattle.statement.specs.Statement.{Fits};
-ghost use Rattle.statement.specs.Inner.{Writes};
+ghost use Rattle.statement.specs.tables.Inner.{Writes};
 
 pub(crate) fn put_byte(out: &mut [u8], at: usize, b: u8) -> usize
     requires { ⌜ at < length (now out) ⌝ }

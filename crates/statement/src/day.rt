@@ -6,13 +6,13 @@ use crate::units::put_unit;
 use book::answers::DayAmounts;
 use book::answers::HourAmounts;
 use book::answers::UnitAmounts;
-use book::journal::Book;
+use book::book::Book;
 use money::refusals::NOT_TOGETHER;
 ghost use Prim.Native.Nat.{_+_, _*_, _≤_};
 ghost use lib.ListN.{length, take};
 ghost use Rattle.book.specs.Meaning.{load};
 ghost use Rattle.statement.specs.Statement.{Answers};
-ghost use Rattle.statement.specs.Inner.{WritesLines, FewInAll, linesOfHours, linesOfUnits, linesOfDay};
+ghost use Rattle.statement.specs.tables.Inner.{WritesLines, FewInAll, linesOfHours, linesOfUnits, linesOfDay};
 
 // (24 * 49 + 2 * 512) * 66: 24 hours of at most 49 lines, and 2 lines for each of at most 512 units.
 pub const STATEMENT_MAX: usize = 145200;

@@ -18,7 +18,7 @@ ghost use lib.ListN.{length, take};
 ghost use Rattle.book.specs.Handed.{maxCredits, maxCharges};
 ghost use Rattle.statement.specs.declared.lines.Kind.the-variants.{Iog};
 ghost use Rattle.statement.specs.Statement.{amountLine, lineOf, errorLine, hourError, offsetLines};
-ghost use Rattle.statement.specs.Inner.{WritesLines, linesOfHour, FewLines};
+ghost use Rattle.statement.specs.tables.Inner.{WritesLines, linesOfHour, FewLines};
 
 pub(crate) fn amount_line(hour: u8, kind: Kind, name: Name, ticks: Ticks) -> Line
     ensures { λ r. ⌜ r ≡ amountLine hour kind name (ticks .0) ⌝ }

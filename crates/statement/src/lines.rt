@@ -13,7 +13,7 @@ ghost use Prim.Native.Nat.{_+_, _≤_, _<_};
 ghost use lib.IntN.{natAbs};
 ghost use lib.ListN.{length};
 ghost use Rattle.statement.specs.Lines.{whenBytes, kindBytes, isNumber, nameBytes, sign, figure};
-ghost use Rattle.statement.specs.Inner.{Writes, WritesLines};
+ghost use Rattle.statement.specs.tables.Inner.{Writes, WritesLines};
 
 // The bytes of the longest line.
 pub const LINE_MAX: usize = 66;

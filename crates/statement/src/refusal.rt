@@ -10,7 +10,7 @@ ghost use Prim.Native.Nat.{_≤_};
 ghost use lib.ListN.{length};
 ghost use Rattle.statement.specs.Statement.{Fits};
 ghost use Rattle.statement.specs.Refusal.{refusalLine};
-ghost use Rattle.statement.specs.Inner.{Writes};
+ghost use Rattle.statement.specs.tables.Inner.{Writes};
 
 // Writes `REF n r` from the first byte on.
 fn put_refusal(out: &mut [u8], ordinal: u64, number: u8) -> usize

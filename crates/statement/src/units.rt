@@ -7,7 +7,7 @@ use crate::lines::put_line;
 use book::answers::UnitAmounts;
 ghost use Prim.Native.Nat.{_+_, _≤_};
 ghost use lib.ListN.{length};
-ghost use Rattle.statement.specs.Inner.{WritesLines, linesOfUnit};
+ghost use Rattle.statement.specs.tables.Inner.{WritesLines, linesOfUnit};
 
 // The day total and the reversal of a unit, or its error.
 pub(crate) fn put_unit(out: &mut [u8], c: Cursor, u: UnitAmounts) -> Cursor

@@ -1,6 +1,6 @@
 use mathlib.Core.Path.{sym, ap}
 use mathlib.Core.Bool.{Bool, cond}
-use Rattle.bridge.proofs.Telling.{order-before, order-rest}
+use Rattle.bridge.proofs.Tell.{order-before, order-rest}
 use borrow.Author.Needs.{needs}
 use Rattle.bridge.proofs.order_of.Statement.{statement}
 use Rattle.bridge.proofs.order_of.Tie as tie

@@ -2,10 +2,10 @@ use mathlib.Core.Path.{sym, ap, _∙_}
 use mathlib.Core.Bool.{Bool}
 use Prim.Native.Nat.{ℕ}
 use Rattle.laws.specs.Sums.{orElse}
-use Rattle.money.specs.UnitLaws.{kept}
+use Rattle.money.specs.laws.UnitLaws.{kept}
 use Rattle.money.specs.declared.units.Answer.{Answer}
 use Rattle.bridge.specs.Bridge.{filingNumber, hasAmount, amountIn, answerNumber, amountNumber, ticksTold}
-use Rattle.bridge.proofs.Telling.{if-no, ticks-if}
+use Rattle.bridge.proofs.Tell.{if-no, ticks-if}
 use borrow.Author.Needs.{needs}
 use Rattle.bridge.proofs.pewatuno_amount.Statement.{statement}
 use Rattle.bridge.proofs.pewatuno_amount.Tie as tie

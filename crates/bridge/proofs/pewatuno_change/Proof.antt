@@ -1,4 +1,4 @@
-use Rattle.bridge.proofs.Changing.{change-refused, change-accepted}
+use Rattle.bridge.proofs.Changes.{change-refused, change-accepted}
 use borrow.Author.Needs.{needs}
 use Rattle.bridge.proofs.pewatuno_change.Statement.{statement}
 use Rattle.bridge.proofs.pewatuno_change.Tie as tie

@@ -1,9 +1,9 @@
 use mathlib.Core.Path.{refl, sym, ap, _∙_}
 use Prim.Native.Nat.{ℕ}
-use Rattle.money.specs.UnitLaws.{kept}
+use Rattle.money.specs.laws.UnitLaws.{kept}
 use Rattle.records.specs.declared.keys.NameAnswer.{NameAnswer}
 use Rattle.bridge.specs.Bridge.{stored, nameNumber}
-use Rattle.bridge.proofs.Telling.{told-no}
+use Rattle.bridge.proofs.Tell.{told-no}
 use borrow.Author.Needs.{needs}
 use Rattle.bridge.proofs.pewatuno_compare.Statement.{statement}
 use Rattle.bridge.proofs.pewatuno_compare.Tie as tie

@@ -2,11 +2,11 @@ use Prim.Native.Nat.{ℕ}
 use mathlib.Core.Path.{ap, _∙_}
 use mathlib.Core.List.{List}
 use lib.ListN.{length}
-use Rattle.book.specs.declared.journal.Book.{Book}
+use Rattle.book.specs.declared.book.Book.{Book}
 use Rattle.book.specs.declared.feed.Fed.{Fed}
 use Rattle.book.specs.Meaning.{load}
 use Rattle.bridge.specs.Bridge.{stored, feedOf, feedIn, feedState, feedSizes}
-use Rattle.bridge.proofs.Changing.{fed-is, fed-bytes-of}
+use Rattle.bridge.proofs.Changes.{fed-is, fed-bytes-of}
 use borrow.Author.Needs.{needs}
 use Rattle.bridge.proofs.pewatuno_feed.Statement.{statement}
 use Rattle.bridge.proofs.pewatuno_feed.Tie as tie

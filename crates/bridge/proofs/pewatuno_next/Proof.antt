@@ -1,7 +1,7 @@
 use mathlib.Core.Path.{sym, ap, _∙_}
 use Rattle.records.specs.declared.parse.Front.{Front}
 use Rattle.bridge.specs.Bridge.{stored}
-use Rattle.bridge.proofs.Telling.{told-no}
+use Rattle.bridge.proofs.Tell.{told-no}
 use borrow.Author.Needs.{needs}
 use Rattle.bridge.proofs.pewatuno_next.Statement.{statement}
 use Rattle.bridge.proofs.pewatuno_next.Tie as tie

@@ -1,10 +1,10 @@
 use mathlib.Core.Path.{sym, ap, _∙_}
 use Prim.Native.Nat.{ℕ}
-use Rattle.book.specs.declared.journal.Book.{Book}
+use Rattle.book.specs.declared.book.Book.{Book}
 use Rattle.book.specs.Meaning.{load}
 use Rattle.statement.specs.Statement.{Outcome, outcomeOf}
 use Rattle.bridge.specs.Bridge.{stored, statementIn}
-use Rattle.bridge.proofs.Telling.{told-no}
+use Rattle.bridge.proofs.Tell.{told-no}
 use borrow.Author.Needs.{needs}
 use Rattle.bridge.proofs.pewatuno_statement.Statement.{statement}
 use Rattle.bridge.proofs.pewatuno_statement.Tie as tie

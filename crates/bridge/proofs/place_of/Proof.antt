@@ -6,7 +6,7 @@ use Rattle.records.specs.declared.names.Spelling.{Spelling}
 use Rattle.book.specs.Register.{Reply, ask, recordOf, stepOf}
 use Rattle.book.specs.Meaning.{outcome}
 use Rattle.bridge.specs.Bridge.{importPlace}
-use Rattle.bridge.proofs.Telling.{fits}
+use Rattle.bridge.proofs.Tell.{fits}
 use borrow.Author.Needs.{needs}
 use Rattle.bridge.proofs.place_of.Statement.{statement}
 use Rattle.bridge.proofs.place_of.Tie as tie

@@ -7,7 +7,7 @@ use lib.Seq.{length-take-le}
 use borrow.Author.Tests.{eq-eqb, ne-eqb}
 use Rattle.book.specs.Handed.{maxCredits}
 use Rattle.bridge.specs.Bridge.{stored, creditsSizes, creditsAmounts}
-use Rattle.bridge.proofs.Telling.{unmapped}
+use Rattle.bridge.proofs.Tell.{unmapped}
 use borrow.Author.Needs.{needs}
 use native.Mathlib.Omega.{arith}
 use Rattle.bridge.proofs.tell_guarantees.Statement.{statement}

@@ -1,10 +1,10 @@
 use mathlib.Core.Path.{refl, sym, ap, _∙_}
 use mathlib.Core.Bool.{cond, not}
-use Rattle.money.specs.UnitLaws.{kept}
+use Rattle.money.specs.laws.UnitLaws.{kept}
 use Rattle.records.specs.Changes.{isRecord, parse, parseAny, entryOf, putNumber}
 use Rattle.records.specs.declared.parse.Parsed.{Parsed}
 use Rattle.records.specs.declared.marks.Wanted.the-variants.{Any}
-use Rattle.bridge.proofs.Telling.{told-no, if-no}
+use Rattle.bridge.proofs.Tell.{told-no, if-no}
 use borrow.Author.Needs.{needs}
 use Rattle.bridge.proofs.write_any.Statement.{statement}
 use Rattle.bridge.proofs.write_any.Tie as tie

@@ -1,7 +1,7 @@
 use mathlib.Core.Path.{sym, ap, _∙_}
 use Rattle.records.specs.declared.parse.Parsed.{Parsed}
 use Rattle.bridge.specs.Bridge.{stored}
-use Rattle.bridge.proofs.Telling.{told-no}
+use Rattle.bridge.proofs.Tell.{told-no}
 use borrow.Author.Needs.{needs}
 use Rattle.bridge.proofs.write_change.Statement.{statement}
 use Rattle.bridge.proofs.write_change.Tie as tie

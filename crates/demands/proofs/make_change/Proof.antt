@@ -1,4 +1,4 @@
-use Rattle.demands.specs.DemandLaws.{demanded}
+use Rattle.demands.specs.laws.DemandLaws.{demanded}
 use borrow.Author.Tests.{eq-eqb, ne-eqb}
 use borrow.Author.Needs.{needs}
 use Rattle.demands.proofs.make_change.Statement.{statement}

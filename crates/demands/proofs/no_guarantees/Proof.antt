@@ -4,7 +4,7 @@ use lib.IntN.{pos}
 use lib.ListN.{replicate}
 use Rattle.book.specs.Layer.{Name, noTicks}
 use Rattle.book.specs.Handed.{maxCredits, noAmount, creditsOf}
-use Rattle.book.specs.HandedLaws.{pad-none}
+use Rattle.book.specs.laws.HandedLaws.{pad-none}
 use Rattle.book.specs.declared.answers.NamedAmount.{NamedAmount}
 use Rattle.book.specs.declared.answers.Guarantees.{Guarantees}
 use borrow.Author.Needs.{needs}

@@ -1,4 +1,4 @@
-use Rattle.demands.specs.DemandLaws.{demanded}
+use Rattle.demands.specs.laws.DemandLaws.{demanded}
 use borrow.Author.Tests.{eq-eqb, ne-eqb}
 use native.Mathlib.Omega.{arith}
 use borrow.Author.Needs.{needs}

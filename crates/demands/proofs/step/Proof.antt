@@ -1,4 +1,4 @@
-use Rattle.demands.specs.DemandLaws.{demanded}
+use Rattle.demands.specs.laws.DemandLaws.{demanded}
 use mathlib.Core.Path.{refl}
 use borrow.Author.Tests.{lt-ltb, le-ltb, eq-eqb, ne-eqb}
 use native.Mathlib.Omega.{arith}

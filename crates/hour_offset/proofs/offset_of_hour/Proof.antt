@@ -2,7 +2,7 @@ use native.Mathlib.Omega.{arith}
 use mathlib.Core.Path.{_∙_}
 use Prim.Native.Nat.{_-_}
 use lib.ListN.{length}
-use Rattle.hour_offset.proofs.Tallying.{Going, started, ready, finished, faulty, end-within, end-after, stops, continues}
+use Rattle.hour_offset.proofs.OffsetOfHour.{Going, started, ready, finished, faulty, end-within, end-after, stops, continues}
 use borrow.Author.Needs.{needs}
 use Rattle.hour_offset.proofs.offset_of_hour.Statement.{statement}
 use Rattle.hour_offset.proofs.offset_of_hour.Tie as tie

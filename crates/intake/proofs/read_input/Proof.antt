@@ -3,7 +3,7 @@ use mathlib.Core.Bool.{true}
 use native.Mathlib.Omega.{arith}
 use lib.ListN.{length}
 use borrow.Author.Needs.{needs}
-use Rattle.intake.specs.RoundLaws.{room, apart}
+use Rattle.intake.specs.laws.RoundLaws.{room, apart}
 use Rattle.intake.proofs.Rounds.{Reached, reached-none, reached-more, all-read}
 use Rattle.intake.proofs.read_input.Statement.{statement}
 use Rattle.intake.proofs.read_input.Tie as tie

@@ -1,4 +1,4 @@
-use Rattle.settle.proofs.Showing.{shows-none, shows-output}
+use Rattle.settle.proofs.PrintInput.{shows-none, shows-output}
 use native.Mathlib.Omega.{arith}
 use borrow.Author.Needs.{needs}
 use Rattle.settle.proofs.print_input.Statement.{statement}

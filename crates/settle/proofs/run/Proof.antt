@@ -1,7 +1,7 @@
 use mathlib.Core.Path.{sym}
 use Prim.Native.Nat.{ℕ}
 use lib.Seq.{length-take-le}
-use Rattle.settle.specs.SettleLaws.{printed-short}
+use Rattle.settle.specs.laws.SettleLaws.{printed-short}
 use native.Mathlib.Omega.{arith}
 use borrow.Author.Needs.{needs}
 use Rattle.settle.proofs.run.Statement.{statement}

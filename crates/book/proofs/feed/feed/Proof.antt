@@ -1,6 +1,6 @@
-use Rattle.book.proofs.RowAnswering.{not-rowed}
-use Rattle.book.proofs.Holding.{held-from}
-use Rattle.book.proofs.Feeding.{fed-none, fed-checked, fed-astray, feeds-by}
+use Rattle.book.proofs.book.Rows.{not-rowed}
+use Rattle.book.proofs.log.held.Lemmas.{held-from}
+use Rattle.book.proofs.feed.Lemmas.{fed-none, fed-checked, fed-astray, feeds-by}
 use borrow.Author.Needs.{needs}
 use Rattle.book.proofs.feed.feed.Statement.{statement}
 use Rattle.book.proofs.feed.feed.Tie as tie

@@ -1,7 +1,7 @@
 use mathlib.Core.Path.{_∙_}
 use Prim.Native.Nat.{_-_}
 use lib.ListN.{length}
-use Rattle.book.proofs.Feeding.{Going, started, finished, since, unread, end-within, end-after, read-there, stops, continues, ends-by}
+use Rattle.book.proofs.feed.Lemmas.{Going, started, finished, since, unread, end-within, end-after, read-there, stops, continues, ends-by}
 use native.Mathlib.Omega.{arith}
 use borrow.Author.Needs.{needs}
 use Rattle.book.proofs.feed.feed_held.Statement.{statement}

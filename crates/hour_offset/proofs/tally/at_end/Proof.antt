@@ -1,5 +1,5 @@
-use Rattle.hour_offset.proofs.Ending.{end-none, end-unpriced, end-worked}
-use Rattle.book.specs.Inserting.{unmapped}
+use Rattle.hour_offset.proofs.tally.AtEnd.{end-none, end-unpriced, end-worked}
+use Rattle.book.specs.laws.Inserting.{unmapped}
 use lib.ListN.{length}
 use mathlib.Core.Path.{_≡_, _∙_}
 use borrow.Author.Needs.{needs}

@@ -1,5 +1,5 @@
-use Rattle.hour_offset.proofs.Placing.{Passed, passed-start, passed-found, passed-on, passed-all}
-use Rattle.book.specs.Inserting.{unmapped}
+use Rattle.hour_offset.proofs.tally.Lemmas.{Passed, passed-start, passed-found, passed-on, passed-all}
+use Rattle.book.specs.laws.Inserting.{unmapped}
 use Prim.Native.Nat.{_-_}
 use lib.ListN.{length}
 use mathlib.Core.Path.{_≡_}

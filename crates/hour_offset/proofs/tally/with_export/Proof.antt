@@ -1,4 +1,4 @@
-use Rattle.hour_offset.proofs.Placing.{adds-export}
+use Rattle.hour_offset.proofs.tally.Lemmas.{adds-export}
 use Rattle.hour_offset.proofs.tally.with_export.Statement.{statement}
 use Rattle.hour_offset.proofs.tally.with_export.Tie as tie
 

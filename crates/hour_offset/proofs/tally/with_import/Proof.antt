@@ -1,4 +1,4 @@
-use Rattle.hour_offset.proofs.Placing.{adds-import}
+use Rattle.hour_offset.proofs.tally.Lemmas.{adds-import}
 use Rattle.hour_offset.proofs.tally.with_import.Statement.{statement}
 use Rattle.hour_offset.proofs.tally.with_import.Tie as tie
 

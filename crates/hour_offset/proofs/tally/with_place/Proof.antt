@@ -1,5 +1,5 @@
-use Rattle.hour_offset.proofs.Placing.{put-there, put-new, put-full}
-use Rattle.book.specs.Inserting.{unmapped}
+use Rattle.hour_offset.proofs.tally.Lemmas.{put-there, put-new, put-full}
+use Rattle.book.specs.laws.Inserting.{unmapped}
 use lib.ListN.{length}
 use mathlib.Core.Path.{_≡_}
 use borrow.Author.Needs.{needs}

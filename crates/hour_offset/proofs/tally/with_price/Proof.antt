@@ -1,4 +1,4 @@
-use Rattle.hour_offset.proofs.Placing.{adds-no, adds-price}
+use Rattle.hour_offset.proofs.tally.Lemmas.{adds-no, adds-price}
 use mathlib.Core.Path.{sym, ap}
 use mathlib.Core.Bool.{Bool, cond}
 use native.Mathlib.Omega.{arith}

@@ -1,4 +1,4 @@
-use Rattle.hour_offset.proofs.Placing.{adds-no}
+use Rattle.hour_offset.proofs.tally.Lemmas.{adds-no}
 use mathlib.Core.Path.{refl}
 use native.Mathlib.Omega.{arith}
 use borrow.Author.Needs.{needs}

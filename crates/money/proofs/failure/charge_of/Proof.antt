@@ -1,6 +1,6 @@
 use mathlib.Core.Path.{ap, _∙_}
 use lib.IntN.{ℤ, pos, _*ℤ_}
-use Rattle.money.specs.FailureLaws.{lesser-size}
+use Rattle.money.specs.laws.FailureLaws.{lesser-size}
 use native.Mathlib.Omega.{arith}
 use borrow.Author.Needs.{needs}
 use Rattle.money.proofs.failure.charge_of.Statement.{statement}

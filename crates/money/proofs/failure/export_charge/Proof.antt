@@ -3,7 +3,7 @@ use lib.IntN.{ℤ, _-ℤ_}
 use borrow.Author.Tests.{not-true, not-false}
 use Rattle.money.specs.declared.units.Answer.the-variants.{Amount}
 use Rattle.money.specs.Failure.{dev}
-use Rattle.money.specs.FailureLaws.{sound-of, gap-size, charge-is}
+use Rattle.money.specs.laws.FailureLaws.{sound-of, gap-size, charge-is}
 use native.Mathlib.Omega.{arith}
 use borrow.Author.Needs.{needs}
 use Rattle.money.proofs.failure.export_charge.Statement.{statement}

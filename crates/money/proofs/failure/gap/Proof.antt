@@ -4,7 +4,7 @@ use mir.Syntax.{w32}
 use mir.Facts.{toZ-ofZ}
 use Rattle.laws.specs.IntLaws.{lt-true, lt-false}
 use Rattle.laws.specs.Held as h
-use Rattle.money.specs.FailureLaws.{gap-none, gap-some}
+use Rattle.money.specs.laws.FailureLaws.{gap-none, gap-some}
 use native.Mathlib.Omega.{arith}
 use Rattle.money.proofs.failure.gap.Statement.{statement}
 use Rattle.money.proofs.failure.gap.Tie as tie

@@ -1,7 +1,7 @@
 use mathlib.Core.Path.{_≡_, ap, _∙_}
 use lib.IntN.{ℤ, pos, negℤ}
 use Rattle.laws.specs.Ints.{minℤ}
-use Rattle.money.specs.GuaranteeLaws.{profits-size}
+use Rattle.money.specs.laws.GuaranteeLaws.{profits-size}
 use native.Mathlib.Omega.{arith}
 use borrow.Author.Needs.{needs}
 use Rattle.money.proofs.guarantee.credit_of.Statement.{statement}

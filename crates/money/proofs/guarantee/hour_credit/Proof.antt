@@ -5,9 +5,9 @@ use Rattle.money.specs.declared.units.Answer.the-variants.{Amount, Refus
 use Rattle.money.specs.Guarantee.{creditAnswer, credit}
 use Rattle.money.specs.Units.{withinOk, unless, quantityAt}
 use Rattle.money.specs.Offers.{lastQ}
-use Rattle.money.specs.OfferLaws.{good-of}
-use Rattle.money.specs.GuaranteeLaws.{ready-of, within-is}
-use Rattle.money.specs.UnitLaws.{prices-of, kept, answer-fault}
+use Rattle.money.specs.laws.OfferLaws.{good-of}
+use Rattle.money.specs.laws.GuaranteeLaws.{ready-of, within-is}
+use Rattle.money.specs.laws.UnitLaws.{prices-of, kept, answer-fault}
 use native.Mathlib.Omega.{arith}
 use borrow.Author.Needs.{needs}
 use Rattle.money.proofs.guarantee.hour_credit.Statement.{statement}

@@ -4,8 +4,8 @@ use Rattle.laws.specs.Sums.{Σℤ}
 use Rattle.laws.specs.SumLaws.{Summed, summed-none, summed-more}
 use Rattle.money.specs.Units.{intervals, priceAt, quantityAt}
 use Rattle.money.specs.Offers.{maxPairs, piece}
-use Rattle.money.specs.OfferLaws.{Walk, ticksAt, starts, short, in-range, pieces-room, spent-room, found-on, found}
-use Rattle.money.specs.GuaranteeLaws.{interval-profit, profit-is, profit-room, profits-room, profits-all}
+use Rattle.money.specs.laws.OfferLaws.{Walk, ticksAt, starts, short, in-range, pieces-room, spent-room, found-on, found}
+use Rattle.money.specs.laws.GuaranteeLaws.{interval-profit, profit-is, profit-room, profits-room, profits-all}
 use borrow.Author.Needs.{needs}
 use native.Mathlib.Omega.{arith}
 use Rattle.money.proofs.guarantee.profit_sum.Statement.{statement}

@@ -2,9 +2,9 @@ use mathlib.Core.Path.{_≡_, sym, _∙_, ap}
 use borrow.Author.Tests.{not-true, not-false}
 use Rattle.money.specs.Offset.{entryFault, mqsi, scheduleFault}
 use Rattle.money.specs.Guarantee.{credit}
-use Rattle.money.specs.OfferLaws.{good-of}
-use Rattle.money.specs.GuaranteeLaws.{ready-of, within-is}
-use Rattle.money.specs.UnitLaws.{kept, same-as}
+use Rattle.money.specs.laws.OfferLaws.{good-of}
+use Rattle.money.specs.laws.GuaranteeLaws.{ready-of, within-is}
+use Rattle.money.specs.laws.UnitLaws.{kept, same-as}
 use native.Mathlib.Omega.{arith}
 use borrow.Author.Needs.{needs}
 use Rattle.money.proofs.imports.entry_fault.Statement.{statement}

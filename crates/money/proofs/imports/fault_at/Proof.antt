@@ -2,7 +2,7 @@ use mathlib.Core.Path.{sym, _∙_}
 use borrow.Author.Tests.{not-true, not-false}
 use Rattle.money.specs.Offset.{faultAt, freshName}
 use Rattle.money.specs.Units.{unless}
-use Rattle.money.specs.UnitLaws.{kept}
+use Rattle.money.specs.laws.UnitLaws.{kept}
 use native.Mathlib.Omega.{arith}
 use borrow.Author.Needs.{needs}
 use Rattle.money.proofs.imports.fault_at.Statement.{statement}

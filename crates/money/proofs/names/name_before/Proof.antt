@@ -1,7 +1,7 @@
 use Prim.Native.Nat.{_-_, _≤_, min}
 use lib.ListN.{length}
 use mathlib.Core.Path.{_≡_}
-use Rattle.money.specs.NameLaws.{Alike, alike-none, alike-short, alike-less, alike-more, alike-on, alike-end, before-used}
+use Rattle.money.specs.laws.NameLaws.{Alike, alike-none, alike-short, alike-less, alike-more, alike-on, alike-end, before-used}
 use borrow.Author.Needs.{needs}
 use native.Mathlib.Omega.{arith}
 use Rattle.money.proofs.names.name_before.Statement.{statement}

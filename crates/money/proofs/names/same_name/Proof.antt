@@ -1,7 +1,7 @@
 use Prim.Native.Nat.{_-_, _≤_, min}
 use lib.ListN.{length}
 use mathlib.Core.Path.{_≡_}
-use Rattle.money.specs.NameLaws.{Equal, equal-none, equal-no, equal-on, equal-all, same-used, differ-used}
+use Rattle.money.specs.laws.NameLaws.{Equal, equal-none, equal-no, equal-on, equal-all, same-used, differ-used}
 use borrow.Author.Needs.{needs}
 use native.Mathlib.Omega.{arith}
 use Rattle.money.proofs.names.same_name.Statement.{statement}

@@ -4,8 +4,8 @@ use lib.Dec.{leb}
 use borrow.Author.Tests.{le-leb, lt-leb, not-true, not-false}
 use Rattle.money.specs.Offers.{costAnswer, cost, lastQ}
 use Rattle.money.specs.Units.{unless}
-use Rattle.money.specs.OfferLaws.{good-of}
-use Rattle.money.specs.UnitLaws.{kept, answer-fault, answer-amount}
+use Rattle.money.specs.laws.OfferLaws.{good-of}
+use Rattle.money.specs.laws.UnitLaws.{kept, answer-fault, answer-amount}
 use native.Mathlib.Omega.{arith}
 use borrow.Author.Needs.{needs}
 use Rattle.money.proofs.offers.cost_at.Statement.{statement}

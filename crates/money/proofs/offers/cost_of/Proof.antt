@@ -1,5 +1,5 @@
 use Prim.Native.Nat.{_-_}
-use Rattle.money.specs.OfferLaws.{Walk, starts, reach, short, in-range, pieces-room, walked-on, walked}
+use Rattle.money.specs.laws.OfferLaws.{Walk, starts, reach, short, in-range, pieces-room, walked-on, walked}
 use Rattle.money.specs.Offers.{maxPairs}
 use borrow.Author.Needs.{needs}
 use native.Mathlib.Omega.{arith}

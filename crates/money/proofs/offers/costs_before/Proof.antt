@@ -1,6 +1,6 @@
 use mathlib.Core.Path.{_≡_, refl}
 use Prim.Native.Nat.{_-_}
-use Rattle.money.specs.OfferLaws.{Costed, reach, pieces-room, costed-none, costed-more}
+use Rattle.money.specs.laws.OfferLaws.{Costed, reach, pieces-room, costed-none, costed-more}
 use borrow.Author.Needs.{needs}
 use native.Mathlib.Omega.{arith}
 use Rattle.money.proofs.offers.costs_before.Statement.{statement}

@@ -2,7 +2,7 @@ use Prim.Native.Nat.{ℕ, _-_, min}
 use mathlib.Core.Path.{refl, _∙_, ap}
 use Rattle.money.specs.Units.{intervals, quantityAt}
 use Rattle.money.specs.Offset.{mqsi, entry}
-use Rattle.money.specs.UnitLaws.{Filled, filled-none, filled-more}
+use Rattle.money.specs.laws.UnitLaws.{Filled, filled-none, filled-more}
 use borrow.Author.Needs.{needs}
 use native.Mathlib.Omega.{arith}
 use Rattle.money.proofs.offset.adj_row.Statement.{statement}

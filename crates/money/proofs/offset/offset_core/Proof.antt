@@ -3,8 +3,8 @@ use lib.IntN.{ℤ}
 use borrow.Author.Tests.{not-true, not-false, le-leb, lt-leb}
 use Rattle.money.specs.declared.units.Answer.the-variants.{Amount, Refused}
 use Rattle.money.specs.Offset.{offsetAnswer, offset}
-use Rattle.money.specs.UnitLaws.{answer-fault}
-use Rattle.money.specs.OffsetLaws.{rates-of, listed-of}
+use Rattle.money.specs.laws.UnitLaws.{answer-fault}
+use Rattle.money.specs.laws.OffsetLaws.{rates-of, listed-of}
 use borrow.Author.Needs.{needs}
 use native.Mathlib.Omega.{arith}
 use Rattle.money.proofs.offset.offset_core.Statement.{statement}

@@ -1,7 +1,7 @@
 use Prim.Native.Nat.{_-_}
-use Rattle.money.specs.OffsetLaws.{gives, adj-ready, offsets-room, gives-is, gives-room, offsets-all}
+use Rattle.money.specs.laws.OffsetLaws.{gives, adj-ready, offsets-room, gives-is, gives-room, offsets-all}
 use Rattle.laws.specs.SumLaws.{Summed, summed-none, summed-more}
-use Rattle.money.specs.GuaranteeLaws.{credit-room}
+use Rattle.money.specs.laws.GuaranteeLaws.{credit-room}
 use Rattle.money.specs.Units.{quantityAt}
 use Rattle.money.specs.Offset.{adj}
 use borrow.Author.Needs.{needs}

@@ -1,7 +1,7 @@
 use Prim.Native.Nat.{_-_}
 use mathlib.Core.Path.{refl}
-use Rattle.money.specs.UnitLaws.{zeros}
-use Rattle.money.specs.OffsetLaws.{Reached, reached-none, reached-room, reached-more, reached-all}
+use Rattle.money.specs.laws.UnitLaws.{zeros}
+use Rattle.money.specs.laws.OffsetLaws.{Reached, reached-none, reached-room, reached-more, reached-all}
 use Rattle.money.specs.Units.{intervals}
 use borrow.Author.Needs.{needs}
 use native.Mathlib.Omega.{arith}

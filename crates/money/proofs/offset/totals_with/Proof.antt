@@ -1,7 +1,7 @@
 use Prim.Native.Nat.{ℕ, _-_, _+_, min}
 use mathlib.Core.Path.{refl}
 use Rattle.money.specs.Units.{intervals, quantityAt}
-use Rattle.money.specs.UnitLaws.{Filled, filled-none, filled-more, filled-all}
+use Rattle.money.specs.laws.UnitLaws.{Filled, filled-none, filled-more, filled-all}
 use Rattle.money.specs.Offset.{maxTotal, totalsWith}
 use borrow.Author.Needs.{needs}
 use native.Mathlib.Omega.{arith}

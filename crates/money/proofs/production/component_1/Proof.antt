@@ -1,7 +1,7 @@
 use mathlib.Core.Path.{sym, _∙_}
 use Rattle.money.specs.Production.{C1}
-use Rattle.money.specs.ProductionLaws.{interval-of}
-use Rattle.money.specs.UnitLaws.{answer-fault, answer-amount}
+use Rattle.money.specs.laws.ProductionLaws.{interval-of}
+use Rattle.money.specs.laws.UnitLaws.{answer-fault, answer-amount}
 use borrow.Author.Needs.{needs}
 use Rattle.money.proofs.production.component_1.Statement.{statement}
 use Rattle.money.proofs.production.component_1.Tie as tie

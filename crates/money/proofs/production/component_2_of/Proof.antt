@@ -1,8 +1,8 @@
 use mathlib.Core.Path.{_≡_, ap, _∙_}
 use Prim.Native.Nat.{ℕ, _≤_, min, max}
 use Rattle.money.specs.Offers.{lastQ}
-use Rattle.money.specs.OfferLaws.{spent-room}
-use Rattle.money.specs.ProductionLaws.{lesser-in, step-is, step-room, arranged-is}
+use Rattle.money.specs.laws.OfferLaws.{spent-room}
+use Rattle.money.specs.laws.ProductionLaws.{lesser-in, step-is, step-room, arranged-is}
 use borrow.Author.Needs.{needs}
 use Rattle.money.proofs.production.component_2_of.Statement.{statement}
 use Rattle.money.proofs.production.component_2_of.Tie as tie

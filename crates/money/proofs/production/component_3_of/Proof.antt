@@ -1,8 +1,8 @@
 use mathlib.Core.Path.{_≡_}
 use Prim.Native.Nat.{_≤_, min}
 use Rattle.money.specs.Offers.{lastQ}
-use Rattle.money.specs.OfferLaws.{in-range, spent-room}
-use Rattle.money.specs.ProductionLaws.{loss-is, loss-room, congestion-is}
+use Rattle.money.specs.laws.OfferLaws.{in-range, spent-room}
+use Rattle.money.specs.laws.ProductionLaws.{loss-is, loss-room, congestion-is}
 use native.Mathlib.Omega.{arith}
 use borrow.Author.Needs.{needs}
 use Rattle.money.proofs.production.component_3_of.Statement.{statement}

@@ -1,4 +1,4 @@
-use Rattle.money.specs.ProductionLaws.{room, two-room, net-within, net-small, component4-is}
+use Rattle.money.specs.laws.ProductionLaws.{room, two-room, net-within, net-small, component4-is}
 use borrow.Author.Needs.{needs}
 use Rattle.money.proofs.production.component_4_of.Statement.{statement}
 use Rattle.money.proofs.production.component_4_of.Tie as tie

@@ -3,7 +3,7 @@ use Prim.Native.Nat.{_-_}
 use lib.IntN.{pos}
 use lib.ListN.{getD}
 use Rattle.money.specs.Production.{noStart, hourPart, daySum}
-use Rattle.money.specs.ProductionLaws.{day-room, part-is, part-room, start-room}
+use Rattle.money.specs.laws.ProductionLaws.{day-room, part-is, part-room, start-room}
 use Rattle.money.specs.Units.{dayHours}
 use borrow.Author.Needs.{needs}
 use native.Mathlib.Omega.{arith}

@@ -1,5 +1,5 @@
 use Rattle.money.specs.Production.{C1, C2, C3, C4}
-use Rattle.money.specs.ProductionLaws.{C1-small, C2-small, C3-small, C4-small, sum-room, two-sums, hour-is}
+use Rattle.money.specs.laws.ProductionLaws.{C1-small, C2-small, C3-small, C4-small, sum-room, two-sums, hour-is}
 use native.Mathlib.Omega.{arith}
 use borrow.Author.Needs.{needs}
 use Rattle.money.proofs.production.hour_sum.Statement.{statement}

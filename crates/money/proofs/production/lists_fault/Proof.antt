@@ -2,7 +2,7 @@ use mathlib.Core.Path.{sym, _∙_}
 use Rattle.laws.specs.Sums.{orElse}
 use Rattle.money.specs.Offers.{offerFault}
 use Rattle.money.specs.Production.{reserveFault, listsFault}
-use Rattle.money.specs.UnitLaws.{kept}
+use Rattle.money.specs.laws.UnitLaws.{kept}
 use borrow.Author.Needs.{needs}
 use Rattle.money.proofs.production.lists_fault.Statement.{statement}
 use Rattle.money.proofs.production.lists_fault.Tie as tie

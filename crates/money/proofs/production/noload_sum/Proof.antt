@@ -1,7 +1,7 @@
 use Prim.Native.Nat.{ℕ, _-_}
 use Rattle.laws.specs.SumLaws.{Summed, summed-none, summed-more, summed-all}
 use Rattle.money.specs.Units.{intervals, quantityAt}
-use Rattle.money.specs.ProductionLaws.{running, running-room, runs-room}
+use Rattle.money.specs.laws.ProductionLaws.{running, running-room, runs-room}
 use borrow.Author.Needs.{needs}
 use native.Mathlib.Omega.{arith}
 use Rattle.money.proofs.production.noload_sum.Statement.{statement}

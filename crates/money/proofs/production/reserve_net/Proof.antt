@@ -1,7 +1,7 @@
 use Rattle.money.specs.Units.{priceAt}
-use Rattle.money.specs.OfferLaws.{in-range, spent-room}
-use Rattle.money.specs.ProductionLaws.{offered, idle}
-use Rattle.money.specs.GuaranteeLaws.{profit-is}
+use Rattle.money.specs.laws.OfferLaws.{in-range, spent-room}
+use Rattle.money.specs.laws.ProductionLaws.{offered, idle}
+use Rattle.money.specs.laws.GuaranteeLaws.{profit-is}
 use native.Mathlib.Omega.{arith}
 use borrow.Author.Needs.{needs}
 use Rattle.money.proofs.production.reserve_net.Statement.{statement}

@@ -1,5 +1,5 @@
 use Rattle.money.specs.Units.{quantityAt}
-use Rattle.money.specs.ProductionLaws.{reserve-none, reserve-ready, reserve-is}
+use Rattle.money.specs.laws.ProductionLaws.{reserve-none, reserve-ready, reserve-is}
 use native.Mathlib.Omega.{arith}
 use borrow.Author.Needs.{needs}
 use Rattle.money.proofs.production.reserve_sum.Statement.{statement}

@@ -1,7 +1,7 @@
 use mathlib.Core.Path.{sym, ap, _∙_}
 use Prim.Native.Nat.{ℕ}
 use Rattle.money.specs.Units.{withinOk}
-use Rattle.money.specs.ProductionLaws.{last-none}
+use Rattle.money.specs.laws.ProductionLaws.{last-none}
 use borrow.Author.Needs.{needs}
 use Rattle.money.proofs.production.reserve_within_ok.Statement.{statement}
 use Rattle.money.proofs.production.reserve_within_ok.Tie as tie

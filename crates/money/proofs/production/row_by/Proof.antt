@@ -1,8 +1,8 @@
 use mathlib.Core.Path.{refl}
 use Prim.Native.Nat.{ℕ, _-_}
 use Rattle.money.specs.Units.{intervals, quantityAt}
-use Rattle.money.specs.UnitLaws.{Filled, filled-none, filled-more}
-use Rattle.money.specs.ProductionLaws.{pickOf}
+use Rattle.money.specs.laws.UnitLaws.{Filled, filled-none, filled-more}
+use Rattle.money.specs.laws.ProductionLaws.{pickOf}
 use borrow.Author.Needs.{needs}
 use native.Mathlib.Omega.{arith}
 use Rattle.money.proofs.production.row_by.Statement.{statement}

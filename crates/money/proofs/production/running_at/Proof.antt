@@ -1,4 +1,4 @@
-use Rattle.money.specs.ProductionLaws.{running-none, running-some}
+use Rattle.money.specs.laws.ProductionLaws.{running-none, running-some}
 use native.Mathlib.Omega.{arith}
 use borrow.Author.Needs.{needs}
 use Rattle.money.proofs.production.running_at.Statement.{statement}

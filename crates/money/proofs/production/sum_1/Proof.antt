@@ -1,7 +1,7 @@
 use mathlib.Core.Path.{_≡_, ap, _∙_}
 use Prim.Native.Nat.{ℕ, min}
 use Rattle.money.specs.Units.{quantityAt}
-use Rattle.money.specs.ProductionLaws.{ready-less, profits-moderate, runs-moderate, sum1-is, lesser-in}
+use Rattle.money.specs.laws.ProductionLaws.{ready-less, profits-moderate, runs-moderate, sum1-is, lesser-in}
 use native.Mathlib.Omega.{arith}
 use borrow.Author.Needs.{needs}
 use Rattle.money.proofs.production.sum_1.Statement.{statement}

@@ -1,5 +1,5 @@
 use Rattle.money.specs.Units.{quantityAt}
-use Rattle.money.specs.ProductionLaws.{ready-less, profits-moderate, sum3-is, second-in}
+use Rattle.money.specs.laws.ProductionLaws.{ready-less, profits-moderate, sum3-is, second-in}
 use native.Mathlib.Omega.{arith}
 use borrow.Author.Needs.{needs}
 use Rattle.money.proofs.production.sum_3.Statement.{statement}

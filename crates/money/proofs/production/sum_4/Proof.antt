@@ -1,5 +1,5 @@
 use Rattle.money.specs.Units.{quantityAt}
-use Rattle.money.specs.ProductionLaws.{reserve-room, two-reserves, sum4-is}
+use Rattle.money.specs.laws.ProductionLaws.{reserve-room, two-reserves, sum4-is}
 use native.Mathlib.Omega.{arith}
 use borrow.Author.Needs.{needs}
 use Rattle.money.proofs.production.sum_4.Statement.{statement}

@@ -2,7 +2,7 @@ use mathlib.Core.Path.{sym, _∙_}
 use borrow.Author.Tests.{not-true, not-false}
 use Rattle.money.specs.declared.production.DayAnswer.the-variants as day-variants
 use Rattle.money.specs.Production.{dayAnswer}
-use Rattle.money.specs.ProductionLaws.{day-of, reversal-is}
+use Rattle.money.specs.laws.ProductionLaws.{day-of, reversal-is}
 use borrow.Author.Needs.{needs}
 use Rattle.money.proofs.production.unit_day.Statement.{statement}
 use Rattle.money.proofs.production.unit_day.Tie as tie

@@ -2,8 +2,8 @@ use mathlib.Core.Path.{sym, _∙_}
 use borrow.Author.Tests.{not-true, not-false}
 use Rattle.money.specs.Units.{unless}
 use Rattle.money.specs.Production.{withinFine, unitFault}
-use Rattle.money.specs.ProductionLaws.{lists-of}
-use Rattle.money.specs.UnitLaws.{kept}
+use Rattle.money.specs.laws.ProductionLaws.{lists-of}
+use Rattle.money.specs.laws.UnitLaws.{kept}
 use borrow.Author.Needs.{needs}
 use Rattle.money.proofs.production.unit_fault.Statement.{statement}
 use Rattle.money.proofs.production.unit_fault.Tie as tie

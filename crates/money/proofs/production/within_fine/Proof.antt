@@ -1,6 +1,6 @@
 use mathlib.Core.Path.{sym, _∙_}
 use borrow.Author.Tests.{not-true, not-false}
-use Rattle.money.specs.GuaranteeLaws.{within-is}
+use Rattle.money.specs.laws.GuaranteeLaws.{within-is}
 use Rattle.money.specs.Production.{withinFine}
 use borrow.Author.Needs.{needs}
 use Rattle.money.proofs.production.within_fine.Statement.{statement}

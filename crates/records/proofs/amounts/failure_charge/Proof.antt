@@ -3,9 +3,9 @@ use Rattle.money.specs.declared.failure.Failure.{Failure}
 use Rattle.records.specs.Reading.{Res}
 use Rattle.records.specs.Views.{viewedFailure, noFailure}
 use Rattle.records.specs.Amounts.{amountFrom, chargeFor}
-use Rattle.records.specs.ViewLaws.{counted-failure}
+use Rattle.records.specs.laws.ViewLaws.{counted-failure}
 use Rattle.records.specs.declared.views.FailureAnswer.{FailureAnswer}
-use Rattle.records.proofs.Viewing.{faulty, had}
+use Rattle.records.proofs.views.Lemmas.{faulty, had}
 use borrow.Author.Needs.{needs}
 use Rattle.records.proofs.amounts.failure_charge.Statement.{statement}
 use Rattle.records.proofs.amounts.failure_charge.Tie as tie

@@ -3,12 +3,12 @@ use Rattle.records.specs.Reading.{Res}
 use Rattle.records.specs.Layouts.{import}
 use Rattle.records.specs.Views.{viewed, noImport}
 use Rattle.records.specs.Amounts.{amountFrom, creditFor}
-use Rattle.records.specs.ReaderLaws.{lawful-import}
-use Rattle.records.specs.ViewLaws.{counted-viewed}
+use Rattle.records.specs.laws.ReaderLaws.{lawful-import}
+use Rattle.records.specs.laws.ViewLaws.{counted-viewed}
 use Rattle.records.specs.declared.layouts.Import.{Import}
 use Rattle.records.specs.declared.marks.Mark.the-variants.{Im}
 use Rattle.records.specs.declared.views.ImportAnswer.{ImportAnswer}
-use Rattle.records.proofs.Viewing.{faulty, had}
+use Rattle.records.proofs.views.Lemmas.{faulty, had}
 use borrow.Author.Needs.{needs}
 use Rattle.records.proofs.amounts.import_credit.Statement.{statement}
 use Rattle.records.proofs.amounts.import_credit.Tie as tie

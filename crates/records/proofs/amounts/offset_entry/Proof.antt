@@ -1,5 +1,5 @@
 use mathlib.Core.Path.{_∙_}
-use Rattle.records.proofs.Viewing.{entry-at, entry-no}
+use Rattle.records.proofs.views.Lemmas.{entry-at, entry-no}
 use borrow.Author.Needs.{needs}
 use Rattle.records.proofs.amounts.offset_entry.Statement.{statement}
 use Rattle.records.proofs.amounts.offset_entry.Tie as tie

@@ -4,12 +4,12 @@ use Rattle.records.specs.Reading.{Res, got, _>>=_}
 use Rattle.records.specs.Layouts.{export}
 use Rattle.records.specs.Views.{viewed, noExport}
 use Rattle.records.specs.Amounts.{totalsAnswer}
-use Rattle.records.specs.ReaderLaws.{lawful-export}
-use Rattle.records.specs.ViewLaws.{counted-viewed}
+use Rattle.records.specs.laws.ReaderLaws.{lawful-export}
+use Rattle.records.specs.laws.ViewLaws.{counted-viewed}
 use Rattle.records.specs.declared.layouts.Export.{Export}
 use Rattle.records.specs.declared.marks.Mark.the-variants.{Ex}
 use Rattle.records.specs.declared.views.ExportAnswer.{ExportAnswer}
-use Rattle.records.proofs.Viewing.{faulty, had}
+use Rattle.records.proofs.views.Lemmas.{faulty, had}
 use borrow.Author.Needs.{needs}
 use Rattle.records.proofs.amounts.totals_with_export.Statement.{statement}
 use Rattle.records.proofs.amounts.totals_with_export.Tie as tie

@@ -6,11 +6,11 @@ use Rattle.records.specs.Reading.{Res, _>>=_}
 use Rattle.records.specs.Layouts.{unit}
 use Rattle.records.specs.Views.{viewed, noUnit}
 use Rattle.records.specs.Amounts.{given, partAnswer}
-use Rattle.records.specs.ReaderLaws.{lawful-unit}
-use Rattle.records.specs.ViewLaws.{counted-viewed}
+use Rattle.records.specs.laws.ReaderLaws.{lawful-unit}
+use Rattle.records.specs.laws.ViewLaws.{counted-viewed}
 use Rattle.records.specs.declared.marks.Mark.the-variants.{Gh}
 use Rattle.records.specs.declared.views.UnitAnswer.{UnitAnswer}
-use Rattle.records.proofs.Viewing.{faulty, had}
+use Rattle.records.proofs.views.Lemmas.{faulty, had}
 use borrow.Author.Needs.{needs}
 use Rattle.records.proofs.amounts.unit_part.Statement.{statement}
 use Rattle.records.proofs.amounts.unit_part.Tie as tie

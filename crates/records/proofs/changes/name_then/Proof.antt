@@ -1,5 +1,5 @@
 use mathlib.Core.Path.{_≡_, sym, _∙_}
-use Rattle.records.proofs.Head.{name-named, name-less}
+use Rattle.records.proofs.marks.Lemmas.{name-named, name-less}
 use native.Mathlib.Omega.{arith}
 use borrow.Author.Needs.{needs}
 use Rattle.records.proofs.changes.name_then.Statement.{statement}

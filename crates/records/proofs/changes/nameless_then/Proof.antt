@@ -1,5 +1,5 @@
 use Rattle.records.specs.Names.{noOne}
-use Rattle.records.proofs.Step.{last}
+use Rattle.records.proofs.fields.Step.{last}
 use mathlib.Core.Path.{_≡_, sym, _∙_}
 use native.Mathlib.Omega.{arith}
 use borrow.Author.Needs.{needs}

@@ -1,4 +1,4 @@
-use Rattle.records.proofs.Body.{change-is}
+use Rattle.records.proofs.changes.Lemmas.{change-is}
 use native.Mathlib.Omega.{arith}
 use borrow.Author.Needs.{needs}
 use Rattle.records.proofs.changes.read_change.Statement.{statement}

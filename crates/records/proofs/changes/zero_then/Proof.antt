@@ -1,4 +1,4 @@
-use Rattle.records.proofs.Head.{zero-past, zero-here, zero-not}
+use Rattle.records.proofs.marks.Lemmas.{zero-past, zero-here, zero-not}
 use native.Mathlib.Omega.{arith}
 use borrow.Author.Needs.{needs}
 use Rattle.records.proofs.changes.zero_then.Statement.{statement}

@@ -1,6 +1,6 @@
 use mathlib.Core.Path.{_≡_}
 use borrow.Author.Needs.{needs}
-use Rattle.records.proofs.Step.{guard-yes}
+use Rattle.records.proofs.fields.Step.{guard-yes}
 use Rattle.records.proofs.fields.guard_end.Statement.{statement}
 use Rattle.records.proofs.fields.guard_end.Tie as tie
 use Rattle.records.proofs.fields.guard_end.Reads as reads

@@ -1,4 +1,4 @@
-use Rattle.records.proofs.Head.{hour-past, hour-low, hour-high, hour-here}
+use Rattle.records.proofs.marks.Lemmas.{hour-past, hour-low, hour-high, hour-here}
 use native.Mathlib.Omega.{arith}
 use borrow.Author.Needs.{needs}
 use Rattle.records.proofs.fields.hour_then.Statement.{statement}

@@ -1,7 +1,7 @@
 use borrow.Author.Needs.{needs}
 use native.Mathlib.Omega.{arith}
 use mathlib.Core.Path.{sym}
-use Rattle.records.proofs.Bytes.{byte-past, byte-at}
+use Rattle.records.proofs.fields.Lemmas.{byte-past, byte-at}
 use Rattle.records.proofs.fields.read_byte.Statement.{statement}
 use Rattle.records.proofs.fields.read_byte.Tie as tie
 use Rattle.records.proofs.fields.read_byte.Reads as reads

@@ -2,8 +2,8 @@ use mathlib.Core.Path.{_≡_, sym, ap, _∙_}
 use mir.ValLaws.{toZ-ofZ}
 use mir.Syntax.{w32}
 use Rattle.money.specs.Units.{priceRead}
-use Rattle.records.specs.Inner.{num}
-use Rattle.records.proofs.Bytes.{price-good, price-refused, price-bad}
+use Rattle.records.specs.tables.Inner.{num}
+use Rattle.records.proofs.fields.Lemmas.{price-good, price-refused, price-bad}
 use native.Mathlib.Omega.{arith}
 use borrow.Author.Needs.{needs}
 use Rattle.records.proofs.fields.read_price.Statement.{statement}

@@ -1,6 +1,6 @@
 use mathlib.Core.Path.{_≡_, sym, ap, _∙_}
-use Rattle.records.specs.Inner.{num}
-use Rattle.records.proofs.Bytes.{quantity-good, quantity-refused, quantity-bad}
+use Rattle.records.specs.tables.Inner.{num}
+use Rattle.records.proofs.fields.Lemmas.{quantity-good, quantity-refused, quantity-bad}
 use native.Mathlib.Omega.{arith}
 use borrow.Author.Needs.{needs}
 use Rattle.records.proofs.fields.read_quantity.Statement.{statement}

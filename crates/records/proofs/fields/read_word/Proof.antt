@@ -1,7 +1,7 @@
 use borrow.Author.Needs.{needs}
 use native.Mathlib.Omega.{arith}
 use mathlib.Core.Path.{_≡_, sym, ap, _∙_}
-use Rattle.records.proofs.Bytes.{word-past, word-ends, word-at}
+use Rattle.records.proofs.fields.Lemmas.{word-past, word-ends, word-at}
 use Rattle.records.specs.Numbers.{word}
 use Rattle.records.proofs.fields.read_word.Statement.{statement}
 use Rattle.records.proofs.fields.read_word.Tie as tie

@@ -1,7 +1,7 @@
 use mathlib.Core.Path.{sym, ap, _∙_}
 use Rattle.records.specs.Keys.{keyAnswer}
-use Rattle.records.specs.Inner.{shown}
-use Rattle.records.proofs.Heading.{head-key-is}
+use Rattle.records.specs.tables.Inner.{shown}
+use Rattle.records.proofs.heads.Lemmas.{head-key-is}
 use borrow.Author.Needs.{needs}
 use Rattle.records.proofs.heads.head_key.Statement.{statement}
 use Rattle.records.proofs.heads.head_key.Tie as tie

@@ -1,5 +1,5 @@
 use mathlib.Core.Path.{sym, _∙_}
-use Rattle.records.proofs.Heading.{ok-not, ok-named, ok-unnamed}
+use Rattle.records.proofs.heads.Lemmas.{ok-not, ok-named, ok-unnamed}
 use borrow.Author.Needs.{needs}
 use Rattle.records.proofs.heads.key_ok.Statement.{statement}
 use Rattle.records.proofs.heads.key_ok.Tie as tie

@@ -1,5 +1,5 @@
 use mathlib.Core.Path.{_∙_}
-use Rattle.records.proofs.HourReading.{filed-at, filed-no}
+use Rattle.records.proofs.hour_records.Lemmas.{filed-at, filed-no}
 use borrow.Author.Needs.{needs}
 use Rattle.records.proofs.hour_records.filed_front.Statement.{statement}
 use Rattle.records.proofs.hour_records.filed_front.Tie as tie

@@ -1,5 +1,5 @@
 use mathlib.Core.Path.{_∙_}
-use Rattle.records.proofs.HourReading.{front-filed, front-not}
+use Rattle.records.proofs.hour_records.Lemmas.{front-filed, front-not}
 use borrow.Author.Needs.{needs}
 use Rattle.records.proofs.hour_records.first_of_hour.Statement.{statement}
 use Rattle.records.proofs.hour_records.first_of_hour.Tie as tie

@@ -1,4 +1,4 @@
-use Rattle.records.proofs.HourReading.{any-hour, one-hour}
+use Rattle.records.proofs.hour_records.Lemmas.{any-hour, one-hour}
 use Rattle.records.proofs.hour_records.same_as.Statement.{statement}
 use Rattle.records.proofs.hour_records.same_as.Tie as tie
 use Rattle.records.proofs.hour_records.same_as.Reads as reads

@@ -1,12 +1,12 @@
 use mathlib.Core.Path.{ap, sym, _∙_}
 use mathlib.Core.Bool.{Bool}
-use Rattle.records.specs.Inner.{guarded, then}
+use Rattle.records.specs.tables.Inner.{guarded, then}
 use Rattle.records.specs.Changes.{change}
 use Rattle.records.specs.declared.fields.End.{End}
 use Rattle.records.specs.declared.marks.Kind.the-variants.{File}
 use Rattle.records.specs.declared.marks.Wanted.the-variants.{Only}
-use Rattle.records.proofs.HourReading.{start-is}
-use Rattle.records.proofs.Step.{guarded-in}
+use Rattle.records.proofs.hour_records.Lemmas.{start-is}
+use Rattle.records.proofs.fields.Step.{guarded-in}
 use borrow.Author.Needs.{needs}
 use Rattle.records.proofs.hour_records.start_of.Statement.{statement}
 use Rattle.records.proofs.hour_records.start_of.Tie as tie

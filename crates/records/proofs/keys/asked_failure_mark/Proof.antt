@@ -1,8 +1,8 @@
 use mathlib.Core.Path.{_≡_, sym, ap, _∙_}
 use Rattle.records.specs.Marks.{isFailure}
 use Rattle.records.specs.Keys.{askMark, askFailureMark}
-use Rattle.records.specs.Inner.{guarded}
-use Rattle.records.proofs.Step.{first, test, last, guarded-in}
+use Rattle.records.specs.tables.Inner.{guarded}
+use Rattle.records.proofs.fields.Step.{first, test, last, guarded-in}
 use native.Mathlib.Omega.{arith}
 use borrow.Author.Needs.{needs}
 use Rattle.records.proofs.keys.asked_failure_mark.Statement.{statement}

@@ -1,5 +1,5 @@
 use mathlib.Core.Path.{_≡_, sym, _∙_}
-use Rattle.records.proofs.Asking.{mark-two, mark-other}
+use Rattle.records.proofs.keys.Lemmas.{mark-two, mark-other}
 use native.Mathlib.Omega.{arith}
 use borrow.Author.Needs.{needs}
 use Rattle.records.proofs.keys.asked_mark.Statement.{statement}

@@ -1,5 +1,5 @@
 use mathlib.Core.Path.{_≡_, sym, _∙_}
-use Rattle.records.proofs.Asking.{name-asked, name-none, name-some}
+use Rattle.records.proofs.keys.Lemmas.{name-asked, name-none, name-some}
 use native.Mathlib.Omega.{arith}
 use borrow.Author.Needs.{needs}
 use Rattle.records.proofs.keys.asked_name.Statement.{statement}

@@ -1,8 +1,8 @@
 use mathlib.Core.Path.{_≡_, sym, ap, _∙_}
 use Rattle.records.specs.Reading.{from}
 use Rattle.records.specs.Keys.{keyAnswer, askFrom}
-use Rattle.records.specs.Inner.{shown}
-use Rattle.records.proofs.Asking.{ask-mark, ask-hour, ask-name, ask-got}
+use Rattle.records.specs.tables.Inner.{shown}
+use Rattle.records.proofs.keys.Lemmas.{ask-mark, ask-hour, ask-name, ask-got}
 use native.Mathlib.Omega.{arith}
 use borrow.Author.Needs.{needs}
 use Rattle.records.proofs.keys.key_from.Statement.{statement}

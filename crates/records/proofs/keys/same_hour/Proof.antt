@@ -1,5 +1,5 @@
 use mathlib.Core.Path.{_≡_, sym, _∙_}
-use Rattle.records.proofs.Out.{other-mark, by-hour}
+use Rattle.records.proofs.writing.Lemmas.{other-mark, by-hour}
 use native.Mathlib.Omega.{arith}
 use borrow.Author.Needs.{needs}
 use Rattle.records.proofs.keys.same_hour.Statement.{statement}

@@ -1,5 +1,5 @@
 use mathlib.Core.Path.{_≡_, sym, _∙_}
-use Rattle.records.proofs.Head.{and-go, and-stop}
+use Rattle.records.proofs.marks.Lemmas.{and-go, and-stop}
 use native.Mathlib.Omega.{arith}
 use borrow.Author.Needs.{needs}
 use Rattle.records.proofs.layouts.all_inside.Statement.{statement}

@@ -1,7 +1,7 @@
 use mathlib.Core.Path.{_≡_, sym, _∙_}
 use Rattle.records.specs.Numbers.{price, quantity}
 use Rattle.records.specs.Layouts.{failure}
-use Rattle.records.proofs.Step.{next, last}
+use Rattle.records.proofs.fields.Step.{next, last}
 use native.Mathlib.Omega.{arith}
 use borrow.Author.Needs.{needs}
 use Rattle.records.proofs.layouts.failure_then.Statement.{statement}

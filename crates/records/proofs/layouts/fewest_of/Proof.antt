@@ -1,5 +1,5 @@
 use mathlib.Core.Path.{_≡_, sym, _∙_}
-use Rattle.records.proofs.Head.{least-yes, least-no}
+use Rattle.records.proofs.marks.Lemmas.{least-yes, least-no}
 use native.Mathlib.Omega.{arith}
 use borrow.Author.Needs.{needs}
 use Rattle.records.proofs.layouts.fewest_of.Statement.{statement}

@@ -2,8 +2,8 @@ use mathlib.Core.Path.{_≡_, sym, _∙_}
 use Rattle.records.specs.Reading.{many}
 use Rattle.records.specs.Numbers.{quantity, listFrom}
 use Rattle.records.specs.Layouts.{import, within}
-use Rattle.records.specs.Inner.{guarded}
-use Rattle.records.proofs.Step.{next, test, last, guarded-in}
+use Rattle.records.specs.tables.Inner.{guarded}
+use Rattle.records.proofs.fields.Step.{next, test, last, guarded-in}
 use native.Mathlib.Omega.{arith}
 use borrow.Author.Needs.{needs}
 use Rattle.records.proofs.layouts.import_then.Statement.{statement}

@@ -1,5 +1,5 @@
 use Rattle.records.specs.Layouts.{layout, hourPrices, import, export, unit, failure}
-use Rattle.records.proofs.Body.{skip-is}
+use Rattle.records.proofs.changes.Lemmas.{skip-is}
 use native.Mathlib.Omega.{arith}
 use borrow.Author.Needs.{needs}
 use Rattle.records.proofs.layouts.layout_then.Statement.{statement}

@@ -1,8 +1,8 @@
 use mathlib.Core.Path.{_≡_, sym, ap, _∙_}
 use Rattle.records.specs.Numbers.{listFrom}
 use Rattle.records.specs.Layouts.{lists, fewest}
-use Rattle.records.specs.Inner.{then}
-use Rattle.records.proofs.Step.{next, last}
+use Rattle.records.specs.tables.Inner.{then}
+use Rattle.records.proofs.fields.Step.{next, last}
 use native.Mathlib.Omega.{arith}
 use borrow.Author.Needs.{needs}
 use Rattle.records.proofs.layouts.lists_then.Statement.{statement}

@@ -3,7 +3,7 @@ use Rattle.money.specs.Units.{maxCents}
 use Rattle.records.specs.Reading.{many}
 use Rattle.records.specs.Numbers.{quantity, amount}
 use Rattle.records.specs.Layouts.{schedules}
-use Rattle.records.proofs.Step.{next, last}
+use Rattle.records.proofs.fields.Step.{next, last}
 use native.Mathlib.Omega.{arith}
 use borrow.Author.Needs.{needs}
 use Rattle.records.proofs.layouts.schedules_then.Statement.{statement}

@@ -1,7 +1,7 @@
 use mathlib.Core.Path.{_≡_, sym, _∙_}
 use Rattle.records.specs.Layouts.{unit, schedules, reserveRows, lists, allWithin}
-use Rattle.records.specs.Inner.{guarded}
-use Rattle.records.proofs.Step.{next, test, last, guarded-in}
+use Rattle.records.specs.tables.Inner.{guarded}
+use Rattle.records.proofs.fields.Step.{next, test, last, guarded-in}
 use native.Mathlib.Omega.{arith}
 use borrow.Author.Needs.{needs}
 use Rattle.records.proofs.layouts.unit_then.Statement.{statement}

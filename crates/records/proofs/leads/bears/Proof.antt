@@ -1,5 +1,5 @@
 use mathlib.Core.Path.{_∙_}
-use Rattle.records.proofs.Leading.{bears-short, bears-is}
+use Rattle.records.proofs.leads.Lemmas.{bears-short, bears-is}
 use native.Mathlib.Omega.{arith}
 use borrow.Author.Needs.{needs}
 use Rattle.records.proofs.leads.bears.Statement.{statement}

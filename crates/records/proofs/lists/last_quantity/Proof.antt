@@ -1,4 +1,4 @@
-use Rattle.money.specs.OfferLaws.{last-is}
+use Rattle.money.specs.laws.OfferLaws.{last-is}
 use native.Mathlib.Omega.{arith}
 use borrow.Author.Needs.{needs}
 use Rattle.records.proofs.lists.last_quantity.Statement.{statement}

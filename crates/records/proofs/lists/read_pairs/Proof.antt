@@ -3,9 +3,9 @@ use mathlib.Core.Path.{_≡_, refl, sym, ap, _∙_}
 use lib.ListN.{length}
 use Rattle.money.specs.Units.{noPrice, noQuantity}
 use Rattle.records.specs.Numbers.{pair}
-use Rattle.records.specs.Inner.{pairAt}
-use Rattle.records.proofs.Bytes.{Filled, filled-none, filled-more}
-use Rattle.records.proofs.Pairs.{Padded, padded-more, zip, zip-set, length-zip, pairs-all, pairs-bad}
+use Rattle.records.specs.tables.Inner.{pairAt}
+use Rattle.records.proofs.fields.Lemmas.{Filled, filled-none, filled-more}
+use Rattle.records.proofs.lists.Lemmas.{Padded, padded-more, zip, zip-set, length-zip, pairs-all, pairs-bad}
 use borrow.Author.Needs.{needs}
 use native.Mathlib.Omega.{arith}
 use Rattle.records.proofs.lists.read_pairs.Statement.{statement}

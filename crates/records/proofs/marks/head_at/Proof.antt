@@ -1,6 +1,6 @@
 use mathlib.Core.Path.{_≡_, refl, sym, _∙_}
 use mathlib.Core.Bool.{true, false}
-use Rattle.records.proofs.Head.{head-short, head-is}
+use Rattle.records.proofs.marks.Lemmas.{head-short, head-is}
 use native.Mathlib.Omega.{arith}
 use borrow.Author.Needs.{needs}
 use Rattle.records.proofs.marks.head_at.Statement.{statement}

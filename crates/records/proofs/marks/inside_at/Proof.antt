@@ -1,7 +1,7 @@
 use mathlib.Core.Path.{_≡_, refl, sym, _∙_}
 use Rattle.records.specs.Reading.{from}
 use Rattle.records.specs.Marks.{mark}
-use Rattle.records.proofs.Head.{inside-is, inside-not}
+use Rattle.records.proofs.marks.Lemmas.{inside-is, inside-not}
 use native.Mathlib.Omega.{arith}
 use borrow.Author.Needs.{needs}
 use Rattle.records.proofs.marks.inside_at.Statement.{statement}

@@ -1,4 +1,4 @@
-use Rattle.records.proofs.Head.{is-no, is-yes}
+use Rattle.records.proofs.marks.Lemmas.{is-no, is-yes}
 use borrow.Author.Needs.{needs}
 use native.Mathlib.Omega.{arith}
 use Rattle.records.proofs.marks.is.Statement.{statement}

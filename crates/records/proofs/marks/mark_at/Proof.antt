@@ -6,7 +6,7 @@ use borrow.Author.Needs.{needs}
 use lib.ListN.{length, drop}
 use Rattle.records.specs.Reading.{from}
 use Rattle.records.specs.Marks.{listing, markAmong, mark}
-use Rattle.records.proofs.Head.{mark-past, mark-short, mark-here, among-test, among-none}
+use Rattle.records.proofs.marks.Lemmas.{mark-past, mark-short, mark-here, among-test, among-none}
 use Rattle.records.proofs.marks.mark_at.Statement.{statement}
 use Rattle.records.proofs.marks.mark_at.Tie as tie
 use Rattle.records.proofs.marks.mark_at.Reads as reads

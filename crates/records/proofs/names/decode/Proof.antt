@@ -4,9 +4,9 @@ use lib.ListN.{length}
 use borrow.Author.Tests.{le-leb, lt-leb}
 use Rattle.records.specs.Reading.{from}
 use Rattle.records.specs.Names.{decodeName, held}
-use Rattle.records.specs.Inner.{chr}
-use Rattle.records.proofs.Pairs.{Padded, padded-more}
-use Rattle.records.proofs.Spelled.{Spelled, spelled-none, spelled-more, spelled-bad, spelled-full, name-all}
+use Rattle.records.specs.tables.Inner.{chr}
+use Rattle.records.proofs.lists.Lemmas.{Padded, padded-more}
+use Rattle.records.proofs.names.Lemmas.{Spelled, spelled-none, spelled-more, spelled-bad, spelled-full, name-all}
 use borrow.Author.Needs.{needs}
 use native.Mathlib.Omega.{arith}
 use Rattle.records.proofs.names.decode.Statement.{statement}

@@ -1,7 +1,7 @@
 use borrow.Author.Tests.{lt-ltb, le-ltb}
 use mathlib.Core.Path.{_≡_, ap, sym, _∙_}
 use Rattle.records.specs.Names.{escaped}
-use Rattle.records.proofs.Spelled.{at-end, at-two, at-last}
+use Rattle.records.proofs.names.Lemmas.{at-end, at-two, at-last}
 use native.Mathlib.Omega.{arith}
 use borrow.Author.Needs.{needs}
 use Rattle.records.proofs.names.escaped_at.Statement.{statement}

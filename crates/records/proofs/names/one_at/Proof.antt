@@ -1,7 +1,7 @@
 use borrow.Author.Tests.{eq-eqb, ne-eqb}
 use mathlib.Core.Path.{_≡_, ap, sym, _∙_}
 use Rattle.records.specs.Names.{one}
-use Rattle.records.proofs.Spelled.{at-next}
+use Rattle.records.proofs.names.Lemmas.{at-next}
 use native.Mathlib.Omega.{arith}
 use borrow.Author.Needs.{needs}
 use Rattle.records.proofs.names.one_at.Statement.{statement}

@@ -4,9 +4,9 @@ use lib.ListN.{take, drop}
 use borrow.Author.Tests.{le-leb, lt-leb}
 use Rattle.records.specs.Reading.{from}
 use Rattle.records.specs.Names.{nameField, decodeName}
-use Rattle.records.specs.Inner.{shown}
-use Rattle.records.proofs.Some.{some-short, some-at}
-use Rattle.records.proofs.Spelled.{held-got, held-bad}
+use Rattle.records.specs.tables.Inner.{shown}
+use Rattle.records.proofs.names.Some.{some-short, some-at}
+use Rattle.records.proofs.names.Lemmas.{held-got, held-bad}
 use native.Mathlib.Omega.{arith}
 use borrow.Author.Needs.{needs}
 use Rattle.records.proofs.names.read_name.Statement.{statement}

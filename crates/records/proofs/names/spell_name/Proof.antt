@@ -1,8 +1,8 @@
 use mathlib.Core.Path.{sym, _∙_}
 use borrow.Author.Tests.{not-true, not-false}
-use Rattle.money.specs.NameLaws.{name-most}
-use Rattle.records.specs.NameLaws.{spelling-none}
-use Rattle.records.proofs.Spelling.{spell-most, spelled-in}
+use Rattle.money.specs.laws.NameLaws.{name-most}
+use Rattle.records.specs.laws.NameLaws.{spelling-none}
+use Rattle.records.proofs.names.SpellName.{spell-most, spelled-in}
 use native.Mathlib.Omega.{arith}
 use borrow.Author.Needs.{needs}
 use Rattle.records.proofs.names.spell_name.Statement.{statement}

@@ -2,7 +2,7 @@ use Prim.Native.Nat.{_≤_, _-_, _*_}
 use mathlib.Core.Path.{_≡_, refl}
 use lib.ListN.{length, take, length-append}
 use Rattle.records.specs.Names.{spell}
-use Rattle.records.specs.NameLaws.{spell-more}
+use Rattle.records.specs.laws.NameLaws.{spell-more}
 use borrow.Author.Needs.{needs}
 use native.Mathlib.Omega.{arith}
 use Rattle.records.proofs.names.spelled_len.Statement.{statement}

@@ -1,7 +1,7 @@
 use lib.ListN.{length-set}
 use mathlib.Core.Path.{_≡_, sym, _∙_}
 use Rattle.records.specs.Names.{spellByte}
-use Rattle.records.proofs.Putting.{wrote-one, wrote-three}
+use Rattle.records.proofs.writing.Putting.{wrote-one, wrote-three}
 use native.Mathlib.Omega.{arith}
 use borrow.Author.Needs.{needs}
 use Rattle.records.proofs.names.write_byte.Statement.{statement}

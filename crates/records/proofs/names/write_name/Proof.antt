@@ -2,9 +2,9 @@ use Prim.Native.Nat.{_≤_, _+_, _-_, _*_}
 use mathlib.Core.Path.{_≡_, _∙_}
 use lib.ListN.{length, take, getD}
 use Rattle.records.specs.Names.{spell}
-use Rattle.records.specs.NameLaws.{spell-more, spellByte-length}
-use Rattle.records.specs.Inner.{Wrote}
-use Rattle.records.proofs.Putting.{wrote-none, wrote-then, wrote-length}
+use Rattle.records.specs.laws.NameLaws.{spell-more, spellByte-length}
+use Rattle.records.specs.tables.Inner.{Wrote}
+use Rattle.records.proofs.writing.Putting.{wrote-none, wrote-then, wrote-length}
 use borrow.Author.Needs.{needs}
 use native.Mathlib.Omega.{arith}
 use Rattle.records.proofs.names.write_name.Statement.{statement}

@@ -1,7 +1,7 @@
 use mathlib.Core.Bool.{true, false}
 use mathlib.Core.Path.{_≡_, refl, sym, _∙_}
 use borrow.Author.Tests.{eq-eqb, ne-eqb}
-use Rattle.records.proofs.Head.{bare-short, bare-is}
+use Rattle.records.proofs.marks.Lemmas.{bare-short, bare-is}
 use native.Mathlib.Omega.{arith}
 use borrow.Author.Needs.{needs}
 use Rattle.records.proofs.parse.bare_mark.Statement.{statement}

@@ -1,6 +1,6 @@
 use mathlib.Core.Path.{_≡_, sym, ap, _∙_}
 use Rattle.records.specs.Changes.{changeView}
-use Rattle.records.proofs.Out.{full, read-bad, view-full}
+use Rattle.records.proofs.writing.Lemmas.{full, read-bad, view-full}
 use borrow.Author.Needs.{needs}
 use native.Mathlib.Omega.{arith}
 use Rattle.records.proofs.parse.change_at.Statement.{statement}

@@ -1,6 +1,6 @@
 use mathlib.Core.Path.{_≡_, refl, sym, _∙_}
 use mathlib.Core.Bool.{true, false}
-use Rattle.records.proofs.Entries.{entry-short, entry-is}
+use Rattle.records.proofs.parse.Lemmas.{entry-short, entry-is}
 use borrow.Author.Needs.{needs}
 use native.Mathlib.Omega.{arith}
 use Rattle.records.proofs.parse.entry_at.Statement.{statement}

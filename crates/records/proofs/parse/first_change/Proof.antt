@@ -1,6 +1,6 @@
 use mathlib.Core.Path.{_≡_, sym, ap, subst, _∙_}
-use Rattle.records.specs.Inner.{shown, EndIn}
-use Rattle.records.proofs.Entries.{front-at, front-no}
+use Rattle.records.specs.tables.Inner.{shown, EndIn}
+use Rattle.records.proofs.parse.Lemmas.{front-at, front-no}
 use borrow.Author.Needs.{needs}
 use native.Mathlib.Omega.{arith}
 use Rattle.records.proofs.parse.first_change.Statement.{statement}

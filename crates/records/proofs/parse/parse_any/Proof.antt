@@ -1,6 +1,6 @@
 use mathlib.Core.Path.{_≡_, sym, ap, _∙_}
-use Rattle.records.specs.Inner.{shown}
-use Rattle.records.proofs.Entries.{any-faulted, any-bad, any-8, any-fine}
+use Rattle.records.specs.tables.Inner.{shown}
+use Rattle.records.proofs.parse.Lemmas.{any-faulted, any-bad, any-8, any-fine}
 use borrow.Author.Needs.{needs}
 use native.Mathlib.Omega.{arith}
 use Rattle.records.proofs.parse.parse_any.Statement.{statement}

@@ -1,7 +1,7 @@
 use mathlib.Core.Path.{_≡_, sym, ap, _∙_}
-use Rattle.records.specs.Inner.{shown}
-use Rattle.records.proofs.Out.{faulted}
-use Rattle.records.proofs.Entries.{parsed-bad, parsed-8, parsed-fine}
+use Rattle.records.specs.tables.Inner.{shown}
+use Rattle.records.proofs.writing.Lemmas.{faulted}
+use Rattle.records.proofs.parse.Lemmas.{parsed-bad, parsed-8, parsed-fine}
 use borrow.Author.Needs.{needs}
 use native.Mathlib.Omega.{arith}
 use Rattle.records.proofs.parse.parse_change.Statement.{statement}

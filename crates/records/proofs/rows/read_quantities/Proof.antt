@@ -2,8 +2,8 @@ use Prim.Native.Nat.{_≤_, _-_}
 use mathlib.Core.Path.{_≡_, refl, sym, ap, _∙_}
 use lib.ListN.{length}
 use Rattle.records.specs.Numbers.{quantity}
-use Rattle.records.specs.Inner.{quantityAt}
-use Rattle.records.proofs.Bytes.{Filled, filled-none, filled-more, filled-bad, filled-all}
+use Rattle.records.specs.tables.Inner.{quantityAt}
+use Rattle.records.proofs.fields.Lemmas.{Filled, filled-none, filled-more, filled-bad, filled-all}
 use borrow.Author.Needs.{needs}
 use native.Mathlib.Omega.{arith}
 use Rattle.records.proofs.rows.read_quantities.Statement.{statement}

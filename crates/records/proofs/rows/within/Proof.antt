@@ -3,7 +3,7 @@ use Prim.Native.Nat.{_-_}
 use lib.Dec.{leb}
 use borrow.Author.Tests.{le-leb, lt-leb}
 use Rattle.money.specs.Units.{quantityAt}
-use Rattle.money.specs.UnitLaws.{within-every}
+use Rattle.money.specs.laws.UnitLaws.{within-every}
 use Rattle.laws.specs.SumLaws.{Passed, passed-none, passed-more, passed-all, every-no}
 use borrow.Author.Needs.{needs}
 use Rattle.records.proofs.rows.within.Statement.{statement}

@@ -1,7 +1,7 @@
 use mathlib.Core.Path.{sym, ap, _∙_}
 use Rattle.records.specs.Changes.{begins}
 use Rattle.records.specs.declared.marks.Wanted.the-variants.{Any}
-use Rattle.records.proofs.Out.{full, read-bad, peek-yes, peek-no, peek-bad, head-part, head-fits}
+use Rattle.records.proofs.writing.Lemmas.{full, read-bad, peek-yes, peek-no, peek-bad, head-part, head-fits}
 use native.Mathlib.Omega.{arith}
 use borrow.Author.Needs.{needs}
 use Rattle.records.proofs.scan.peek.Statement.{statement}

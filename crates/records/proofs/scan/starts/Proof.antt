@@ -2,7 +2,7 @@ use Prim.Native.Nat.{_≤_, _-_}
 use mathlib.Core.Path.{_≡_, refl}
 use lib.ListN.{length}
 use borrow.Author.Needs.{needs}
-use Rattle.records.proofs.Out.{starts-short, Started, started-more, started-not, started-all}
+use Rattle.records.proofs.writing.Lemmas.{starts-short, Started, started-more, started-not, started-all}
 use Rattle.records.proofs.scan.starts.Statement.{statement}
 use Rattle.records.proofs.scan.starts.Tie as tie
 

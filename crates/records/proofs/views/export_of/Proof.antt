@@ -2,7 +2,7 @@ use mathlib.Core.Path.{ap}
 use Rattle.records.specs.Layouts.{export}
 use Rattle.records.specs.Views.{exportAnswer}
 use Rattle.records.specs.declared.marks.Mark.the-variants.{Ex}
-use Rattle.records.proofs.Viewing.{view-at, view-no}
+use Rattle.records.proofs.views.Lemmas.{view-at, view-no}
 use borrow.Author.Needs.{needs}
 use Rattle.records.proofs.views.export_of.Statement.{statement}
 use Rattle.records.proofs.views.export_of.Tie as tie

@@ -4,7 +4,7 @@ use borrow.Author.Tests.{not-true, not-false}
 use Rattle.records.specs.Reading.{check}
 use Rattle.records.specs.Layouts.{failure}
 use Rattle.records.specs.Views.{viewed, failureAnswer}
-use Rattle.records.proofs.Viewing.{view-at, view-no}
+use Rattle.records.proofs.views.Lemmas.{view-at, view-no}
 use borrow.Author.Needs.{needs}
 use Rattle.records.proofs.views.failure_of.Statement.{statement}
 use Rattle.records.proofs.views.failure_of.Tie as tie

@@ -2,7 +2,7 @@ use mathlib.Core.Path.{ap, _∙_}
 use Rattle.records.specs.Layouts.{import}
 use Rattle.records.specs.Views.{importAnswer}
 use Rattle.records.specs.declared.marks.Mark.the-variants.{Im}
-use Rattle.records.proofs.Viewing.{view-at, view-no}
+use Rattle.records.proofs.views.Lemmas.{view-at, view-no}
 use borrow.Author.Needs.{needs}
 use Rattle.records.proofs.views.import_of.Statement.{statement}
 use Rattle.records.proofs.views.import_of.Tie as tie

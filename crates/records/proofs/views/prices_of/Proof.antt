@@ -2,7 +2,7 @@ use mathlib.Core.Path.{ap}
 use Rattle.records.specs.Layouts.{hourPrices}
 use Rattle.records.specs.Views.{pricesAnswer}
 use Rattle.records.specs.declared.marks.Mark.the-variants.{Pr}
-use Rattle.records.proofs.Viewing.{view-at, view-no}
+use Rattle.records.proofs.views.Lemmas.{view-at, view-no}
 use borrow.Author.Needs.{needs}
 use Rattle.records.proofs.views.prices_of.Statement.{statement}
 use Rattle.records.proofs.views.prices_of.Tie as tie

@@ -2,7 +2,7 @@ use mathlib.Core.Path.{ap, _∙_}
 use Rattle.records.specs.Layouts.{unit}
 use Rattle.records.specs.Views.{unitAnswer}
 use Rattle.records.specs.declared.marks.Mark.the-variants.{Gh}
-use Rattle.records.proofs.Viewing.{view-at, view-no}
+use Rattle.records.proofs.views.Lemmas.{view-at, view-no}
 use borrow.Author.Needs.{needs}
 use Rattle.records.proofs.views.unit_of_hour.Statement.{statement}
 use Rattle.records.proofs.views.unit_of_hour.Tie as tie

@@ -2,9 +2,9 @@ use Prim.Native.Nat.{_≤_, _+_, _-_}
 use mathlib.Core.Path.{_≡_, refl, ap, _∙_}
 use lib.ListN.{length, take, length-set}
 use lib.Seq.{take-all}
-use Rattle.records.specs.Inner.{Wrote}
-use Rattle.records.proofs.Putting.{wrote-none}
-use Rattle.records.proofs.Out.{copy-more, copy-none, copy-all}
+use Rattle.records.specs.tables.Inner.{Wrote}
+use Rattle.records.proofs.writing.Putting.{wrote-none}
+use Rattle.records.proofs.writing.Lemmas.{copy-more, copy-none, copy-all}
 use borrow.Author.Needs.{needs}
 use native.Mathlib.Omega.{arith}
 use Rattle.records.proofs.writing.copy.Statement.{statement}

@@ -4,8 +4,8 @@ use lib.Dec.{leb}
 use borrow.Author.Tests.{not-true, not-false}
 use lib.ListN.{length}
 use Rattle.records.specs.Changes.{headBytes}
-use Rattle.records.specs.Viewed.{viewHead}
-use Rattle.records.proofs.PutViewed.{no-record, long-name, long-head, by-rest}
+use Rattle.records.specs.tables.Viewed.{viewHead}
+use Rattle.records.proofs.writing.PutViewed.{no-record, long-name, long-head, by-rest}
 use native.Mathlib.Omega.{arith}
 use borrow.Author.Needs.{needs}
 use Rattle.records.proofs.writing.is_view.Statement.{statement}

@@ -1,8 +1,8 @@
 use mathlib.Core.Path.{_≡_, refl, sym, ap, _∙_}
 use lib.ListN.{length, take, drop, length-take}
-use Rattle.records.proofs.Putting.{wrote-then, wrote-length}
+use Rattle.records.proofs.writing.Putting.{wrote-then, wrote-length}
 use Rattle.records.specs.Changes.{parse}
-use Rattle.records.proofs.Out.{full, read-bad, parse-8, parse-bad, parse-fine, full-length, put-fault, put-full, put-done, readOf, head-part, head-fits, first-fits, rest-fits, both-put}
+use Rattle.records.proofs.writing.Lemmas.{full, read-bad, parse-8, parse-bad, parse-fine, full-length, put-fault, put-full, put-done, readOf, head-part, head-fits, first-fits, rest-fits, both-put}
 use native.Mathlib.Omega.{arith}
 use borrow.Author.Needs.{needs}
 use Rattle.records.proofs.writing.put.Statement.{statement}

@@ -3,10 +3,10 @@ use Prim.Native.Nat.{ℕ, _+_, _-_, _≤_, _<_}
 use lib.ListN.{length, take, drop}
 use borrow.Author.Tests.{not-true, not-false}
 use Rattle.records.specs.Changes.{headBytes}
-use Rattle.records.specs.Viewed.{viewHead, viewRest}
-use Rattle.records.proofs.Putting.{wrote-length}
-use Rattle.records.proofs.Out.{head-part, head-fits, rest-fits}
-use Rattle.records.proofs.PutViewed.{seen-view, viewed-none, viewed-full, viewed-done, viewed-both}
+use Rattle.records.specs.tables.Viewed.{viewHead, viewRest}
+use Rattle.records.proofs.writing.Putting.{wrote-length}
+use Rattle.records.proofs.writing.Lemmas.{head-part, head-fits, rest-fits}
+use Rattle.records.proofs.writing.PutViewed.{seen-view, viewed-none, viewed-full, viewed-done, viewed-both}
 use native.Mathlib.Omega.{arith}
 use borrow.Author.Needs.{needs}
 use Rattle.records.proofs.writing.put_viewed.Statement.{statement}

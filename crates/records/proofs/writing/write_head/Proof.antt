@@ -1,6 +1,6 @@
 use mathlib.Core.Path.{_≡_, sym, _∙_}
 use lib.ListN.{length-set}
-use Rattle.records.proofs.Putting.{wrote-one, wrote-then, wrote-length}
+use Rattle.records.proofs.writing.Putting.{wrote-one, wrote-then, wrote-length}
 use Rattle.records.specs.Changes.{headBytes}
 use native.Mathlib.Omega.{arith}
 use borrow.Author.Needs.{needs}

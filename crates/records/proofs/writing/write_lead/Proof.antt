@@ -1,5 +1,5 @@
 use lib.ListN.{length-set}
-use Rattle.records.proofs.Putting.{wrote-none, wrote-two}
+use Rattle.records.proofs.writing.Putting.{wrote-none, wrote-two}
 use native.Mathlib.Omega.{arith}
 use borrow.Author.Needs.{needs}
 use Rattle.records.proofs.writing.write_lead.Statement.{statement}

@@ -1,4 +1,4 @@
-use Rattle.records.proofs.Putting.{wrote-none, wrote-one}
+use Rattle.records.proofs.writing.Putting.{wrote-none, wrote-one}
 use native.Mathlib.Omega.{arith}
 use borrow.Author.Needs.{needs}
 use Rattle.records.proofs.writing.write_none.Statement.{statement}

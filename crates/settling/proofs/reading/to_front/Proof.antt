@@ -2,7 +2,7 @@ use Prim.Native.Nat.{_≤_, _<_, _-_, min}
 use mathlib.Core.Path.{_≡_}
 use lib.ListN.{length}
 use native.Mathlib.Omega.{arith}
-use Rattle.settling.proofs.Moving.{Moving, moving-none, moving-next, moved-all, moved-none}
+use Rattle.settling.proofs.reading.ToFront.{Moving, moving-none, moving-next, moved-all, moved-none}
 use borrow.Author.Needs.{needs}
 use Rattle.settling.proofs.reading.to_front.Statement.{statement}
 use Rattle.settling.proofs.reading.to_front.Tie as tie

@@ -1,7 +1,7 @@
 use Prim.Native.Nat.{ℕ}
 use mathlib.Core.Path.{sym}
 use lib.Seq.{length-take-le}
-use Rattle.settling.proofs.Taking.{none-waits, some-waits}
+use Rattle.settling.proofs.reading.Lemmas.{none-waits, some-waits}
 use borrow.Author.Needs.{needs}
 use Rattle.settling.proofs.reading.waits_at.Statement.{statement}
 use Rattle.settling.proofs.reading.waits_at.Tie as tie

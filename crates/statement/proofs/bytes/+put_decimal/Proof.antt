@@ -1,7 +1,7 @@
 use mathlib.Core.Path.{_≡_, ap}
 use lib.ListN.{length}
-use Rattle.statement.specs.DecimalLaws.{decimal-one, decimal-more, decimal-longer}
-use Rattle.statement.proofs.Writing.{writes-then, writes-size}
+use Rattle.statement.specs.laws.DecimalLaws.{decimal-one, decimal-more, decimal-longer}
+use Rattle.statement.proofs.bytes.Lemmas.{writes-then, writes-size}
 use borrow.Author.Needs.{needs}
 use native.Mathlib.Omega.{arith}
 use Prim.Native.Nat.{ℕ, _<_}

@@ -1,4 +1,4 @@
-use Rattle.statement.proofs.Writing.{writes-then}
+use Rattle.statement.proofs.bytes.Lemmas.{writes-then}
 use borrow.Author.Needs.{needs}
 use Rattle.statement.proofs.bytes.put_three.Statement.{statement}
 use Rattle.statement.proofs.bytes.put_three.Tie as tie

@@ -1,4 +1,4 @@
-use Rattle.statement.proofs.Writing.{lines-then, lines-size}
+use Rattle.statement.proofs.bytes.Lemmas.{lines-then, lines-size}
 use native.Mathlib.Omega.{arith}
 use borrow.Author.Needs.{needs}
 use Rattle.statement.proofs.day.put_day.Statement.{statement}

@@ -1,10 +1,10 @@
 use mathlib.Core.Path.{_≡_, sym}
 use Prim.Native.Nat.{_≤_, _+_, _-_, _*_}
 use lib.ListN.{length}
-use Rattle.money.specs.UnitLaws.{unmapped}
-use Rattle.statement.specs.Inner.{WritesLines, linesOfHours, FewInAll}
-use Rattle.statement.specs.StatementLaws.{hours-none, hours-more}
-use Rattle.statement.proofs.Writing.{lines-none, lines-then, lines-as, lines-size}
+use Rattle.money.specs.laws.UnitLaws.{unmapped}
+use Rattle.statement.specs.tables.Inner.{WritesLines, linesOfHours, FewInAll}
+use Rattle.statement.specs.laws.StatementLaws.{hours-none, hours-more}
+use Rattle.statement.proofs.bytes.Lemmas.{lines-none, lines-then, lines-as, lines-size}
 use borrow.Author.Needs.{needs}
 use native.Mathlib.Omega.{arith}
 use Rattle.statement.proofs.day.put_hours.Statement.{statement}

@@ -2,8 +2,8 @@ use Prim.Native.Nat.{ℕ}
 use mathlib.Core.Path.{sym}
 use lib.ListN.{length-replicate}
 use lib.Seq.{length-take-le}
-use Rattle.statement.proofs.Writing.{writes-size}
-use Rattle.statement.proofs.Stating.{held, is-astray, few-units, few-hours, stated, fits-written, fits-front, answers-astray, answers-fitted}
+use Rattle.statement.proofs.bytes.Lemmas.{writes-size}
+use Rattle.statement.proofs.day.Lemmas.{held, is-astray, few-units, few-hours, stated, fits-written, fits-front, answers-astray, answers-fitted}
 use native.Mathlib.Omega.{arith}
 use borrow.Author.Needs.{needs}
 use Rattle.statement.proofs.day.statement.Statement.{statement}

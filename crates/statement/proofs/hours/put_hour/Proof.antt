@@ -1,6 +1,6 @@
 use lib.ListN.{take}
 use borrow.Author.Tests.{ne-eqb}
-use Rattle.statement.proofs.Writing.{lines-size, hour-written}
+use Rattle.statement.proofs.bytes.Lemmas.{lines-size, hour-written}
 use native.Mathlib.Omega.{arith}
 use borrow.Author.Needs.{needs}
 use Rattle.statement.proofs.hours.put_hour.Statement.{statement}

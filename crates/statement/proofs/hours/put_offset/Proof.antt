@@ -5,7 +5,7 @@ use Rattle.statement.specs.declared.lines.Kind.the-variants.{Off}
 use mathlib.Core.List.{[], _∷_}
 use borrow.Author.Tests.{eq-eqb, ne-eqb}
 use Rattle.statement.specs.declared.lines.Line.{Line}
-use Rattle.statement.proofs.Writing.{lines-none, lines-as}
+use Rattle.statement.proofs.bytes.Lemmas.{lines-none, lines-as}
 use native.Mathlib.Omega.{arith}
 use borrow.Author.Needs.{needs}
 use Rattle.statement.proofs.hours.put_offset.Statement.{statement}

@@ -6,7 +6,7 @@ use mir.Syntax.{w64}
 use mir.Val.{SFits}
 use Rattle.laws.specs.Held as h
 use Rattle.laws.specs.IntLaws.{lt-true, lt-false}
-use Rattle.money.specs.UnitLaws.{flip-abs, flip-above, abs-most, flipped}
+use Rattle.money.specs.laws.UnitLaws.{flip-abs, flip-above, abs-most, flipped}
 use borrow.Author.Needs.{needs}
 use native.Mathlib.Omega.{arith}
 use Rattle.statement.proofs.lines.magnitude.Statement.{statement}

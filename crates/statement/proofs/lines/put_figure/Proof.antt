@@ -1,6 +1,6 @@
 use mathlib.Core.Path.{sym, _∙_}
-use Rattle.statement.specs.LineLaws.{figure-number, figure-dollars, sign-length, number-digits, dollar-digits}
-use Rattle.statement.proofs.Writing.{writes-then, writes-size}
+use Rattle.statement.specs.laws.LineLaws.{figure-number, figure-dollars, sign-length, number-digits, dollar-digits}
+use Rattle.statement.proofs.bytes.Lemmas.{writes-then, writes-size}
 use native.Mathlib.Omega.{arith}
 use borrow.Author.Needs.{needs}
 use Rattle.statement.proofs.lines.put_figure.Statement.{statement}

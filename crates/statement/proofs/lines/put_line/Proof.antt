@@ -1,6 +1,6 @@
 use Rattle.statement.specs.Lines.{lineBytes}
-use Rattle.statement.specs.LineLaws.{when-length, kind-length, name-length, figure-length, line-length}
-use Rattle.statement.proofs.Writing.{writes-then, writes-size, lines-one}
+use Rattle.statement.specs.laws.LineLaws.{when-length, kind-length, name-length, figure-length, line-length}
+use Rattle.statement.proofs.bytes.Lemmas.{writes-then, writes-size, lines-one}
 use native.Mathlib.Omega.{arith}
 use borrow.Author.Needs.{needs}
 use Rattle.statement.proofs.lines.put_line.Statement.{statement}

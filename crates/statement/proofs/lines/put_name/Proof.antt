@@ -1,4 +1,4 @@
-use Rattle.statement.specs.LineLaws.{name-unspelled, name-spelled, spells}
+use Rattle.statement.specs.laws.LineLaws.{name-unspelled, name-spelled, spells}
 use native.Mathlib.Omega.{arith}
 use borrow.Author.Needs.{needs}
 use Rattle.statement.proofs.lines.put_name.Statement.{statement}

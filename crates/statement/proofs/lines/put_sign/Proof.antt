@@ -3,8 +3,8 @@ use mir.Syntax.{w64}
 use mir.Val.{SFits}
 use Rattle.laws.specs.Held as h
 use Rattle.laws.specs.IntLaws.{lt-true, lt-false}
-use Rattle.statement.specs.LineLaws.{sign-below, sign-above}
-use Rattle.statement.proofs.Writing.{writes-none}
+use Rattle.statement.specs.laws.LineLaws.{sign-below, sign-above}
+use Rattle.statement.proofs.bytes.Lemmas.{writes-none}
 use native.Mathlib.Omega.{arith}
 use borrow.Author.Needs.{needs}
 use Rattle.statement.proofs.lines.put_sign.Statement.{statement}

@@ -1,6 +1,6 @@
 use Rattle.statement.specs.Refusal.{refusalLine}
-use Rattle.statement.proofs.Refusing.{ordinal-digits, number-digits}
-use Rattle.statement.proofs.Writing.{writes-then, writes-size}
+use Rattle.statement.proofs.refusal.Lemmas.{ordinal-digits, number-digits}
+use Rattle.statement.proofs.bytes.Lemmas.{writes-then, writes-size}
 use native.Mathlib.Omega.{arith}
 use borrow.Author.Needs.{needs}
 use Rattle.statement.proofs.refusal.put_refusal.Statement.{statement}

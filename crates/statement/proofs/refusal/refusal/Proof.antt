@@ -1,8 +1,8 @@
 use Prim.Native.Nat.{ℕ}
 use mathlib.Core.Path.{sym}
 use lib.Seq.{length-take-le}
-use Rattle.statement.proofs.Stating.{fits-front}
-use Rattle.statement.proofs.Refusing.{refusal-length}
+use Rattle.statement.proofs.day.Lemmas.{fits-front}
+use Rattle.statement.proofs.refusal.Lemmas.{refusal-length}
 use native.Mathlib.Omega.{arith}
 use borrow.Author.Needs.{needs}
 use Rattle.statement.proofs.refusal.refusal.Statement.{statement}

@@ -2,7 +2,7 @@ use mathlib.Core.Path.{ap}
 use mathlib.Core.List.{[], _∷_}
 use borrow.Author.Tests.{ne-eqb}
 use Rattle.statement.specs.declared.lines.Line.{Line}
-use Rattle.statement.proofs.Writing.{lines-then, lines-as, lines-size}
+use Rattle.statement.proofs.bytes.Lemmas.{lines-then, lines-as, lines-size}
 use native.Mathlib.Omega.{arith}
 use borrow.Author.Needs.{needs}
 use Rattle.statement.proofs.units.put_unit.Statement.{statement}

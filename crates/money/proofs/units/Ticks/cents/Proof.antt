@@ -6,7 +6,7 @@ use mir.Val.{SFits}
 use Rattle.laws.specs.Held as h
 use Rattle.laws.specs.IntLaws.{lt-true, lt-false}
 use Rattle.laws.specs.Exp.{u32, neg, fits, same}
-use Rattle.money.specs.UnitLaws.{cents-below, cents-above}
+use Rattle.money.specs.laws.UnitLaws.{cents-below, cents-above}
 use native.Mathlib.Omega.{arith}
 use borrow.Author.Needs.{needs}
 use Rattle.money.proofs.units.Ticks.cents.Statement.{statement}

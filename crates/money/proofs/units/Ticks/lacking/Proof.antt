@@ -3,7 +3,7 @@ use lib.IntN.{pos}
 use Rattle.laws.specs.IntLaws.{lt-true, lt-false}
 use Rattle.laws.specs.Held as h
 use Rattle.laws.specs.Exp.{i64, neg, fits, same, held}
-use Rattle.money.specs.UnitLaws.{lacks, lacks-none}
+use Rattle.money.specs.laws.UnitLaws.{lacks, lacks-none}
 use borrow.Author.Needs.{needs}
 use native.Mathlib.Omega.{arith}
 use Rattle.money.proofs.units.Ticks.lacking.Statement.{statement}

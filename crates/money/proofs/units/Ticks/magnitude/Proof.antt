@@ -7,7 +7,7 @@ use mir.Val.{SFits, toZ, ofZ}
 use Rattle.laws.specs.Held as h
 use Rattle.laws.specs.Held.{Held}
 use Rattle.laws.specs.IntLaws.{lt-true, lt-false}
-use Rattle.money.specs.UnitLaws.{flip-abs, flip-above, abs-most, flipped}
+use Rattle.money.specs.laws.UnitLaws.{flip-abs, flip-above, abs-most, flipped}
 use borrow.Author.Needs.{needs}
 use native.Mathlib.Omega.{arith}
 use Rattle.money.proofs.units.Ticks.magnitude.Statement.{statement}

@@ -3,7 +3,7 @@ use lib.IntN.{ℤ}
 use mir.Syntax.{w64}
 use mir.Val.{SFits, ofZ}
 use Rattle.laws.specs.Held as h
-use Rattle.money.specs.UnitLaws.{same-true, same-false}
+use Rattle.money.specs.laws.UnitLaws.{same-true, same-false}
 use borrow.Author.Needs.{needs}
 use native.Mathlib.Omega.{arith}
 use Rattle.money.proofs.units.Ticks.same.Statement.{statement}

@@ -1,5 +1,5 @@
 use mathlib.Core.Path.{ap}
-use Rattle.book.specs.declared.journal.Book.{Book}
+use Rattle.book.specs.declared.book.Book.{Book}
 use borrow.Author.Needs.{needs}
 use Rattle.settling.proofs.reading.Reading.fresh.Statement.{statement}
 use Rattle.settling.proofs.reading.Reading.fresh.Tie as tie

@@ -1,4 +1,4 @@
-use Rattle.settling.proofs.Taking.{prints-text, prints-refusal}
+use Rattle.settling.proofs.reading.Lemmas.{prints-text, prints-refusal}
 use Rattle.statement.specs.Statement.{statementOf, longestStatement}
 use native.Mathlib.Omega.{arith}
 use borrow.Author.Needs.{needs}

@@ -1,5 +1,5 @@
 use mathlib.Core.Path.{sym, _∙_}
-use Rattle.settling.proofs.Taking.{over, waiting, going}
+use Rattle.settling.proofs.reading.Lemmas.{over, waiting, going}
 use borrow.Author.Needs.{needs}
 use Rattle.settling.proofs.reading.Reading.read_on.Statement.{statement}
 use Rattle.settling.proofs.reading.Reading.read_on.Tie as tie

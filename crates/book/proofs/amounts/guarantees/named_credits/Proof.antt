@@ -1,0 +1,76 @@
+use Prim.Native.Nat.{_-_}
+use mathlib.Core.Path.{_≡_}
+use lib.ListN.{length}
+use Rattle.book.specs.tables.Places.{maxPlaces}
+use Rattle.book.specs.Handed.{maxCredits}
+use native.Mathlib.Omega.{arith}
+use Rattle.book.proofs.amounts.guarantees.Pairing.{Naming, credits-start, naming-more, naming-all, credits-whole}
+use Rattle.book.proofs.Inserting.{unmapped}
+use borrow.Author.Needs.{needs}
+use Rattle.book.proofs.amounts.guarantees.named_credits.Statement.{statement}
+use Rattle.book.proofs.amounts.guarantees.named_credits.Tie as tie
+
+abbrev Inv-loop : tie.InvT-loop
+Inv-loop p ticks a₀ i₀ a i = Naming maxCredits p ticks (a .list) i
+
+abbrev μ-loop : tie.MeasureT-loop
+μ-loop p ticks a₀ i₀ a i = p .n - i
+
+no-credits-requires : tie.Need-no-credits-requires Inv-loop μ-loop
+no-credits-requires c κs = search needs
+
+loop-holds : tie.Need-loop-holds Inv-loop μ-loop
+loop-holds c = credits-start ((c .before .args) .t1) ((c .before .args) .t2) ((c .no-credits) .result) ((c .no-credits) .ensures)
+
+mul-x : tie.Need-mul-x Inv-loop μ-loop
+mul-x c = omega (arith, (c .before .loop) .inv .upto, (c .before .before .before .pre), (c .loop-test) .taken)
+
+element-copy-out-x : tie.Need-element-copy-out-x Inv-loop μ-loop
+element-copy-out-x c = search (needs, unmapped)
+
+mul-t : tie.Need-mul-t Inv-loop μ-loop
+mul-t c = omega (arith, (c .before .before .loop) .inv .upto, (c .before .before .before .before .pre), (c .before .loop-test) .taken)
+
+array-copy-out-t : tie.Need-array-copy-out-t Inv-loop μ-loop
+array-copy-out-t c = search (needs, unmapped)
+
+mul-t11 : tie.Need-mul-t11 Inv-loop μ-loop
+mul-t11 c = omega (arith, (c .before .before .before .before .loop) .inv .upto, (c .before .before .before .before .before .before .pre), (c .before .before .before .loop-test) .taken)
+
+element-set-from-a : tie.Need-element-set-from-a Inv-loop μ-loop
+element-set-from-a c = omega (arith, (c .before .before .before .before .loop) .inv .long, (c .before .before .before .before .before .before .pre), (c .before .before .before .loop-test) .taken)
+
+add-i : tie.Need-add-i Inv-loop μ-loop
+add-i c = omega (arith, (c .before .before .before .before .loop) .inv .upto, (c .before .before .before .before .before .before .pre), (c .before .before .before .loop-test) .taken)
+
+loop-less : tie.Need-loop-less Inv-loop μ-loop
+loop-less c = omega (arith, (c .before .before .before .loop-test) .taken)
+
+loop-again : tie.Need-loop-again Inv-loop μ-loop
+loop-again c = naming-more ((c .before .before .before .before .loop) .inv) ((c .before .before .before .loop-test) .taken) ((c .before .before .before .before .before .before .pre))
+
+returns : tie.Need-returns Inv-loop μ-loop
+returns c =
+    let few = c .before .before .before .pre in
+    let la : length ((c .before .before .before .args) .t1 .at) ≡ maxPlaces = search (needs, unmapped) in
+    let lt : length ((c .before .before .before .args) .t2) ≡ maxCredits = search (needs, unmapped) in
+    (naming-all ((c .before .loop) .inv) ((c .loop-test) .left) few (omega (arith, la, few)) (omega (arith, lt, few)), few, credits-whole ((c .before .loop) .inv) ((c .loop-test) .left) few)
+
+pub named-credits-spec : {M : Type 1} → statement M
+named-credits-spec =
+    tie.close
+    (tie.spec
+    Inv-loop
+    μ-loop
+    no-credits-requires
+    loop-holds
+    mul-x
+    element-copy-out-x
+    mul-t
+    array-copy-out-t
+    mul-t11
+    element-set-from-a
+    add-i
+    loop-less
+    loop-again
+    returns)

@@ -1,0 +1,28 @@
+use mathlib.Core.Path.{sym}
+use Rattle.book.proofs.book.Rows.{rowed-by}
+use lib.Seq.{length-take-le}
+use Rattle.book.specs.laws.LoadLaws.{load-short, load-long}
+use Rattle.book.proofs.log.replay.Lemmas.{astray-rowed}
+use borrow.Author.Needs.{needs}
+use Rattle.book.proofs.book.Book.check_rows.Statement.{statement}
+use Rattle.book.proofs.book.Book.check_rows.Tie as tie
+
+cast-used : tie.Need-cast-used
+cast-used c = search needs
+
+returns : tie.Need-returns
+returns c = astray-rowed _ _ (c .before .before .before .pre) (load-short ((c .before .before .before .args) .self) ((c .before .before .before .args) .log .now) ((c .if1) .taken))
+
+slice-aggregate-replayed-rows : tie.Need-slice-aggregate-replayed-rows
+slice-aggregate-replayed-rows c = sym (length-take-le _ _ ((c .before .if1) .left))
+
+replayed-rows-requires : tie.Need-replayed-rows-requires
+replayed-rows-requires c κs = search needs
+
+returns-2 : tie.Need-returns-2
+returns-2 c = rowed-by (load-long ((c .before .before .before .before .before .before .args) .self) ((c .before .before .before .before .before .before .args) .log .now) ((c .before .before .before .if1) .left)) ((c .replayed-rows) .ensures)
+
+pub check-rows-spec : {M : Type 1} → statement M
+check-rows-spec =
+    tie.close
+    (tie.spec cast-used returns slice-aggregate-replayed-rows replayed-rows-requires returns-2)

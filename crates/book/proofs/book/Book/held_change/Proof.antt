@@ -1,0 +1,70 @@
+use Rattle.book.specs.Layer.{Any}
+use Rattle.book.proofs.log.held.Lemmas.{only-back, only-close, only-record, only-none, makes-by}
+use borrow.Author.Needs.{needs}
+use Rattle.book.proofs.book.Book.held_change.Statement.{statement}
+use Rattle.book.proofs.book.Book.held_change.Tie as tie
+
+enum-known-act : tie.Need-enum-known-act
+enum-known-act c = search needs
+
+held-enter-requires : tie.Need-held-enter-requires
+held-enter-requires c κs = ((c .before .before .before .before .before .before .before .pre) .0, ((c .before .before .before .before .before .before .before .pre) .1 .0, record { want = Any; change = only-record ((c .before .before .before .before .before .before .before .pre) .1 .1) ((c .before .before .before .act) .given .1) .1 }))
+
+enum-told : tie.Need-enum-told
+enum-told c = search needs
+
+held-take-back-requires : tie.Need-held-take-back-requires
+held-take-back-requires c κs = search needs
+
+enum-told-2 : tie.Need-enum-told-2
+enum-told-2 c = search needs
+
+held-close-requires : tie.Need-held-close-requires
+held-close-requires c κs = search needs
+
+enum-told-3 : tie.Need-enum-told-3
+enum-told-3 c = search needs
+
+held-enter-requires-2 : tie.Need-held-enter-requires-2
+held-enter-requires-2 c κs = only-none ((c .before .before .before .before .before .before .pre) .1 .1) ((c .before .before .enum-told3) .given .1)
+
+same-length : tie.Need-same-length
+same-length c = search needs
+
+returns : tie.Need-returns
+returns c = let w = only-record ((c .before .before .before .before .before .before .before .before .before .before .pre) .1 .1) ((c .before .before .before .before .before .before .act) .given .1) in makes-by (w .0) ((c .before .before .held-enter) .ensures Any (w .1))
+
+same-length-2 : tie.Need-same-length-2
+same-length-2 c = search needs
+
+returns-2 : tie.Need-returns-2
+returns-2 c = makes-by (only-back ((c .before .before .before .before .before .before .before .pre) .1 .1) ((c .before .before .before .enum-told) .given .1)) ((c .held-take-back) .ensures _)
+
+returns-3 : tie.Need-returns-3
+returns-3 c = makes-by (only-close ((c .before .before .before .before .before .pre) .1 .1) ((c .before .enum-told2) .given .1)) ((c .held-close) .ensures _ _ _ ((c .before .before .before .before .before .pre) .0))
+
+same-length-3 : tie.Need-same-length-3
+same-length-3 c = search needs
+
+returns-4 : tie.Need-returns-4
+returns-4 c = only-none ((c .before .before .before .before .before .before .before .before .before .pre) .1 .1) ((c .before .before .before .before .before .enum-told3) .given .1)
+
+pub held-change-spec : {M : Type 1} → statement M
+held-change-spec =
+    tie.close
+    (tie.spec
+    enum-known-act
+    held-enter-requires
+    enum-told
+    held-take-back-requires
+    enum-told-2
+    held-close-requires
+    enum-told-3
+    held-enter-requires-2
+    same-length
+    returns
+    same-length-2
+    returns-2
+    returns-3
+    same-length-3
+    returns-4)

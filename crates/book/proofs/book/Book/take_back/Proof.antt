@@ -1,0 +1,38 @@
+use mathlib.Core.Path.{sym, ap, _∙_}
+use Rattle.book.specs.Register.{takenBack}
+use Rattle.records.specs.Changes.{noKey}
+use Rattle.book.proofs.book.Lemmas.{leaves-16}
+use Rattle.book.proofs.book.Rows.{is-rowed, not-rowed}
+use Rattle.book.proofs.log.held.Lemmas.{held-from, back-refused, makes-by}
+use borrow.Author.Needs.{needs}
+use Rattle.book.proofs.book.Book.take_back.Statement.{statement}
+use Rattle.book.proofs.book.Book.take_back.Tie as tie
+
+check-rows-requires : tie.Need-check-rows-requires
+check-rows-requires c κs = search needs
+
+parse-take-back-requires : tie.Need-parse-take-back-requires
+parse-take-back-requires c κs = search needs
+
+returns : tie.Need-returns
+returns c = back-refused ((c .before .before .before .before .before .before .before .args) .self) ((c .before .before .before .before .before .before .before .args) .log .now) (is-rowed _ _ ((c .before .before .before .check-rows) .ensures) ((c .before .before .if1) .taken)) ((c .before .before .before .before .before .before .before .args) .rec .now) ((c .before .parse-take-back) .ensures) ((c .if2) .taken)
+
+held-take-back-requires : tie.Need-held-take-back-requires
+held-take-back-requires c κs = held-from _ _ ((c .before .before .before .before .check-rows) .ensures) ((c .before .before .before .if1) .taken)
+
+returns-2 : tie.Need-returns-2
+returns-2 c = makes-by (ap takenBack (sym ((c .before .before .before .parse-take-back) .ensures) ∙ (c .before .before .if2) .left)) ((c .held-take-back) .ensures noKey) .leaves
+
+returns-3 : tie.Need-returns-3
+returns-3 c = leaves-16 _ ((c .before .before .before .before .before .args) .self) ((c .before .before .before .before .before .args) .log .now) (not-rowed _ _ ((c .before .check-rows) .ensures) ((c .if1) .left))
+
+pub take-back-spec : {M : Type 1} → statement M
+take-back-spec =
+    tie.close
+    (tie.spec
+    check-rows-requires
+    parse-take-back-requires
+    returns
+    held-take-back-requires
+    returns-2
+    returns-3)

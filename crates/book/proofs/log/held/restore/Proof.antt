@@ -1,0 +1,101 @@
+use mathlib.Core.Path.{_≡_, sym, _∙_}
+use lib.ListN.{length}
+use lib.Seq.{length-take-le}
+use Rattle.book.proofs.log.held.Restoring.{restored, back-rows, undoing, newest-few, newest-within, wrote-few}
+use native.Mathlib.Omega.{arith}
+use borrow.Author.Needs.{needs}
+use Rattle.book.proofs.log.held.restore.Statement.{statement}
+use Rattle.book.proofs.log.held.restore.Tie as tie
+
+sub-row : tie.Need-sub-row
+sub-row c = search needs
+
+mul-row : tie.Need-mul-row
+mul-row c = omega (arith, newest-few ((c .before .pre) .0) ((c .before .pre) .1 .0))
+
+element-copy-out-row : tie.Need-element-copy-out-row
+element-copy-out-row c = newest-few ((c .before .pre) .0) ((c .before .pre) .1 .0)
+
+kind-in-requires : tie.Need-kind-in-requires
+kind-in-requires c κs = search needs
+
+is-filing-requires : tie.Need-is-filing-requires
+is-filing-requires c κs = search needs
+
+returns : tie.Need-returns
+returns c = ((λ d l g. back-rows g ((c .before .before .kind-in) .ensures) (sym ((c .before .is-filing) .ensures) ∙ (c .if1) .taken)), (c .before .before .before .before .before .pre) .1 .1)
+
+start-in-requires : tie.Need-start-in-requires
+start-in-requires c κs = search needs
+
+sub-head-key : tie.Need-sub-head-key
+sub-head-key c = newest-within ((c .before .before .before .before .before .before .pre) .0) ((c .before .before .before .before .before .before .pre) .1 .0) ((c .start-in) .ensures .0)
+
+part-head-key-start : tie.Need-part-head-key-start
+part-head-key-start c = omega (arith, newest-within ((c .before .before .before .before .before .before .pre) .0) ((c .before .before .before .before .before .before .pre) .1 .0) ((c .start-in) .ensures .0))
+
+part-head-key-end : tie.Need-part-head-key-end
+part-head-key-end c = search needs
+
+head-key-requires : tie.Need-head-key-requires
+head-key-requires c κs = search needs
+
+hour-slot-requires : tie.Need-hour-slot-requires
+hour-slot-requires c κs = search needs
+
+record-head-requires : tie.Need-record-head-requires
+record-head-requires c κs = search needs
+
+array-share-prefix-bytes : tie.Need-array-share-prefix-bytes
+array-share-prefix-bytes c = let z : length ((c .before .before .record-head) .result .bytes) ≡ 44 = search needs in omega (arith, (c .before .before .record-head) .ensures .1)
+
+slice-aggregate-written-before : tie.Need-slice-aggregate-written-before
+slice-aggregate-written-before c = let z : length ((c .before .before .before .record-head) .result .bytes) ≡ 44 = search needs in sym (length-take-le ((c .before .before .before .record-head) .result .len) ((c .before .before .before .record-head) .result .bytes) (omega (arith, (c .before .before .before .record-head) .ensures .1)))
+
+written-before-requires : tie.Need-written-before-requires
+written-before-requires c κs = search needs
+
+mul-was : tie.Need-mul-was
+mul-was c = omega (arith, wrote-few ((c .before .before .before .before .before .before .before .before .before .before .before .before .before .before .before .pre) .0) ((c .before .before .before .before .before .before .before .before .before .before .before .before .before .before .before .pre) .1 .0) (λ d l g. (c .written-before) .ensures d l (undoing g ((c .before .before .before .before .before .before .before .before .before .before .before .before .kind-in) .ensures) (sym ((c .before .before .before .before .before .before .before .before .before .before .before .is-filing) .ensures) ∙ (c .before .before .before .before .before .before .before .before .before .before .if1) .left) ((c .before .before .before .before .before .before .before .before .before .start-in) .ensures .0) ((c .before .before .before .before .before .before .before .head-key) .ensures) ((c .before .before .before .before .before .hour-slot) .ensures .0) ((c .before .before .before .before .record-head) .ensures .0))))
+
+element-copy-out-was : tie.Need-element-copy-out-was
+element-copy-out-was c = wrote-few ((c .before .before .before .before .before .before .before .before .before .before .before .before .before .before .before .pre) .0) ((c .before .before .before .before .before .before .before .before .before .before .before .before .before .before .before .pre) .1 .0) (λ d l g. (c .written-before) .ensures d l (undoing g ((c .before .before .before .before .before .before .before .before .before .before .before .before .kind-in) .ensures) (sym ((c .before .before .before .before .before .before .before .before .before .before .before .is-filing) .ensures) ∙ (c .before .before .before .before .before .before .before .before .before .before .if1) .left) ((c .before .before .before .before .before .before .before .before .before .start-in) .ensures .0) ((c .before .before .before .before .before .before .before .head-key) .ensures) ((c .before .before .before .before .before .hour-slot) .ensures .0) ((c .before .before .before .before .record-head) .ensures .0)))
+
+add-rows : tie.Need-add-rows
+add-rows c = search needs
+
+mul-rows : tie.Need-mul-rows
+mul-rows c = omega (arith, wrote-few ((c .before .before .before .before .before .before .before .before .before .before .before .before .before .before .before .before .pre) .0) ((c .before .before .before .before .before .before .before .before .before .before .before .before .before .before .before .before .pre) .1 .0) (λ d l g. (c .before .written-before) .ensures d l (undoing g ((c .before .before .before .before .before .before .before .before .before .before .before .before .before .kind-in) .ensures) (sym ((c .before .before .before .before .before .before .before .before .before .before .before .before .is-filing) .ensures) ∙ (c .before .before .before .before .before .before .before .before .before .before .before .if1) .left) ((c .before .before .before .before .before .before .before .before .before .before .start-in) .ensures .0) ((c .before .before .before .before .before .before .before .before .head-key) .ensures) ((c .before .before .before .before .before .before .hour-slot) .ensures .0) ((c .before .before .before .before .before .record-head) .ensures .0))))
+
+element-write-rows : tie.Need-element-write-rows
+element-write-rows c = wrote-few ((c .before .before .before .before .before .before .before .before .before .before .before .before .before .before .before .before .pre) .0) ((c .before .before .before .before .before .before .before .before .before .before .before .before .before .before .before .before .pre) .1 .0) (λ d l g. (c .before .written-before) .ensures d l (undoing g ((c .before .before .before .before .before .before .before .before .before .before .before .before .before .kind-in) .ensures) (sym ((c .before .before .before .before .before .before .before .before .before .before .before .before .is-filing) .ensures) ∙ (c .before .before .before .before .before .before .before .before .before .before .before .if1) .left) ((c .before .before .before .before .before .before .before .before .before .before .start-in) .ensures .0) ((c .before .before .before .before .before .before .before .before .head-key) .ensures) ((c .before .before .before .before .before .before .hour-slot) .ensures .0) ((c .before .before .before .before .before .record-head) .ensures .0)))
+
+returns-2 : tie.Need-returns-2
+returns-2 c = restored ((c .before .before .before .before .before .before .before .before .before .before .before .before .before .before .before .before .pre) .1 .1) ((c .before .written-before) .result) (λ d l g. (c .before .written-before) .ensures d l (undoing g ((c .before .before .before .before .before .before .before .before .before .before .before .before .before .kind-in) .ensures) (sym ((c .before .before .before .before .before .before .before .before .before .before .before .before .is-filing) .ensures) ∙ (c .before .before .before .before .before .before .before .before .before .before .before .if1) .left) ((c .before .before .before .before .before .before .before .before .before .before .start-in) .ensures .0) ((c .before .before .before .before .before .before .before .before .head-key) .ensures) ((c .before .before .before .before .before .before .hour-slot) .ensures .0) ((c .before .before .before .before .before .record-head) .ensures .0)))
+
+pub restore-spec : {M : Type 1} → statement M
+restore-spec =
+    tie.close
+    (tie.spec
+    sub-row
+    mul-row
+    element-copy-out-row
+    kind-in-requires
+    is-filing-requires
+    returns
+    start-in-requires
+    sub-head-key
+    part-head-key-start
+    part-head-key-end
+    head-key-requires
+    hour-slot-requires
+    record-head-requires
+    array-share-prefix-bytes
+    slice-aggregate-written-before
+    written-before-requires
+    mul-was
+    element-copy-out-was
+    add-rows
+    mul-rows
+    element-write-rows
+    returns-2)

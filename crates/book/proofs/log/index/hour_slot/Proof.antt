@@ -1,0 +1,27 @@
+use Rattle.book.proofs.log.index.Lemmas.{order-low}
+use native.Mathlib.Omega.{arith}
+use borrow.Author.Needs.{needs}
+use Rattle.book.proofs.log.index.hour_slot.Statement.{statement}
+use Rattle.book.proofs.log.index.hour_slot.Tie as tie
+
+order-requires : tie.Need-order-requires
+order-requires c κs = search needs
+
+wide-requires : tie.Need-wide-requires
+wide-requires c κs = search needs
+
+mul-result : tie.Need-mul-result
+mul-result c = search needs
+
+wide-requires-2 : tie.Need-wide-requires-2
+wide-requires-2 c κs = search needs
+
+add-result : tie.Need-add-result
+add-result c = search needs
+
+returns : tie.Need-returns
+returns c = (omega (arith, (c .before .wide) .ensures .0, (c .wide2) .ensures .0, (c .before .before .order) .ensures), omega (arith, (c .before .wide) .ensures .0, (c .wide2) .ensures .1, (c .before .before .order) .ensures, order-low ((c .before .before .before .args) .key .mark)))
+
+pub hour-slot-spec : {M : Type 1} → statement M
+hour-slot-spec =
+    tie.close (tie.spec order-requires wide-requires mul-result wide-requires-2 add-result returns)

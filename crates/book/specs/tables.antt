@@ -1,0 +1,10 @@
+pub mod LayerTables
+pub mod Tables
+pub mod Index
+pub mod Held
+pub mod Places
+pub mod Rows
+pub mod Worked
+pub mod Prices
+pub mod Units
+pub mod Hours

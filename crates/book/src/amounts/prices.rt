@@ -1,0 +1,107 @@
+// Prices: of an hour, and of each hour of the day.
+use crate::log::rows::find_in;
+use crate::log::rows::place_in;
+use money::units::Price;
+use records::keys::key_of;
+use records::layouts::HourPrices;
+use records::marks::Mark;
+use records::views::prices_of;
+ghost use mathlib.Core.Path.{_≡_};
+ghost use mathlib.Core.Bool.{false};
+ghost use mathlib.Core.List.{List};
+ghost use lib.ListN.{length, drop};
+ghost use Prim.Native.Nat.{_≤_, _<_};
+ghost use Rattle.book.specs.Layer.{Change, pricesIn};
+ghost use Rattle.book.specs.Register.{standing};
+ghost use Rattle.book.specs.Amounts.{priceOf};
+ghost use Rattle.book.specs.tables.Rows.{Log, Logged};
+ghost use Rattle.book.specs.tables.Prices.{priceAt, priceHour, PriceIs, TableOf};
+
+// An hour's prices, where they are known.
+pub(crate) struct HourPrice {
+    pub(crate) known: bool,
+    pub(crate) prices: HourPrices,
+}
+
+// The price of each hour, the first at 0.
+pub(crate) struct PriceTable {
+    pub(crate) hours: [HourPrice; 24],
+}
+
+fn no_price() -> HourPrice
+    ensures { λ r. ⌜ r .known ≡ false ⌝ }
+{
+    let emp = [Price(0); 12];
+    let prices = HourPrices { emp, pd: Price(0) };
+    HourPrice {
+        known: false,
+        prices,
+    }
+}
+
+// Of the `PR` that is written at a place.
+pub(crate) fn prices_at(log: &[u8], at: usize) -> HourPrices
+    requires { ⌜ at ≤ length (now log) ⌝ }
+    ensures { λ r. ⌜ r ≡ pricesIn (drop at (now (log .entry))) ⌝ }
+{
+    let p = prices_of(&log[at..]);
+    p.prices
+}
+
+fn price_at(log: &[u8], at: usize) -> HourPrice
+    requires { ⌜ at ≤ length (now log) ⌝ }
+    ensures { λ r. ⌜ r ≡ priceAt (now (log .entry)) at ⌝ }
+{
+    let prices = prices_at(log, at);
+    HourPrice {
+        known: true,
+        prices,
+    }
+}
+
+// The price of an hour, by the rows of n changes.
+pub(crate) fn price_in(log: &[u8], rows: &[u32; 512], n: usize, hour: u8) -> HourPrice
+    requires { ⌜ Log (now log) (now rows) n ⌝ ∗ ⌜ hour < 32 ⌝ }
+    ensures { λ r. ⌜ ((l : List Change) → Logged (now (log .entry)) (now (rows .entry)) n l → PriceIs (priceOf (standing l) hour) r) ⌝ }
+{
+    let p = find_in(log, rows, n, n, key_of(Mark::Pr, hour));
+    if p.found {
+        return price_at(log, p.start);
+    }
+    no_price()
+}
+
+// The hour of a row whose record is a `PR` that stands, 0 of any other.
+fn price_hour(row: u32) -> usize
+    ensures { λ r. ⌜ r ≡ priceHour row ⌝ }
+{
+    let slot = row / 65536 % 512;
+    if row < 134217728 {
+        return 0;
+    }
+    if 32 <= slot {
+        return 0;
+    }
+    slot as usize
+}
+
+// The price of each hour, by the rows of n changes.
+pub(crate) fn price_table(log: &[u8], rows: &[u32; 512], n: usize) -> PriceTable
+    requires { ⌜ Log (now log) (now rows) n ⌝ }
+    ensures { λ r. ⌜ ((l : List Change) → Logged (now (log .entry)) (now (rows .entry)) n l → TableOf (priceOf (standing l)) r) ⌝ }
+{
+    let none = no_price();
+    let mut hours = [none; 24];
+    let mut i: usize = 0;
+    while i < n {
+        let row = rows[i];
+        let hour = price_hour(row);
+        if hour != 0 {
+            let p = price_at(log, place_in(row));
+            let j = hour - 1;
+            hours[j] = p;
+        }
+        i = i + 1;
+    }
+    PriceTable { hours }
+}

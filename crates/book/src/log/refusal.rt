@@ -1,0 +1,65 @@
+// The numbers 10 to 13.
+use money::refusals::HOUR_FULL;
+use money::refusals::KEY_STANDS;
+use money::refusals::NO_SPACE;
+use money::refusals::NO_SUCH_KEY;
+use records::marks::is_filing;
+use records::scan::View;
+use records::scan::kind_of;
+ghost use mathlib.Core.Path.{_≡_};
+ghost use Rattle.book.specs.Layer.{kindIn};
+ghost use Rattle.book.specs.Register.{capped, room};
+ghost use Rattle.book.specs.tables.Tables.{judge};
+
+pub(crate) fn cap(lent: usize) -> usize
+    ensures { λ r. ⌜ r ≡ capped lent ⌝ }
+{
+    if 65535 < lent {
+        return 65535;
+    }
+    lent
+}
+
+fn has_room(changes: usize, used: usize, len: usize, lent: usize) -> u8
+    ensures { λ r. ⌜ r ≡ room changes used len lent ⌝ }
+{
+    if 512 <= changes {
+        return NO_SPACE;
+    }
+    let most = cap(lent);
+    if most < used {
+        return NO_SPACE;
+    }
+    if most - used < len {
+        return NO_SPACE;
+    }
+    0
+}
+
+// The number with which a change is refused, by what stands and what is free.
+pub(crate) fn weigh(
+    view: View,
+    found: bool,
+    count: usize,
+    most: usize,
+    changes: usize,
+    used: usize,
+    lent: usize,
+) -> u8
+    ensures { λ r. ⌜ r ≡ judge (kindIn (view .act)) found count most changes used (view .len) lent ⌝ }
+{
+    let kind = kind_of(view);
+    if is_filing(kind) {
+        if found {
+            return KEY_STANDS;
+        }
+        if count < most {
+            return has_room(changes, used, view.len, lent);
+        }
+        return HOUR_FULL;
+    }
+    if found {
+        return has_room(changes, used, view.len, lent);
+    }
+    NO_SUCH_KEY
+}

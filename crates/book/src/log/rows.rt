@@ -1,0 +1,187 @@
+// The rows of a checked book: one number for each change, lent and never copied.
+use crate::log::index::hour_slot;
+use records::heads::record_head;
+use records::keys::Key;
+use records::marks::Kind;
+use records::marks::is_correction;
+use records::marks::is_withdrawal;
+use records::scan::View;
+use records::scan::kind_of;
+use records::scan::peek;
+use records::scan::starts;
+ghost use mathlib.Core.Path.{_≡_};
+ghost use mathlib.Core.Bool.{true, false, cond, not, _&&_};
+ghost use mathlib.Core.List.{List};
+ghost use lib.Dec.{eqb};
+ghost use lib.ListN.{length, drop};
+ghost use Prim.Native.Nat.{_<_, _≤_, _+_, _%_, _/_};
+ghost use Rattle.book.specs.Layer.{Key, Change, isWithdrawal, kindIn, scan, viewOf};
+ghost use Rattle.book.specs.laws.LayerLaws.{Padded};
+ghost use Rattle.book.specs.Register.{standing, count};
+ghost use Rattle.book.specs.tables.Index.{slot, latestOf};
+ghost use Rattle.book.specs.tables.Rows.{rowSlot, rowLive, rowPlace, rowStart, rowKind, kindCode, packed, Ruled, Rules, Logged, Log, Search, Sought, cleared};
+
+pub(crate) fn start_in(row: u32) -> usize
+    ensures { λ r. ⌜ (r ≡ rowStart row) × (r < 65536) ⌝ }
+{
+    (row % 65536) as usize
+}
+
+// A kind in two bits of a row.
+fn code_of(kind: Kind) -> u32
+    ensures { λ r. ⌜ (r ≡ kindCode kind) × (r < 4) ⌝ }
+{
+    match kind {
+        Kind::File => 1,
+        Kind::Correct => 2,
+        Kind::Withdraw => 3,
+    }
+}
+
+pub(crate) fn kind_in(row: u32) -> Kind
+    ensures { λ r. ⌜ r ≡ rowKind row ⌝ }
+{
+    let code = row / 33554432 % 4;
+    if code == 1 {
+        return Kind::File;
+    }
+    if code == 2 {
+        return Kind::Correct;
+    }
+    Kind::Withdraw
+}
+
+// Where the change wrote its record.
+pub(crate) fn place_in(row: u32) -> usize
+    ensures { λ r. ⌜ (r ≡ rowPlace row) × (r < 65538) ⌝ }
+{
+    if is_correction(kind_in(row)) {
+        return start_in(row) + 2;
+    }
+    start_in(row)
+}
+
+// Whether the record that it wrote stands, and is of the mark and hour.
+pub(crate) fn stands_in(row: u32, slot: usize) -> bool
+    ensures { λ r. ⌜ r ≡ (rowLive row && eqb (rowSlot row) slot) ⌝ }
+{
+    if row < 134217728 {
+        return false;
+    }
+    (row / 65536 % 512) as usize == slot
+}
+
+fn counted(row: u32, slot: usize, count: usize) -> usize
+    requires { ⌜ count < 65536 ⌝ }
+    ensures { λ r. ⌜ r ≡ cond (rowLive row && eqb (rowSlot row) slot) (count + 1) count ⌝ }
+{
+    if stands_in(row, slot) {
+        return count + 1;
+    }
+    count
+}
+
+// How many records of the key's mark and hour stand.
+pub(crate) fn count_in(rows: &[u32; 512], n: usize, key: Key) -> usize
+    requires { ⌜ Rules (now rows) n ⌝ }
+    ensures { λ r. ⌜ ((l : List Change) → Ruled (now (rows .entry)) n l → key .hour < 32 → r ≡ count key (standing l)) ⌝ }
+{
+    let slot = hour_slot(key);
+    let mut sum: usize = 0;
+    let mut i: usize = 0;
+    while i < n {
+        sum = counted(rows[i], slot, sum);
+        i = i + 1;
+    }
+    sum
+}
+
+// The length of the record that is written at a place.
+pub(crate) fn written_len(log: &[u8], start: usize) -> usize
+    requires { ⌜ start ≤ length (now log) ⌝ }
+    ensures { λ r. ⌜ r ≡ viewOf (scan (drop start (now (log .entry)))) .len ⌝ }
+{
+    let v = peek(&log[start..]);
+    v.len
+}
+
+// Whether a record of a key stands, which change wrote it, and where it is written.
+pub(crate) struct Seek {
+    pub(crate) found: bool,
+    pub(crate) at: usize,
+    pub(crate) start: usize,
+}
+
+fn not_found() -> Seek
+    ensures { λ r. ⌜ r ≡ record { found = false; at = 0; start = 0 } ⌝ }
+{
+    Seek {
+        found: false,
+        at: 0,
+        start: 0,
+    }
+}
+
+// The newest of the first `from` changes whose record stands, is of the mark and hour, and begins with the head.
+fn find_head(log: &[u8], rows: &[u32; 512], n: usize, from: usize, slot: usize, head: &[u8]) -> Seek
+    requires { ⌜ Log (now log) (now rows) n ⌝ ∗ ⌜ from ≤ n ⌝ }
+    ensures { λ r. ⌜ ((k : Key) (l : List Change) → Search (now (log .entry)) (now (rows .entry)) n from slot (now (head .entry)) k l → Sought (now (rows .entry)) n k r l) ⌝ }
+{
+    let mut i: usize = from;
+    while 0 < i {
+        let j = i - 1;
+        let row = rows[j];
+        if stands_in(row, slot) {
+            let start = place_in(row);
+            if starts(&log[start..], head) {
+                return Seek {
+                    found: true,
+                    at: j,
+                    start,
+                };
+            }
+        }
+        i = j;
+    }
+    not_found()
+}
+
+// The record of a key by the first `from` changes: no later one has the key's number. The key is spelled once, and no record is read.
+pub(crate) fn find_in(log: &[u8], rows: &[u32; 512], n: usize, from: usize, key: Key) -> Seek
+    requires { ⌜ Log (now log) (now rows) n ⌝ ∗ ⌜ from ≤ n ⌝ }
+    ensures { λ r. ⌜ ((l : List Change) → Logged (now (log .entry)) (now (rows .entry)) n l → key .hour < 32 → Padded (key .name) → latestOf (slot key) l ≤ from → Sought (now (rows .entry)) n key r l) ⌝ }
+{
+    if from == 0 {
+        return not_found();
+    }
+    let slot = hour_slot(key);
+    let h = record_head(key);
+    let len = h.len;
+    let bytes = h.bytes;
+    find_head(log, rows, n, from, slot, &bytes[..len])
+}
+
+// A change at q whose record stands, unless it is a withdrawal.
+pub(crate) fn row_for(view: View, slot: usize, q: usize) -> u32
+    requires { ⌜ (slot < 512) × (q < 65536) ⌝ }
+    ensures { λ r. ⌜ r ≡ packed (not (isWithdrawal (kindIn (view .act)))) (kindIn (view .act)) slot q ⌝ }
+{
+    let kind = kind_of(view);
+    let row = code_of(kind) * 33554432 + slot as u32 * 65536 + q as u32;
+    if is_withdrawal(kind) {
+        return row;
+    }
+    134217728 + row
+}
+
+// The record that was found stands no longer.
+pub(crate) fn clear_row(rows: &mut [u32; 512], r: Seek)
+    requires { ⌜ (r .found ≡ true → r .at < 512) ⌝ }
+    ensures { λ _. ⌜ now (rows .exit) ≡ cleared (now (rows .entry)) r ⌝ }
+{
+    let at = r.at;
+    if r.found {
+        let row = rows[at];
+        rows[at] = row % 134217728;
+    }
+}

@@ -1,0 +1,9 @@
+pub mod DemandLaws
+pub mod CheckLaws
+pub mod FormulaLaws
+pub mod AmountLaws
+pub mod ListLaws
+pub mod RealLaws
+pub mod UndoLaws
+pub mod ScriptLaws
+pub mod BesideLaws

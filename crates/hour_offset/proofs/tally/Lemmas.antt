@@ -1,0 +1,106 @@
+-- The loops over an hour's places, and a record more among them.
+use Prim.Native.Nat.{ℕ, suc, _+_, _-_, _≤_, _<_}
+use mathlib.Core.Path.{_≡_, refl, sym, ap, ap₂, _∙_, subst}
+use mathlib.Core.List.{List, [], _∷_, _++_}
+use mathlib.Core.Bool.{Bool, true, false, cond}
+use native.Mathlib.Omega.{arith}
+use lib.Dec.{ltb}
+use lib.ListN.{length, take, drop, getD, length-drop, drop-of-length-le}
+use lib.Seq.{take-all, drop-cons, getD-take, length-take-le}
+use borrow.Author.Tests.{lt-ltb, le-ltb}
+use Rattle.money.specs.Names.{sameName}
+use Rattle.money.specs.declared.names.Name.{Name}
+use Rattle.book.specs.declared.amounts.places.Spot.{Spot}
+use Rattle.book.specs.declared.amounts.places.Places.{Places}
+use Rattle.book.specs.tables.Places.{putSpot, spots}
+use Rattle.hour_offset.specs.tables.Tally.{Sheet, noSheet, sheetOf, Few, among, placedNumber, withPrice, withImport, withExport}
+use Rattle.hour_offset.specs.declared.tally.Tally.{Tally}
+use Rattle.hour_offset.specs.declared.tally.Tallied.{Tallied}
+use Rattle.hour_offset.specs.declared.tally.Placed.{Placed}
+
+pub to-end : (q : ℕ) (s : List ℕ) → take (length s - q) (drop q s) ≡ drop q s
+to-end q s = take-all (length s - q) (drop q s) (omega (arith, length-drop q s))
+
+-- ---- the search for a name
+pub record Passed (n : Name) (at : List Spot) (m i : ℕ) : Type 0 where
+  pub inside : i ≤ m
+  pub is : among n (take m at) ≡ among n (drop i (take m at))
+
+pub passed-start : (n : Name) (at : List Spot) (m : ℕ) → Passed n at m 0
+passed-start n at m = record { inside = omega arith; is = refl }
+
+module _ {n : Name} {at : List Spot} {m i : ℕ} (h : Passed n at m i) where
+  module _ (le : m ≤ length at) (lt : i < m) (d : Spot) (b : Bool) (e : b ≡ sameName n (getD at i d .name)) where
+    here : among n (take m at) ≡ cond b true (among n (drop (i + 1) (take m at)))
+    unfolding among
+    here =
+        let one : suc i ≡ i + 1 = omega arith in
+        let w : drop i (take m at) ≡ getD at i d ∷ drop (i + 1) (take m at) =
+        drop-cons (take m at) i d (omega (arith, length-take-le m at le)) ∙ ap₂ (λ (y : Spot) (k : ℕ). y ∷ drop k (take m at)) (getD-take m at i d lt) one in
+        h .is ∙ ap (among n) w ∙ ap (λ (t : Bool). cond t true (among n (drop (i + 1) (take m at)))) (sym e)
+
+    pub passed-found : b ≡ true → true ≡ among n (take m at)
+    passed-found t = sym (here ∙ ap (λ (x : Bool). cond x true (among n (drop (i + 1) (take m at)))) t)
+
+    pub passed-on : b ≡ false → Passed n at m (i + 1)
+    passed-on t = record { inside = omega arith; is = here ∙ ap (λ (x : Bool). cond x true (among n (drop (i + 1) (take m at)))) t }
+
+  pub passed-all : m ≤ length at → m ≤ i → false ≡ among n (take m at)
+  unfolding among
+  passed-all le out = sym (h .is ∙ ap (among n) (drop-of-length-le (take m at) {i = i} (omega (arith, length-take-le m at le))))
+
+-- ---- no places
+pub none-used : (p : Places) → p .n ≡ 0 → spots p ≡ []
+none-used p e = ap (λ (m : ℕ). take m (p .at)) e
+
+pub none-tallied : (t : Tally) → t .priced ≡ false → t .price ≡ 0 → t .imports .n ≡ 0 → t .exports .n ≡ 0 → (sheetOf t ≡ noSheet) × Few t
+none-tallied t a b c d =
+    let x = none-used (t .imports) c in
+    let y = none-used (t .exports) d in
+    ((λ i. record { priced = a i; price = b i; imports = x i; exports = y i }), record { imports = omega arith; exports = omega arith })
+
+-- ---- a place more
+used-length : (p : Places) → length (p .at) ≡ 16 → p .n ≤ 16 → length (spots p) ≡ p .n
+used-length p z h = length-take-le (p .n) (p .at) (omega arith)
+
+abbrev Puts : Places → Spot → Placed → Type 0
+Puts p s r = (r .number ≡ placedNumber (s .name) (spots p)) × ((r .places .n ≤ 16) × (r .number ≡ 0 → spots (r .places) ≡ putSpot s (spots p)))
+
+module _ (p : Places) (s : Spot) (z : length (p .at) ≡ 16) (h : p .n ≤ 16) (b : Bool) (e : b ≡ among (s .name) (spots p)) where
+  pub put-there : b ≡ true → Puts p s (record { number = 10; places = p })
+  put-there t = (sym (ap (λ (x : Bool). cond x 10 (cond (ltb (length (spots p)) 16) 0 12)) (sym e ∙ t)), (h, λ q. absurd (omega arith)))
+
+  number-is : b ≡ false → (x : Bool) → ltb (p .n) 16 ≡ x → cond x 0 12 ≡ placedNumber (s .name) (spots p)
+  number-is t x q =
+      sym (ap (λ (y : Bool). cond y 10 (cond (ltb (length (spots p)) 16) 0 12)) (sym e ∙ t)
+      ∙ ap (λ (k : ℕ). cond (ltb k 16) 0 12) (used-length p z h) ∙ ap (λ (y : Bool). cond y 0 12) q)
+
+  pub put-full : b ≡ false → 16 ≤ p .n → Puts p s (record { number = 12; places = p })
+  put-full t f = (number-is t false (le-ltb (p .n) 16 f), (h, λ q. absurd (omega arith)))
+
+  pub put-new : b ≡ false → p .n < 16 → (q : Places) (j : ℕ) → putSpot s (spots p) ≡ take j (spots p) ++ (s ∷ drop j (spots p))
+      → (q .n ≡ p .n + 1) × (spots q ≡ take j (spots p) ++ (s ∷ drop j (spots p))) → Puts p s (record { number = 0; places = q })
+  put-new t f q j w v = (number-is t true (lt-ltb (p .n) 16 f), (omega (arith, v .0), λ x. v .1 ∙ sym w))
+
+-- ---- a record more
+abbrev pub Adds : ℕ → Sheet → Tally → Tallied → Type 0
+Adds n h t r = (r .number ≡ n) × (Few (r .tally) × (r .number ≡ 0 → sheetOf (r .tally) ≡ h))
+
+pub adds-no : (n : ℕ) (h : Sheet) (t : Tally) (r : Tallied) (k : ℕ) → Few t → (r .number ≡ k) × (r .tally ≡ t) → k ≡ n → (k ≡ 0 → ⊥) → Adds n h t r
+adds-no n h t r k f w e z = (w .0 ∙ e, (subst Few (sym (w .1)) f, λ q. absurd (z (sym (w .0) ∙ q))))
+
+pub adds-price : (t : Tally) (at : ℕ) → Few t → t .priced ≡ false
+    → Adds (cond (t .priced) 10 0) (withPrice at (sheetOf t)) t (record { number = 0; tally = record { priced = true; price = at; imports = t .imports; exports = t .exports } })
+adds-price t at f e = (sym (ap (λ (b : Bool). cond b 10 0) e), (record { imports = f .imports; exports = f .exports }, λ q. refl))
+
+pub adds-import : (t : Tally) (s : Spot) (d : Placed) → Few t → Puts (t .imports) s d
+    → Adds (placedNumber (s .name) (spots (t .imports))) (withImport s (sheetOf t)) t
+    (record { number = d .number; tally = record { priced = t .priced; price = t .price; imports = d .places; exports = t .exports } })
+adds-import t s d f w =
+    (w .0, (record { imports = w .1 .0; exports = f .exports }, λ q. ap (λ (x : List Spot). record { priced = t .priced; price = t .price; imports = x; exports = spots (t .exports) }) (w .1 .1 q)))
+
+pub adds-export : (t : Tally) (s : Spot) (d : Placed) → Few t → Puts (t .exports) s d
+    → Adds (placedNumber (s .name) (spots (t .exports))) (withExport s (sheetOf t)) t
+    (record { number = d .number; tally = record { priced = t .priced; price = t .price; imports = t .imports; exports = d .places } })
+adds-export t s d f w =
+    (w .0, (record { imports = f .imports; exports = w .1 .0 }, λ q. ap (λ (x : List Spot). record { priced = t .priced; price = t .price; imports = spots (t .imports); exports = x }) (w .1 .1 q)))

@@ -1,0 +1,4 @@
+pub mod HourOffsetLaws
+pub mod BytesLaws
+pub mod TallyLaws
+pub mod EndLaws

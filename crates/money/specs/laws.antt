@@ -1,0 +1,10 @@
+pub mod UnitLaws
+pub mod OfferLaws
+pub mod GuaranteeLaws
+pub mod NameLaws
+pub mod OffsetLaws
+pub mod CancelledLaws
+pub mod LentLaws
+pub mod ProductionLaws
+pub mod FailureLaws
+pub mod Examples

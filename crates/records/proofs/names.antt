@@ -1,0 +1,3 @@
+pub mod Some
+pub mod Lemmas
+pub mod SpellName

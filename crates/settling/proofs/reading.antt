@@ -1,0 +1,2 @@
+pub mod ToFront
+pub mod Lemmas
