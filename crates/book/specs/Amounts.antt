@@ -7,7 +7,7 @@ use lib.IntN.{ℤ, pos, _+ℤ_}
 use lib.ListN.{length}
 use Rattle.laws.specs.Sums.{Σℤ, every}
 use Rattle.money.specs.Refusals.{noSuchKey, priceMissing}
-use Rattle.book.specs.Layer.{Key, Rec, Mark, Pr, Im, Ex, HourPrices, noOne, same, atHour, Quantity, pricesOf, exportOf, quantityAt, rowOf, offset, offsetEntry, creditTicks, unitTicks, startCents, reversal, chargeTicks}
+use Rattle.book.specs.Layer.{Key, Rec, Mark, Pr, Im, Ex, HourPrices, emptyName, same, atHour, Quantity, pricesOf, exportOf, quantityAt, rowOf, offset, offsetEntry, creditTicks, unitTicks, startCents, reversal, chargeTicks}
 use Rattle.book.specs.declared.answers.NamedAmount.{NamedAmount}
 use Rattle.book.specs.ByName.{byName}
 use Rattle.book.specs.Replies.{Reply, refused, guarantees, unitDay, charge}
@@ -29,7 +29,7 @@ pub data HourPricing : Type 0 where
 
 -- a mark and hour, without a name
 abbrev pub hourKey : Mark → ℕ → Key
-hourKey m h = record { mark = m; hour = h; name = noOne }
+hourKey m h = record { mark = m; hour = h; name = emptyName }
 
 abbrev pub priceFrom : Pick → HourPricing
 priceFrom (is r) = priced (pricesOf r)

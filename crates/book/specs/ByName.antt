@@ -2,14 +2,14 @@
 use mathlib.Core.List.{List, [], _∷_}
 use mathlib.Core.Bool.{Bool, cond}
 use lib.Dec.{eqb}
-use Rattle.book.specs.Layer.{Key, Name, Rec, sameHour, order, nameOf, nameBefore}
+use Rattle.book.specs.Layer.{Key, Name, Rec, sameHour, order, decodedBytes, nameBefore}
 
 -- ---- the records of a mark and hour
 
 -- "decoded name in byte order, a prefix first": a record before the first whose name comes after its own
 unfoldable pub inOrder : Rec → List Rec → List Rec
 inOrder r [] = r ∷ []
-inOrder r (x ∷ xs) = cond (nameBefore (nameOf (r .key .name)) (nameOf (x .key .name))) (r ∷ x ∷ xs) (x ∷ inOrder r xs)
+inOrder r (x ∷ xs) = cond (nameBefore (decodedBytes (r .key .name)) (decodedBytes (x .key .name))) (r ∷ x ∷ xs) (x ∷ inOrder r xs)
 
 -- the records of the key's mark and hour, in that order
 unfoldable pub byName : Key → List Rec → List Rec
@@ -21,7 +21,7 @@ byName k (r ∷ rs) = cond (sameHour k (r .key)) (inOrder r (byName k rs)) (byNa
 -- a name in that order, once
 unfoldable pub addName : Name → List Name → List Name
 addName n [] = n ∷ []
-addName n (x ∷ xs) = cond (nameBefore (nameOf n) (nameOf x)) (n ∷ x ∷ xs) (cond (nameBefore (nameOf x) (nameOf n)) (x ∷ addName n xs) (x ∷ xs))
+addName n (x ∷ xs) = cond (nameBefore (decodedBytes n) (decodedBytes x)) (n ∷ x ∷ xs) (cond (nameBefore (decodedBytes x) (decodedBytes n)) (x ∷ addName n xs) (x ∷ xs))
 
 abbrev pub sameMark : Key → Key → Bool
 sameMark a b = eqb (order (a .mark)) (order (b .mark))

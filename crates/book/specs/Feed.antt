@@ -18,32 +18,32 @@ firstRecord s = front s (readEntry s)
 
 -- the register after some records, how many of them it accepted and how many bytes these took, and the number of the refusal at which
 -- reading stopped, 0 for none
-pub record Fed : Type 0 where
+pub record FeedReply : Type 0 where
   pub reg : Reg
   pub count : ℕ
   pub taken : ℕ
   pub number : ℕ
 
-abbrev pub stopped : Reg → ℕ → Fed
+abbrev pub stopped : Reg → ℕ → FeedReply
 stopped g n = record { reg = g; count = 0; taken = 0; number = n }
 
 -- with n records of k bytes before
-abbrev pub later : ℕ → ℕ → Fed → Fed
+abbrev pub later : ℕ → ℕ → FeedReply → FeedReply
 later n k f = record { reg = f .reg; count = n + f .count; taken = k + f .taken; number = f .number }
 
 -- after the record p at the front of s: "At the first refusal" nothing more is read
-abbrev pub onward : Reg → List ℕ → List ℕ → (Reg → List ℕ → Fed) → Step → Fed
-onward g p s f (answered r) = stopped g (replied r)
-onward g p s f (becomes h) = later 1 (length p) (f h (drop (length p) s))
+abbrev pub feedOn : Reg → List ℕ → List ℕ → (Reg → List ℕ → FeedReply) → Step → FeedReply
+feedOn g p s f (answered r) = stopped g (replied r)
+feedOn g p s f (becomes h) = later 1 (length p) (f h (drop (length p) s))
 
 -- at most n records, each of them one call of the register over a lent length
-unfoldable pub fed : ℕ → ℕ → Reg → List ℕ → Fed
+unfoldable pub fed : ℕ → ℕ → Reg → List ℕ → FeedReply
 fed zero lent g s = stopped g 0
 fed (suc n) lent g [] = stopped g 0
-fed (suc n) lent g (b ∷ s) = onward g (firstRecord (b ∷ s)) (b ∷ s) (fed n lent) (called (change (firstRecord (b ∷ s))) lent g)
+fed (suc n) lent g (b ∷ s) = feedOn g (firstRecord (b ∷ s)) (b ∷ s) (fed n lent) (called (change (firstRecord (b ∷ s))) lent g)
 
 -- all of them: no record is without a byte
-abbrev pub feeding : ℕ → Reg → List ℕ → Fed
+abbrev pub feeding : ℕ → Reg → List ℕ → FeedReply
 feeding lent g s = fed (length s) lent g s
 
 -- ---- the program

@@ -9,12 +9,12 @@ use Rattle.money.specs.Refusals.{notTogether}
 use Rattle.book.specs.Layer.{Change}
 use Rattle.book.specs.declared.book.Book.{Book}
 use Rattle.book.specs.Register.{writeAll}
-use Rattle.book.specs.Meaning.{belongs, astray, load, bookOf}
-use Rattle.book.specs.Feed.{Fed, feeding}
+use Rattle.book.specs.Meaning.{belongs, mismatched, load, bookOf}
+use Rattle.book.specs.Feed.{FeedReply, feeding}
 use Rattle.book.specs.declared.feed.Fed.{Fed as Result}
 
 -- a reading that the code made over the lent bytes s, which are now s′
-pub record Ends (f : Fed) (s : List ℕ) (r : Result) (s′ : List ℕ) : Type 0 where
+pub record Ends (f : FeedReply) (s : List ℕ) (r : Result) (s′ : List ℕ) : Type 0 where
   pub count : r .count ≡ f .count
   pub taken : r .taken ≡ f .taken
   pub number : r .number ≡ f .number
@@ -34,4 +34,4 @@ pub record Remains (b : Book) (s input : List ℕ) (r : Result) (s′ : List ℕ
 
 pub record Feeds (b : Book) (s input : List ℕ) (r : Result) (s′ : List ℕ) : Type 0 where
   pub together : (l : List Change) → load b s ≡ belongs l → Ends (feeding (length s) (record { list = l; closed = b .closed }) input) s r s′
-  pub apart : load b s ≡ astray → Remains b s input r s′
+  pub apart : load b s ≡ mismatched → Remains b s input r s′

@@ -4,7 +4,7 @@ use Prim.Native.Nat.{ℕ}
 use mathlib.Core.List.{List, []}
 use lib.IntN.{ℤ}
 use lib.ListN.{length}
-use Rattle.book.specs.Layer.{Name, noOne, noTicks, pad}
+use Rattle.book.specs.Layer.{Name, emptyName, noTicks, pad}
 use Rattle.book.specs.declared.answers.NamedAmount.{NamedAmount}
 use Rattle.book.specs.declared.answers.Credits.{Credits}
 use Rattle.book.specs.declared.answers.ChargeList.{ChargeList}
@@ -28,7 +28,7 @@ abbrev pub maxCharges : ℕ
 maxCharges = 16
 
 abbrev pub noAmount : NamedAmount
-noAmount = record { name = noOne; ticks = noTicks }
+noAmount = record { name = emptyName; ticks = noTicks }
 
 unfoldable pub creditsOf : List NamedAmount → Credits
 creditsOf xs = record { n = length xs; list = pad noAmount maxCredits xs }
@@ -71,7 +71,7 @@ unitDayFrom (charge t) = dayHanded 0 (noTicks .0) (noTicks .0)
 -- ---- the names of units, in 512 places
 
 unfoldable pub unitsOf : List Name → Units
-unitsOf ns = record { n = length ns; names = pad noOne 512 ns }
+unitsOf ns = record { n = length ns; names = pad emptyName 512 ns }
 
 abbrev pub unitListFrom : NameList → UnitList
 unitListFrom (named ns) = record { number = 0; units = unitsOf ns }

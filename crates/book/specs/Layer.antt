@@ -14,7 +14,7 @@ pub use Rattle.records.specs.declared.marks.Act.the-variants.{Record, TakeBack,
 pub use Rattle.records.specs.declared.marks.Wanted.{Wanted}
 pub use Rattle.records.specs.declared.marks.Wanted.the-variants.{Any, Only}
 -- changes, their written form, and reading it
-pub use Rattle.records.specs.Changes.{Rec, Change, filed, corrected, withdrawn, keyOf, kind as kindOf, isFiling, isCorrection, isWithdrawal, isRecord, kindIn, write, Good, Input, fine, fault, parse, Scan, seen, blind, scan, bare, begins, takeBackBytes, closeBytes, viewOf, parsedOf, putBytes}
+pub use Rattle.records.specs.Changes.{Rec, Change, filed, corrected, withdrawn, keyOf, kind as kindOf, isFiling, isCorrection, isWithdrawal, isRecord, kindIn, write, Good, Input, fine, fault, parse, Scan, seen, unseen, scan, bare, begins, takeBackBytes, closeBytes, viewOf, parsedOf, putBytes}
 -- the first of several changes, of any mark
 pub use Rattle.records.specs.Changes.{Entry, changed, takingBack, closing as closingEntry, entry as readEntry, parseAny, entryView, entryOf, frontOf}
 pub use Rattle.records.specs.declared.parse.Front.{Front}
@@ -27,7 +27,7 @@ pub use Rattle.records.specs.Keys.{askBytes, same, sameHour, askHour, askHourOf
 pub use Rattle.records.specs.Hours.{limitOf, sameName, atHour}
 -- decoded names and their order
 pub use Rattle.money.specs.declared.names.Name.{Name}
-pub use Rattle.records.specs.Names.{noOne}
+pub use Rattle.records.specs.Names.{emptyName}
 -- places that a list leaves
 pub use Rattle.records.specs.Numbers.{pad}
 -- amounts: what a record is to the money rules, and the rules themselves
@@ -38,7 +38,7 @@ pub use Rattle.records.specs.declared.amounts.EntryAnswer.{EntryAnswer}
 pub use Rattle.records.specs.declared.amounts.PartAnswer.{PartAnswer}
 pub use Rattle.records.specs.declared.amounts.TotalsAnswer.{TotalsAnswer}
 pub use Rattle.records.specs.Views.{pricesOf, exportOf, unitHourOf, pricesIn}
-pub use Rattle.records.specs.Amounts.{quantityAt, noQuantity, rowOf, entry, entryFault, totalsWith, offset, offsetAnswer, amountOk, hourPart, daySum, dayAnswer, reversal, noTicks, noStart, nameOf, nameBefore}
+pub use Rattle.records.specs.Amounts.{quantityAt, noQuantity, rowOf, entry, entryFault, totalsWith, offset, offsetAnswer, amountOk, hourPart, daySum, dayAnswer, reversal, noTicks, noStart, decodedBytes, nameBefore}
 pub use Rattle.records.specs.Amounts.{creditTicks, unitTicks, startCents, chargeTicks, offsetEntry, offsetEntryIn, noPart, unitPartIn, totalsWithIn, chargeIn}
 pub use Rattle.money.specs.declared.units.Quantity.{Quantity}
 pub use Rattle.money.specs.declared.units.Ticks.{Ticks}

@@ -5,8 +5,8 @@ use mathlib.Core.List.{List, [], _∷_}
 use mathlib.Core.Bool.{cond}
 use lib.ListN.{length, take, drop}
 use lib.Dec.{leb, eqb}
-use Rattle.money.specs.Refusals.{unknownMark, notTogether}
-use Rattle.book.specs.Layer.{Change, Good, Scan, seen, blind, scan, Mark, isFailure, Asked, got, bad, askHourOf}
+use Rattle.money.specs.Refusals.{markUnknown, notTogether}
+use Rattle.book.specs.Layer.{Change, Good, Scan, seen, unseen, scan, Mark, isFailure, Asked, got, bad, askHourOf}
 use Rattle.book.specs.declared.book.Book.{Book}
 use Rattle.book.specs.declared.answers.Answer.{Answer}
 use Rattle.book.specs.declared.answers.Answer.the-variants.{Accepted, Refused, Place, Number, Charge}
@@ -21,26 +21,26 @@ use Rattle.book.specs.Register.{Reg, standing, Call, Step, answered, bec
 -- a list, or 16: "book and lent bytes don't belong together"
 pub data Load : Type 0 where
   belongs : List Change → Load
-  astray : Load
+  mismatched : Load
 
 -- one written change more, if it can be played
-abbrev pub onward : List Change → List ℕ → (List Change → List ℕ → Load) → Scan → Load
-onward acc rest f (seen c n) = cond (eqb (refusal acc 65535 c) 0) (f (c ∷ acc) (drop n rest)) astray
-onward acc rest f blind = astray
+abbrev pub replayOn : List Change → List ℕ → (List Change → List ℕ → Load) → Scan → Load
+replayOn acc rest f (seen c n) = cond (eqb (refusal acc 65535 c) 0) (f (c ∷ acc) (drop n rest)) mismatched
+replayOn acc rest f unseen = mismatched
 
 abbrev pub ended : List Change → List ℕ → Load
 ended acc [] = belongs acc
-ended acc (b ∷ rest) = astray
+ended acc (b ∷ rest) = mismatched
 
 -- "the used part isn't the carried number of written changes, or these can't be played from fresh without a refusal":
 -- n written changes are read and played after those of acc, and then nothing is left
 unfoldable pub replay : ℕ → List Change → List ℕ → Load
 replay zero acc rest = ended acc rest
-replay (suc n) acc rest = onward acc rest (replay n) (scan rest)
+replay (suc n) acc rest = replayOn acc rest (replay n) (scan rest)
 
 -- "shorter bytes lent", and else the used part
 unfoldable pub load : Book → List ℕ → Load
-load b s = cond (leb (b .used) (length s)) (replay (b .changes) [] (take (b .used) s)) astray
+load b s = cond (leb (b .used) (length s)) (replay (b .changes) [] (take (b .used) s)) mismatched
 
 -- a list that a book can stand for: each change is one that can be written, and is played without a refusal
 unfoldable pub Valid : List Change → Type 0
@@ -67,7 +67,7 @@ leaving b s (becomes g) = record { book = bookOf g; answer = accepted; kept = wr
 -- "16 comes before all others, for questions too"
 abbrev pub stepped : (ℕ → Reg → Step) → Book → List ℕ → Load → Step
 stepped f b s (belongs l) = f (length s) (record { list = l; closed = b .closed })
-stepped f b s astray = answered (refused notTogether)
+stepped f b s mismatched = answered (refused notTogether)
 
 unfoldable pub outcome : (ℕ → Reg → Step) → Book → List ℕ → After
 outcome f b s = leaving b s (stepped f b s (load b s))
@@ -108,8 +108,8 @@ chargesKeyed l (got k t) = chargesOf k (standing l) (priceOf (standing l))
 
 -- 16, then 2, 3, then 15 where failures stand
 abbrev pub hourCharges : Mark → ℕ → Load → ChargesReply
-hourCharges m h astray = no notTogether
-hourCharges m h (belongs l) = cond (isFailure m) (chargesKeyed l (askHourOf m h)) (no unknownMark)
+hourCharges m h mismatched = no notTogether
+hourCharges m h (belongs l) = cond (isFailure m) (chargesKeyed l (askHourOf m h)) (no markUnknown)
 
 abbrev pub chargesReply : Charges → ChargesReply
 chargesReply c = cond (eqb (c .number) 0) (charged (take (c .charges .n) (c .charges .list))) (no (c .number))

@@ -4,7 +4,7 @@ use mathlib.Core.List.{List, [], _∷_, _++_}
 use mathlib.Core.Bool.{Bool, true, false, cond}
 use lib.ListN.{length}
 use lib.Dec.{ltb, leb}
-use Rattle.money.specs.Refusals.{bookClosed, keyStands, noSuchKey, hourFull, noSpace, nothingToTakeBack, notTogether}
+use Rattle.money.specs.Refusals.{dayClosed, keyStands, noSuchKey, hourFull, noSpace, nothingToTakeBack, notTogether}
 use Rattle.book.specs.Layer.{Key, Rec, Change, filed, corrected, withdrawn, keyOf, write, Input, fine, fault, parse, bare, same, sameHour, Asked, got, bad, keyAsked, askHour, askHourOf, askUnit, askFailure, Im, limitOf, begins, takeBackBytes, closeBytes, File, Correct, Withdraw, Any, Only}
 pub use Rattle.book.specs.Replies.{Reply, refused, accepted, place, number, guarantees, unitDay, charge}
 use Rattle.book.specs.Amounts.{guaranteesOf, unitDayOf, chargeOf, priceOf}
@@ -58,11 +58,11 @@ capped lent = cond (ltb 65535 lent) 65535 lent
 -- ---- the refusals 10 to 13
 
 -- 13, "free bytes short, or 512 listed"; the written length counts
-abbrev pub room : ℕ → ℕ → ℕ → ℕ → ℕ
-room changes used len lent = cond (ltb changes 512) (cond (leb (used + len) (capped lent)) 0 noSpace) noSpace
+abbrev pub spaceFault : ℕ → ℕ → ℕ → ℕ → ℕ
+spaceFault changes used len lent = cond (ltb changes 512) (cond (leb (used + len) (capped lent)) 0 noSpace) noSpace
 
 abbrev pub roomFor : List Change → ℕ → Change → ℕ
-roomFor l lent c = room (length l) (length (writeAll l)) (length (write c)) lent
+roomFor l lent c = spaceFault (length l) (length (writeAll l)) (length (write c)) lent
 
 -- "then 10 or 11, 12, 13", "`CO` never gives 12": the number with which a change is refused after the list l over a lent length; 0 where it is not
 unfoldable pub refusal : List Change → ℕ → Change → ℕ
@@ -86,11 +86,11 @@ judged c g (suc n) = answered (refused (suc n))
 -- filing, `CO`, `WD`: "each joins the list"; numbers 1 to 8, then 9, then the others
 abbrev pub listed : Input Change → ℕ → Reg → Step
 listed (fault n) lent g = answered (refused n)
-listed (fine c) lent g = cond (g .closed) (answered (refused bookClosed)) (judged c g (refusal (g .list) lent c))
+listed (fine c) lent g = cond (g .closed) (answered (refused dayClosed)) (judged c g (refusal (g .list) lent c))
 
 -- the first fault of a mark by itself, then 9
 abbrev pub unless-closed : ℕ → Reg → Step → Step
-unless-closed zero g s = cond (g .closed) (answered (refused bookClosed)) s
+unless-closed zero g s = cond (g .closed) (answered (refused dayClosed)) s
 unless-closed (suc n) g s = answered (refused (suc n))
 
 -- "`TB` drops the list's last entry"; 14, "nothing to take back"
@@ -194,11 +194,11 @@ pub record Turn : Type 0 where
   pub call : Call
   pub lent : ℕ
 
--- the register after a list of calls, and what each of them was told
+-- the register after a list of calls, and what each of them was repliesOf
 unfoldable pub run : List Turn → Reg
 run [] = fresh
 run (t ∷ ts) = after (called (t .call) (t .lent) (run ts)) (run ts)
 
-unfoldable pub told : List Turn → List Reply
-told [] = []
-told (t ∷ ts) = reply (called (t .call) (t .lent) (run ts)) ∷ told ts
+unfoldable pub repliesOf : List Turn → List Reply
+repliesOf [] = []
+repliesOf (t ∷ ts) = reply (called (t .call) (t .lent) (run ts)) ∷ repliesOf ts

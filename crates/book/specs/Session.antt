@@ -8,7 +8,7 @@ use Rattle.money.specs.Refusals.{noSuchKey}
 use Rattle.book.specs.declared.book.Book.{Book}
 use Rattle.book.specs.Layer.{Key, Rec, filed, write, keyAsked, got, markBytes, takeBackBytes}
 use Rattle.book.specs.Layer.{askBytes}
-use Rattle.book.specs.Register.{Call, takeBack, ask, Question, answer, placeOf, standing, writeAll, Reply, refused, accepted, place, Turn, run, told}
+use Rattle.book.specs.Register.{Call, takeBack, ask, Question, answer, placeOf, standing, writeAll, Reply, refused, accepted, place, Turn, run, repliesOf}
 use Rattle.book.specs.Meaning.{Meets, bookOf, Valid}
 use Rattle.book.specs.Amounts.{Pick, is, nil, pick}
 
@@ -46,7 +46,7 @@ Shows nil bytes r = r ≡ refused noSuchKey
 -- after a list of calls
 pub record Agrees (ts : List Turn) (rs : List Reply) (b : Book) (held : List ℕ) : Type 0 where
   -- every answer is the register's
-  pub answers : rs ≡ told ts
+  pub answers : rs ≡ repliesOf ts
   -- "what the book carries equals the register's, and the used part is the register's list as written"
   pub book : b ≡ bookOf (run ts)
   pub used : held ≡ writeAll (run ts .list)

@@ -5,13 +5,13 @@ use mathlib.Core.Bool.{cond}
 use lib.ListN.{take, getD}
 use lib.Dec.{eqb}
 use Rattle.money.specs.Refusals.{notTogether}
-use Rattle.book.specs.Layer.{Key, Name, Gh, noOne}
+use Rattle.book.specs.Layer.{Key, Name, Gh, emptyName}
 use Rattle.book.specs.laws.LayerLaws.{Padded}
 use Rattle.book.specs.declared.amounts.units.Units.{Units}
 use Rattle.book.specs.declared.amounts.units.UnitList.{UnitList}
 use Rattle.book.specs.Register.{standing}
 use Rattle.book.specs.ByName.{namesOf}
-use Rattle.book.specs.Meaning.{Load, belongs, astray}
+use Rattle.book.specs.Meaning.{Load, belongs, mismatched}
 
 -- the key of a unit's day: its hour is not used
 abbrev pub unitKey : Name → Key
@@ -19,7 +19,7 @@ unitKey n = record { mark = Gh; hour = 1; name = n }
 
 -- a key of the units' mark
 abbrev pub ghKey : Key
-ghKey = unitKey noOne
+ghKey = unitKey emptyName
 
 abbrev pub namesIn : Units → List Name
 namesIn u = take (u .n) (u .names)
@@ -31,7 +31,7 @@ pub data NameList : Type 0 where
 
 -- 16; then the names under which a `GH` stands, by name
 abbrev pub unitNames : Load → NameList
-unitNames astray = no notTogether
+unitNames mismatched = no notTogether
 unitNames (belongs l) = named (namesOf ghKey (standing l))
 
 abbrev pub unitListOf : UnitList → NameList

@@ -3,14 +3,14 @@ use Prim.Native.Nat.{ℕ, zero, suc, _+_}
 use mathlib.Core.List.{List, [], _∷_, map}
 use lib.ListN.{length}
 use Rattle.money.specs.Refusals.{notTogether}
-use Rattle.book.specs.Layer.{Name, Rec, Fi, Fe, noOne, noTicks, pad}
+use Rattle.book.specs.Layer.{Name, Rec, Fi, Fe, emptyName, noTicks, pad}
 use Rattle.book.specs.declared.answers.HourAmounts.{HourAmounts}
 use Rattle.book.specs.declared.answers.UnitAmounts.{UnitAmounts}
 use Rattle.book.specs.declared.answers.DayAmounts.{DayAmounts}
 use Rattle.book.specs.Amounts.{HourPricing, ChargesReply, charged, hourKey, priceOf, guaranteesOf, chargesOf, unitDayOf}
 use Rattle.book.specs.ByName.{namesOf}
 use Rattle.book.specs.Register.{Reply, standing}
-use Rattle.book.specs.Meaning.{Load, belongs, astray}
+use Rattle.book.specs.Meaning.{Load, belongs, mismatched}
 use Rattle.book.specs.UnitNames.{ghKey, unitKey}
 use Rattle.book.specs.Handed.{hourHanded, guaranteesFrom, chargesFrom, dayHanded, unitDayFrom}
 
@@ -47,7 +47,7 @@ wholeOf rs price = whole (map (hourReply rs price) (hoursFrom 1 24)) (map (unitR
 
 -- 16, or the day
 abbrev pub dayAmounts : Load → WholeDay
-dayAmounts astray = no notTogether
+dayAmounts mismatched = no notTogether
 dayAmounts (belongs l) = wholeOf (standing l) (priceOf (standing l))
 
 -- ---- the struct that a day is handed back in; nothing of it is free
@@ -63,7 +63,7 @@ abbrev pub noHour : HourAmounts
 noHour = record { guarantees = hourHanded 0 [] (noTicks .0); imports = chargesFrom (charged []); exports = chargesFrom (charged []) }
 
 abbrev pub noUnit : UnitAmounts
-noUnit = record { name = noOne; day = dayHanded 0 (noTicks .0) (noTicks .0) }
+noUnit = record { name = emptyName; day = dayHanded 0 (noTicks .0) (noTicks .0) }
 
 unfoldable pub wholeHanded : ℕ → List HourAmounts → List UnitAmounts → DayAmounts
 wholeHanded k hs us = record { number = k; hours = pad noHour 24 hs; n = length us; units = pad noUnit 512 us }

@@ -1,6 +1,6 @@
 // The records of an input, taken back to back into a book.
 use crate::answers::refusal_in;
-use crate::log::index::slot_of;
+use crate::log::index::bucket_of;
 use crate::book::Book;
 use money::refusals::NOT_TOGETHER;
 use records::parse::first_change;
@@ -10,7 +10,7 @@ ghost use Prim.Native.Nat.{ℕ, _≤_};
 ghost use lib.ListN.{length};
 ghost use Rattle.book.specs.Layer.{Change};
 ghost use Rattle.book.specs.Meaning.{belongs, load};
-ghost use Rattle.book.specs.tables.Held.{Held};
+ghost use Rattle.book.specs.tables.Held.{Checked};
 ghost use Rattle.book.specs.Feed.{feeding};
 ghost use Rattle.book.specs.FeedPromise.{Ends, Feeds};
 
@@ -45,7 +45,7 @@ fn search_from(latest: u16, changes: u16) -> usize
 
 // Takes the records into a book that was checked, up to the first that is refused. Each is read once.
 fn feed_held(mut book: Book, log: &mut [u8], rows: &mut [u32; 512], input: &[u8]) -> Fed
-    requires { ⌜ Held book (now log) (now rows) ⌝ }
+    requires { ⌜ Checked book (now log) (now rows) ⌝ }
     ensures { λ r. ⌜ ((l : List Change) → load book (now (log .entry)) ≡ belongs l → Ends (feeding (length (now (log .entry))) (record { list = l; closed = book .closed }) (now (input .entry))) (now (log .entry)) r (now (log .exit))) ⌝ }
 {
     let mut latest = [book.changes; 8192];
@@ -59,7 +59,7 @@ fn feed_held(mut book: Book, log: &mut [u8], rows: &mut [u32; 512], input: &[u8]
         let ordinal = count + 1;
         let end = at + f.end;
         let view = f.view;
-        let slot = slot_of(view.key);
+        let slot = bucket_of(view.key);
         let from = search_from(latest[slot], book.changes);
         let done = book.held_change(log, rows, from, view, &input[at..end]);
         let answer = done.answer;

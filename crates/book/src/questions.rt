@@ -56,7 +56,7 @@ impl Book {
         let mut rows = [0u32; 512];
         if self.check_rows(log, &mut rows) {
             let used = self.used as usize;
-            let most = refusal::cap(log.len());
+            let most = refusal::capacity(log.len());
             if most < used {
                 return Answer::Number(0);
             }

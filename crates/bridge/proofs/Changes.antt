@@ -6,7 +6,7 @@ use lib.ListN.{length}
 use Rattle.book.specs.declared.book.Book.{Book}
 use Rattle.book.specs.declared.feed.Fed.{Fed}
 use Rattle.book.specs.Register.{Reply}
-use Rattle.book.specs.Meaning.{Meets, Load, belongs, astray, load}
+use Rattle.book.specs.Meaning.{Meets, Load, belongs, mismatched, load}
 use Rattle.book.specs.Replies.{replied}
 use Rattle.book.specs.FeedPromise.{Feeds}
 use Rattle.demands.specs.Script.{changeOf}
@@ -34,14 +34,14 @@ module _ (b : Book) (s input s′ : List ℕ) (r : Fed) (f : Feeds b s input r s
   fed-is = go (load b s) refl
     where
       go : (x : Load) → load b s ≡ x → r ≡ feedOf x b (length s) input
-      go astray e = let w = f .apart e in λ i. record { book = w .book i; count = w .count i; taken = w .taken i; number = w .number i }
+      go mismatched e = let w = f .apart e in λ i. record { book = w .book i; count = w .count i; taken = w .taken i; number = w .number i }
       go (belongs l) e = let w = f .together l e in λ i. record { book = w .book i; count = w .count i; taken = w .taken i; number = w .number i }
 
   fed-bytes : FeedBytes b s input s′
   fed-bytes = record { apart = λ e. f .apart e .bytes; size = go (load b s) refl; used = λ l e. f .together l e .bytes }
     where
       go : (x : Load) → load b s ≡ x → length s′ ≡ length s
-      go astray e = ap length (f .apart e .bytes)
+      go mismatched e = ap length (f .apart e .bytes)
       go (belongs l) e = f .together l e .size
 
   pub fed-bytes-of : {d : Book} → b ≡ d → FeedBytes d s input s′

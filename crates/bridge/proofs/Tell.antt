@@ -9,11 +9,11 @@ use borrow.Author.Tests.{ne-eqb}
 use lib.IntN.{ℤ, pos}
 use lib.ListN.{length, getD, take, drop, drop-of-length-le, length-map}
 use lib.Seq.{drop-cons, getD-take, length-take-le}
-use Rattle.money.specs.Names.{nameOf, nameOk, nameBefore, sameName}
+use Rattle.money.specs.Names.{decodedBytes, nameOk, nameBefore, sameName}
 use Rattle.money.specs.declared.names.Name.{Name}
 use Rattle.money.specs.declared.units.Answer.{Answer}
 use Rattle.money.specs.declared.units.Answer.the-variants.{Amount, Refused}
-use Rattle.records.specs.Names.{decodeName, held, spellingOf}
+use Rattle.records.specs.Names.{decodeName, storedName, spellingOf}
 use Rattle.records.specs.laws.BookLaws.{spelling-none}
 use Rattle.records.specs.declared.names.Spelling.{Spelling}
 use Rattle.statement.specs.laws.LineLaws.{spells}
@@ -37,16 +37,16 @@ if-yes x y e h = sym (ap (λ (k : ℕ). cond (eqb k 0) x y) (sym e ∙ h))
 -- ---- two names
 
 abbrev order : Name → Name → ℕ
-order x y = cond (nameBefore (nameOf x) (nameOf y)) 0 (cond (sameName x y) 1 2)
+order x y = cond (nameBefore (decodedBytes x) (decodedBytes y)) 0 (cond (sameName x y) 1 2)
 
-module _ (a b : List ℕ) {x y : NameAnswer} (e : x ≡ nameAnswer (held (decodeName a))) (f : y ≡ nameAnswer (held (decodeName b))) where
+module _ (a b : List ℕ) {x y : NameAnswer} (e : x ≡ nameAnswer (storedName (decodeName a))) (f : y ≡ nameAnswer (storedName (decodeName b))) where
   ordered : order (x .name) (y .name) ≡ orderOf a b
   ordered i = order (e i .name) (f i .name)
 
-  pub order-before : {t : Bool} → t ≡ nameBefore (nameOf (x .name)) (nameOf (y .name)) → t ≡ true → 0 ≡ orderOf a b
+  pub order-before : {t : Bool} → t ≡ nameBefore (decodedBytes (x .name)) (decodedBytes (y .name)) → t ≡ true → 0 ≡ orderOf a b
   order-before p q = sym (ap (λ (t : Bool). cond t 0 (cond (sameName (x .name) (y .name)) 1 2)) (sym p ∙ q)) ∙ ordered
 
-  pub order-rest : {t s : Bool} (n : ℕ) → t ≡ nameBefore (nameOf (x .name)) (nameOf (y .name)) → t ≡ false → s ≡ sameName (x .name) (y .name) → n ≡ cond s 1 2 → n ≡ orderOf a b
+  pub order-rest : {t s : Bool} (n : ℕ) → t ≡ nameBefore (decodedBytes (x .name)) (decodedBytes (y .name)) → t ≡ false → s ≡ sameName (x .name) (y .name) → n ≡ cond s 1 2 → n ≡ orderOf a b
   order-rest n p q r z =
       z ∙ ap (λ (s : Bool). cond s 1 2) r ∙ sym (ap (λ (t : Bool). cond t 0 (cond (sameName (x .name) (y .name)) 1 2)) (sym p ∙ q)) ∙ ordered
 

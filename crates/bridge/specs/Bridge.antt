@@ -7,10 +7,10 @@ use lib.Dec.{ltb, eqb}
 use lib.IntN.{ℤ}
 use lib.ListN.{length, getD, set, take}
 use Rattle.laws.specs.Sums.{orElse}
-use Rattle.records.specs.Names.{decodeName, held, spellingOf}
+use Rattle.records.specs.Names.{decodeName, storedName, spellingOf}
 use Rattle.records.specs.Keys.{nameAnswer}
-use Rattle.money.specs.Names.{nameOf, nameBefore, sameName}
-use Rattle.money.specs.Refusals.{endsEarly, unknownMark, notTogether}
+use Rattle.money.specs.Names.{decodedBytes, nameBefore, sameName}
+use Rattle.money.specs.Refusals.{endsEarly, markUnknown, notTogether}
 use Rattle.money.specs.declared.names.Name.{Name}
 use Rattle.money.specs.declared.units.Answer.{Answer}
 use Rattle.money.specs.declared.units.Answer.the-variants.{Amount, Refused}
@@ -26,7 +26,7 @@ use Rattle.book.specs.declared.book.Book.{Book}
 use Rattle.book.specs.declared.answers.NamedAmount.{NamedAmount}
 use Rattle.book.specs.declared.feed.Fed.{Fed}
 use Rattle.book.specs.Register.{Call, ask, Question, recordOf, Reply, refused, accepted, place, number, guarantees, unitDay, charge, stepOf, writeAll}
-use Rattle.book.specs.Meaning.{outcome, bookOf, Load, belongs, astray, load}
+use Rattle.book.specs.Meaning.{outcome, bookOf, Load, belongs, mismatched, load}
 use Rattle.book.specs.Layer.{Change}
 use Rattle.book.specs.Replies.{replied}
 use Rattle.book.specs.Feed as feeds
@@ -45,10 +45,10 @@ told n x row = cond (eqb n 0) (stored row 0 x) row
 -- ---- records
 
 abbrev pub nameNumber : List ℕ → ℕ
-nameNumber s = nameAnswer (held (decodeName s)) .number
+nameNumber s = nameAnswer (storedName (decodeName s)) .number
 
 abbrev pub nameIn : List ℕ → Name
-nameIn s = nameAnswer (held (decodeName s)) .name
+nameIn s = nameAnswer (storedName (decodeName s)) .name
 
 -- two spelled names: 4, of the first or of the second
 abbrev pub compareNumber : List ℕ → List ℕ → ℕ
@@ -56,7 +56,7 @@ compareNumber a b = orElse (nameNumber a) (nameNumber b)
 
 -- by their decoded bytes: 0 before, 1 the same, 2 after
 abbrev pub orderOf : List ℕ → List ℕ → ℕ
-orderOf a b = cond (nameBefore (nameOf (nameIn a)) (nameOf (nameIn b))) 0 (cond (sameName (nameIn a) (nameIn b)) 1 2)
+orderOf a b = cond (nameBefore (decodedBytes (nameIn a)) (decodedBytes (nameIn b))) 0 (cond (sameName (nameIn a) (nameIn b)) 1 2)
 
 -- whether a change that was read is `TB` or `CL`, which have no written form
 abbrev pub alone : List ℕ → Bool
@@ -200,7 +200,7 @@ hourAmounts (charge t) row = row
 
 -- bytes that must be a record, of a mark that has been tested
 abbrev pub filingNumber : List ℕ → Bool → ℕ
-filingNumber s marked = cond (ltb (length s) 2) endsEarly (cond marked (parsedOf (parse (Only File) s) .number) unknownMark)
+filingNumber s marked = cond (ltb (length s) 2) endsEarly (cond marked (parsedOf (parse (Only File) s) .number) markUnknown)
 
 abbrev pub hasAmount : List ℕ → Bool
 hasAmount s = begins (73 ∷ 77 ∷ []) s || (begins (71 ∷ 72 ∷ []) s || (begins (70 ∷ 73 ∷ []) s || begins (70 ∷ 69 ∷ []) s))
@@ -228,7 +228,7 @@ amountTold p s row = cond (eqb (amountNumber p s) 0) (ticksTold (amountIn p s) r
 
 -- an input for a book over n lent bytes; 16 is its first record's, where there is one
 abbrev pub feedOf : Load → Book → ℕ → List ℕ → Fed
-feedOf astray b n input = record { book = b; count = 0; taken = 0; number = cond (eqb (length input) 0) 0 notTogether }
+feedOf mismatched b n input = record { book = b; count = 0; taken = 0; number = cond (eqb (length input) 0) 0 notTogether }
 feedOf (belongs l) b n input =
     let f = feeds.feeding n (record { list = l; closed = b .closed }) input in
     record { book = bookOf (f .reg); count = f .count; taken = f .taken; number = f .number }
@@ -249,7 +249,7 @@ StartsWith w s = take (length w) s ≡ w
 
 -- the lent bytes after it: as they were, or the used part is the register's list as written
 pub record FeedBytes (b : Book) (s input s′ : List ℕ) : Type 0 where
-  pub apart : load b s ≡ astray → s′ ≡ s
+  pub apart : load b s ≡ mismatched → s′ ≡ s
   pub size : length s′ ≡ length s
   pub used : (l : List Change) → load b s ≡ belongs l → StartsWith (writeAll (feeds.feeding (length s) (record { list = l; closed = b .closed }) input .reg .list)) s′
 

@@ -14,14 +14,14 @@ use money::names::Name;
 use money::names::name_before;
 use money::names::same_name;
 use money::refusals::ENDS_EARLY;
-use money::refusals::UNKNOWN_MARK;
+use money::refusals::MARK_UNKNOWN;
 use money::units::Answer;
 use money::units::Ticks;
 use records::amounts::failure_charge;
 use records::amounts::import_credit;
 use records::amounts::unit_amount;
 use records::keys::ask_name;
-use records::leads::bears;
+use records::leads::begins_with;
 use records::marks::Kind;
 use records::marks::Mark;
 use records::marks::WITHDRAWN;
@@ -232,7 +232,7 @@ fn filing_fault(bytes: &[u8], marked: bool) -> u32
         return ENDS_EARLY as u32;
     }
     if !marked {
-        return UNKNOWN_MARK as u32;
+        return MARK_UNKNOWN as u32;
     }
     parse_change(bytes, Wanted::Only(Kind::File)).number as u32
 }
@@ -240,16 +240,16 @@ fn filing_fault(bytes: &[u8], marked: bool) -> u32
 fn has_amount(bytes: &[u8]) -> bool
     ensures { λ r. ⌜ r ≡ hasAmount (now (bytes .entry)) ⌝ }
 {
-    if bears(bytes, b'I', b'M') {
+    if begins_with(bytes, b'I', b'M') {
         return true;
     }
-    if bears(bytes, b'G', b'H') {
+    if begins_with(bytes, b'G', b'H') {
         return true;
     }
-    if bears(bytes, b'F', b'I') {
+    if begins_with(bytes, b'F', b'I') {
         return true;
     }
-    bears(bytes, b'F', b'E')
+    begins_with(bytes, b'F', b'E')
 }
 
 fn amount_of(prices: &[u8], bytes: &[u8]) -> Answer
@@ -257,13 +257,13 @@ fn amount_of(prices: &[u8], bytes: &[u8]) -> Answer
 {
     let read = prices_of(prices);
     let p = read.prices;
-    if bears(bytes, b'I', b'M') {
+    if begins_with(bytes, b'I', b'M') {
         return import_credit(bytes, p);
     }
-    if bears(bytes, b'G', b'H') {
+    if begins_with(bytes, b'G', b'H') {
         return unit_amount(bytes, p);
     }
-    if bears(bytes, b'F', b'I') {
+    if begins_with(bytes, b'F', b'I') {
         return failure_charge(bytes, Mark::Fi, p);
     }
     failure_charge(bytes, Mark::Fe, p)
@@ -288,7 +288,7 @@ pub extern "C" fn pewatuno_amount(prices: &[u8], bytes: &[u8], amounts: &mut [i6
     ensures { λ r. ⌜ r ≡ amountNumber (now (prices .entry)) (now (bytes .entry)) ⌝ }
     ensures { λ r. ⌜ now (amounts .exit) ≡ amountTold (now (prices .entry)) (now (bytes .entry)) (now (amounts .entry)) ⌝ }
 {
-    let f = filing_fault(prices, bears(prices, b'P', b'R'));
+    let f = filing_fault(prices, begins_with(prices, b'P', b'R'));
     if f != 0 {
         return f;
     }

@@ -10,7 +10,7 @@ use Rattle.book.specs.ByName.{byName}
 use Rattle.book.specs.declared.book.Book.{Book}
 use Rattle.book.specs.declared.feed.Fed.{Fed}
 use Rattle.book.specs.Amounts.{ChargesReply, charged, chargeLine, chargeOf, hourKey, priceOf, priced}
-use Rattle.book.specs.Register.{Reg, standing, writeAll, change, Reply, refused, accepted, charge, Step, answered, becomes, called, Turn, run, told}
+use Rattle.book.specs.Register.{Reg, standing, writeAll, change, Reply, refused, accepted, charge, Step, answered, becomes, called, Turn, run, repliesOf}
 use Rattle.book.specs.Meaning.{belongs, load, bookOf}
 use Rattle.book.specs.Feed.{firstRecord}
 use Rattle.book.specs.Session.{Session}
@@ -47,7 +47,7 @@ afterInput ts lent input = recordTurns (length input) lent (run ts) input ++ ts
 pub record CallsMade (ts : List Turn) (rs : List Reply) (s input : List ℕ) (r : Fed) (s′ : List ℕ) : Type 0 where
   pub book : r .book ≡ bookOf (run (afterInput ts (length s) input))
   pub used : take (length (writeAll (run (afterInput ts (length s) input) .list))) s′ ≡ writeAll (run (afterInput ts (length s) input) .list)
-  pub answers : told (afterInput ts (length s) input) ≡ ending (r .number) (replicate (r .count) accepted ++ rs)
+  pub answers : repliesOf (afterInput ts (length s) input) ≡ ending (r .number) (replicate (r .count) accepted ++ rs)
 
 -- what reading an input leaves, whatever list of calls came before on this book, all used bytes being lent
 abbrev pub ReadAsCalls : Book → List ℕ → List ℕ → Fed → List ℕ → Type 0

@@ -16,7 +16,7 @@ use Rattle.book.specs.Layer.{askBytes}
 use Rattle.book.specs.ByName.{byName}
 use Rattle.book.specs.declared.book.Book.{Book}
 use Rattle.book.specs.Amounts.{pick, is, priced, priceOf, hourKey, creditAt, totalsOf, unitAt, hourTicks}
-use Rattle.book.specs.Register.{Reg, standing, capped, writeAll, Call, file, correct, withdraw, takeBack, close, change, ask, becomes, stepOf, Turn, run, told}
+use Rattle.book.specs.Register.{Reg, standing, capped, writeAll, Call, file, correct, withdraw, takeBack, close, change, ask, becomes, stepOf, Turn, run, repliesOf}
 use Rattle.book.specs.Register.{Question, recordOf, freeBytes, hourGuarantees, dayOf, failureCharge, answer, Reply, refused, accepted, place, number, guarantees, unitDay, charge}
 use Rattle.book.specs.Meaning.{belongs, load, bookOf, outcome, Meets}
 use Rattle.book.specs.Session.{Session, next, Undo, Shows}
@@ -158,7 +158,7 @@ StandAgain ts us (suc n) = Again ts us n
 
 pub record Demand3 {ts : List Turn} {rs : List Reply} {b : Book} {held : List ℕ} (σ : Session ts rs b held) : Type 0 where
   -- "For every list of calls from a fresh book, each call in it gets the answer or the number that 01's plain register gives.": a `Session` is such a list
-  pub answers : rs ≡ told ts
+  pub answers : rs ≡ repliesOf ts
   -- "After it the standing records, the free bytes and every amount are those that 01's formulas give for the register's records."
   pub after : Afterwards ts b held
   -- "If the book is then open, take any N up to the number of changes in the register's list: N takings back with all used bytes lent"

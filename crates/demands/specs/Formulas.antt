@@ -22,7 +22,7 @@ use Rattle.money.specs.declared.production.UnitHour.{UnitHour}
 use Rattle.money.specs.declared.failure.Failure.{Failure}
 use Rattle.records.specs.Views.{importOf}
 use Rattle.records.specs.Amounts.{chargeTicksFor}
-use Rattle.book.specs.Layer.{Rec, HourPrices, Quantity, Import, Fi, Fe, quantityAt, entry, offset, creditTicks, unitHourOf, exportOf, reversal, nameOf, nameBefore}
+use Rattle.book.specs.Layer.{Rec, HourPrices, Quantity, Import, Fi, Fe, quantityAt, entry, offset, creditTicks, unitHourOf, exportOf, reversal, decodedBytes, nameBefore}
 use Rattle.book.specs.Amounts.{is, priced, exported, hourTicks}
 
 -- ---- the letters that 01 sets by themselves
@@ -58,7 +58,7 @@ pub record Formulas : Type 0 where
   pub credit : (r : Rec) (p : HourPrices) → creditTicks r p ≡ creditOver (importOf r .offer) (p .emp) (quantityAt (importOf r .mqsi))
   -- "Order: credit ascending, then decoded name in byte order, a prefix first"
   pub order : (a b : Import)
-      → precedes a b ≡ cond (ltZ (a .credit .0) (b .credit .0)) true (cond (ltZ (b .credit .0) (a .credit .0)) false (nameBefore (nameOf (a .name)) (nameOf (b .name))))
+      → precedes a b ≡ cond (ltZ (a .credit .0) (b .credit .0)) true (cond (ltZ (b .credit .0) (a .credit .0)) false (nameBefore (decodedBytes (a .name)) (decodedBytes (b .name))))
   -- "up to and including it": names stand once in an hour
   pub including : (a b : Import) → upTo a b ≡ (precedes a b || sameName (a .name) (b .name))
   -- "In each interval, adj of an import = min(MQSI, max(0, sum of MQSI up to and including it - sum of all MQSW))"

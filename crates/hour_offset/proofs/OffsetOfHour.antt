@@ -22,7 +22,7 @@ use Rattle.book.specs.tables.Places.{spots}
 use Rattle.book.specs.tables.Worked.{Inside, noSpot}
 use Rattle.book.specs.Register.{Reg, file, called, listed, judged, refusal, writeAll}
 use Rattle.book.specs.laws.CallLaws.{called-long}
-use Rattle.hour_offset.specs.HourOffset.{onward, recorded, offsetAfter, hourOffset, answerOf}
+use Rattle.hour_offset.specs.HourOffset.{recordOn, recorded, offsetAfter, hourOffset, answerOf}
 use Rattle.hour_offset.specs.laws.HourOffsetLaws.{at-none, first-then}
 use Rattle.hour_offset.specs.tables.Tally.{Sheet, noSheet, sheetOf, Few, Ready, addNumber, adding, endOf}
 use Rattle.hour_offset.specs.laws.TallyLaws.{Stood, Booked, booked-none, booked-few, rebased, added-is, stepped}
@@ -152,12 +152,12 @@ module _ (records : List ℕ) (t : Tally) (o at : ℕ) (g : Going records t o at
             ∙ ap (λ (i : Input Change). listed i 65535 (regOf (g .list))) (alone ∙ ap fine (rd .is))
             ∙ ap (judged (filed r) (regOf (g .list))) refusal-is
 
-        over : (n : ℕ) → number ≡ n → hourOffset records ≡ onward (r .key .hour) (x .left) offsetAfter (judged (filed r) (regOf (g .list)) n)
+        over : (n : ℕ) → number ≡ n → hourOffset records ≡ recordOn (r .key .hour) (x .left) offsetAfter (judged (filed r) (regOf (g .list)) n)
         unfolding p
         over n e =
             rest-is ∙ ap (recorded (regOf (g .list)) s offsetAfter) (x .is)
-            ∙ ap (onward (keyOf (x .what) .hour) (x .left) offsetAfter) (called-is ∙ ap (judged (filed r) (regOf (g .list))) e)
-            ∙ ap (λ (c : Change). onward (keyOf c .hour) (x .left) offsetAfter (judged (filed r) (regOf (g .list)) n)) (rd .is)
+            ∙ ap (recordOn (keyOf (x .what) .hour) (x .left) offsetAfter) (called-is ∙ ap (judged (filed r) (regOf (g .list))) e)
+            ∙ ap (λ (c : Change). recordOn (keyOf c .hour) (x .left) offsetAfter (judged (filed r) (regOf (g .list)) n)) (rd .is)
 
         module _ (d : Tallied) (w : Adds (addNumber (f .key .mark) (f .key .name) (sheetOf t)) (adding (f .key .mark) (record { name = f .key .name; start = at }) (sheetOf t)) t d) where
           key-is : f .key ≡ r .key

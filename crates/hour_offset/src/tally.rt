@@ -6,13 +6,13 @@ use book::amounts::places::Places;
 use book::amounts::places::Spot;
 use book::amounts::places::inserted;
 use book::amounts::places::no_spots;
-use book::amounts::places::slot_for;
+use book::amounts::places::position_for;
 use money::names::Name;
 use money::names::same_name;
 use money::refusals::HOUR_FULL;
 use money::refusals::KEY_STANDS;
 use money::refusals::PRICE_MISSING;
-use money::refusals::UNKNOWN_MARK;
+use money::refusals::MARK_UNKNOWN;
 use money::units::Answer;
 use money::units::Ticks;
 use records::amounts::hour_offset;
@@ -91,7 +91,7 @@ fn with_place(p: Places, s: Spot) -> Placed
         };
     }
     if p.n < PLACES_MAX {
-        let j = slot_for(p, s);
+        let j = position_for(p, s);
         let places = inserted(p, j, s);
         return Placed { number: 0, places };
     }
@@ -180,9 +180,9 @@ pub(crate) fn with_record(t: Tally, key: Key, at: usize) -> Tallied
         Mark::Pr => with_price(t, at),
         Mark::Im => with_import(t, Spot { name, start: at }),
         Mark::Ex => with_export(t, Spot { name, start: at }),
-        Mark::Gh => refused(UNKNOWN_MARK, t),
-        Mark::Fi => refused(UNKNOWN_MARK, t),
-        Mark::Fe => refused(UNKNOWN_MARK, t),
+        Mark::Gh => refused(MARK_UNKNOWN, t),
+        Mark::Fi => refused(MARK_UNKNOWN, t),
+        Mark::Fe => refused(MARK_UNKNOWN, t),
     }
 }
 

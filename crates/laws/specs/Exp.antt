@@ -1,5 +1,5 @@
 -- An expression of `i64`s as code computes it, for a proof to name: what it is in ℤ (`value`), what the machine computes (`raw`) and reads back (`read`), a bound of its magnitude (`bound`), and what has to hold for all of it to fit (`Ok`), which `omega arith` proves.
--- A leaf has a number and a bound of its magnitude. `var` is a literal or a loop's variable, `toZ w64 x`; `i64` a parameter, an element or a call's result; `i32` and `u32` such a one that is cast to `i64`; `got` any number that `Held` knows, as a call's result by its `ensures`.
+-- A leaf has a number and a bound of its magnitude. `var` is a literal or a loop's variable, `toZ w64 x`; `i64` a parameter, an element or a call's result; `i32` and `u32` such a one that is cast to `i64`; `got` any number that `Carried` knows, as a call's result by its `ensures`.
 -- Assumes nothing.
 use mathlib.Core.Path.{_≡_}
 use Prim.Native.Nat.{ℕ, _+_, _*_, _^_, _≤_, _<_}
@@ -10,14 +10,14 @@ use lib.IntN.{ℤ, pos, negℤ, natAbs, _+ℤ_, _-ℤ_, _*ℤ_}
 use mir.Syntax.{w32, w64}
 use mir.Val.{SFits, toZ, ofZ}
 use Rattle.laws.specs.Held as H
-use Rattle.laws.specs.Held.{Held}
+use Rattle.laws.specs.Held.{Carried}
 
 infixl 6 _⊕_ _⊖_
 infixl 7 _⊗_
 pub data Exp : Type 0 where
   var i64 i32 : ℤ → ℕ → Exp
   u32 : ℕ → ℕ → Exp
-  got : (m z : ℤ) (B : ℕ) → Held m z B → Exp
+  got : (m z : ℤ) (B : ℕ) → Carried m z B → Exp
   _⊕_ _⊖_ _⊗_ : Exp → Exp → Exp
   neg : Exp → Exp
 
@@ -87,34 +87,34 @@ small (a ⊖ b) k = k .2
 small (a ⊗ b) k = k .2
 small (neg a) k = small a k
 
--- what is read back is the value, within the bound: `held e k .same : read e ≡ value e`
-pub held : (e : Exp) → Ok e → Held (read e) (value e) (bound e)
-held (var z B) k = H.num z (k .0)
-held (i64 z B) k = H.num64 z (k .0) (k .1)
-held (i32 z B) k = H.back (H.num32 z (k .0) (k .1)) (small (i32 z B) k)
-held (u32 n B) k = H.nat (k .0) (k .1)
-held (got m z B h) k = h
-held (a ⊕ b) k = H.back (H.add (held a (k .0)) (held b (k .1))) (k .2)
-held (a ⊖ b) k = H.back (H.sub (held a (k .0)) (held b (k .1))) (k .2)
-held (a ⊗ b) k = H.back (H.mul (held a (k .0)) (held b (k .1))) (k .2)
-held (neg a) k = H.back (H.neg (held a k)) (small a k)
+-- what is read back is the value, within the bound: `carried e k .same : read e ≡ value e`
+pub carried : (e : Exp) → Ok e → Carried (read e) (value e) (bound e)
+carried (var z B) k = H.num z (k .0)
+carried (i64 z B) k = H.num64 z (k .0) (k .1)
+carried (i32 z B) k = H.back (H.num32 z (k .0) (k .1)) (small (i32 z B) k)
+carried (u32 n B) k = H.nat (k .0) (k .1)
+carried (got m z B h) k = h
+carried (a ⊕ b) k = H.back (H.add (carried a (k .0)) (carried b (k .1))) (k .2)
+carried (a ⊖ b) k = H.back (H.sub (carried a (k .0)) (carried b (k .1))) (k .2)
+carried (a ⊗ b) k = H.back (H.mul (carried a (k .0)) (carried b (k .1))) (k .2)
+carried (neg a) k = H.back (H.neg (carried a k)) (small a k)
 
-pub raw-held : (e : Exp) → Ok e → Held (raw e) (value e) (bound e)
+pub raw-held : (e : Exp) → Ok e → Carried (raw e) (value e) (bound e)
 raw-held (var z B) k = H.num z (k .0)
 raw-held (i64 z B) k = H.num z (k .0)
 raw-held (i32 z B) k = H.num32 z (k .0) (k .1)
 raw-held (u32 n B) k = H.num (pos n) (k .0)
 raw-held (got m z B h) k = h
-raw-held (a ⊕ b) k = H.add (held a (k .0)) (held b (k .1))
-raw-held (a ⊖ b) k = H.sub (held a (k .0)) (held b (k .1))
-raw-held (a ⊗ b) k = H.mul (held a (k .0)) (held b (k .1))
-raw-held (neg a) k = H.neg (held a k)
+raw-held (a ⊕ b) k = H.add (carried a (k .0)) (carried b (k .1))
+raw-held (a ⊖ b) k = H.sub (carried a (k .0)) (carried b (k .1))
+raw-held (a ⊗ b) k = H.mul (carried a (k .0)) (carried b (k .1))
+raw-held (neg a) k = H.neg (carried a k)
 
 pub fits : (e : Exp) → Ok e → SFits w64 (raw e)
 fits e k = H.fits (raw-held e k) (small e k)
 
 pub same : (e : Exp) → Ok e → read e ≡ value e
-same e k = held e k .same
+same e k = carried e k .same
 
 pub size : (e : Exp) → Ok e → natAbs (read e) ≤ bound e
-size e k = H.size (held e k)
+size e k = H.size (carried e k)

@@ -1,5 +1,5 @@
 -- What a signed local of the machine holds. Code on signed numbers reads back what it wrote, `toZ w (ofZ w z)`, which is z where z fits the width.
--- `Held m z B` says that the machine's m is the number z, of magnitude at most B. Sums, differences and products of held numbers are held. That one fits an `i64` is `B < 2 ^ 63`: `lit< tt` or `omega arith`.
+-- `Carried m z B` says that the machine's m is the number z, of magnitude at most B. Sums, differences and products of carried numbers are carried. That one fits an `i64` is `B < 2 ^ 63`: `lit< tt` or `omega arith`.
 -- Assumes nothing.
 use mathlib.Core.Path.{_≡_, refl, sym, ap, _∙_, subst}
 use mathlib.Core.Bool.{Bool}
@@ -23,71 +23,71 @@ mag-le (negsuc n) = omega arith
 pub sfits-lt : {w : Width} (z : ℤ) → natAbs z < 2 ^ hbits w → SFits w z
 sfits-lt z h = record { sfits = lt-of-le-of-lt (mag-le z) h }
 
-pub record Held (m z : ℤ) (B : ℕ) : Type 0 where
+pub record Carried (m z : ℤ) (B : ℕ) : Type 0 where
   pub same : m ≡ z
   pub within : natAbs z ≤ B
 
 -- the bound, of what the machine has
-pub size : {m z : ℤ} {B : ℕ} → Held m z B → natAbs m ≤ B
+pub size : {m z : ℤ} {B : ℕ} → Carried m z B → natAbs m ≤ B
 size {B = B} k = subst (λ (y : ℤ). natAbs y ≤ B) (sym (k .same)) (k .within)
 
-pub upto : {m z : ℤ} {B C : ℕ} → Held m z B → B ≤ C → Held m z C
+pub upto : {m z : ℤ} {B C : ℕ} → Carried m z B → B ≤ C → Carried m z C
 upto k h = record { same = k .same; within = le-trans (k .within) h }
 
 -- ---- where numbers come from
 -- a number as it is: a literal, an element of an array before it is read, a loop's variable, `toZ w64 sum`
-pub num : (z : ℤ) {B : ℕ} → natAbs z ≤ B → Held z z B
+pub num : (z : ℤ) {B : ℕ} → natAbs z ≤ B → Carried z z B
 num z h = record { same = refl; within = h }
 
-pub lit : (z : ℤ) → Held z z (natAbs z)
+pub lit : (z : ℤ) → Carried z z (natAbs z)
 lit z = num z (le-refl (natAbs z))
 
 -- a parameter or a call's result, with a bound and with none
-pub held : {w : Width} {z : ℤ} {B : ℕ} → SFits w z → natAbs z ≤ B → Held (toZ w (ofZ w z)) z B
-held f h = record { same = toZ-ofZ f; within = h }
+pub carried : {w : Width} {z : ℤ} {B : ℕ} → SFits w z → natAbs z ≤ B → Carried (toZ w (ofZ w z)) z B
+carried f h = record { same = toZ-ofZ f; within = h }
 
-pub plain : {w : Width} {z : ℤ} → SFits w z → Held (toZ w (ofZ w z)) z (natAbs z)
-plain {w} {z} f = held f (le-refl (natAbs z))
+pub plain : {w : Width} {z : ℤ} → SFits w z → Carried (toZ w (ofZ w z)) z (natAbs z)
+plain {w} {z} f = carried f (le-refl (natAbs z))
 
 -- an `i32` and an `i64` by the bound alone
-pub num32 : (z : ℤ) {B : ℕ} → natAbs z ≤ B → B < 2 ^ 31 → Held (toZ w32 (ofZ w32 z)) z B
-num32 z h t = held (sfits-lt z (lt-of-le-of-lt h t)) h
+pub num32 : (z : ℤ) {B : ℕ} → natAbs z ≤ B → B < 2 ^ 31 → Carried (toZ w32 (ofZ w32 z)) z B
+num32 z h t = carried (sfits-lt z (lt-of-le-of-lt h t)) h
 
-pub num64 : (z : ℤ) {B : ℕ} → natAbs z ≤ B → B < 2 ^ 63 → Held (toZ w64 (ofZ w64 z)) z B
-num64 z h t = held (sfits-lt z (lt-of-le-of-lt h t)) h
+pub num64 : (z : ℤ) {B : ℕ} → natAbs z ≤ B → B < 2 ^ 63 → Carried (toZ w64 (ofZ w64 z)) z B
+num64 z h t = carried (sfits-lt z (lt-of-le-of-lt h t)) h
 
 -- an unsigned number that was cast to an `i64`
-pub nat : {n B : ℕ} → n ≤ B → B < 2 ^ 63 → Held (toZ w64 n) (pos n) B
+pub nat : {n B : ℕ} → n ≤ B → B < 2 ^ 63 → Carried (toZ w64 n) (pos n) B
 nat h t = record { same = toZ-pos w64 (lt-of-le-of-lt h t); within = h }
 
 -- what a call returned, by its `ensures`, an equation of the machine's arguments
-pub of : {r m z : ℤ} {B : ℕ} → r ≡ m → Held m z B → Held r z B
+pub of : {r m z : ℤ} {B : ℕ} → r ≡ m → Carried m z B → Carried r z B
 of e k = record { same = e ∙ k .same; within = k .within }
 
 -- ---- what is asked of them
 -- it fits an `i64`
-pub fits : {m z : ℤ} {B : ℕ} → Held m z B → B < 2 ^ 63 → SFits w64 m
+pub fits : {m z : ℤ} {B : ℕ} → Carried m z B → B < 2 ^ 63 → SFits w64 m
 fits {m} k t = sfits-lt m (lt-of-le-of-lt (size k) t)
 
 -- it is stored in an `i64` and read back
-pub back : {m z : ℤ} {B : ℕ} → Held m z B → B < 2 ^ 63 → Held (toZ w64 (ofZ w64 m)) z B
+pub back : {m z : ℤ} {B : ℕ} → Carried m z B → B < 2 ^ 63 → Carried (toZ w64 (ofZ w64 m)) z B
 back k t = record { same = toZ-ofZ (fits k t) ∙ k .same; within = k .within }
 
-module _ {m z m′ z′ : ℤ} {B B′ : ℕ} (h : Held m z B) (k : Held m′ z′ B′) where
-  pub add : Held (m +ℤ m′) (z +ℤ z′) (B + B′)
+module _ {m z m′ z′ : ℤ} {B B′ : ℕ} (h : Carried m z B) (k : Carried m′ z′ B′) where
+  pub add : Carried (m +ℤ m′) (z +ℤ z′) (B + B′)
   add = record { same = λ i. h .same i +ℤ k .same i; within = add-within z z′ (h .within) (k .within) }
 
-  pub sub : Held (m -ℤ m′) (z -ℤ z′) (B + B′)
+  pub sub : Carried (m -ℤ m′) (z -ℤ z′) (B + B′)
   sub = record { same = λ i. h .same i -ℤ k .same i; within = sub-within z z′ (h .within) (k .within) }
 
-  pub mul : Held (m *ℤ m′) (z *ℤ z′) (B * B′)
+  pub mul : Carried (m *ℤ m′) (z *ℤ z′) (B * B′)
   mul = record { same = λ i. h .same i *ℤ k .same i; within = mul-within z z′ (h .within) (k .within) }
 
   -- what a call of a function returned whose contract is by `minℤ` or `maxℤ`, with `of`
-  pub min : Held (minℤ m m′) (minℤ z z′) (Nat.max B B′)
+  pub min : Carried (minℤ m m′) (minℤ z z′) (Nat.max B B′)
   min = record { same = λ i. minℤ (h .same i) (k .same i); within = min-within z z′ (h .within) (k .within) }
 
-  pub max : Held (maxℤ m m′) (maxℤ z z′) (Nat.max B B′)
+  pub max : Carried (maxℤ m m′) (maxℤ z z′) (Nat.max B B′)
   max = record { same = λ i. maxℤ (h .same i) (k .same i); within = max-within z z′ (h .within) (k .within) }
 
   -- the outcome of a test, of the numbers themselves
@@ -102,7 +102,7 @@ pub same-bits : {w : Width} {x y : ℤ} → SFits w x → SFits w y → ofZ w x 
 same-bits {w} f g e = sym (toZ-ofZ f) ∙ ap (toZ w) e ∙ toZ-ofZ g
 
 -- `-x` is lowered to `0 - x`
-pub neg : {m z : ℤ} {B : ℕ} → Held m z B → Held (pos 0 -ℤ m) (negℤ z) B
+pub neg : {m z : ℤ} {B : ℕ} → Carried m z B → Carried (pos 0 -ℤ m) (negℤ z) B
 neg {m} {z} {B} k = record { same = (λ i. pos 0 -ℤ k .same i) ∙ +ℤ-idl (negℤ z); within = subst (λ (n : ℕ). n ≤ B) (sym (abs-neg z)) (k .within) }
 
 -- ---- casts
@@ -110,11 +110,11 @@ neg {m} {z} {B} k = record { same = (λ i. pos 0 -ℤ k .same i) ∙ +ℤ-idl (n
 pub widens : {w : Width} {z : ℤ} → SFits w z → T (leb (hbits w) 63) → SFits w64 (toZ w (ofZ w z))
 widens f t = subst (SFits w64) (sym (toZ-ofZ f)) (sfits-widen t f)
 
-pub widened : {w : Width} {z : ℤ} → SFits w z → T (leb (hbits w) 63) → Held (toZ w64 (ofZ w64 (toZ w (ofZ w z)))) z (natAbs z)
+pub widened : {w : Width} {z : ℤ} → SFits w z → T (leb (hbits w) 63) → Carried (toZ w64 (ofZ w64 (toZ w (ofZ w z)))) z (natAbs z)
 widened {w} {z} f t = record { same = toZ-ofZ (widens f t) ∙ toZ-ofZ f; within = le-refl (natAbs z) }
 
 -- to `u64` of a number that is not negative
-module _ {m z : ℤ} {B : ℕ} (k : Held m z B) (p : pos 0 ≤ℤ z) where
+module _ {m z : ℤ} {B : ℕ} (k : Carried m z B) (p : pos 0 ≤ℤ z) where
   pub to-nat : B < 2 ^ 64 → T (nonNeg m) × Fits w64 (natAbs m)
   to-nat t = (subst (λ (y : ℤ). T (nonNeg y)) (sym (k .same)) (yes-nonNeg p), record { fits = lt-of-le-of-lt (size k) t })
 

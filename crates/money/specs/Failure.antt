@@ -3,7 +3,7 @@ use mathlib.Core.Bool.{Bool, _&&_}
 use Prim.Native.Nat.{ℕ, _-_}
 use lib.IntN.{ℤ, pos, _-ℤ_, _*ℤ_}
 use Rattle.laws.specs.Ints.{minℤ, maxℤ}
-use Rattle.money.specs.Refusals.{outOfRange}
+use Rattle.money.specs.Refusals.{numberOutside}
 use Rattle.money.specs.declared.units.Price.{Price}
 use Rattle.money.specs.declared.units.Answer.{Answer}
 use Rattle.money.specs.declared.failure.Failure.{Failure}
@@ -44,7 +44,7 @@ failureOk f pd =
     && (priceOk (f .«day_ahead_price») && priceOk (f .«pre_dispatch_price»))))
 
 abbrev pub importChargeAnswer : Failure → Price → Answer
-importChargeAnswer f pd = answer (unless (failureOk f pd) outOfRange 0) (importCharge f pd)
+importChargeAnswer f pd = answer (unless (failureOk f pd) numberOutside 0) (importCharge f pd)
 
 abbrev pub exportChargeAnswer : Failure → Price → Answer
-exportChargeAnswer f pd = answer (unless (failureOk f pd) outOfRange 0) (exportCharge f pd)
+exportChargeAnswer f pd = answer (unless (failureOk f pd) numberOutside 0) (exportCharge f pd)

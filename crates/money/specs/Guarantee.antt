@@ -4,7 +4,7 @@ use Prim.Native.Nat.{ℕ}
 use lib.IntN.{ℤ, pos, negℤ, _-ℤ_, _*ℤ_}
 use Rattle.laws.specs.Ints.{minℤ}
 use Rattle.laws.specs.Sums.{Σℤ, orElse}
-use Rattle.money.specs.Refusals.{outOfRange, beyondList}
+use Rattle.money.specs.Refusals.{numberOutside, beyondList}
 use Rattle.money.specs.declared.units.Price.{Price}
 use Rattle.money.specs.declared.units.Quantity.{Quantity}
 use Rattle.money.specs.declared.units.Answer.{Answer}
@@ -27,4 +27,4 @@ credit o ps q = negℤ (minℤ (pos 0) (profits o ps q))
 -- a credit that is asked for: the prices of the hour, then as for a record
 unfoldable pub creditAnswer : Offer → List Price → List Quantity → Answer
 creditAnswer o ps qs =
-    answer (unless (pricesOk ps) outOfRange (unless (quantitiesOk qs) outOfRange (orElse (offerFault o) (unless (withinOk qs (lastQ o)) beyondList 0)))) (credit o ps (quantityAt qs))
+    answer (unless (pricesOk ps) numberOutside (unless (quantitiesOk qs) numberOutside (orElse (offerFault o) (unless (withinOk qs (lastQ o)) beyondList 0)))) (credit o ps (quantityAt qs))

@@ -8,8 +8,8 @@ use Rattle.laws.specs.Sums.{every}
 use Rattle.money.specs.declared.names.Name.{Name}
 
 -- the bytes of a decoded name
-abbrev pub nameOf : Name → List ℕ
-nameOf a = take (a .len) (a .bytes)
+abbrev pub decodedBytes : Name → List ℕ
+decodedBytes a = take (a .len) (a .bytes)
 
 -- "decoded name in byte order, a prefix first"
 unfoldable pub nameBefore : List ℕ → List ℕ → Bool
@@ -24,7 +24,7 @@ sameBytes (x ∷ xs) [] = false
 sameBytes (x ∷ xs) (y ∷ ys) = eqb x y && sameBytes xs ys
 
 unfoldable pub sameName : Name → Name → Bool
-sameName a b = sameBytes (nameOf a) (nameOf b)
+sameName a b = sameBytes (decodedBytes a) (decodedBytes b)
 
 -- "Decoded .., 1 to 12 bytes, each 0x21 to 0x7E"
 abbrev pub nameByteOk : ℕ → Bool

@@ -8,7 +8,7 @@ use lib.Signed.{leZ}
 use lib.Dec.{leb, ltb}
 use lib.ListN.{getD}
 use Rattle.laws.specs.Sums.{Σℤ, Σℕ, every, orElse}
-use Rattle.money.specs.Refusals.{outOfRange, badList, beyondList}
+use Rattle.money.specs.Refusals.{numberOutside, listFault, beyondList}
 use Rattle.money.specs.declared.units.Price.{Price}
 use Rattle.money.specs.declared.units.Quantity.{Quantity}
 use Rattle.money.specs.declared.units.Answer.{Answer}
@@ -56,7 +56,7 @@ orderOk o = leb 1 (Q o 0) && every (o .count - 1) (risesAt o)
 
 -- the count by itself, then the numbers, then "a list's order after its last pair"
 unfoldable pub offerFault : Offer → ℕ
-offerFault o = unless (countOk o) badList (unless (numbersOk o) outOfRange (unless (orderOk o) badList 0))
+offerFault o = unless (countOk o) listFault (unless (numbersOk o) numberOutside (unless (orderOk o) listFault 0))
 
 -- "P_i × (Q_i - Q_(i-1))"
 abbrev pub piece : Offer → ℕ → ℤ
@@ -76,4 +76,4 @@ cost o q = Σℤ (o .count) (λ i. cond (leb (Q o i) q) (piece o i) (pos 0)) +�
 
 -- a cost that is asked for: the quantity, then the list, then "above it the offer has no cost"
 unfoldable pub costAnswer : Offer → Quantity → Answer
-costAnswer o q = answer (unless (quantityOk q) outOfRange (orElse (offerFault o) (unless (leb (q .0) (lastQ o)) beyondList 0))) (cost o (q .0))
+costAnswer o q = answer (unless (quantityOk q) numberOutside (orElse (offerFault o) (unless (leb (q .0) (lastQ o)) beyondList 0))) (cost o (q .0))

@@ -8,7 +8,7 @@ use lib.Signed.{ltZ}
 use lib.Dec.{leb}
 use lib.ListN.{getD}
 use Rattle.laws.specs.Sums.{Σℤ, Σℕ, every, firstOf, orElse}
-use Rattle.money.specs.Refusals.{badName, outOfRange, beyondList, keyStands, hourFull}
+use Rattle.money.specs.Refusals.{nameFault, numberOutside, beyondList, keyStands, hourFull}
 use Rattle.money.specs.declared.units.Price.{Price}
 use Rattle.money.specs.declared.units.Quantity.{Quantity}
 use Rattle.money.specs.declared.units.Answer.{Answer}
@@ -17,7 +17,7 @@ use Rattle.money.specs.declared.imports.Import.{Import}
 use Rattle.money.specs.Units.{intervals, noPrice, noQuantity, priceOk, quantityAt, rowOf, quantitiesOk, withinOk, sameℤ, unless, answer}
 use Rattle.money.specs.Offers.{lastQ, offerFault}
 use Rattle.money.specs.Guarantee.{credit}
-use Rattle.money.specs.Names.{nameOf, nameBefore, sameName, nameOk}
+use Rattle.money.specs.Names.{decodedBytes, nameBefore, sameName, nameOk}
 
 -- "It refuses a 17th entry with 12": the number of entries that an hour's list may have
 abbrev pub maxImports : ℕ
@@ -36,7 +36,7 @@ mqsi e k = quantityAt (e .quantities) k
 
 -- "Order: credit ascending, then decoded name in byte order, a prefix first"
 unfoldable pub precedes : Import → Import → Bool
-precedes a b = cond (ltZ (a .credit .0) (b .credit .0)) true (cond (ltZ (b .credit .0) (a .credit .0)) false (nameBefore (nameOf (a .name)) (nameOf (b .name))))
+precedes a b = cond (ltZ (a .credit .0) (b .credit .0)) true (cond (ltZ (b .credit .0) (a .credit .0)) false (nameBefore (decodedBytes (a .name)) (decodedBytes (b .name))))
 
 -- a precedes e, or is e
 unfoldable pub upTo : Import → Import → Bool
@@ -59,10 +59,10 @@ offset n es ps ts = Σℤ n (λ i. entry es i .credit .0) -ℤ Σℤ n (λ i. cr
 
 -- "entry by entry with 4, 5, 6, 7 as for a record, 5 for a credit that the formula doesn't give"
 abbrev pub scheduleFault : List Price → Import → ℕ
-scheduleFault ps e = unless (withinOk (e .quantities) (lastQ (e .offer))) beyondList (unless (sameℤ (e .credit .0) (credit (e .offer) ps (mqsi e))) outOfRange 0)
+scheduleFault ps e = unless (withinOk (e .quantities) (lastQ (e .offer))) beyondList (unless (sameℤ (e .credit .0) (credit (e .offer) ps (mqsi e))) numberOutside 0)
 
 unfoldable pub entryFault : List Price → Import → ℕ
-entryFault ps e = unless (nameOk (e .name)) badName (unless (quantitiesOk (e .quantities)) outOfRange (orElse (offerFault (e .offer)) (scheduleFault ps e)))
+entryFault ps e = unless (nameOk (e .name)) nameFault (unless (quantitiesOk (e .quantities)) numberOutside (orElse (offerFault (e .offer)) (scheduleFault ps e)))
 
 -- "10 for a name already there"
 unfoldable pub freshName : List Import → ℕ → Bool
@@ -71,8 +71,8 @@ freshName es i = every i (λ j. not (sameName (entry es i .name) (entry es j .na
 unfoldable pub faultAt : List Price → List Import → ℕ → ℕ
 faultAt ps es i = orElse (entryFault ps (entry es i)) (unless (freshName es i) keyStands 0)
 
-unfoldable pub listFault : ℕ → List Price → List Import → ℕ
-listFault n ps es = firstOf n (faultAt ps es)
+unfoldable pub entriesFault : ℕ → List Price → List Import → ℕ
+entriesFault n ps es = firstOf n (faultAt ps es)
 
 -- "12 export totals (each at most 1,600,000)"
 abbrev pub maxTotal : ℕ
@@ -94,4 +94,4 @@ ratesOk ps ts = every intervals (rateOk ps ts)
 -- "It refuses a 17th entry with 12, then a price or total with 5, then entry by entry ..; else it answers the offset"
 unfoldable pub offsetAnswer : ℕ → List Import → List Price → List Quantity → Answer
 offsetAnswer n es ps ts =
-    cond (leb n maxImports) (cond (ratesOk ps ts) (answer (listFault n ps es) (offset n es ps ts)) (Refused outOfRange)) (Refused hourFull)
+    cond (leb n maxImports) (cond (ratesOk ps ts) (answer (entriesFault n ps es) (offset n es ps ts)) (Refused numberOutside)) (Refused hourFull)

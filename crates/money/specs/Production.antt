@@ -8,7 +8,7 @@ use lib.Dec.{leb, ltb}
 use lib.ListN.{getD}
 use Rattle.laws.specs.Ints.{maxℤ}
 use Rattle.laws.specs.Sums.{Σℤ, every, orElse}
-use Rattle.money.specs.Refusals.{outOfRange, beyondList}
+use Rattle.money.specs.Refusals.{numberOutside, beyondList}
 use Rattle.money.specs.declared.units.Price.{Price}
 use Rattle.money.specs.declared.units.Quantity.{Quantity}
 use Rattle.money.specs.declared.units.Ticks.{Ticks}
@@ -128,11 +128,11 @@ listsFault h =
 
 -- the hour's prices, then as for a record
 unfoldable pub unitFault : UnitHour → List Price → ℕ
-unitFault h ps = unless (pricesOk ps) outOfRange (unless (numbersFine h) outOfRange (orElse (listsFault h) (unless (withinFine h) beyondList 0)))
+unitFault h ps = unless (pricesOk ps) numberOutside (unless (numbersFine h) numberOutside (orElse (listsFault h) (unless (withinFine h) beyondList 0)))
 
 -- an interval that is asked for: 0 to 11, after the hour
 unfoldable pub intervalFault : UnitHour → List Price → ℕ → ℕ
-intervalFault h ps k = orElse (unitFault h ps) (unless (ltb k intervals) outOfRange 0)
+intervalFault h ps k = orElse (unitFault h ps) (unless (ltb k intervals) numberOutside 0)
 
 abbrev pub component1Answer : UnitHour → List Price → ℕ → Answer
 component1Answer h ps k = answer (intervalFault h ps k) (C1 h ps k)
@@ -179,4 +179,4 @@ reversal total = maxℤ (pos 0) (negℤ total)
 
 -- the day total and the reversal of 24 hours' amounts and start-ups, 0 where the unit has no hour
 unfoldable pub dayAnswer : List Ticks → List CentsPerStart → DayAnswer
-dayAnswer ts ss = cond (hoursOk ts ss) (Day (record { 0 = daySum ts ss }) (record { 0 = reversal (daySum ts ss) })) (Refused outOfRange)
+dayAnswer ts ss = cond (hoursOk ts ss) (Day (record { 0 = daySum ts ss }) (record { 0 = reversal (daySum ts ss) })) (Refused numberOutside)

@@ -6,36 +6,36 @@ abbrev pub endsEarly : ℕ
 endsEarly = 1
 
 -- unknown mark, or not allowed inside `CO` or `WD`
-abbrev pub unknownMark : ℕ
-unknownMark = 2
+abbrev pub markUnknown : ℕ
+markUnknown = 2
 
 -- hour not 1 to 24
-abbrev pub badHour : ℕ
-badHour = 3
+abbrev pub hourOutside : ℕ
+hourOutside = 3
 
 -- name breaks its rule
-abbrev pub badName : ℕ
-badName = 4
+abbrev pub nameFault : ℕ
+nameFault = 4
 
 -- number outside its range
-abbrev pub outOfRange : ℕ
-outOfRange = 5
+abbrev pub numberOutside : ℕ
+numberOutside = 5
 
 -- list breaks its rule
-abbrev pub badList : ℕ
-badList = 6
+abbrev pub listFault : ℕ
+listFault = 6
 
 -- schedule beyond its list
 abbrev pub beyondList : ℕ
 beyondList = 7
 
 -- bytes left over
-abbrev pub leftOver : ℕ
-leftOver = 8
+abbrev pub bytesLeftOver : ℕ
+bytesLeftOver = 8
 
 -- closed
-abbrev pub bookClosed : ℕ
-bookClosed = 9
+abbrev pub dayClosed : ℕ
+dayClosed = 9
 
 -- key stands already
 abbrev pub keyStands : ℕ

@@ -8,7 +8,7 @@ use lib.Signed.{leZ}
 use lib.Dec.{leb}
 use lib.ListN.{getD}
 use Rattle.laws.specs.Sums.{every}
-use Rattle.money.specs.Refusals.{outOfRange}
+use Rattle.money.specs.Refusals.{numberOutside}
 use Rattle.money.specs.declared.units.Price.{Price}
 use Rattle.money.specs.declared.units.Quantity.{Quantity}
 use Rattle.money.specs.declared.units.Ticks.{Ticks}
@@ -50,10 +50,10 @@ quantityOk q = leb (q .0) maxQuantity
 
 -- what a constructor answers
 abbrev pub priceRead : ℤ → PriceRead
-priceRead c = cond (priceOk (record { 0 = c })) (priceRead-variants.Good (record { 0 = c })) (priceRead-variants.Refused outOfRange)
+priceRead c = cond (priceOk (record { 0 = c })) (priceRead-variants.Good (record { 0 = c })) (priceRead-variants.Refused numberOutside)
 
 abbrev pub quantityRead : ℕ → QuantityRead
-quantityRead n = cond (quantityOk (record { 0 = n })) (quantityRead-variants.Good (record { 0 = n })) (quantityRead-variants.Refused outOfRange)
+quantityRead n = cond (quantityOk (record { 0 = n })) (quantityRead-variants.Good (record { 0 = n })) (quantityRead-variants.Refused numberOutside)
 
 -- start-up and speed no-load cents are "each at most 100,000,000"
 abbrev pub maxCents : ℕ

@@ -4,7 +4,7 @@ ghost use lib.IntN.{ℤ, pos, natAbs, _-ℤ_, _*ℤ_};
 ghost use Rattle.laws.specs.Ints.{minℤ, maxℤ};
 ghost use Rattle.money.specs.Units.{maxGap};
 ghost use Rattle.money.specs.Failure.{dev, charge, failureOk, importChargeAnswer, exportChargeAnswer};
-use crate::refusals::OUT_OF_RANGE;
+use crate::refusals::NUMBER_OUTSIDE;
 use crate::units::Answer;
 use crate::units::Price;
 use crate::units::PriceGap;
@@ -74,7 +74,7 @@ pub fn import_charge(f: Failure, pd: Price) -> Answer
     ensures { λ r. ⌜ r ≡ importChargeAnswer f pd ⌝ }
 {
     if !failure_ok(f, pd) {
-        return Answer::Refused(OUT_OF_RANGE);
+        return Answer::Refused(NUMBER_OUTSIDE);
     }
     let day_ahead = f.day_ahead_price;
     let pre_dispatch = f.pre_dispatch_price;
@@ -86,7 +86,7 @@ pub fn export_charge(f: Failure, pd: Price) -> Answer
     ensures { λ r. ⌜ r ≡ exportChargeAnswer f pd ⌝ }
 {
     if !failure_ok(f, pd) {
-        return Answer::Refused(OUT_OF_RANGE);
+        return Answer::Refused(NUMBER_OUTSIDE);
     }
     let day_ahead = f.day_ahead_price;
     let pre_dispatch = f.pre_dispatch_price;

@@ -7,7 +7,7 @@ use crate::offers::costs_before;
 use crate::offers::last_of;
 use crate::offers::offer_fault;
 use crate::refusals::BEYOND_LIST;
-use crate::refusals::OUT_OF_RANGE;
+use crate::refusals::NUMBER_OUTSIDE;
 use crate::units::Answer;
 use crate::units::INTERVALS;
 use crate::units::Price;
@@ -50,7 +50,7 @@ pub(crate) fn credit_of(o: Offer, prices: [Price; INTERVALS], qs: [Quantity; INT
     requires { ⌜ Ready o prices (quantityAt qs) ⌝ }
     ensures { λ r. ⌜ r .0 ≡ credit o prices (quantityAt qs) ⌝ }
 {
-    profit_sum(o, prices, qs).lacking()
+    profit_sum(o, prices, qs).deficit()
 }
 
 // An import's credit for an hour, or the number of the refusal.
@@ -58,10 +58,10 @@ pub fn hour_credit(o: Offer, prices: [Price; INTERVALS], qs: [Quantity; INTERVAL
     ensures { λ r. ⌜ r ≡ creditAnswer o prices qs ⌝ }
 {
     if !prices_ok(prices) {
-        return Answer::Refused(OUT_OF_RANGE);
+        return Answer::Refused(NUMBER_OUTSIDE);
     }
     if !quantities_ok(qs) {
-        return Answer::Refused(OUT_OF_RANGE);
+        return Answer::Refused(NUMBER_OUTSIDE);
     }
     let f = offer_fault(o);
     if f != 0 {

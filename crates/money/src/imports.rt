@@ -1,6 +1,6 @@
 ghost use mathlib.Core.Path.{_≡_};
 ghost use Prim.Native.Nat.{ℕ, _<_, _≤_};
-ghost use Rattle.money.specs.Offset.{maxImports, precedes, upTo, entryFault, freshName, faultAt, listFault};
+ghost use Rattle.money.specs.Offset.{maxImports, precedes, upTo, entryFault, freshName, faultAt, entriesFault};
 ghost use Rattle.money.specs.laws.UnitLaws.{Rates};
 use crate::guarantee::credit_of;
 use crate::names::Name;
@@ -10,10 +10,10 @@ use crate::names::same_name;
 use crate::offers::Offer;
 use crate::offers::last_of;
 use crate::offers::offer_fault;
-use crate::refusals::BAD_NAME;
+use crate::refusals::NAME_FAULT;
 use crate::refusals::BEYOND_LIST;
 use crate::refusals::KEY_STANDS;
-use crate::refusals::OUT_OF_RANGE;
+use crate::refusals::NUMBER_OUTSIDE;
 use crate::units::INTERVALS;
 use crate::units::Price;
 use crate::units::Quantity;
@@ -68,11 +68,11 @@ fn entry_fault(e: Import, prices: [Price; INTERVALS]) -> u8
 {
     let name = e.name;
     if !name_ok(name) {
-        return BAD_NAME;
+        return NAME_FAULT;
     }
     let qs = e.quantities;
     if !quantities_ok(qs) {
-        return OUT_OF_RANGE;
+        return NUMBER_OUTSIDE;
     }
     let o = e.offer;
     let f = offer_fault(o);
@@ -84,7 +84,7 @@ fn entry_fault(e: Import, prices: [Price; INTERVALS]) -> u8
     }
     let stated = e.credit;
     if !stated.same(credit_of(o, prices, qs)) {
-        return OUT_OF_RANGE;
+        return NUMBER_OUTSIDE;
     }
     0
 }
@@ -126,7 +126,7 @@ fn fault_at(entries: [Import; IMPORTS_MAX], prices: [Price; INTERVALS], i: usize
 // The first fault of the first n entries.
 pub(crate) fn list_fault(n: usize, entries: [Import; IMPORTS_MAX], prices: [Price; INTERVALS]) -> u8
     requires { ⌜ n ≤ maxImports ⌝ ∗ ⌜ Rates prices ⌝ }
-    ensures { λ r. ⌜ r ≡ listFault n prices entries ⌝ }
+    ensures { λ r. ⌜ r ≡ entriesFault n prices entries ⌝ }
 {
     let mut i: usize = 0;
     while i < n {

@@ -1,7 +1,7 @@
 ghost use mathlib.Core.Path.{_≡_};
 ghost use Prim.Native.Nat.{min};
 ghost use lib.Dec.{eqb};
-ghost use Rattle.money.specs.Names.{nameOf, nameBefore, sameName, nameByteOk, nameOk};
+ghost use Rattle.money.specs.Names.{decodedBytes, nameBefore, sameName, nameByteOk, nameOk};
 
 // A decoded name: its length, and places for twelve bytes.
 pub struct Name {
@@ -21,7 +21,7 @@ fn used(a: Name) -> usize
 
 // Byte order, a prefix first.
 pub fn name_before(a: Name, b: Name) -> bool
-    ensures { λ r. ⌜ r ≡ nameBefore (nameOf a) (nameOf b) ⌝ }
+    ensures { λ r. ⌜ r ≡ nameBefore (decodedBytes a) (decodedBytes b) ⌝ }
 {
     let m = used(a);
     let n = used(b);

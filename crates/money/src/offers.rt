@@ -5,9 +5,9 @@ ghost use Rattle.money.specs.Units.{priceOk, quantityOk};
 ghost use Rattle.laws.specs.Sums.{Σℤ};
 ghost use Rattle.money.specs.Offers.{maxPairs, numbersOk, rises, orderOk, offerFault, lastQ, piece, cost, costAnswer};
 ghost use Rattle.money.specs.laws.OfferLaws.{Good, ticksAt};
-use crate::refusals::BAD_LIST;
+use crate::refusals::LIST_FAULT;
 use crate::refusals::BEYOND_LIST;
-use crate::refusals::OUT_OF_RANGE;
+use crate::refusals::NUMBER_OUTSIDE;
 use crate::units::Answer;
 use crate::units::Price;
 use crate::units::Quantity;
@@ -83,16 +83,16 @@ pub fn offer_fault(o: Offer) -> u8
 {
     let n = o.count as usize;
     if n < 1 {
-        return BAD_LIST;
+        return LIST_FAULT;
     }
     if PAIRS_MAX < n {
-        return BAD_LIST;
+        return LIST_FAULT;
     }
     if !numbers_ok(o) {
-        return OUT_OF_RANGE;
+        return NUMBER_OUTSIDE;
     }
     if !order_ok(o) {
-        return BAD_LIST;
+        return LIST_FAULT;
     }
     0
 }
@@ -153,7 +153,7 @@ pub fn cost_at(o: Offer, q: Quantity) -> Answer
     ensures { λ r. ⌜ r ≡ costAnswer o q ⌝ }
 {
     if !q.in_range() {
-        return Answer::Refused(OUT_OF_RANGE);
+        return Answer::Refused(NUMBER_OUTSIDE);
     }
     let f = offer_fault(o);
     if f != 0 {

@@ -17,7 +17,7 @@ use crate::names::Name;
 use crate::offers::Offer;
 use crate::offers::PAIRS_MAX;
 use crate::refusals::HOUR_FULL;
-use crate::refusals::OUT_OF_RANGE;
+use crate::refusals::NUMBER_OUTSIDE;
 use crate::units::Answer;
 use crate::units::INTERVALS;
 use crate::units::Price;
@@ -186,7 +186,7 @@ pub fn offset_core(
         return Answer::Refused(HOUR_FULL);
     }
     if !rates_ok(prices, totals) {
-        return Answer::Refused(OUT_OF_RANGE);
+        return Answer::Refused(NUMBER_OUTSIDE);
     }
     let f = list_fault(n, entries, prices);
     if f != 0 {

@@ -15,7 +15,7 @@ use crate::offers::cost_of;
 use crate::offers::last_of;
 use crate::offers::offer_fault;
 use crate::refusals::BEYOND_LIST;
-use crate::refusals::OUT_OF_RANGE;
+use crate::refusals::NUMBER_OUTSIDE;
 use crate::units::Answer;
 use crate::units::CentsPerHour;
 use crate::units::CentsPerStart;
@@ -501,10 +501,10 @@ fn unit_fault(h: UnitHour, prices: [Price; INTERVALS]) -> u8
     ensures { λ x. ⌜ x ≡ unitFault h prices ⌝ }
 {
     if !prices_ok(prices) {
-        return OUT_OF_RANGE;
+        return NUMBER_OUTSIDE;
     }
     if !numbers_fine(h) {
-        return OUT_OF_RANGE;
+        return NUMBER_OUTSIDE;
     }
     let f = lists_fault(h);
     if f != 0 {
@@ -524,7 +524,7 @@ fn interval_fault(h: UnitHour, prices: [Price; INTERVALS], k: usize) -> u8
         return f;
     }
     if INTERVALS <= k {
-        return OUT_OF_RANGE;
+        return NUMBER_OUTSIDE;
     }
     0
 }
@@ -634,8 +634,8 @@ pub fn unit_day(amounts: [Ticks; HOURS], starts: [CentsPerStart; HOURS]) -> DayA
     ensures { λ x. ⌜ x ≡ dayAnswer amounts starts ⌝ }
 {
     if !hours_ok(amounts, starts) {
-        return DayAnswer::Refused(OUT_OF_RANGE);
+        return DayAnswer::Refused(NUMBER_OUTSIDE);
     }
     let total = day_sum(amounts, starts);
-    DayAnswer::Day(total, total.lacking())
+    DayAnswer::Day(total, total.deficit())
 }

@@ -1,21 +1,21 @@
 // The numbers that a call can bring back, under names; specs/Refusals.antt has the same for the definitions.
 pub const ENDS_EARLY: u8 = 1;
 
-pub const UNKNOWN_MARK: u8 = 2;
+pub const MARK_UNKNOWN: u8 = 2;
 
-pub const BAD_HOUR: u8 = 3;
+pub const HOUR_OUTSIDE: u8 = 3;
 
-pub const BAD_NAME: u8 = 4;
+pub const NAME_FAULT: u8 = 4;
 
-pub const OUT_OF_RANGE: u8 = 5;
+pub const NUMBER_OUTSIDE: u8 = 5;
 
-pub const BAD_LIST: u8 = 6;
+pub const LIST_FAULT: u8 = 6;
 
 pub const BEYOND_LIST: u8 = 7;
 
-pub const LEFT_OVER: u8 = 8;
+pub const BYTES_LEFT_OVER: u8 = 8;
 
-pub const BOOK_CLOSED: u8 = 9;
+pub const CLOSED: u8 = 9;
 
 pub const KEY_STANDS: u8 = 10;
 

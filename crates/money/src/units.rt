@@ -4,7 +4,7 @@ ghost use lib.IntN.{ℤ, pos, negℤ, natAbs, _+ℤ_, _-ℤ_, _*ℤ_};
 ghost use Rattle.laws.specs.Ints.{minℤ};
 ghost use Rattle.money.specs.Units.{maxGap, priceOk, quantityOk, priceRead, quantityRead, pricesOk, quantitiesOk, withinOk, sameℤ, centsOf};
 ghost use Rattle.money.specs.laws.UnitLaws.{Moderate};
-use crate::refusals::OUT_OF_RANGE;
+use crate::refusals::NUMBER_OUTSIDE;
 
 // The intervals of an hour.
 pub const INTERVALS: usize = 12;
@@ -60,7 +60,7 @@ impl Price {
         if Price(cents).in_range() {
             return PriceRead::Good(Price(cents));
         }
-        PriceRead::Refused(OUT_OF_RANGE)
+        PriceRead::Refused(NUMBER_OUTSIDE)
     }
 
     pub fn in_range(self) -> bool
@@ -115,7 +115,7 @@ impl Quantity {
         if Quantity(tenths).in_range() {
             return QuantityRead::Good(Quantity(tenths));
         }
-        QuantityRead::Refused(OUT_OF_RANGE)
+        QuantityRead::Refused(NUMBER_OUTSIDE)
     }
 
     pub fn in_range(self) -> bool
@@ -191,7 +191,7 @@ impl Ticks {
     }
 
     // -min(0, self)
-    pub(crate) fn lacking(self) -> Ticks
+    pub(crate) fn deficit(self) -> Ticks
         requires { ⌜ Moderate (self .0) ⌝ }
         ensures { λ r. ⌜ r .0 ≡ negℤ (minℤ (pos 0) (self .0)) ⌝ }
     {

@@ -3,13 +3,13 @@
 use mathlib.Core.List.{List, []}
 use Prim.Native.Nat.{ℕ}
 use lib.IntN.{ℤ, pos}
-use Rattle.money.specs.Refusals.{unknownMark}
+use Rattle.money.specs.Refusals.{markUnknown}
 pub use Rattle.money.specs.Units.{quantityAt}
 -- the money rules that an upper layer's definitions name: an hour's offset and export totals, a unit's day
 pub use Rattle.money.specs.Units.{noQuantity, rowOf}
 pub use Rattle.money.specs.Offset.{noImport, entry, entryFault, totalsWith, offset, offsetAnswer}
 pub use Rattle.money.specs.Production.{amountOk, hourPart, daySum, dayAnswer, reversal, noTicks, noStart}
-pub use Rattle.money.specs.Names.{nameOf, nameBefore, sameName}
+pub use Rattle.money.specs.Names.{decodedBytes, nameBefore, sameName}
 use Rattle.money.specs.Guarantee.{credit, creditAnswer}
 use Rattle.money.specs.Production.{hourAmount, hourAnswer}
 use Rattle.money.specs.Failure.{importCharge, exportCharge, importChargeAnswer, exportChargeAnswer}
@@ -22,7 +22,7 @@ use Rattle.money.specs.declared.imports.Import.{Import}
 use Rattle.money.specs.declared.failure.Failure.{Failure}
 use Rattle.records.specs.Reading.{Res, bad, got, Reader, _>>=_}
 use Rattle.records.specs.Numbers.{pad}
-use Rattle.records.specs.Names.{noOne}
+use Rattle.records.specs.Names.{emptyName}
 use Rattle.records.specs.Layouts.{import, export, unit}
 use Rattle.records.specs.Changes.{Rec}
 use Rattle.records.specs.Views.{importOf, unitHourOf, failureOf, noOffer, valueOr, faultOf, ahead, viewed, viewedFailure}
@@ -48,10 +48,10 @@ unitAmountOf r p = hourAnswer (unitHourOf r) (p .emp)
 
 -- the charge of an `FI` or `FE`: "PD market price" is `PR`'s PD price
 abbrev pub chargeFor : Mark → Failure → HourPrices → Answer
-chargeFor Pr f p = Refused unknownMark
-chargeFor Im f p = Refused unknownMark
-chargeFor Ex f p = Refused unknownMark
-chargeFor Gh f p = Refused unknownMark
+chargeFor Pr f p = Refused markUnknown
+chargeFor Im f p = Refused markUnknown
+chargeFor Ex f p = Refused markUnknown
+chargeFor Gh f p = Refused markUnknown
 chargeFor Fi f p = importChargeAnswer f (p .pd)
 chargeFor Fe f p = exportChargeAnswer f (p .pd)
 
@@ -119,7 +119,7 @@ abbrev pub entryRead : HourPrices → Reader Import
 entryRead p s = ahead Im s >>= λ n t. import t >>= λ i u. given (creditFor i p) (entryFrom n i) u
 
 abbrev pub noEntry : Import
-noEntry = record { name = noOne; credit = noTicks; quantities = pad noQuantity 12 []; offer = noOffer }
+noEntry = record { name = emptyName; credit = noTicks; quantities = pad noQuantity 12 []; offer = noOffer }
 
 abbrev pub entryAnswer : Res Import → EntryAnswer
 entryAnswer r = record { number = faultOf r; entry = valueOr noEntry r }

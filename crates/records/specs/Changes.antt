@@ -7,11 +7,11 @@ use lib.Dec.{leb, eqb}
 use lib.ListN.{length}
 use lib.Seq.{sets}
 use Rattle.laws.specs.Text.{bytes}
-use Rattle.money.specs.Refusals.{endsEarly, unknownMark, badName, leftOver, noSpace}
+use Rattle.money.specs.Refusals.{endsEarly, markUnknown, nameFault, bytesLeftOver, noSpace}
 use Rattle.money.specs.declared.names.Name.{Name}
 use Rattle.records.specs.Reading.{Res, bad, got, Reader, _>>=_, check, byte}
 use Rattle.records.specs.Numbers.{hour}
-use Rattle.records.specs.Names.{spell, nameField, noOne, bytesOf, held}
+use Rattle.records.specs.Names.{spell, nameField, emptyName, bytesOf, storedName}
 use Rattle.records.specs.Marks.{is, markBytes, mark, hasName}
 use Rattle.records.specs.Layouts.{layout, taken}
 use Rattle.records.specs.declared.marks.Mark.{Mark}
@@ -104,7 +104,7 @@ pub record Head : Type 0 where
 
 -- "unknown mark, or not allowed inside `CO` or `WD`"; another method's mark is refused before what stands behind it
 abbrev pub inside : Wanted → Kind → Reader Head
-inside want k s = check (allowed want k) unknownMark (mark s >>= λ m t. got (record { kind = k; mark = m }) t)
+inside want k s = check (allowed want k) markUnknown (mark s >>= λ m t. got (record { kind = k; mark = m }) t)
 
 -- "`CO`: one of the six above (their order is the listing's). `WD`: mark of one of the six"
 unfoldable pub head : Wanted → Reader Head
@@ -116,12 +116,12 @@ head want (a ∷ b ∷ s) =
 
 -- "for `PR` the length byte 0; another there, or 0 elsewhere, gives 4"
 abbrev pub nameless : Kind → Reader Name
-nameless File s = got noOne s
-nameless Correct s = got noOne s
-nameless Withdraw s = byte s >>= λ n t. check (eqb n 0) badName (got noOne t)
+nameless File s = got emptyName s
+nameless Correct s = got emptyName s
+nameless Withdraw s = byte s >>= λ n t. check (eqb n 0) nameFault (got emptyName t)
 
 unfoldable pub nameFor : Kind → Mark → Reader Name
-nameFor k m s = cond (hasName m) (held (nameField s)) (nameless k s)
+nameFor k m s = cond (hasName m) (storedName (nameField s)) (nameless k s)
 
 -- "`WD`: mark of one of the six, hour, name": no fields
 unfoldable pub bodyFor : Kind → Mark → Reader (List ℕ)
@@ -160,7 +160,7 @@ pub data Input (A : Type 0) : Type 0 where
 abbrev pub whole : {A : Type 0} → Res A → Input A
 whole (bad k) = fault k
 whole (got a []) = fine a
-whole (got a (x ∷ t)) = fault leftOver
+whole (got a (x ∷ t)) = fault bytesLeftOver
 
 -- the change of a kind, by the method that takes it
 unfoldable pub parse : Wanted → List ℕ → Input Change
@@ -174,7 +174,7 @@ parseAny s = whole (entry s)
 unfoldable pub bare : List ℕ → List ℕ → ℕ
 bare m [] = endsEarly
 bare m (a ∷ []) = endsEarly
-bare m (a ∷ b ∷ s) = cond (is m a b) (cond (eqb (length s) 0) 0 leftOver) unknownMark
+bare m (a ∷ b ∷ s) = cond (is m a b) (cond (eqb (length s) 0) 0 bytesLeftOver) markUnknown
 
 -- ---- writing
 
@@ -214,7 +214,7 @@ putBytes (fine c) at d = cond (fits c at d) (put d at (write c)) d
 -- a change and its length, or nothing that is written so
 pub data Scan : Type 0 where
   seen : Change → ℕ → Scan
-  blind : Scan
+  unseen : Scan
 
 abbrev pub begins : List ℕ → List ℕ → Bool
 begins [] s = true
@@ -222,8 +222,8 @@ begins (x ∷ xs) [] = false
 begins (x ∷ xs) (y ∷ s) = eqb x y && begins xs s
 
 abbrev pub written : List ℕ → Res Change → Scan
-written s (bad k) = blind
-written s (got c t) = cond (begins (write c) s) (seen c (length (write c))) blind
+written s (bad k) = unseen
+written s (got c t) = cond (begins (write c) s) (seen c (length (write c))) unseen
 
 -- the change that bytes begin with, byte for byte as it is written
 unfoldable pub scan : List ℕ → Scan
@@ -236,7 +236,7 @@ Good c = (t : List ℕ) → change Any (write c ++ t) ≡ got c t
 -- ---- what the code answers
 
 abbrev pub noKey : Key
-noKey = record { mark = Pr; hour = 0; name = noOne }
+noKey = record { mark = Pr; hour = 0; name = emptyName }
 
 -- a change of a record
 abbrev pub isRecord : Act → Bool
@@ -254,7 +254,7 @@ kindIn Nothing = File
 
 abbrev pub viewOf : Scan → View
 viewOf (seen c n) = record { act = Record (kind c); key = keyOf c; len = n }
-viewOf blind = record { act = Nothing; key = noKey; len = 0 }
+viewOf unseen = record { act = Nothing; key = noKey; len = 0 }
 
 abbrev pub entryView : Entry → View
 entryView (changed c) = viewOf (seen c (length (write c)))
@@ -270,13 +270,13 @@ entryRead r = r >>= λ x t. got (entryView x) t
 
 abbrev pub parsedOf : Input Change → Parsed
 parsedOf (fine c) = record { number = 0; view = viewOf (seen c (length (write c))) }
-parsedOf (fault n) = record { number = n; view = viewOf blind }
+parsedOf (fault n) = record { number = n; view = viewOf unseen }
 
 abbrev pub entryOf : Input Entry → Parsed
 entryOf (fine x) = record { number = 0; view = entryView x }
-entryOf (fault n) = record { number = n; view = viewOf blind }
+entryOf (fault n) = record { number = n; view = viewOf unseen }
 
 -- the first of several changes, and the place where it ends
 abbrev pub frontOf : List ℕ → Res Entry → Front
-frontOf s (bad n) = record { number = n; view = viewOf blind; end = 0 }
+frontOf s (bad n) = record { number = n; view = viewOf unseen; end = 0 }
 frontOf s (got x t) = record { number = 0; view = entryView x; end = length s - length t }

@@ -4,12 +4,12 @@ use mathlib.Core.Bool.{Bool, cond, _&&_}
 use Prim.Native.Nat.{ℕ}
 use lib.Dec.{eqb}
 use lib.ListN.{length}
-use Rattle.money.specs.Refusals.{unknownMark, badHour, badName}
+use Rattle.money.specs.Refusals.{markUnknown, hourOutside, nameFault}
 use Rattle.money.specs.Names.{sameName}
 use Rattle.money.specs.declared.names.Name.{Name}
 use Rattle.records.specs.Reading.{Res, bad, got, _>>=_, check}
 use Rattle.records.specs.Numbers.{between}
-use Rattle.records.specs.Names.{decodeName, noOne, held, spell, bytesOf}
+use Rattle.records.specs.Names.{decodeName, emptyName, storedName, spell, bytesOf}
 use Rattle.records.specs.Marks.{mark, hasName, isFailure, order}
 use Rattle.records.specs.Changes.{noKey}
 use Rattle.records.specs.declared.marks.Mark.{Mark}
@@ -30,22 +30,22 @@ same a b = sameHour a b && sameName (a .name) (b .name)
 
 -- "A mark other than the six gives 2": bytes that are not two, too
 unfoldable pub askMark : List ℕ → Res Mark
-askMark [] = bad unknownMark
-askMark (a ∷ []) = bad unknownMark
+askMark [] = bad markUnknown
+askMark (a ∷ []) = bad markUnknown
 askMark (a ∷ b ∷ []) = mark (a ∷ b ∷ [])
-askMark (a ∷ b ∷ c ∷ s) = bad unknownMark
+askMark (a ∷ b ∷ c ∷ s) = bad markUnknown
 
 -- "The name is lent as its spelled bytes without the length byte, none for `PR`; every other fault in it, a wrong length too, gives 4"
 unfoldable pub askName : Mark → List ℕ → Res Name
-askName m n = cond (hasName m) (held (decodeName n)) (check (eqb (length n) 0) badName (got noOne []))
+askName m n = cond (hasName m) (storedName (decodeName n)) (check (eqb (length n) 0) nameFault (got emptyName []))
 
 -- "for a failure charge also one other than `FI` or `FE`"
 unfoldable pub askFailureMark : List ℕ → Res Mark
-askFailureMark ms = askMark ms >>= λ m t. check (isFailure m) unknownMark (got m t)
+askFailureMark ms = askMark ms >>= λ m t. check (isFailure m) markUnknown (got m t)
 
 -- a mark, then the hour, then the name
 unfoldable pub askFrom : Res Mark → ℕ → List ℕ → Res Key
-askFrom x h ns = x >>= λ m t. check (between 1 24 h) badHour (askName m ns >>= λ n u. got (record { mark = m; hour = h; name = n }) [])
+askFrom x h ns = x >>= λ m t. check (between 1 24 h) hourOutside (askName m ns >>= λ n u. got (record { mark = m; hour = h; name = n }) [])
 
 abbrev pub ask : List ℕ → ℕ → List ℕ → Res Key
 ask ms h ns = askFrom (askMark ms) h ns
@@ -55,21 +55,21 @@ askFailure ms h ns = askFrom (askFailureMark ms) h ns
 
 -- a mark and an hour alone
 unfoldable pub askHourOf : Mark → ℕ → Res Key
-askHourOf m h = check (between 1 24 h) badHour (got (record { mark = m; hour = h; name = noOne }) [])
+askHourOf m h = check (between 1 24 h) hourOutside (got (record { mark = m; hour = h; name = emptyName }) [])
 
 unfoldable pub askHour : List ℕ → ℕ → Res Key
 askHour ms h = askMark ms >>= λ m t. askHourOf m h
 
 -- "a unit's day" has a name only: the hour of this key is not used
 unfoldable pub askUnit : List ℕ → Res Key
-askUnit ns = held (decodeName ns) >>= λ n u. got (record { mark = Gh; hour = 1; name = n }) []
+askUnit ns = storedName (decodeName ns) >>= λ n u. got (record { mark = Gh; hour = 1; name = n }) []
 
 abbrev pub keyAnswer : Res Key → KeyAnswer
 keyAnswer (bad n) = record { number = n; key = noKey }
 keyAnswer (got k t) = record { number = 0; key = k }
 
 abbrev pub nameAnswer : Res Name → NameAnswer
-nameAnswer (bad n) = record { number = n; name = noOne }
+nameAnswer (bad n) = record { number = n; name = emptyName }
 nameAnswer (got x t) = record { number = 0; name = x }
 
 -- the bytes that ask for a key's name: its written spelling, none where the mark has none

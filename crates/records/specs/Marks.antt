@@ -12,7 +12,7 @@ use mathlib.Core.Bool.{Bool, true, false, cond, _&&_}
 use Prim.Native.Nat.{ℕ}
 use lib.Dec.{eqb}
 use Rattle.laws.specs.Text.{bytes}
-use Rattle.money.specs.Refusals.{endsEarly, unknownMark}
+use Rattle.money.specs.Refusals.{endsEarly, markUnknown}
 use Rattle.records.specs.Reading.{Res, bad, got, Reader}
 use Rattle.records.specs.declared.marks.Mark.{Mark}
 use Rattle.records.specs.declared.marks.Mark.the-variants.{Pr, Im, Ex, Gh, Fi, Fe}
@@ -38,7 +38,7 @@ listing = Pr ∷ Im ∷ Ex ∷ Gh ∷ Fi ∷ Fe ∷ []
 
 -- the first of some marks that two bytes are; "unknown mark" else
 unfoldable pub markAmong : List Mark → ℕ → ℕ → Reader Mark
-markAmong [] a b s = bad unknownMark
+markAmong [] a b s = bad markUnknown
 markAmong (m ∷ ms) a b s = cond (is (markBytes m) a b) (got m s) (markAmong ms a b s)
 
 -- "Two marking bytes (ASCII), then fields": those of one of the six

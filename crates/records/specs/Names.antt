@@ -5,7 +5,7 @@ use Prim.Native.Nat.{ℕ, zero, suc, _+_, _*_, _-_, _/_, _%_}
 use lib.Dec.{ltb, eqb}
 use lib.ListN.{length, take}
 use Rattle.laws.specs.Text.{char}
-use Rattle.money.specs.Refusals.{badName}
+use Rattle.money.specs.Refusals.{nameFault}
 use Rattle.money.specs.Names.{nameOk}
 use Rattle.money.specs.declared.names.Name.{Name}
 use Rattle.records.specs.Reading.{Res, bad, got, Reader, _>>=_, check, byte, some}
@@ -24,30 +24,30 @@ hexVal x =
 
 -- "`%` only before two hex digits": what these two stand for
 unfoldable pub escaped : Reader ℕ
-escaped [] = bad badName
-escaped (h ∷ []) = bad badName
+escaped [] = bad nameFault
+escaped (h ∷ []) = bad nameFault
 escaped (h ∷ l ∷ s) =
-    check (ltb (hexVal h) 16) badName (check (ltb (hexVal l) 16) badName (check (visible (16 * hexVal h + hexVal l)) badName (got (16 * hexVal h + hexVal l) s)))
+    check (ltb (hexVal h) 16) nameFault (check (ltb (hexVal l) 16) nameFault (check (visible (16 * hexVal h + hexVal l)) nameFault (got (16 * hexVal h + hexVal l) s)))
 
 -- one byte of a name, plain or escaped
 unfoldable pub one : Reader ℕ
-one [] = bad badName
-one (x ∷ s) = cond (eqb x (char "%")) (escaped s) (check (visible x) badName (got x s))
+one [] = bad nameFault
+one (x ∷ s) = cond (eqb x (char "%")) (escaped s) (check (visible x) nameFault (got x s))
 
 -- at most n bytes of a name, up to the end of the spelling
 unfoldable pub upTo : ℕ → Reader (List ℕ)
 upTo zero [] = got [] []
-upTo zero (x ∷ s) = bad badName
+upTo zero (x ∷ s) = bad nameFault
 upTo (suc n) [] = got [] []
 upTo (suc n) (x ∷ s) = one (x ∷ s) >>= λ v t. upTo n t >>= λ vs u. got (v ∷ vs) u
 
 -- "a length byte 1 to 36 .. Decoded exactly once, 1 to 12 bytes, each 0x21 to 0x7E"
 unfoldable pub decodeName : Reader (List ℕ)
-decodeName s = check (between 1 36 (length s)) badName (upTo 12 s)
+decodeName s = check (between 1 36 (length s)) nameFault (upTo 12 s)
 
 -- "Name: a length byte 1 to 36, then that many bytes"; "a name's length byte .. by [itself]"
 unfoldable pub nameField : Reader (List ℕ)
-nameField s = byte s >>= λ n t. check (between 1 36 n) badName (some n t >>= λ bs u. decodeName bs >>= λ vs z. got vs u)
+nameField s = byte s >>= λ n t. check (between 1 36 n) nameFault (some n t >>= λ bs u. decodeName bs >>= λ vs z. got vs u)
 
 -- ---- writing
 
@@ -71,19 +71,19 @@ spell (x ∷ xs) = spellByte x ++ spell xs
 
 -- ---- a decoded name as a key holds it: its length, and its bytes with zeros behind them
 
-abbrev pub nameOf : List ℕ → Name
-nameOf n = record { len = length n; bytes = pad 0 12 n }
+abbrev pub nameFrom : List ℕ → Name
+nameFrom n = record { len = length n; bytes = pad 0 12 n }
 
 abbrev pub bytesOf : Name → List ℕ
 bytesOf n = take (n .len) (n .bytes)
 
 -- the name of a mark that has none
-abbrev pub noOne : Name
-noOne = nameOf []
+abbrev pub emptyName : Name
+emptyName = nameFrom []
 
 -- a name that was read, as a key holds it
-abbrev pub held : Res (List ℕ) → Res Name
-held r = r >>= λ n t. got (nameOf n) t
+abbrev pub storedName : Res (List ℕ) → Res Name
+storedName r = r >>= λ n t. got (nameFrom n) t
 
 -- ---- a name as it is written, with zeros behind it: number 0, or "name breaks its rule" of one that is none, and no bytes
 
@@ -91,4 +91,4 @@ abbrev pub spellingBytes : ℕ → List ℕ → Spelling
 spellingBytes k s = record { number = k; len = length s; bytes = pad 0 36 s }
 
 unfoldable pub spellingOf : Name → Spelling
-spellingOf n = cond (nameOk n) (spellingBytes 0 (spell (bytesOf n))) (spellingBytes badName [])
+spellingOf n = cond (nameOk n) (spellingBytes 0 (spell (bytesOf n))) (spellingBytes nameFault [])

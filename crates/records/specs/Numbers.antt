@@ -5,7 +5,7 @@ use Prim.Native.Nat.{ℕ, zero, suc, _+_, _*_, _-_}
 use lib.Dec.{ltb, leb, eqb}
 use lib.IntN.{ℤ, pos, negsuc}
 use lib.ListN.{length}
-use Rattle.money.specs.Refusals.{endsEarly, badHour, outOfRange, badList}
+use Rattle.money.specs.Refusals.{endsEarly, hourOutside, numberOutside, listFault}
 use Rattle.money.specs.Units.{priceOk, quantityOk, noPrice, noQuantity}
 use Rattle.money.specs.Offers.{offerFault}
 use Rattle.money.specs.declared.units.Price.{Price}
@@ -33,18 +33,18 @@ signed u = cond (ltb u 2147483648) (pos u) (negsuc (4294967295 - u))
 
 -- "number outside its range"
 unfoldable pub price : Reader Price
-price s = word s >>= λ u t. check (priceOk (record { 0 = signed u })) outOfRange (got (record { 0 = signed u }) t)
+price s = word s >>= λ u t. check (priceOk (record { 0 = signed u })) numberOutside (got (record { 0 = signed u }) t)
 
 unfoldable pub quantity : Reader Quantity
-quantity s = word s >>= λ u t. check (quantityOk (record { 0 = u })) outOfRange (got (record { 0 = u }) t)
+quantity s = word s >>= λ u t. check (quantityOk (record { 0 = u })) numberOutside (got (record { 0 = u }) t)
 
 -- "start-up cents u32 (0 for no start), speed no-load cents u32 (each at most 100,000,000)"
 unfoldable pub amount : ℕ → Reader ℕ
-amount most s = word s >>= λ v t. check (leb v most) outOfRange (got v t)
+amount most s = word s >>= λ v t. check (leb v most) numberOutside (got v t)
 
 -- "hour byte 1 to 24"
 unfoldable pub hour : Reader ℕ
-hour s = byte s >>= λ h t. check (between 1 24 h) badHour (got h t)
+hour s = byte s >>= λ h t. check (between 1 24 h) hourOutside (got h t)
 
 -- "(i32 price, u32 quantity) pairs"
 unfoldable pub pair : Reader (Price × Quantity)
@@ -71,4 +71,4 @@ listOk o = eqb (o .count) 0 || eqb (offerFault o) 0
 -- "List: count byte, then (i32 price, u32 quantity) pairs"; "a list's count by [itself], a list's order after its last pair".
 -- The least count is lo.
 unfoldable pub listFrom : ℕ → Reader Offer
-listFrom lo s = byte s >>= λ n t. check (between lo 20 n) badList (pairs n t >>= λ o u. check (listOk o) badList (got o u))
+listFrom lo s = byte s >>= λ n t. check (between lo 20 n) listFault (pairs n t >>= λ o u. check (listOk o) listFault (got o u))

@@ -1,7 +1,7 @@
 -- 01, "Records": what a record is to the money rules. Assumes nothing.
 use mathlib.Core.List.{List, []}
 use Prim.Native.Nat.{ℕ}
-use Rattle.money.specs.Refusals.{unknownMark}
+use Rattle.money.specs.Refusals.{markUnknown}
 use Rattle.money.specs.Units.{noPrice, noQuantity}
 use Rattle.money.specs.declared.names.Name.{Name}
 use Rattle.money.specs.declared.offers.Offer.{Offer}
@@ -93,7 +93,7 @@ failureOf r = valueOr noFailure (failure (r .body))
 
 -- mark, hour and name, of which the name is given; another mark than the one asked for is "unknown" here
 unfoldable pub ahead : Mark → Reader Name
-ahead m s = head (Only File) s >>= λ h t. check (sameMark (h .mark) m) unknownMark (hour t >>= λ o u. nameFor File m u)
+ahead m s = head (Only File) s >>= λ h t. check (sameMark (h .mark) m) markUnknown (hour t >>= λ o u. nameFor File m u)
 
 -- and then the fields
 unfoldable pub viewed : {A : Type 0} → Mark → Reader A → Reader A
@@ -101,7 +101,7 @@ viewed m f s = ahead m s >>= λ n t. f t
 
 -- "for a failure charge also [a mark] other than `FI` or `FE`" gives 2: before anything is read
 abbrev pub viewedFailure : Mark → Reader Failure
-viewedFailure m s = check (isFailure m) unknownMark (viewed m failure s)
+viewedFailure m s = check (isFailure m) markUnknown (viewed m failure s)
 
 -- the prices, zeros in bytes that begin with no `PR`
 abbrev pub pricesIn : List ℕ → HourPrices

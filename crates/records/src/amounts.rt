@@ -22,7 +22,7 @@ use money::offset::totals_with;
 use money::production::DayAnswer;
 use money::production::unit_day;
 use money::production::unit_hour;
-use money::refusals::UNKNOWN_MARK;
+use money::refusals::MARK_UNKNOWN;
 use money::units::Answer;
 use money::units::CentsPerStart;
 use money::units::Quantity;
@@ -75,10 +75,10 @@ fn charge_for(mark: Mark, f: Failure, prices: HourPrices) -> Answer
     match mark {
         Mark::Fi => import_charge(f, prices.pd),
         Mark::Fe => export_charge(f, prices.pd),
-        Mark::Pr => Answer::Refused(UNKNOWN_MARK),
-        Mark::Im => Answer::Refused(UNKNOWN_MARK),
-        Mark::Ex => Answer::Refused(UNKNOWN_MARK),
-        Mark::Gh => Answer::Refused(UNKNOWN_MARK),
+        Mark::Pr => Answer::Refused(MARK_UNKNOWN),
+        Mark::Im => Answer::Refused(MARK_UNKNOWN),
+        Mark::Ex => Answer::Refused(MARK_UNKNOWN),
+        Mark::Gh => Answer::Refused(MARK_UNKNOWN),
     }
 }
 

@@ -11,10 +11,10 @@ use crate::marks::head_at;
 use crate::names::NameRead;
 use crate::names::name_field_then;
 use crate::names::unnamed;
-use money::refusals::BAD_NAME;
+use money::refusals::NAME_FAULT;
 use money::refusals::ENDS_EARLY;
 ghost use mathlib.Core.Path.{_≡_};
-ghost use Rattle.records.specs.Names.{noOne};
+ghost use Rattle.records.specs.Names.{emptyName};
 ghost use Rattle.records.specs.Changes.{nameless, nameFor};
 ghost use Rattle.records.specs.tables.Inner.{shown, EndIn, then, Named, layoutFor, ReadIs};
 
@@ -27,7 +27,7 @@ pub struct Read {
 }
 
 fn zero_then(s: &[u8], e: End) -> End
-    ensures { λ r. ⌜ (shown (now (s .entry)) r (noOne) ≡ then (now (s .entry)) e (nameless Kind.Withdraw)) × EndIn (now (s .entry)) r ⌝ }
+    ensures { λ r. ⌜ (shown (now (s .entry)) r (emptyName) ≡ then (now (s .entry)) e (nameless Kind.Withdraw)) × EndIn (now (s .entry)) r ⌝ }
 {
     match e {
         End::At(at) => {
@@ -37,7 +37,7 @@ fn zero_then(s: &[u8], e: End) -> End
             if s[at] == 0 {
                 End::At(at + 1)
             } else {
-                End::No(BAD_NAME)
+                End::No(NAME_FAULT)
             }
         }
         End::No(k) => End::No(k),

@@ -1,6 +1,6 @@
-use money::refusals::BAD_HOUR;
+use money::refusals::HOUR_OUTSIDE;
 use money::refusals::ENDS_EARLY;
-use money::refusals::OUT_OF_RANGE;
+use money::refusals::NUMBER_OUTSIDE;
 use money::units::Price;
 use money::units::PriceRead;
 use money::units::Quantity;
@@ -130,7 +130,7 @@ fn read_amount(s: &[u8], at: usize, most: u32) -> Num
         Num::Got(v, next) => if v <= most {
             Num::Got(v, next)
         } else {
-            Num::No(OUT_OF_RANGE)
+            Num::No(NUMBER_OUTSIDE)
         },
         Num::No(k) => Num::No(k),
     }
@@ -229,10 +229,10 @@ pub(crate) fn hour_then(s: &[u8], e: End) -> HourField
             }
             let hour = s[at];
             if hour < 1 {
-                return hour_no(BAD_HOUR);
+                return hour_no(HOUR_OUTSIDE);
             }
             if 24 < hour {
-                return hour_no(BAD_HOUR);
+                return hour_no(HOUR_OUTSIDE);
             }
             HourField {
                 end: End::At(at + 1),

@@ -9,8 +9,8 @@ use crate::marks::Mark;
 use crate::marks::Wanted;
 use crate::marks::head_at;
 use money::names::Name;
-use money::refusals::BAD_HOUR;
-use money::refusals::UNKNOWN_MARK;
+use money::refusals::HOUR_OUTSIDE;
+use money::refusals::MARK_UNKNOWN;
 ghost use mathlib.Core.Path.{_≡_};
 ghost use Rattle.records.specs.HourRecord.{ofHour, sameAs, hourRecord, hourFrontOf};
 ghost use Rattle.records.specs.Changes.{change, noKey};
@@ -53,11 +53,11 @@ fn start_of(s: &[u8], first: u8) -> End
     let h = head_at(s, Wanted::Only(Kind::File));
     let e1 = h.end;
     let mark = h.mark;
-    let e2 = guard_end(e1, of_hour(mark), UNKNOWN_MARK);
+    let e2 = guard_end(e1, of_hour(mark), MARK_UNKNOWN);
     let o = hour_then(s, e2);
     let e3 = o.end;
     let hour = o.hour;
-    guard_end(e3, same_as(first, hour), BAD_HOUR)
+    guard_end(e3, same_as(first, hour), HOUR_OUTSIDE)
 }
 
 fn no_record(number: u8) -> HourFront

@@ -13,15 +13,15 @@ use crate::names::no_name;
 use crate::names::unnamed;
 use money::names::Name;
 use money::names::same_name;
-use money::refusals::BAD_HOUR;
-use money::refusals::BAD_NAME;
-use money::refusals::UNKNOWN_MARK;
+use money::refusals::HOUR_OUTSIDE;
+use money::refusals::NAME_FAULT;
+use money::refusals::MARK_UNKNOWN;
 ghost use mathlib.Core.Path.{_≡_};
 ghost use mathlib.Core.List.{List};
 ghost use Prim.Native.Nat.{ℕ};
 ghost use mathlib.Core.Bool.{Bool, true, false, _&&_};
 ghost use Rattle.records.specs.Numbers.{between};
-ghost use Rattle.records.specs.Names.{decodeName, noOne, held};
+ghost use Rattle.records.specs.Names.{decodeName, emptyName, storedName};
 ghost use Rattle.records.specs.Changes.{noKey};
 ghost use Rattle.records.specs.Keys.{sameHour, same, askMark, askName, askFailureMark, askFrom, ask, askFailure, askHourOf, askHour, askUnit, keyAnswer, nameAnswer};
 ghost use Rattle.records.specs.tables.Inner.{shown, EndIn, Named};
@@ -75,7 +75,7 @@ fn asked_mark(mark: &[u8]) -> MarkRead
     if mark.len() == 2 {
         return mark_at(mark, 0);
     }
-    mark_no(UNKNOWN_MARK)
+    mark_no(MARK_UNKNOWN)
 }
 
 fn asked_name(name: &[u8], mark: Mark) -> NameRead
@@ -87,7 +87,7 @@ fn asked_name(name: &[u8], mark: Mark) -> NameRead
     if name.len() == 0 {
         return unnamed(End::At(0));
     }
-    unnamed(End::No(BAD_NAME))
+    unnamed(End::No(NAME_FAULT))
 }
 
 pub(crate) fn hour_ok(hour: u8) -> bool
@@ -101,7 +101,7 @@ pub(crate) fn hour_ok(hour: u8) -> bool
 
 // A mark and an hour, as a key without a name.
 pub fn key_of(mark: Mark, hour: u8) -> Key
-    ensures { λ r. ⌜ r ≡ record { mark = mark; hour = hour; name = noOne } ⌝ }
+    ensures { λ r. ⌜ r ≡ record { mark = mark; hour = hour; name = emptyName } ⌝ }
 {
     let bytes = [0u8; 12];
     Key {
@@ -148,7 +148,7 @@ fn key_from(m: MarkRead, hour: u8, name: &[u8]) -> KeyAnswer
                     End::No(j) => key_no(j),
                 }
             } else {
-                key_no(BAD_HOUR)
+                key_no(HOUR_OUTSIDE)
             }
         }
         End::No(j) => key_no(j),
@@ -168,7 +168,7 @@ fn asked_failure_mark(mark: &[u8]) -> MarkRead
     let m = asked_mark(mark);
     let e = m.end;
     let k = m.mark;
-    let end = guard_end(e, is_failure(k), UNKNOWN_MARK);
+    let end = guard_end(e, is_failure(k), MARK_UNKNOWN);
     MarkRead { end, mark: k }
 }
 
@@ -187,7 +187,7 @@ pub fn hour_key(mark: Mark, hour: u8) -> KeyAnswer
         let key = key_of(mark, hour);
         return KeyAnswer { number: 0, key };
     }
-    key_no(BAD_HOUR)
+    key_no(HOUR_OUTSIDE)
 }
 
 // The same, asked for by the mark's bytes.
@@ -225,7 +225,7 @@ pub fn unit_key(name: &[u8]) -> KeyAnswer
 
 // The name that spelled bytes without a length byte ask for.
 pub fn ask_name(name: &[u8]) -> NameAnswer
-    ensures { λ r. ⌜ r ≡ nameAnswer (held (decodeName (now (name .entry)))) ⌝ }
+    ensures { λ r. ⌜ r ≡ nameAnswer (storedName (decodeName (now (name .entry)))) ⌝ }
 {
     let n = decode(name);
     let e = n.end;

@@ -5,7 +5,7 @@ ghost use mathlib.Core.List.{[], _∷_};
 ghost use Rattle.records.specs.Changes.{begins};
 
 // Whether some bytes begin with the mark x y.
-pub fn bears(s: &[u8], x: u8, y: u8) -> bool
+pub fn begins_with(s: &[u8], x: u8, y: u8) -> bool
     ensures { λ r. ⌜ r ≡ begins (x ∷ y ∷ []) (now (s .entry)) ⌝ }
 {
     if s.len() < 2 {

@@ -7,7 +7,7 @@ use crate::fields::read_price;
 use crate::fields::read_quantity;
 use money::offers::Offer;
 use money::offers::offer_fault;
-use money::refusals::BAD_LIST;
+use money::refusals::LIST_FAULT;
 use money::units::Price;
 use money::units::Quantity;
 ghost use mathlib.Core.Path.{_≡_};
@@ -109,17 +109,17 @@ fn read_list(s: &[u8], at: usize, lo: u32) -> OfferRead
     match c {
         Num::Got(n, first) => {
             if n < lo {
-                return offer_no(BAD_LIST);
+                return offer_no(LIST_FAULT);
             }
             if 20 < n {
-                return offer_no(BAD_LIST);
+                return offer_no(LIST_FAULT);
             }
             let r = read_pairs(s, first, n as usize);
             let e = r.end;
             match e {
                 End::At(_next) => {
                     let o = r.offer;
-                    if list_ok(o) { r } else { offer_no(BAD_LIST) }
+                    if list_ok(o) { r } else { offer_no(LIST_FAULT) }
                 }
                 End::No(k) => offer_no(k),
             }

@@ -1,6 +1,6 @@
 use crate::fields::End;
 use money::refusals::ENDS_EARLY;
-use money::refusals::UNKNOWN_MARK;
+use money::refusals::MARK_UNKNOWN;
 ghost use mathlib.Core.Path.{_≡_};
 ghost use mathlib.Core.List.{List, [], _∷_};
 ghost use Prim.Native.Nat.{_<_};
@@ -130,7 +130,7 @@ pub(crate) fn mark_at(s: &[u8], at: usize) -> MarkRead
         }
         i += 1;
     }
-    mark_no(UNKNOWN_MARK)
+    mark_no(MARK_UNKNOWN)
 }
 
 pub fn is_filing(k: Kind) -> bool
@@ -192,7 +192,7 @@ fn inside_at(s: &[u8], at: usize, want: Wanted, kind: Kind) -> HeadRead
         HeadRead { end, kind, mark }
     } else {
         HeadRead {
-            end: End::No(UNKNOWN_MARK),
+            end: End::No(MARK_UNKNOWN),
             kind,
             mark: Mark::Pr,
         }

@@ -4,14 +4,14 @@ use crate::fields::read_byte;
 use money::names::Name;
 use money::names::name_before;
 use money::names::name_ok;
-use money::refusals::BAD_NAME;
+use money::refusals::NAME_FAULT;
 use money::refusals::ENDS_EARLY;
 ghost use mathlib.Core.Path.{_≡_};
 ghost use Prim.Native.Nat.{ℕ, _+_, _≤_, _<_};
 ghost use lib.ListN.{length};
-ghost use Rattle.money.specs.Names.{nameOf, nameBefore};
+ghost use Rattle.money.specs.Names.{decodedBytes, nameBefore};
 ghost use Rattle.records.specs.Reading.{from};
-ghost use Rattle.records.specs.Names.{visible, hexVal, escaped, one, decodeName, unreserved, digit, spellByte, spell, nameField, noOne, bytesOf, held, spellingOf};
+ghost use Rattle.records.specs.Names.{visible, hexVal, escaped, one, decodeName, unreserved, digit, spellByte, spell, nameField, emptyName, bytesOf, storedName, spellingOf};
 ghost use Rattle.records.specs.tables.Inner.{then, Named, chr, ChrIn, Wrote};
 
 pub struct NameRead {
@@ -69,24 +69,24 @@ fn escaped_at(s: &[u8], at: usize) -> Chr
     ensures { λ r. ⌜ (chr (now (s .entry)) r ≡ escaped (from (now (s .entry)) at)) × ChrIn (now (s .entry)) r ⌝ }
 {
     if s.len() <= at {
-        return Chr::No(BAD_NAME);
+        return Chr::No(NAME_FAULT);
     }
     if s.len() - at < 2 {
-        return Chr::No(BAD_NAME);
+        return Chr::No(NAME_FAULT);
     }
     let h = hex(s[at]);
     if 16 <= h {
-        return Chr::No(BAD_NAME);
+        return Chr::No(NAME_FAULT);
     }
     let l = hex(s[at + 1]);
     if 16 <= l {
-        return Chr::No(BAD_NAME);
+        return Chr::No(NAME_FAULT);
     }
     let b = 16 * h + l;
     if visible(b) {
         Chr::Got(b, at + 2)
     } else {
-        Chr::No(BAD_NAME)
+        Chr::No(NAME_FAULT)
     }
 }
 
@@ -101,20 +101,20 @@ fn one_at(s: &[u8], at: usize) -> Chr
     if visible(x) {
         Chr::Got(x, at + 1)
     } else {
-        Chr::No(BAD_NAME)
+        Chr::No(NAME_FAULT)
     }
 }
 
 // The name of a mark that has none.
 pub fn no_name() -> Name
-    ensures { λ r. ⌜ r ≡ noOne ⌝ }
+    ensures { λ r. ⌜ r ≡ emptyName ⌝ }
 {
     let bytes = [0u8; 12];
     Name { len: 0, bytes }
 }
 
 pub(crate) fn unnamed(end: End) -> NameRead
-    ensures { λ r. ⌜ (r .end ≡ end) × (r .name ≡ noOne) ⌝ }
+    ensures { λ r. ⌜ (r .end ≡ end) × (r .name ≡ emptyName) ⌝ }
 {
     let name = no_name();
     NameRead { end, name }
@@ -127,20 +127,20 @@ fn name_no(k: u8) -> NameRead
 }
 
 pub(crate) fn decode(spelled: &[u8]) -> NameRead
-    ensures { λ r. ⌜ Named (now (spelled .entry)) (held (decodeName (now (spelled .entry)))) r ⌝ }
+    ensures { λ r. ⌜ Named (now (spelled .entry)) (storedName (decodeName (now (spelled .entry)))) r ⌝ }
 {
     if spelled.len() < 1 {
-        return name_no(BAD_NAME);
+        return name_no(NAME_FAULT);
     }
     if 36 < spelled.len() {
-        return name_no(BAD_NAME);
+        return name_no(NAME_FAULT);
     }
     let mut bytes = [0u8; 12];
     let mut n: usize = 0;
     let mut at: usize = 0;
     while at < spelled.len() {
         if 12 <= n {
-            return name_no(BAD_NAME);
+            return name_no(NAME_FAULT);
         }
         let b = one_at(spelled, at);
         match b {
@@ -236,7 +236,7 @@ pub fn spell_name(name: Name) -> Spelling
     let mut bytes = [0u8; 36];
     if !name_ok(name) {
         return Spelling {
-            number: BAD_NAME,
+            number: NAME_FAULT,
             len: 0,
             bytes,
         };
@@ -271,16 +271,16 @@ pub(crate) fn spelled_len(name: Name) -> usize
 }
 
 fn read_name(s: &[u8], at: usize) -> NameRead
-    ensures { λ r. ⌜ Named (now (s .entry)) (held (nameField (from (now (s .entry)) at))) r ⌝ }
+    ensures { λ r. ⌜ Named (now (s .entry)) (storedName (nameField (from (now (s .entry)) at))) r ⌝ }
 {
     let c = read_byte(s, at);
     match c {
         Num::Got(n, first) => {
             if n < 1 {
-                return name_no(BAD_NAME);
+                return name_no(NAME_FAULT);
             }
             if 36 < n {
-                return name_no(BAD_NAME);
+                return name_no(NAME_FAULT);
             }
             let k = n as usize;
             if s.len() - first < k {
@@ -302,7 +302,7 @@ fn read_name(s: &[u8], at: usize) -> NameRead
 }
 
 pub(crate) fn name_field_then(s: &[u8], e: End) -> NameRead
-    ensures { λ r. ⌜ Named (now (s .entry)) (then (now (s .entry)) e (λ t. held (nameField t))) r ⌝ }
+    ensures { λ r. ⌜ Named (now (s .entry)) (then (now (s .entry)) e (λ t. storedName (nameField t))) r ⌝ }
 {
     match e {
         End::At(at) => read_name(s, at),
@@ -312,7 +312,7 @@ pub(crate) fn name_field_then(s: &[u8], e: End) -> NameRead
 
 // Decoded names in byte order, a prefix first.
 pub fn comes_before(a: Name, b: Name) -> bool
-    ensures { λ r. ⌜ r ≡ nameBefore (nameOf a) (nameOf b) ⌝ }
+    ensures { λ r. ⌜ r ≡ nameBefore (decodedBytes a) (decodedBytes b) ⌝ }
 {
     name_before(a, b)
 }

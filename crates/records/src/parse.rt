@@ -8,11 +8,11 @@ use crate::scan::View;
 use crate::scan::nothing;
 use crate::writing::head_of;
 use money::refusals::ENDS_EARLY;
-use money::refusals::LEFT_OVER;
-use money::refusals::UNKNOWN_MARK;
+use money::refusals::BYTES_LEFT_OVER;
+use money::refusals::MARK_UNKNOWN;
 ghost use mathlib.Core.Path.{_≡_};
 ghost use mathlib.Core.List.{List, [], _∷_};
-ghost use Rattle.records.specs.Changes.{change, changeView, entry, entryRead, parse, parseAny, bare, takeBackBytes, closeBytes, blind, viewOf, parsedOf, entryOf, frontOf};
+ghost use Rattle.records.specs.Changes.{change, changeView, entry, entryRead, parse, parseAny, bare, takeBackBytes, closeBytes, unseen, viewOf, parsedOf, entryOf, frontOf};
 ghost use Rattle.records.specs.tables.Inner.{ViewIs};
 
 // What an argument is, or the number of its first fault.
@@ -69,7 +69,7 @@ fn change_at(s: &[u8], want: Wanted) -> ViewRead
 
 // A mark by itself, as a view.
 fn bare_view(act: Act) -> ViewRead
-    ensures { λ r. ⌜ r ≡ record { end = End.At 2; view = record { act = act; key = viewOf blind .key; len = 0 } } ⌝ }
+    ensures { λ r. ⌜ r ≡ record { end = End.At 2; view = record { act = act; key = viewOf unseen .key; len = 0 } } ⌝ }
 {
     let v = nothing();
     let key = v.key;
@@ -97,7 +97,7 @@ fn entry_at(s: &[u8]) -> ViewRead
 }
 
 fn fault(n: u8) -> Parsed
-    ensures { λ r. ⌜ r ≡ record { number = n; view = viewOf blind } ⌝ }
+    ensures { λ r. ⌜ r ≡ record { number = n; view = viewOf unseen } ⌝ }
 {
     let view = nothing();
     Parsed { number: n, view }
@@ -112,7 +112,7 @@ pub fn parse_change(s: &[u8], want: Wanted) -> Parsed
     match e {
         End::At(n) => {
             if n < s.len() {
-                return fault(LEFT_OVER);
+                return fault(BYTES_LEFT_OVER);
             }
             let view = c.view;
             Parsed { number: 0, view }
@@ -130,7 +130,7 @@ pub fn parse_any(s: &[u8]) -> Parsed
     match e {
         End::At(n) => {
             if n < s.len() {
-                return fault(LEFT_OVER);
+                return fault(BYTES_LEFT_OVER);
             }
             let view = c.view;
             Parsed { number: 0, view }
@@ -176,9 +176,9 @@ fn bare_mark(s: &[u8], x: u8, y: u8) -> u8
         if s.len() == 2 {
             return 0;
         }
-        return LEFT_OVER;
+        return BYTES_LEFT_OVER;
     }
-    UNKNOWN_MARK
+    MARK_UNKNOWN
 }
 
 // The number of the first fault in what is lent to take back, 0 for none.

@@ -8,7 +8,7 @@ use crate::marks::Wanted;
 use crate::writing::head_of;
 use money::names::Name;
 ghost use mathlib.Core.Path.{_≡_};
-ghost use Rattle.records.specs.Changes.{isRecord, kindIn, blind, begins, scan, viewOf};
+ghost use Rattle.records.specs.Changes.{isRecord, kindIn, unseen, begins, scan, viewOf};
 
 // A change as the book sees it: what it is, its key, and its written length.
 pub struct View {
@@ -62,7 +62,7 @@ pub fn starts(s: &[u8], front: &[u8]) -> bool
 }
 
 pub fn nothing() -> View
-    ensures { λ r. ⌜ r ≡ viewOf blind ⌝ }
+    ensures { λ r. ⌜ r ≡ viewOf unseen ⌝ }
 {
     let bytes = [0u8; 12];
     View {

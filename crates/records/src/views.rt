@@ -21,7 +21,7 @@ use money::failure::Failure;
 use money::offers::Offer;
 use money::production::Reserve;
 use money::production::UnitHour;
-use money::refusals::UNKNOWN_MARK;
+use money::refusals::MARK_UNKNOWN;
 use money::units::CentsPerHour;
 use money::units::CentsPerStart;
 use money::units::Price;
@@ -67,7 +67,7 @@ pub(crate) fn fields_at(s: &[u8], mark: Mark) -> NameRead
     let h = head_at(s, Wanted::Only(Kind::File));
     let e = h.end;
     let m = h.mark;
-    let e1 = guard_end(e, same_mark(m, mark), UNKNOWN_MARK);
+    let e1 = guard_end(e, same_mark(m, mark), MARK_UNKNOWN);
     let o = hour_then(s, e1);
     let e2 = o.end;
     name_then(s, e2, Kind::File, mark)
@@ -225,7 +225,7 @@ pub fn failure_of(s: &[u8], mark: Mark) -> FailureAnswer
     ensures { λ r. ⌜ r ≡ failureAnswer (viewedFailure mark (now (s .entry))) ⌝ }
 {
     if !is_failure(mark) {
-        return no_failure(UNKNOWN_MARK);
+        return no_failure(MARK_UNKNOWN);
     }
     let n = fields_at(s, mark);
     let at = n.end;

@@ -13,9 +13,9 @@ use crate::scan::View;
 use crate::scan::is_record;
 use crate::scan::kind_of;
 use money::names::Name;
-use money::refusals::LEFT_OVER;
+use money::refusals::BYTES_LEFT_OVER;
 use money::refusals::NO_SPACE;
-use money::refusals::UNKNOWN_MARK;
+use money::refusals::MARK_UNKNOWN;
 ghost use mathlib.Core.Path.{_≡_};
 ghost use Prim.Native.Nat.{ℕ, _+_, _≤_};
 ghost use lib.ListN.{length};
@@ -126,7 +126,7 @@ pub fn put(log: &mut [u8], at: usize, s: &[u8], want: Wanted) -> u8
     match e {
         End::At(n) => {
             if n < s.len() {
-                return LEFT_OVER;
+                return BYTES_LEFT_OVER;
             }
             let kind = c.kind;
             let key = c.key;
@@ -173,7 +173,7 @@ pub fn put_viewed(log: &mut [u8], at: usize, s: &[u8], view: View) -> u8
     ensures { λ r. ⌜ (r ≡ viewedNumber view at (now (s .entry)) (now (log .entry))) × (now (log .exit) ≡ viewedBytes view at (now (s .entry)) (now (log .entry))) ⌝ }
 {
     if !is_view(view, s.len()) {
-        return UNKNOWN_MARK;
+        return MARK_UNKNOWN;
     }
     if log.len() < at {
         return NO_SPACE;

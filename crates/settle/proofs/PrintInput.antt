@@ -6,9 +6,9 @@ use Prim.Native.Nat.{ℕ}
 use Rattle.book.specs.Meaning.{load}
 use Rattle.statement.specs.Statement.{statementOf, longestStatement}
 use Rattle.statement.specs.declared.day.Written.{Written}
-use Rattle.settling.specs.Reading.{Prints}
-use Rattle.intake.specs.Rounds.{failed}
-use Rattle.intake.specs.declared.Input.{Input}
+use Rattle.filter.specs.Reading.{Prints}
+use Rattle.stdin.specs.Rounds.{failed}
+use Rattle.stdin.specs.declared.Input.{Input}
 use Rattle.settle.specs.Settle.{Writes, Shows}
 
 abbrev none : Written

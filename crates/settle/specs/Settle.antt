@@ -6,10 +6,10 @@ use Prim.Native.Nat.{ℕ}
 use Rattle.book.specs.Meaning.{load}
 use Rattle.statement.specs.Statement.{statementOf, longestStatement}
 use Rattle.statement.specs.declared.day.Written.{Written}
-use Rattle.settling.specs.Reading.{Prints}
-use Rattle.settling.specs.Program.{inputOf, Settles}
-use Rattle.intake.specs.Rounds.{ReadAll, failed}
-use Rattle.intake.specs.declared.Input.{Input}
+use Rattle.filter.specs.Reading.{Prints}
+use Rattle.filter.specs.Program.{inputOf, Settles}
+use Rattle.stdin.specs.Rounds.{ReadAll, failed}
+use Rattle.stdin.specs.declared.Input.{Input}
 use Rattle.settle.specs.declared.Settled.{Settled}
 
 -- nothing is written

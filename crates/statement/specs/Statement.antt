@@ -10,14 +10,14 @@ use lib.ListN.{length}
 use Rattle.money.specs.Units.{centsOf}
 use Rattle.money.specs.Refusals.{noSpace, priceMissing, notTogether}
 use Rattle.records.specs.Changes.{put}
-use Rattle.book.specs.Layer.{Name, Rec, Change, Fi, Fe, noOne}
+use Rattle.book.specs.Layer.{Name, Rec, Change, Fi, Fe, emptyName}
 use Rattle.book.specs.declared.answers.NamedAmount.{NamedAmount}
 use Rattle.book.specs.Replies.{Reply, refused, accepted, place, number, guarantees, unitDay, charge}
 use Rattle.book.specs.Amounts.{HourPricing, ChargesReply, charged, no, hourKey, priceOf, guaranteesOf, chargesOf, unitDayOf}
 use Rattle.book.specs.ByName.{namesOf}
 use Rattle.book.specs.UnitNames.{ghKey, unitKey}
 use Rattle.book.specs.Register.{standing}
-use Rattle.book.specs.Meaning.{Load, belongs, astray}
+use Rattle.book.specs.Meaning.{Load, belongs, mismatched}
 use Rattle.statement.specs.Lines.{textOf}
 use Rattle.statement.specs.declared.lines.Kind.{Kind}
 use Rattle.statement.specs.declared.lines.Kind.the-variants.{Iog, Off, Ifc, Efc, Pcg, Rev, Err}
@@ -41,11 +41,11 @@ errorLine h n = record { hour = h; kind = Err; name = n; cents = record { 0 = po
 
 -- "`OFF` where imports stand", by how many there are
 abbrev pub offsetLines : ℕ → ℕ → ℤ → List Line
-offsetLines h n o = cond (eqb n 0) [] (amountLine h Off noOne o ∷ [])
+offsetLines h n o = cond (eqb n 0) [] (amountLine h Off emptyName o ∷ [])
 
 -- "`05 ERR - 15` as the hour's only line"
 abbrev pub hourError : ℕ → List Line
-hourError h = errorLine h noOne ∷ []
+hourError h = errorLine h emptyName ∷ []
 
 -- "`IOG` per import by name, `OFF` where imports stand, `IFC`, `EFC` by name"
 abbrev pub chargedLines : ℕ → List NamedAmount → ℤ → ChargesReply → ChargesReply → List Line
@@ -125,7 +125,7 @@ pub record Fits (t lent left : List ℕ) (w : Written) : Type 0 where
 
 -- the text t of the changes in a book; "16 comes before all others, for questions too"
 abbrev pub outcomeBy : (List Change → List ℕ) → Load → List ℕ → Outcome
-outcomeBy t astray out = record { number = notTogether; len = 0; bytes = out }
+outcomeBy t mismatched out = record { number = notTogether; len = 0; bytes = out }
 outcomeBy t (belongs l) out = fitted (t l) out
 
 -- what a call for it promises, from the bytes lent to the bytes left

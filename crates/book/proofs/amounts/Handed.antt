@@ -7,7 +7,7 @@ use native.Mathlib.Omega.{arith}
 use lib.Dec.{eqb}
 use lib.ListN.{take, replicate}
 use borrow.Author.Tests.{ne-eqb}
-use Rattle.book.specs.Layer.{Name, Ticks, noOne, noTicks, pad}
+use Rattle.book.specs.Layer.{Name, Ticks, emptyName, noTicks, pad}
 use Rattle.book.specs.declared.answers.NamedAmount.{NamedAmount}
 use Rattle.book.specs.declared.answers.Credits.{Credits}
 use Rattle.book.specs.declared.answers.ChargeList.{ChargeList}
@@ -35,10 +35,10 @@ pub charges-none : (x : NamedAmount) → x ≡ noAmount → _≡_ {A = ChargeLis
 unfolding chargeListOf
 charges-none x e = ap (λ l. record { n = 0; list = l }) (blanks maxCharges x e)
 
-pub names-none : (x : Name) → x ≡ noOne → _≡_ {A = Units} (record { n = 0; names = replicate 512 x }) (unitsOf [])
+pub names-none : (x : Name) → x ≡ emptyName → _≡_ {A = Units} (record { n = 0; names = replicate 512 x }) (unitsOf [])
 unfolding unitsOf
 names-none x e =
-    ap (λ (y : Name). record { n = 0; names = replicate 512 y }) e ∙ ap (λ l. record { n = 0; names = l }) (pad-none noOne 512)
+    ap (λ (y : Name). record { n = 0; names = replicate 512 y }) e ∙ ap (λ l. record { n = 0; names = l }) (pad-none emptyName 512)
 
 pub no-names-few : (u : Units) → u ≡ unitsOf [] → u .n ≤ 512
 unfolding unitsOf

@@ -10,7 +10,7 @@ use Rattle.book.specs.Layer.{Key, KeyAnswer, fault, Asked, got, bad, key
 use Rattle.book.specs.laws.LayerLaws.{ask-fault, askHour-fault}
 use Rattle.book.specs.declared.book.Book.{Book}
 use Rattle.book.specs.Register.{Reg, ask, recordOf, countOf, freeBytes, Reply, refused, accepted, place, number, Step, answered, becomes, stepOf, unless-closed, keyed, answer, placeOf, writeAll, capped, stands, count, standing}
-use Rattle.book.specs.Meaning.{astray, load, After, bookOf, leaving, stepped, outcome, Leaves, Meets}
+use Rattle.book.specs.Meaning.{mismatched, load, After, bookOf, leaving, stepped, outcome, Leaves, Meets}
 use Rattle.book.specs.tables.Tables.{Survey, survey}
 use Rattle.book.specs.laws.LoadLaws.{Loaded}
 use Rattle.book.specs.laws.RegisterLaws.{survey-count}
@@ -24,7 +24,7 @@ module _ (f : ℕ → Reg → Step) (b : Book) (s : List ℕ) where
   pub step-is : (x : Loaded b s) → stepped f b s (load b s) ≡ f (length s) (regOf b s x)
   step-is x = ap (stepped f b s) (x .is)
 
-  pub step-astray : load b s ≡ astray → stepped f b s (load b s) ≡ answered (refused 16)
+  pub step-astray : load b s ≡ mismatched → stepped f b s (load b s) ≡ answered (refused 16)
   step-astray e = ap (stepped f b s) e
 
   -- the promise of a method, from the step that the register takes
@@ -39,7 +39,7 @@ module _ (f : ℕ → Reg → Step) (b : Book) (s : List ℕ) where
         bytes = subst⁻¹ (λ (x : After). take (length (x .kept)) s ≡ x .kept) o (take-length s);
       }
 
-  pub leaves-16 : load b s ≡ astray → Leaves f b s b (refused 16) s
+  pub leaves-16 : load b s ≡ mismatched → Leaves f b s b (refused 16) s
   leaves-16 e = leaves-answered (refused 16) (step-astray e)
 
   pub leaves-accepted : (g : Reg) (b′ : Book) (s′ : List ℕ) → stepped f b s (load b s) ≡ becomes g

@@ -10,7 +10,7 @@ use Rattle.book.specs.Layer.{Key, Rec, Change, filed, write, scan, viewO
 use Rattle.book.specs.laws.LayerLaws.{scan-write, Padded, key-formed, hour-formed}
 use Rattle.book.specs.declared.book.Book.{Book}
 use Rattle.book.specs.Register.{writeAll, standing, count, ask, countOf, recordOf, Reply, number, place, refused}
-use Rattle.book.specs.Meaning.{Load, load, belongs, astray, Meets}
+use Rattle.book.specs.Meaning.{Load, load, belongs, mismatched, Meets}
 use Rattle.book.specs.tables.Tables.{together, survey}
 use Rattle.book.specs.laws.LoadLaws.{Loaded, loaded-from}
 use Rattle.book.specs.tables.Rows.{Rowed, Rules, Logged, Log, Sought}
@@ -19,7 +19,7 @@ use Rattle.book.proofs.book.Lemmas.{count-at, record-at, record-none}
 use Rattle.book.proofs.log.index.Lemmas.{latest-few}
 use Rattle.book.proofs.log.rows.Lemmas.{logged-at}
 use Rattle.book.specs.declared.log.rows.Seek.{Seek}
-use Rattle.book.specs.tables.Index.{slot, latestOf}
+use Rattle.book.specs.tables.Index.{bucket, latestOf}
 use Rattle.book.specs.Amounts.{is}
 use Rattle.book.specs.laws.PlaceLaws.{survey-written}
 
@@ -32,14 +32,14 @@ module _ (b : Book) (s : List ℕ) {ok : Bool} {rows : List ℕ} (w : Rowed (loa
     where
       go : (d : Load) → load b s ≡ d → together d ≡ true → Loaded b s
       go (belongs l) e z = loaded-from b s l e
-      go astray e z = true≠false z refl
+      go mismatched e z = true≠false z refl
 
-  pub not-rowed : ok ≡ false → load b s ≡ astray
+  pub not-rowed : ok ≡ false → load b s ≡ mismatched
   not-rowed t = go (load b s) refl (sym (w .checked) ∙ t)
     where
-      go : (d : Load) → load b s ≡ d → together d ≡ false → load b s ≡ astray
+      go : (d : Load) → load b s ≡ d → together d ≡ false → load b s ≡ mismatched
       go (belongs l) e z = true≠false refl z
-      go astray e z = e
+      go mismatched e z = e
 
   pub rowed-logged : (x : Loaded b s) → Logged s rows (b .changes) (x .list)
   rowed-logged x = record {
@@ -82,9 +82,9 @@ len-there {s} {rows} {n} {l} g k h x ex =
 
 module _ (b : Book) (s mark : List ℕ) (h : ℕ) (name : List ℕ) (x : Loaded b s) {rows : List ℕ} (g : Logged s rows (b .changes) (x .list))
     (r : KeyAnswer) (e : r ≡ keyAnswer (askKey mark h name)) (z : r .number ≡ 0)
-    (y : Seek) (f : (l : List Change) → Logged s rows (b .changes) l → r .key .hour < 32 → Padded (r .key .name) → latestOf (slot (r .key)) l ≤ b .changes → Sought rows (b .changes) (r .key) y l) where
+    (y : Seek) (f : (l : List Change) → Logged s rows (b .changes) l → r .key .hour < 32 → Padded (r .key .name) → latestOf (bucket (r .key)) l ≤ b .changes → Sought rows (b .changes) (r .key) y l) where
   sought-there : Sought rows (b .changes) (r .key) y (x .list)
-  sought-there = let w = key-formed mark h name r e in f (x .list) g (w .low) (w .padded) (omega (arith, latest-few (slot (r .key)) (x .list), x .count-is))
+  sought-there = let w = key-formed mark h name r e in f (x .list) g (w .low) (w .padded) (omega (arith, latest-few (bucket (r .key)) (x .list), x .count-is))
 
   pub place-within : y .found ≡ true → y .start ≤ length s
   place-within t = len-there g (r .key) (sym (sought-there .found) ∙ t) (y .start) (sought-there .start t) .1

@@ -14,15 +14,15 @@ use Rattle.book.specs.declared.book.Book.{Book}
 use Rattle.book.specs.declared.answers.Done.{Done}
 use Rattle.book.specs.declared.feed.Fed.{Fed as Result}
 use Rattle.book.specs.Register.{Reg, change, general, Reply, refused, Step, answered, becomes, called, after, writeAll}
-use Rattle.book.specs.Meaning.{belongs, astray, load, Valid, bookOf, Meets, replyOf}
+use Rattle.book.specs.Meaning.{belongs, mismatched, load, Valid, bookOf, Meets, replyOf}
 use Rattle.book.specs.Replies.{replied}
 use Rattle.book.specs.laws.ReplayLaws.{called-valid}
-use Rattle.book.specs.tables.Held.{Held, Makes, Since, IsEntry}
-use Rattle.book.specs.tables.Index.{slot, latestOf}
+use Rattle.book.specs.tables.Held.{Checked, Makes, Since, IsEntry}
+use Rattle.book.specs.tables.Index.{bucket, latestOf}
 use Rattle.book.specs.laws.RegisterLaws.{by-test}
 use Rattle.book.specs.laws.LoadLaws.{Loaded, loaded-from}
 use Rattle.book.specs.laws.CallLaws.{Decided, decided-change, turn-book, turn-reply, turn-bytes, unmoved}
-use Rattle.book.specs.Feed.{front, firstRecord, Fed, stopped, later, onward, fed, feeding}
+use Rattle.book.specs.Feed.{front, firstRecord, FeedReply, stopped, later, feedOn, fed, feeding}
 use Rattle.book.specs.laws.FeedLaws.{first-front, first-within, first-some, first-whole, first-then, none-before, both-before}
 use Rattle.book.specs.FeedPromise.{Ends, Feeds}
 use Rattle.book.proofs.log.index.Lemmas.{latest-few}
@@ -57,7 +57,7 @@ module _ (s : List ℕ) (f : Front) (e : f ≡ frontOf s (readEntry s)) where
 -- ---- the loop
 
 -- the register that the book is now, and what is still to be read of f
-pub record On (f : Fed) (lent : ℕ) (input : List ℕ) (b : Book) (s : List ℕ) (n at : ℕ) : Type 0 where
+pub record On (f : FeedReply) (lent : ℕ) (input : List ℕ) (b : Book) (s : List ℕ) (n at : ℕ) : Type 0 where
   pub reg : Reg
   pub valid : Valid (reg .list)
   pub book : b ≡ bookOf reg
@@ -70,7 +70,7 @@ pub record Going (b₀ : Book) (s₀ input : List ℕ) (b : Book) (rows latest s
   pub within : at ≤ length input
   pub few : n ≤ at
   pub kept : n ≡ 0 → s ≡ s₀
-  pub held : Held b s rows
+  pub held : Checked b s rows
   -- the latest change of each number is no later than is kept for it
   pub places : length latest ≡ 8192
   pub near : (h : ℕ) → h < 8192 → latestOf h (held .base .list) ≤ getD latest h 0
@@ -88,7 +88,7 @@ first-of b s input l e x =
       so-far = none-before (feeding (length s) (record { list = x .list; closed = b .closed }) input);
     })
 
-pub started : {b : Book} {s input rows : List ℕ} → Held b s rows → Going b s input b rows (replicate 8192 (b .changes)) s 0 0
+pub started : {b : Book} {s input rows : List ℕ} → Checked b s rows → Going b s input b rows (replicate 8192 (b .changes)) s 0 0
 started {b} {s} {input} h = record {
   size = refl;
   within = omega arith;
@@ -101,16 +101,16 @@ started {b} {s} {input} h = record {
 }
 
 -- one record more
-module _ (f : Fed) (s₀ input : List ℕ) (b : Book) (s : List ℕ) (n at : ℕ) (x : On f (length s₀) input b s n at)
+module _ (f : FeedReply) (s₀ input : List ℕ) (b : Book) (s : List ℕ) (n at : ℕ) (x : On f (length s₀) input b s n at)
     (size : length s ≡ length s₀) (kept : n ≡ 0 → s ≡ s₀) (some : at < length input) where
   abbrev p : List ℕ
   p = firstRecord (drop at input)
 
-  rest-is : (st : Step) → called (change p) (length s) (x .reg) ≡ st → f ≡ later n at (onward (x .reg) p (drop at input) (feeding (length s₀)) st)
+  rest-is : (st : Step) → called (change p) (length s) (x .reg) ≡ st → f ≡ later n at (feedOn (x .reg) p (drop at input) (feeding (length s₀)) st)
   rest-is st e =
       x .so-far
       ∙ ap (later n at) (first-then (length s₀) (x .reg) (drop at input) (omega (arith, length-drop at input))
-      ∙ ap (onward (x .reg) p (drop at input) (feeding (length s₀))) (ap (λ (k : ℕ). called (change p) k (x .reg)) (sym size) ∙ e))
+      ∙ ap (feedOn (x .reg) p (drop at input) (feeding (length s₀))) (ap (λ (k : ℕ). called (change p) k (x .reg)) (sym size) ∙ e))
 
   module _ (b′ : Book) (r : Reply) (s′ : List ℕ) (m₀ : Meets (change p) b s b′ r s′) where
     m : Meets (change p) (bookOf (x .reg)) s b′ r s′
@@ -123,7 +123,7 @@ module _ (f : Fed) (s₀ input : List ℕ) (b : Book) (s : List ℕ) (n at : ℕ
         go (answered y) e =
             let w = rest-is (answered y) e in
             let u : s′ ≡ s = unmoved s s′ (m .size) (turn-bytes (x .reg) s (x .valid) (x .bytes) (change p) b′ r s′ m (answered y) e) in
-            subst⁻¹ (λ (f : Fed). Ends f s₀ (record { book = b′; count = n; taken = at; number = k }) s′) w (record {
+            subst⁻¹ (λ (f : FeedReply). Ends f s₀ (record { book = b′; count = n; taken = at; number = k }) s′) w (record {
               count = omega arith;
               taken = omega arith;
               number = q ∙ ap replied (turn-reply (x .reg) s (x .valid) (x .bytes) (change p) b′ r s′ m (answered y) e);
@@ -153,12 +153,12 @@ module _ (f : Fed) (s₀ input : List ℕ) (b : Book) (s : List ℕ) (n at : ℕ
         }
 
 -- nothing is left
-finishes : (f : Fed) (s₀ input : List ℕ) (b : Book) (s : List ℕ) (n at : ℕ) → On f (length s₀) input b s n at
+finishes : (f : FeedReply) (s₀ input : List ℕ) (b : Book) (s : List ℕ) (n at : ℕ) → On f (length s₀) input b s n at
     → length s ≡ length s₀ → (n ≡ 0 → s ≡ s₀) → at ≡ length input → Ends f s₀ (record { book = b; count = n; taken = at; number = 0 }) s
 unfolding fed
 finishes f s₀ input b s n at x size kept all =
     let w : f ≡ later n at (stopped (x .reg) 0) = x .so-far ∙ ap (λ (l : List ℕ). later n at (feeding (length s₀) (x .reg) l)) (ap (λ (k : ℕ). drop k input) all ∙ drop-length input) in
-    subst⁻¹ (λ (f : Fed). Ends f s₀ (record { book = b; count = n; taken = at; number = 0 }) s) w (record {
+    subst⁻¹ (λ (f : FeedReply). Ends f s₀ (record { book = b; count = n; taken = at; number = 0 }) s) w (record {
       count = omega arith;
       taken = omega arith;
       number = refl;
@@ -173,13 +173,13 @@ module _ {b₀ : Book} {s₀ input : List ℕ} {b : Book} {rows latest s : List 
   finished h l e = finishes _ s₀ input b s n at (g .on l e) (g .size) (g .kept) (omega (arith, g .within))
 
   -- where the search for a key starts
-  pub since : {k : Key} {m : ℕ} → m ≡ slot k → m < 8192 → {from : ℕ} → (from ≤ b .changes) × ((j : ℕ) → j ≤ getD latest m 0 → j ≤ b .changes → j ≤ from) → Since b s k from
+  pub since : {k : Key} {m : ℕ} → m ≡ bucket k → m < 8192 → {from : ℕ} → (from ≤ b .changes) × ((j : ℕ) → j ≤ getD latest m 0 → j ≤ b .changes → j ≤ from) → Since b s k from
   since {k} {m} em lt w = record {
     inside = w .0;
     none = λ l p.
         let e : g .held .base .list ≡ l = cc (g .held .base .is) in
-        let is : latestOf m (g .held .base .list) ≡ latestOf (slot k) l = λ i. latestOf (em i) (e i) in
-        w .1 (latestOf (slot k) l) (omega (arith, g .near m lt, is)) (omega (arith, latest-few (slot k) l, ap length e, g .held .base .count-is));
+        let is : latestOf m (g .held .base .list) ≡ latestOf (bucket k) l = λ i. latestOf (em i) (e i) in
+        w .1 (latestOf (bucket k) l) (omega (arith, g .near m lt, is)) (omega (arith, latest-few (bucket k) l, ap length e, g .held .base .count-is));
   }
 
   -- what stands first in the rest of the input
@@ -221,7 +221,7 @@ module _ {b₀ : Book} {s₀ input : List ℕ} {b : Book} {rows latest s : List 
             → Ends (feeding (length s₀) (record { list = l; closed = b₀ .closed }) input) s₀ (record { book = r .book; count = n; taken = at; number = k }) s′
         stops y l e = ends _ s₀ input b s n at (g .on l e) (g .size) (g .kept) some (r .book) (replyOf (r .answer)) s′ said k q y
 
-        pub continues : k ≡ 0 → {j : ℕ} → j ≡ slot (f .view .key) → j < 8192 → Going b₀ s₀ input (r .book) rows′ (set latest j (r .book .changes)) s′ (n + 1) (at + f .end)
+        pub continues : k ≡ 0 → {j : ℕ} → j ≡ bucket (f .view .key) → j < 8192 → Going b₀ s₀ input (r .book) rows′ (set latest j (r .book .changes)) s′ (n + 1) (at + f .end)
         continues y {j} ej lt = record {
           size = m .leaves .size ∙ g .size;
           within = end-within;
@@ -253,19 +253,19 @@ fed-none b s input e = record {
     on : (l : List Change) → load b s ≡ belongs l → On (feeding (length s) (record { list = l; closed = b .closed }) input) (length s) input b s 0 0
     on l d = first-of b s input l d (loaded-from b s l d)
 
-pub fed-checked : {b : Book} {s input rows : List ℕ} → Held b s rows → {r : Result} {s′ : List ℕ}
+pub fed-checked : {b : Book} {s input rows : List ℕ} → Checked b s rows → {r : Result} {s′ : List ℕ}
     → ((l : List Change) → load b s ≡ belongs l → Ends (feeding (length s) (record { list = l; closed = b .closed }) input) s r s′) → Feeds b s input r s′
 fed-checked h w = record { together = w; apart = λ d. let z : _≡_ {A = ℕ} 0 1 = cc (h .base .is) in absurd (omega arith) }
 
 -- book and bytes do not belong together
-pub fed-astray : (b : Book) (s input : List ℕ) → load b s ≡ astray → (length input ≡ 0 → ⊥) → Feeds b s input (record { book = b; count = 0; taken = 0; number = 16 }) s
+pub fed-astray : (b : Book) (s input : List ℕ) → load b s ≡ mismatched → (length input ≡ 0 → ⊥) → Feeds b s input (record { book = b; count = 0; taken = 0; number = 16 }) s
 fed-astray b s input e some = record {
   together = λ l d. let z : _≡_ {A = ℕ} 0 1 = cc in absurd (omega arith);
   apart = λ d. record { count = refl; taken = refl; number = ap (λ (t : Bool). cond t 0 16) (sym (ne-eqb (length input) 0 some)); book = refl; bytes = refl };
 }
 
 -- a result that is the one shown
-pub ends-by : {f : Fed} {s s′ : List ℕ} {r r′ : Result} → r ≡ r′ → Ends f s r′ s′ → Ends f s r s′
+pub ends-by : {f : FeedReply} {s s′ : List ℕ} {r r′ : Result} → r ≡ r′ → Ends f s r′ s′ → Ends f s r s′
 ends-by {f} {s} {s′} e w = subst⁻¹ (λ (y : Result). Ends f s y s′) e w
 
 pub feeds-by : {b : Book} {s input s′ : List ℕ} {r r′ : Result} → r ≡ r′ → Feeds b s input r′ s′ → Feeds b s input r s′

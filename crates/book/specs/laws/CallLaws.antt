@@ -14,7 +14,7 @@ use Rattle.book.specs.declared.book.Book.{Book}
 use Rattle.book.specs.ByName.{byName}
 use Rattle.book.specs.Amounts.{HourPricing, priced, unpriced, hourKey, priceOf, guaranteesAt, guaranteesOf}
 use Rattle.book.specs.Register.{Reg, standing, Question, hourGuarantees, keyed, asking, Call, file, change, ask, answer, Reply, refused, Step, answered, becomes, stepOf, called, listed, judged, takenBack, closing, shorter, unless-closed, bareTakeBack, bareClose, refusal, writeAll}
-use Rattle.book.specs.Meaning.{Load, belongs, astray, load, Valid, After, bookOf, leaving, stepped, outcome, Meets}
+use Rattle.book.specs.Meaning.{Load, belongs, mismatched, load, Valid, After, bookOf, leaving, stepped, outcome, Meets}
 use Rattle.book.specs.laws.ReplayLaws.{outcome-is}
 
 -- ---- a change is accepted, or refused with a number above 0
@@ -153,7 +153,7 @@ guarantees-fault h lent g n = go (askHourOf Im h) refl
 pub unmoved : (s s′ : List ℕ) → length s′ ≡ length s → take (length s) s′ ≡ s → s′ ≡ s
 unmoved s s′ n e = sym (take-all (length s) s′ (omega arith)) ∙ e
 
-module _ (call : Call) (b : Book) (s : List ℕ) (e : load b s ≡ astray) where
+module _ (call : Call) (b : Book) (s : List ℕ) (e : load b s ≡ mismatched) where
   pub outcome-astray : outcome (stepOf call) b s ≡ leaving b s (answered (refused 16))
   unfolding outcome
   outcome-astray = ap (λ (d : Load). leaving b s (stepped (stepOf call) b s d)) e

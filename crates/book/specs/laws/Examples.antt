@@ -9,7 +9,7 @@ use native.Mathlib.Omega.{arith}
 use borrow.Author.Tests.{le-ltb}
 use Rattle.book.specs.Layer.{Change, filed, write, Input, parse, takeBackBytes, closeBytes, File, Only}
 use Rattle.book.specs.laws.LayerLaws.{same-refl, bare-exact, priceBytes, priceRecord, price-read, price-length, price-limit}
-use Rattle.book.specs.Register.{Reg, fresh, file, takeBack, close, ask, freeBytes, Reply, refused, accepted, Step, answered, becomes, listed, judged, unless-closed, shorter, reply, after, room, refusal, stands, count, standing, writeAll, called, stepOf, Turn, run}
+use Rattle.book.specs.Register.{Reg, fresh, file, takeBack, close, ask, freeBytes, Reply, refused, accepted, Step, answered, becomes, listed, judged, unless-closed, shorter, reply, after, spaceFault, refusal, stands, count, standing, writeAll, called, stepOf, Turn, run}
 
 pub record Case : Type 0 where
   pub calls : List Turn
@@ -40,11 +40,11 @@ examples =
     -- "`TB`, fresh"; "`CL` twice"
     ∷ record { calls = record { call = takeBack takeBackBytes; lent = 0 } ∷ []; says = refused 14 } ∷ record { calls = closing ∷ closing ∷ []; says = refused 9 } ∷ []
 
-price-judged : (lent : ℕ) → refusal [] lent (filed priceRecord) ≡ room 0 0 55 lent
+price-judged : (lent : ℕ) → refusal [] lent (filed priceRecord) ≡ spaceFault 0 0 55 lent
 unfolding refusal stands count standing writeAll
-price-judged lent = ap (λ (m : ℕ). cond (ltb 0 m) (room 0 0 (length (write (filed priceRecord))) lent) 12) price-limit ∙ ap (λ (n : ℕ). room 0 0 n lent) price-length
+price-judged lent = ap (λ (m : ℕ). cond (ltb 0 m) (spaceFault 0 0 (length (write (filed priceRecord))) lent) 12) price-limit ∙ ap (λ (n : ℕ). spaceFault 0 0 n lent) price-length
 
-price-at : (lent : ℕ) → called (file priceBytes) lent fresh ≡ judged (filed priceRecord) fresh (room 0 0 55 lent)
+price-at : (lent : ℕ) → called (file priceBytes) lent fresh ≡ judged (filed priceRecord) fresh (spaceFault 0 0 55 lent)
 unfolding called writeAll
 price-at lent = ap (λ (b : Bool). cond b (answered (refused 16)) (listed (parse (Only File) priceBytes) lent fresh)) (le-ltb lent 0 (omega arith)) ∙ ap (λ (i : Input Change). listed i lent fresh) price-read ∙ ap (judged (filed priceRecord) fresh) (price-judged lent)
 

@@ -8,7 +8,7 @@ use lib.Seq.{take-length, take-append-le, length-take-le}
 use Rattle.book.specs.Layer.{Res, bad, got, fine, Entry, readEntry, parseAny}
 use Rattle.book.specs.laws.LayerLaws.{entry-got, entry-more, entry-alone}
 use Rattle.book.specs.Register.{Reg, change, Step, answered, becomes, called}
-use Rattle.book.specs.Feed.{front, firstRecord, Fed, stopped, later, onward, fed, feeding}
+use Rattle.book.specs.Feed.{front, firstRecord, FeedReply, stopped, later, feedOn, fed, feeding}
 
 -- ---- the first record
 
@@ -69,12 +69,12 @@ enough (suc n) (suc m) lent g (b ∷ s) h k =
     less : (n : ℕ) → length (b ∷ s) ≤ suc n → length (drop (length p) (b ∷ s)) ≤ n
     less n h = omega (arith, length-drop (length p) (b ∷ s), first-some (b ∷ s) (omega arith))
 
-    go : ((x : Reg) → fed n lent x (drop (length p) (b ∷ s)) ≡ fed m lent x (drop (length p) (b ∷ s))) → (st : Step) → onward g p (b ∷ s) (fed n lent) st ≡ onward g p (b ∷ s) (fed m lent) st
+    go : ((x : Reg) → fed n lent x (drop (length p) (b ∷ s)) ≡ fed m lent x (drop (length p) (b ∷ s))) → (st : Step) → feedOn g p (b ∷ s) (fed n lent) st ≡ feedOn g p (b ∷ s) (fed m lent) st
     go ih (answered r) = refl
     go ih (becomes x) = ap (later 1 (length p)) (ih x)
 
 -- a record, and then the others
-pub first-then : (lent : ℕ) (g : Reg) (s : List ℕ) → 0 < length s → feeding lent g s ≡ onward g (firstRecord s) s (feeding lent) (called (change (firstRecord s)) lent g)
+pub first-then : (lent : ℕ) (g : Reg) (s : List ℕ) → 0 < length s → feeding lent g s ≡ feedOn g (firstRecord s) s (feeding lent) (called (change (firstRecord s)) lent g)
 unfolding fed
 first-then lent g [] h = absurd (omega arith)
 first-then lent g (b ∷ s) h = go (called (change p) lent g)
@@ -82,7 +82,7 @@ first-then lent g (b ∷ s) h = go (called (change p) lent g)
     p : List ℕ
     p = firstRecord (b ∷ s)
 
-    go : (st : Step) → onward g p (b ∷ s) (fed (length s) lent) st ≡ onward g p (b ∷ s) (feeding lent) st
+    go : (st : Step) → feedOn g p (b ∷ s) (fed (length s) lent) st ≡ feedOn g p (b ∷ s) (feeding lent) st
     go (answered r) = refl
     go (becomes x) =
         ap (later 1 (length p)) (enough (length s) (length (drop (length p) (b ∷ s))) lent x (drop (length p) (b ∷ s))
@@ -90,13 +90,13 @@ first-then lent g (b ∷ s) h = go (called (change p) lent g)
 
 -- ---- records before
 
-pub none-before : (f : Fed) → f ≡ later 0 0 f
+pub none-before : (f : FeedReply) → f ≡ later 0 0 f
 none-before f =
     let n : f .count ≡ 0 + f .count = omega arith in
     let k : f .taken ≡ 0 + f .taken = omega arith in
     λ i. record { reg = f .reg; count = n i; taken = k i; number = f .number }
 
-pub both-before : (m j n k : ℕ) (f : Fed) → later m j (later n k f) ≡ later (m + n) (j + k) f
+pub both-before : (m j n k : ℕ) (f : FeedReply) → later m j (later n k f) ≡ later (m + n) (j + k) f
 both-before m j n k f =
     let p : m + (n + f .count) ≡ m + n + f .count = omega arith in
     let q : j + (k + f .taken) ≡ j + k + f .taken = omega arith in

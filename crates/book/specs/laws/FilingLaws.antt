@@ -7,7 +7,7 @@ use native.Mathlib.Omega.{arith}
 use lib.Dec.{ltb}
 use lib.ListN.{length, length-append}
 use Rattle.records.specs.Amounts.{sameName}
-use Rattle.book.specs.Layer.{Key, Name, Rec, Change, filed, write, Good, Pr, same, sameHour, limitOf, nameOf, nameBefore}
+use Rattle.book.specs.Layer.{Key, Name, Rec, Change, filed, write, Good, Pr, same, sameHour, limitOf, decodedBytes, nameBefore}
 use Rattle.book.specs.laws.LayerLaws.{same-refl, sameHour-same, hour-parts, same-by, price-name}
 use Rattle.book.specs.Register.{writeAll, standing, stands, count, roomFor, refusal}
 use Rattle.book.specs.Amounts.{is, nil, pick, hourKey, absent}
@@ -26,7 +26,7 @@ named n (r ∷ rs) = cond (sameName n (r .key .name)) true (named n rs)
 named-in-order : (n : Name) (r : Rec) (xs : List Rec) → named n (inOrder r xs) ≡ cond (sameName n (r .key .name)) true (named n xs)
 unfolding inOrder
 named-in-order n r [] = refl
-named-in-order n r (x ∷ xs) = go (nameBefore (nameOf (r .key .name)) (nameOf (x .key .name))) (sameName n (r .key .name)) (sameName n (x .key .name)) refl refl (named-in-order n r xs)
+named-in-order n r (x ∷ xs) = go (nameBefore (decodedBytes (r .key .name)) (decodedBytes (x .key .name))) (sameName n (r .key .name)) (sameName n (x .key .name)) refl refl (named-in-order n r xs)
   where
     both : (c : Bool) → true ≡ cond c true true
     both true = refl
@@ -54,7 +54,7 @@ stands-named k j h (x ∷ xs) = go (sameHour j (x .key)) refl (stands-named k j 
 in-order-length : (r : Rec) (xs : List Rec) → length (inOrder r xs) ≡ length xs + 1
 unfolding inOrder
 in-order-length r [] = refl
-in-order-length r (x ∷ xs) = go (nameBefore (nameOf (r .key .name)) (nameOf (x .key .name))) (in-order-length r xs)
+in-order-length r (x ∷ xs) = go (nameBefore (decodedBytes (r .key .name)) (decodedBytes (x .key .name))) (in-order-length r xs)
   where
     go : (b : Bool) → length (inOrder r xs) ≡ length xs + 1 → length (cond b (r ∷ x ∷ xs) (x ∷ inOrder r xs)) ≡ length (x ∷ xs) + 1
     go true e = omega arith

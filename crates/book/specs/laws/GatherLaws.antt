@@ -7,7 +7,7 @@ use native.Mathlib.Omega.{arith}
 use lib.ListN.{length, length-append}
 use lib.Dec.{eqb}
 use borrow.Author.Tests.{eq-eqb, ne-eqb}
-use Rattle.book.specs.Layer.{Key, Name, Rec, Change, filed, corrected, withdrawn, keyOf, kindOf, write, same, sameHour, nameOf, nameBefore, isCorrection, isWithdrawal}
+use Rattle.book.specs.Layer.{Key, Name, Rec, Change, filed, corrected, withdrawn, keyOf, kindOf, write, same, sameHour, decodedBytes, nameBefore, isCorrection, isWithdrawal}
 use Rattle.book.specs.laws.LayerLaws.{same-refl, same-sym, write-pos, write-co}
 use Rattle.book.specs.Register.{writeAll, without, standing}
 use Rattle.book.specs.declared.amounts.places.Spot.{Spot}
@@ -195,7 +195,7 @@ hourPass k = record { pick = sameHour k; put = λ (j : Key) (x : ℕ) (xs : List
 put-in-order : (all : List Change) (r : Rec) (xs : List Rec) → putSpot (spotOf all r) (map (spotOf all) xs) ≡ map (spotOf all) (inOrder r xs)
 unfolding putSpot inOrder
 put-in-order all r [] = refl
-put-in-order all r (x ∷ xs) = go (nameBefore (nameOf (r .key .name)) (nameOf (x .key .name))) (put-in-order all r xs)
+put-in-order all r (x ∷ xs) = go (nameBefore (decodedBytes (r .key .name)) (decodedBytes (x .key .name))) (put-in-order all r xs)
   where
     go : (b : Bool) → putSpot (spotOf all r) (map (spotOf all) xs) ≡ map (spotOf all) (inOrder r xs)
         → cond b (spotOf all r ∷ map (spotOf all) (x ∷ xs)) (spotOf all x ∷ putSpot (spotOf all r) (map (spotOf all) xs)) ≡ map (spotOf all) (cond b (r ∷ x ∷ xs) (x ∷ inOrder r xs))

@@ -10,16 +10,16 @@ use borrow.Author.Tests.{le-leb, lt-leb, leb-true, leb-false}
 use Rattle.book.specs.Layer.{Change}
 use Rattle.book.specs.declared.book.Book.{Book}
 use Rattle.book.specs.Register.{Reg, fresh, writeAll}
-use Rattle.book.specs.Meaning.{belongs, astray, replay, load, Valid, bookOf}
+use Rattle.book.specs.Meaning.{belongs, mismatched, replay, load, Valid, bookOf}
 use Rattle.book.specs.laws.ReplayLaws.{replay-whole, replay-sound}
 
-pub load-short : (b : Book) (s : List ℕ) → length s < b .used → load b s ≡ astray
+pub load-short : (b : Book) (s : List ℕ) → length s < b .used → load b s ≡ mismatched
 unfolding load
 load-short b s h = simp (lt-leb (b .used) (length s) h)
 
 pub load-long : (b : Book) (s : List ℕ) → b .used ≤ length s → load b s ≡ replay (b .changes) [] (take (b .used) s)
 unfolding load
-load-long b s h = ap (λ (t : Bool). cond t (replay (b .changes) [] (take (b .used) s)) astray) (le-leb (b .used) (length s) h)
+load-long b s h = ap (λ (t : Bool). cond t (replay (b .changes) [] (take (b .used) s)) mismatched) (le-leb (b .used) (length s) h)
 
 -- a book and bytes that belong together
 pub record Loaded (b : Book) (s : List ℕ) : Type 0 where

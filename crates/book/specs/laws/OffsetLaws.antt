@@ -7,7 +7,7 @@ use native.Mathlib.Omega.{arith}
 use native.Mathlib.Nat.{not-suc-le-zero, le-of-suc-le-suc}
 use lib.ListN.{length, drop, getD}
 use Rattle.records.specs.Amounts.{sameName}
-use Rattle.book.specs.Layer.{Key, Name, Rec, Change, filed, Good, HourPrices, Quantity, Import, Amount, Pr, Im, Ex, nameOf, nameBefore, quantityAt, rowOf, totalsWith, totalsWithIn, entry, entryFault, offset, offsetAnswer, offsetEntry, exportOf, sameHour}
+use Rattle.book.specs.Layer.{Key, Name, Rec, Change, filed, Good, HourPrices, Quantity, Import, Amount, Pr, Im, Ex, decodedBytes, nameBefore, quantityAt, rowOf, totalsWith, totalsWithIn, entry, entryFault, offset, offsetAnswer, offsetEntry, exportOf, sameHour}
 use Rattle.book.specs.laws.LayerLaws.{PricesFit, row-none, row-at, row-same, totals-more, quantity-most, rates-ok, offset-amount, standing-export, entry-sound, same-names, hour-parts}
 use Rattle.book.specs.declared.amounts.places.Spot.{Spot}
 use Rattle.book.specs.Register.{standing, guarantees}
@@ -52,9 +52,9 @@ pub each-put : {P : Spot → Rec → Type 0} → ((x : Spot) (r : Rec) → P x r
 unfolding putSpot inOrder
 each-put n x r p none = more p none
 each-put {P} n x r p (more {x = y} {r = q} {xs = xs} {rs = rs} w e) =
-    subst (λ (t : Bool). Each P (cond t (x ∷ y ∷ xs) (y ∷ putSpot x xs)) (cond (nameBefore (nameOf (r .key .name)) (nameOf (q .key .name))) (r ∷ q ∷ rs) (q ∷ inOrder r rs)))
-    (sym (ap₂ (λ (a b : Name). nameBefore (nameOf a) (nameOf b)) (n x r p) (n y q w)))
-    (go (nameBefore (nameOf (r .key .name)) (nameOf (q .key .name))) (each-put n x r p e))
+    subst (λ (t : Bool). Each P (cond t (x ∷ y ∷ xs) (y ∷ putSpot x xs)) (cond (nameBefore (decodedBytes (r .key .name)) (decodedBytes (q .key .name))) (r ∷ q ∷ rs) (q ∷ inOrder r rs)))
+    (sym (ap₂ (λ (a b : Name). nameBefore (decodedBytes a) (decodedBytes b)) (n x r p) (n y q w)))
+    (go (nameBefore (decodedBytes (r .key .name)) (decodedBytes (q .key .name))) (each-put n x r p e))
   where
     go : (t : Bool) → Each P (putSpot x xs) (inOrder r rs) → Each P (cond t (x ∷ y ∷ xs) (y ∷ putSpot x xs)) (cond t (r ∷ q ∷ rs) (q ∷ inOrder r rs))
     go true v = more p (more w e)
@@ -63,7 +63,7 @@ each-put {P} n x r p (more {x = y} {r = q} {xs = xs} {rs = rs} w e) =
 pub put-length : (s : Spot) (xs : List Spot) → length (putSpot s xs) ≡ length xs + 1
 unfolding putSpot
 put-length s [] = refl
-put-length s (x ∷ xs) = go (nameBefore (nameOf (s .name)) (nameOf (x .name))) (put-length s xs)
+put-length s (x ∷ xs) = go (nameBefore (decodedBytes (s .name)) (decodedBytes (x .name))) (put-length s xs)
   where
     go : (b : Bool) → length (putSpot s xs) ≡ length xs + 1 → length (cond b (s ∷ x ∷ xs) (x ∷ putSpot s xs)) ≡ length (x ∷ xs) + 1
     go true e = omega arith

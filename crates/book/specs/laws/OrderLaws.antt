@@ -5,7 +5,7 @@ use mathlib.Core.Logic.{_⊎_, inl, inr}
 use mathlib.Core.List.{List, [], _∷_}
 use mathlib.Core.Bool.{Bool, true, false, cond}
 use Rattle.laws.specs.SumLaws.{Σℤ-ext, every-ext}
-use Rattle.book.specs.Layer.{Key, Rec, Im, Ex, Pr, same, sameHour, nameOf, nameBefore, reversal, atHour}
+use Rattle.book.specs.Layer.{Key, Rec, Im, Ex, Pr, same, sameHour, decodedBytes, nameBefore, reversal, atHour}
 use Rattle.book.specs.laws.LayerLaws.{same-left, sameHour-same, names-apart, name-trans, name-tri, name-self}
 use Rattle.book.specs.Register.{stands, refused, unitDay}
 use Rattle.book.specs.Amounts.{Pick, is, pick, HourPricing, priceFrom, priceOf, hourKey, guaranteesAt, guaranteesOf, hourTicks, absent, payable, unitAt, dayTotal, unitDayOf, chargeAt, chargeOf, chargesAt, chargesOf}
@@ -67,12 +67,12 @@ pick-same k (next p q) s = pick-same k p s ∙ pick-same k q (once-same p s)
 -- ---- by name
 
 abbrev before : Rec → Rec → Bool
-before a b = nameBefore (nameOf (a .key .name)) (nameOf (b .key .name))
+before a b = nameBefore (decodedBytes (a .key .name)) (decodedBytes (b .key .name))
 
 one-way : (a b : Rec) → before a b ≡ true → before b a ≡ false
 one-way a b h =
     by-test (before b a)
-    (λ t. absurd (name-self (nameOf (a .key .name)) (name-trans (nameOf (a .key .name)) (nameOf (b .key .name)) (nameOf (a .key .name)) h t)))
+    (λ t. absurd (name-self (decodedBytes (a .key .name)) (name-trans (decodedBytes (a .key .name)) (decodedBytes (b .key .name)) (decodedBytes (a .key .name)) h t)))
     (λ t. t)
 
 two-in-order : (a b : Rec) → before a b ≡ true → (xs : List Rec) → inOrder a (inOrder b xs) ≡ inOrder b (inOrder a xs)
@@ -85,7 +85,7 @@ two-in-order a b h (x ∷ xs) = go (two-in-order a b h xs) (before b x) refl (be
     go ih true eu true ev =
         ap (λ (t : Bool). cond t (a ∷ b ∷ x ∷ xs) (b ∷ inOrder a (x ∷ xs))) h
         ∙ sym (ap (λ (t : Bool). cond t (b ∷ a ∷ x ∷ xs) (a ∷ inOrder b (x ∷ xs))) (one-way a b h) ∙ ap (λ (t : Bool). a ∷ cond t (b ∷ x ∷ xs) (x ∷ inOrder b xs)) eu)
-    go ih true eu false ev = true≠false (name-trans (nameOf (a .key .name)) (nameOf (b .key .name)) (nameOf (x .key .name)) h eu) ev
+    go ih true eu false ev = true≠false (name-trans (decodedBytes (a .key .name)) (decodedBytes (b .key .name)) (decodedBytes (x .key .name)) h eu) ev
     go ih false eu true ev =
         ap (λ (t : Bool). cond t (a ∷ x ∷ inOrder b xs) (x ∷ inOrder a (inOrder b xs))) ev
         ∙ sym (ap (λ (t : Bool). cond t (b ∷ a ∷ x ∷ xs) (a ∷ inOrder b (x ∷ xs))) (one-way a b h) ∙ ap (λ (t : Bool). a ∷ cond t (b ∷ x ∷ xs) (x ∷ inOrder b xs)) eu)
@@ -93,10 +93,10 @@ two-in-order a b h (x ∷ xs) = go (two-in-order a b h xs) (before b x) refl (be
         ap (λ (t : Bool). cond t (a ∷ x ∷ inOrder b xs) (x ∷ inOrder a (inOrder b xs))) ev ∙ ap (λ (y : List Rec). x ∷ y) ih
         ∙ sym (ap (λ (t : Bool). cond t (b ∷ x ∷ inOrder a xs) (x ∷ inOrder b (inOrder a xs))) eu)
 
-any-two : (a b : Rec) → (nameOf (a .key .name) ≡ nameOf (b .key .name) → ⊥) → (xs : List Rec) → inOrder a (inOrder b xs) ≡ inOrder b (inOrder a xs)
-any-two a b d xs = go (name-tri (nameOf (a .key .name)) (nameOf (b .key .name)))
+any-two : (a b : Rec) → (decodedBytes (a .key .name) ≡ decodedBytes (b .key .name) → ⊥) → (xs : List Rec) → inOrder a (inOrder b xs) ≡ inOrder b (inOrder a xs)
+any-two a b d xs = go (name-tri (decodedBytes (a .key .name)) (decodedBytes (b .key .name)))
   where
-    go : (before a b ≡ true) ⊎ ((nameOf (a .key .name) ≡ nameOf (b .key .name)) ⊎ (before b a ≡ true)) → inOrder a (inOrder b xs) ≡ inOrder b (inOrder a xs)
+    go : (before a b ≡ true) ⊎ ((decodedBytes (a .key .name) ≡ decodedBytes (b .key .name)) ⊎ (before b a ≡ true)) → inOrder a (inOrder b xs) ≡ inOrder b (inOrder a xs)
     go (inl h) = two-in-order a b h xs
     go (inr (inl e)) = absurd (d e)
     go (inr (inr h)) = sym (two-in-order b a h xs)

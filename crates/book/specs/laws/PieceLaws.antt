@@ -12,11 +12,11 @@ use Rattle.book.specs.laws.LayerLaws.{entry-bad, entry-firm}
 use Rattle.book.specs.Register.{Reg, change, Reply, Step, answered, becomes, refused, called, writeAll}
 use Rattle.book.specs.Replies.{replied}
 use Rattle.book.specs.laws.CallLaws.{Decided, decided-change, called-unread, called-short}
-use Rattle.book.specs.Feed.{front, firstRecord, Fed, later, onward, fed, feeding}
+use Rattle.book.specs.Feed.{front, firstRecord, FeedReply, later, feedOn, fed, feeding}
 use Rattle.book.specs.laws.FeedLaws.{first-within, first-some, first-more, first-then, none-before, both-before}
 
 -- a reading that goes on from where another one stopped
-abbrev pub resumed : ℕ → Fed → List ℕ → Fed
+abbrev pub resumed : ℕ → FeedReply → List ℕ → FeedReply
 resumed lent f s = later (f .count) (f .taken) (feeding lent (f .reg) s)
 
 -- reading xs, and then ys
@@ -48,12 +48,12 @@ module _ (lent : ℕ) where
   over-first g h xs ys some e =
       let p = same-first g h xs ys e in
       first-then lent g (xs ++ ys) (omega (arith, length-append xs ys))
-      ∙ ap (λ (x : List ℕ). onward g x (xs ++ ys) (feeding lent) (called (change x) lent g)) p
-      ∙ ap (onward g (firstRecord xs) (xs ++ ys) (feeding lent)) e
+      ∙ ap (λ (x : List ℕ). feedOn g x (xs ++ ys) (feeding lent) (called (change x) lent g)) p
+      ∙ ap (feedOn g (firstRecord xs) (xs ++ ys) (feeding lent)) e
       ∙ ap (λ (x : List ℕ). later 1 (length (firstRecord xs)) (feeding lent h x)) (drop-append-le (length (firstRecord xs)) xs ys (first-within xs))
 
-  at-first : (g : Reg) (xs : List ℕ) → 0 < length xs → (st : Step) → called (change (firstRecord xs)) lent g ≡ st → feeding lent g xs ≡ onward g (firstRecord xs) xs (feeding lent) st
-  at-first g xs some st e = first-then lent g xs some ∙ ap (onward g (firstRecord xs) xs (feeding lent)) e
+  at-first : (g : Reg) (xs : List ℕ) → 0 < length xs → (st : Step) → called (change (firstRecord xs)) lent g ≡ st → feeding lent g xs ≡ feedOn g (firstRecord xs) xs (feeding lent) st
+  at-first g xs some st e = first-then lent g xs some ∙ ap (feedOn g (firstRecord xs) xs (feeding lent)) e
 
   less : (n : ℕ) (xs : List ℕ) → 0 < length xs → length xs ≤ suc n → length (drop (length (firstRecord xs)) xs) ≤ n
   less n xs some h = omega (arith, length-drop (length (firstRecord xs)) xs, first-some xs some)
@@ -73,14 +73,14 @@ module _ (lent : ℕ) where
       k : ℕ
       k = length (firstRecord s)
 
-      All : Fed → Type 0
+      All : FeedReply → Type 0
       All f = feeding lent g (s ++ ys) ≡ resumed lent f (drop (f .taken) s ++ ys)
 
       go : ((x : Reg) → feeding lent x (drop k s ++ ys) ≡ resumed lent (feeding lent x (drop k s)) (drop (feeding lent x (drop k s) .taken) (drop k s) ++ ys))
           → (st : Step) → called (change (firstRecord s)) lent g ≡ st → All (feeding lent g s)
       go ih (answered r) e = subst⁻¹ All (at-first g s (omega arith) (answered r) e) (none-before (feeding lent g (s ++ ys)))
       go ih (becomes x) e =
-          let f : Fed = feeding lent x (drop k s) in
+          let f : FeedReply = feeding lent x (drop k s) in
           subst⁻¹ All (at-first g s (omega arith) (becomes x) e)
           (over-first g x s ys (omega arith) e ∙ ap (later 1 k) (ih x)
           ∙ both-before 1 k (f .count) (f .taken) (feeding lent (f .reg) (drop (f .taken) (drop k s) ++ ys))
@@ -105,12 +105,12 @@ module _ (lent : ℕ) where
           → (st : Step) → called (change (firstRecord s)) lent g ≡ st → feeding lent g s .taken ≡ length s
       go ih (answered r) e =
           let d : Decided (answered r) = subst Decided e (decided-change (firstRecord s) lent g) in
-          let y : replied r ≡ 0 = sym (ap (λ (f : Fed). f .number) (at-first g s (omega arith) (answered r) e)) ∙ z in
+          let y : replied r ≡ 0 = sym (ap (λ (f : FeedReply). f .number) (at-first g s (omega arith) (answered r) e)) ∙ z in
           absurd (omega (arith, sym (ap replied (d .is)) ∙ y, d .above))
       go ih (becomes x) e =
           let a = at-first g s (omega arith) (becomes x) e in
-          let i = ih x (sym (ap (λ (f : Fed). f .number) a) ∙ z) in
-          ap (λ (f : Fed). f .taken) a ∙ omega (arith, i, length-drop k s, first-within s)
+          let i = ih x (sym (ap (λ (f : FeedReply). f .number) a) ∙ z) in
+          ap (λ (f : FeedReply). f .taken) a ∙ omega (arith, i, length-drop k s, first-within s)
 
   -- a refusal other than 1 comes whatever follows
   stays : (ys : List ℕ) (g : Reg) (xs : List ℕ) → 0 < length xs → (r : Reply) → called (change (firstRecord xs)) lent g ≡ answered r → (replied r ≡ 1 → ⊥)
@@ -147,10 +147,10 @@ module _ (lent : ℕ) where
           → (st : Step) → called (change (firstRecord s)) lent g ≡ st → feeding lent g (s ++ ys) ≡ feeding lent g s
       go ih (answered r) e =
           let a = at-first g s (omega arith) (answered r) e in
-          at-first g (s ++ ys) (omega (arith, length-append s ys)) (answered r) (stays ys g s (omega arith) r e (λ w. o (ap (λ (f : Fed). f .number) a ∙ w))) ∙ sym a
+          at-first g (s ++ ys) (omega (arith, length-append s ys)) (answered r) (stays ys g s (omega arith) r e (λ w. o (ap (λ (f : FeedReply). f .number) a ∙ w))) ∙ sym a
       go ih (becomes x) e =
           let a = at-first g s (omega arith) (becomes x) e in
-          let num = ap (λ (f : Fed). f .number) a in
+          let num = ap (λ (f : FeedReply). f .number) a in
           over-first g x s ys (omega arith) e ∙ ap (later 1 k) (ih x (λ w. z (num ∙ w)) (λ w. o (num ∙ w))) ∙ sym a
 
 -- the theorem: a program that reads its input in pieces of any size, and keeps what is left of a record, answers as if it had all bytes at once
@@ -170,15 +170,15 @@ pieces lent g xs ys = record {
 -- ---- any number of pieces
 
 -- such a program: left is what it has not taken of the pieces before
-abbrev pub unless-refused : Fed → ℕ → Fed → Fed
+abbrev pub unless-refused : FeedReply → ℕ → FeedReply → FeedReply
 unless-refused f zero h = h
 unless-refused f (suc zero) h = h
 unless-refused f (suc (suc k)) h = f
 
-unfoldable pub piecewise : ℕ → Reg → List ℕ → List (List ℕ) → Fed
+unfoldable pub piecewise : ℕ → Reg → List ℕ → List (List ℕ) → FeedReply
 piecewise lent g left [] = feeding lent g left
 piecewise lent g left (xs ∷ xss) =
-    let f : Fed = feeding lent g (left ++ xs) in
+    let f : FeedReply = feeding lent g (left ++ xs) in
     unless-refused f (f .number) (later (f .count) (f .taken) (piecewise lent (f .reg) (drop (f .taken) (left ++ xs)) xss))
 
 unfoldable pub joined : List (List ℕ) → List ℕ
@@ -191,7 +191,7 @@ any-pieces lent g left [] = ap (feeding lent g) (sym (append-nil left))
 any-pieces lent g left (xs ∷ xss) =
     go (f .number) refl (any-pieces lent (f .reg) (drop (f .taken) (left ++ xs)) xss) ∙ ap (feeding lent g) (append-assoc left xs (joined xss))
   where
-    f : Fed
+    f : FeedReply
     f = feeding lent g (left ++ xs)
 
     w : Pieces lent g (left ++ xs) (joined xss)

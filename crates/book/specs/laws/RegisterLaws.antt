@@ -9,9 +9,9 @@ use lib.Dec.{ltb}
 use borrow.Author.Tests.{ltb-true}
 use Rattle.book.specs.Layer.{Key, Rec, Change, filed, corrected, withdrawn, keyOf, kindOf, write, same, sameHour, limitOf, isFiling}
 use Rattle.book.specs.laws.LayerLaws.{same-sym, same-left, same-right, hour-right, sameHour-same, limit-same}
-use Rattle.book.specs.Register.{writeAll, standing, stands, count, without, room, refusal}
+use Rattle.book.specs.Register.{writeAll, standing, stands, count, without, spaceFault, refusal}
 use Rattle.book.specs.Meaning.{Valid}
-use Rattle.book.specs.tables.Tables.{survey, judge}
+use Rattle.book.specs.tables.Tables.{survey, changeFault}
 
 pub by-test : {A : Type 0} (b : Bool) → (b ≡ true → A) → (b ≡ false → A) → A
 by-test true f g = f refl
@@ -104,8 +104,8 @@ count-without k j (x ∷ xs) u h =
 
 -- the refusal by numbers
 pub refusal-judge : (l : List Change) (lent : ℕ) (c : Change)
-    → refusal l lent c ≡ judge (kindOf c) (stands (keyOf c) (standing l)) (count (keyOf c) (standing l)) (limitOf (keyOf c)) (length l) (length (writeAll l)) (length (write c)) lent
-unfolding refusal judge
+    → refusal l lent c ≡ changeFault (kindOf c) (stands (keyOf c) (standing l)) (count (keyOf c) (standing l)) (limitOf (keyOf c)) (length l) (length (writeAll l)) (length (write c)) lent
+unfolding refusal changeFault
 refusal-judge l lent (filed r) = refl
 refusal-judge l lent (corrected r) = refl
 refusal-judge l lent (withdrawn k) = refl
@@ -118,10 +118,10 @@ judge-found false true w r h = refl
 judge-found false false w r h = absurd (omega arith)
 
 pub refusal-found : (l : List Change) (lent : ℕ) (c : Change) → refusal l lent c ≡ 0 → stands (keyOf c) (standing l) ≡ not (isFiling (kindOf c))
-unfolding judge
+unfolding changeFault
 refusal-found l lent c h =
     judge-found (isFiling (kindOf c)) (stands (keyOf c) (standing l)) (ltb (count (keyOf c) (standing l)) (limitOf (keyOf c)))
-    (room (length l) (length (writeAll l)) (length (write c)) lent) (sym (refusal-judge l lent c) ∙ h)
+    (spaceFault (length l) (length (writeAll l)) (length (write c)) lent) (sym (refusal-judge l lent c) ∙ h)
 
 -- ---- what is filed did not stand: "key stands already" is refused
 
@@ -219,7 +219,7 @@ unfolding Valid standing count refusal
 hour-few k [] v = omega arith
 hour-few k (filed r ∷ l) v =
     let few = ltb-true (count (r .key) (standing l)) (limitOf (r .key))
-    (few-filed (stands (r .key) (standing l)) (ltb (count (r .key) (standing l)) (limitOf (r .key))) (room (length l) (length (writeAll l)) (length (write (filed r))) 65535) (v .1)) in
+    (few-filed (stands (r .key) (standing l)) (ltb (count (r .key) (standing l)) (limitOf (r .key))) (spaceFault (length l) (length (writeAll l)) (length (write (filed r))) 65535) (v .1)) in
     go (sameHour k (r .key)) refl few (hour-few k l (v .2))
   where
     go : (b : Bool) → sameHour k (r .key) ≡ b → count (r .key) (standing l) < limitOf (r .key) → count k (standing l) ≤ limitOf k → cond b (count k (standing l) + 1) (count k (standing l)) ≤ limitOf k

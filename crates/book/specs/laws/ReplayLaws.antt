@@ -8,11 +8,11 @@ use lib.ListN.{length, take, drop}
 use lib.Seq.{drop-append-seam, take-all}
 use lib.Dec.{ltb, leb, eqb}
 use borrow.Author.Tests.{eq-eqb, eqb-true, le-leb, lt-leb, ltb-true, ltb-false, leb-true}
-use Rattle.book.specs.Layer.{Change, kindOf, keyOf, write, Good, Scan, seen, blind, scan, Input, fine, fault, parse, begins, takeBackBytes, closeBytes, limitOf, File, Correct, Withdraw, Any, Only, isFiling}
+use Rattle.book.specs.Layer.{Change, kindOf, keyOf, write, Good, Scan, seen, unseen, scan, Input, fine, fault, parse, begins, takeBackBytes, closeBytes, limitOf, File, Correct, Withdraw, Any, Only, isFiling}
 use Rattle.book.specs.laws.LayerLaws.{scan-write, scan-got, parse-fine}
-use Rattle.book.specs.Register.{Reg, Call, file, correct, withdraw, takeBack, close, change, ask, answered, becomes, refused, stepOf, called, listed, judged, takenBack, closing, shorter, unless-closed, bareTakeBack, bareClose, after, writeAll, refusal, room, stands, count, standing}
-use Rattle.book.specs.Meaning.{belongs, astray, onward, replay, load, Valid, bookOf, leaving, stepped, outcome}
-use Rattle.book.specs.tables.Tables.{judge}
+use Rattle.book.specs.Register.{Reg, Call, file, correct, withdraw, takeBack, close, change, ask, answered, becomes, refused, stepOf, called, listed, judged, takenBack, closing, shorter, unless-closed, bareTakeBack, bareClose, after, writeAll, refusal, spaceFault, stands, count, standing}
+use Rattle.book.specs.Meaning.{belongs, mismatched, replayOn, replay, load, Valid, bookOf, leaving, stepped, outcome}
+use Rattle.book.specs.tables.Tables.{changeFault}
 use Rattle.book.specs.laws.RegisterLaws.{refusal-judge}
 
 pub replay-write : (l : List Change) → Valid l → (n m : ℕ) (rest : List ℕ) → n ≡ length l + m
@@ -22,8 +22,8 @@ replay-write [] v n m rest e = let p : n ≡ m = omega arith in ap (λ (k : ℕ)
 replay-write (c ∷ l) v n m rest e =
     ap (replay n []) (append-assoc (writeAll l) (write c) rest)
     ∙ replay-write l (v .2) n (suc m) (write c ++ rest) (omega arith)
-    ∙ ap (onward l (write c ++ rest) (replay m)) (scan-write c rest (v .0))
-    ∙ ap (λ (b : Bool). cond b (replay m (c ∷ l) (drop (length (write c)) (write c ++ rest))) astray) (eq-eqb _ _ (v .1))
+    ∙ ap (replayOn l (write c ++ rest) (replay m)) (scan-write c rest (v .0))
+    ∙ ap (λ (b : Bool). cond b (replay m (c ∷ l) (drop (length (write c)) (write c ++ rest))) mismatched) (eq-eqb _ _ (v .1))
     ∙ ap (replay m (c ∷ l)) (drop-append-seam (write c) rest)
 
 pub replay-whole : (l : List Change) → Valid l → replay (length l) [] (writeAll l) ≡ belongs l
@@ -36,7 +36,7 @@ pub record Played (acc : List Change) (rest : List ℕ) (n : ℕ) (l : List Chan
   pub bytes : writeAll l ≡ writeAll acc ++ rest
   pub count : length l ≡ n + length acc
 
-nowhere : {A : Type 0} {l : List Change} → astray ≡ belongs l → A
+nowhere : {A : Type 0} {l : List Change} → mismatched ≡ belongs l → A
 nowhere e = let z : _≡_ {A = ℕ} 0 1 = cc in absurd (omega arith)
 
 pub replay-sound : (n : ℕ) (acc : List Change) (rest : List ℕ) (l : List Change) → Valid acc → replay n acc rest ≡ belongs l → Played acc rest n l
@@ -51,7 +51,7 @@ replay-sound (suc n) acc rest l v e = go (λ c k w h. replay-sound n (c ∷ acc)
     Later = (c : Change) (k : ℕ) → Good c × (refusal acc 65535 c ≡ 0) × Valid acc → replay n (c ∷ acc) (drop k rest) ≡ belongs l → Played (c ∷ acc) (drop k rest) n l
 
     more : Later → (c : Change) (k : ℕ) → scan rest ≡ seen c k → (b : Bool) → eqb (refusal acc 65535 c) 0 ≡ b
-        → cond b (replay n (c ∷ acc) (drop k rest)) astray ≡ belongs l → Played acc rest (suc n) l
+        → cond b (replay n (c ∷ acc) (drop k rest)) mismatched ≡ belongs l → Played acc rest (suc n) l
     more ih c k e true t h =
         let f = scan-got rest c k e in
         let p = ih c k (f .good, eqb-true _ _ t, v) h in
@@ -62,9 +62,9 @@ replay-sound (suc n) acc rest l v e = go (λ c k w h. replay-sound n (c ∷ acc)
         }
     more ih c k e false t h = nowhere h
 
-    go : Later → (r : Scan) → scan rest ≡ r → onward acc rest (replay n) r ≡ belongs l → Played acc rest (suc n) l
+    go : Later → (r : Scan) → scan rest ≡ r → replayOn acc rest (replay n) r ≡ belongs l → Played acc rest (suc n) l
     go ih (seen c k) e h = more ih c k e (eqb (refusal acc 65535 c) 0) refl h
-    go ih blind e h = nowhere h
+    go ih unseen e h = nowhere h
 
 -- a change that is taken over some lent bytes is taken over 65,535
 capped : (k f w : Bool) (a b : ℕ) → (a ≡ 0 → b ≡ 0)
@@ -75,7 +75,7 @@ capped true false false a b h e = absurd (omega arith)
 capped false true w a b h e = h e
 capped false false w a b h e = absurd (omega arith)
 
-room-capped : (n u len lent : ℕ) → room n u len lent ≡ 0 → room n u len 65535 ≡ 0
+room-capped : (n u len lent : ℕ) → spaceFault n u len lent ≡ 0 → spaceFault n u len 65535 ≡ 0
 room-capped n u len lent = go (ltb n 512) (leb (u + len) (cond (ltb 65535 lent) 65535 lent)) refl
   where
     most : (b : Bool) → ltb 65535 lent ≡ b → cond b 65535 lent ≤ 65535
@@ -89,7 +89,7 @@ room-capped n u len lent = go (ltb n 512) (leb (u + len) (cond (ltb 65535 lent) 
     go false b t e = absurd (omega arith)
 
 pub refusal-capped : (l : List Change) (lent : ℕ) (c : Change) → refusal l lent c ≡ 0 → refusal l 65535 c ≡ 0
-unfolding judge
+unfolding changeFault
 refusal-capped l lent c h =
     refusal-judge l 65535 c
     ∙ capped (isFiling (kindOf c)) (stands (keyOf c) (standing l)) (ltb (count (keyOf c) (standing l)) (limitOf (keyOf c))) _ _
@@ -160,7 +160,7 @@ outcome-is call g s v h = go (ltb (length s) (length (writeAll (g .list)))) refl
     w = writeAll (g .list)
 
     go : (b : Bool) → ltb (length s) (length w) ≡ b
-        → leaving (bookOf g) s (stepped (stepOf call) (bookOf g) s (cond (leb (length w) (length s)) (replay (length (g .list)) [] (take (length w) s)) astray))
+        → leaving (bookOf g) s (stepped (stepOf call) (bookOf g) s (cond (leb (length w) (length s)) (replay (length (g .list)) [] (take (length w) s)) mismatched))
         ≡ leaving (bookOf g) s (cond b (answered (refused 16)) (stepOf call (length s) g))
     go true t = simp (lt-leb (length w) (length s) (ltb-true (length s) (length w) t))
     go false t =

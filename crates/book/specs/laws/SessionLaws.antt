@@ -11,7 +11,7 @@ use borrow.Author.Tests.{le-ltb, ltb-true, ltb-false}
 use Rattle.book.specs.Layer.{Change, takeBackBytes}
 use Rattle.book.specs.laws.LayerLaws.{bare-exact}
 use Rattle.book.specs.declared.book.Book.{Book}
-use Rattle.book.specs.Register.{Reg, Call, takeBack, ask, answer, placeOf, standing, Step, answered, becomes, refused, accepted, stepOf, called, shorter, unless-closed, after, writeAll, Reply, reply, Turn, run, told}
+use Rattle.book.specs.Register.{Reg, Call, takeBack, ask, answer, placeOf, standing, Step, answered, becomes, refused, accepted, stepOf, called, shorter, unless-closed, after, writeAll, Reply, reply, Turn, run, repliesOf}
 use Rattle.book.specs.Meaning.{After, bookOf, leaving, Meets, Valid}
 use Rattle.book.specs.Amounts.{pick}
 use Rattle.book.specs.Session.{Session, start, next, Undo, undone, undo, Shows, Agrees, Restored, Holds, Throughout}
@@ -61,16 +61,16 @@ answer-is g s (becomes k) = refl
 
 -- the book, the answers and the used part after a list of calls
 record Follows (ts : List Turn) (rs : List Reply) (b : Book) (held : List ℕ) : Type 0 where
-  answers : rs ≡ told ts
+  answers : rs ≡ repliesOf ts
   book : b ≡ bookOf (run ts)
   used : held ≡ writeAll (run ts .list)
   valid : Valid (run ts .list)
 
-one-more : (ts : List Turn) (rs : List Reply) → rs ≡ told ts → Valid (run ts .list)
+one-more : (ts : List Turn) (rs : List Reply) → rs ≡ repliesOf ts → Valid (run ts .list)
     → (call : Call) (s : List ℕ) → take (length (writeAll (run ts .list))) s ≡ take (length s) (writeAll (run ts .list))
     → (b′ : Book) (r : Reply) (s′ : List ℕ) → Meets call (bookOf (run ts)) s b′ r s′
     → Follows (record { call = call; lent = length s } ∷ ts) (r ∷ rs) b′ (take (b′ .used) (s′ ++ drop (length s) (writeAll (run ts .list))))
-unfolding run told
+unfolding run repliesOf
 one-more ts rs e v call s h b′ r s′ m =
     let g = run ts in
     let st = called call (length s) g in
@@ -85,7 +85,7 @@ one-more ts rs e v call s h b′ r s′ m =
     }
 
 follows : {ts : List Turn} {rs : List Reply} {b : Book} {held : List ℕ} → Session ts rs b held → Follows ts rs b held
-unfolding run told writeAll Valid
+unfolding run repliesOf writeAll Valid
 follows start = record { answers = refl; book = refl; used = refl; valid = tt }
 follows (next {ts = ts} {rs = rs} {b = b} {held = held} before call s h b′ r s′ m) =
     let a = follows before in
@@ -102,7 +102,7 @@ data Backs (ts : List Turn) : ℕ → List Turn → Type 0 where
 
 record Undone (ts : List Turn) (n : ℕ) (us : List Turn) : Type 0 where
   reg : run us ≡ record { list = drop n (run ts .list); closed = false }
-  accepted-all : told us ≡ replicate n accepted ++ told ts
+  accepted-all : repliesOf us ≡ replicate n accepted ++ repliesOf ts
 
 shorter-drop : (n : ℕ) (l : List Change) → n < length l → shorter false (drop n l) ≡ becomes (record { list = drop (suc n) l; closed = false })
 shorter-drop n [] h = absurd (omega arith)
@@ -120,7 +120,7 @@ back-step g l n lent e h enough =
 
 one-back : (ts us : List Turn) (n lent : ℕ) → n < length (run ts .list) → length (writeAll (run us .list)) ≤ lent
     → Undone ts n us → Undone ts (suc n) (record { call = takeBack takeBackBytes; lent = lent } ∷ us)
-unfolding run told
+unfolding run repliesOf
 one-back ts us n lent more enough u =
     let e = back-step (run us) (run ts .list) n lent (u .reg) more enough in
     record { reg = ap (λ (s : Step). after s (run us)) e; accepted-all = ap₂ (λ (s : Step) (rs : List Reply). reply s ∷ rs) e (u .accepted-all) }

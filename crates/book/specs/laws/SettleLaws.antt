@@ -11,7 +11,7 @@ use Rattle.book.specs.Register.{Reg, fresh, change, Step, answered, beco
 use Rattle.book.specs.Meaning.{belongs, load, Valid, bookOf}
 use Rattle.book.specs.laws.ReplayLaws.{called-valid}
 use Rattle.book.specs.laws.LoadLaws.{loaded-valid, load-whole, load-fresh}
-use Rattle.book.specs.Feed.{firstRecord, Fed, stopped, onward, fed, feeding, Settled, statement, ref, verdict, settled}
+use Rattle.book.specs.Feed.{firstRecord, FeedReply, stopped, feedOn, fed, feeding, Settled, statement, ref, verdict, settled}
 use Rattle.book.specs.laws.FeedLaws.{first-some, first-then}
 use Rattle.book.specs.FeedPromise.{Ends, Feeds}
 use Rattle.book.specs.declared.feed.Fed.{Fed as Result}
@@ -23,14 +23,14 @@ still-valid zero lent g [] h v = v
 still-valid (suc n) lent g [] h v = v
 still-valid zero lent g (b ∷ s) h v = absurd (omega arith)
 still-valid (suc n) lent g (b ∷ s) h v =
-    subst (λ (f : Fed). Valid (f .reg .list)) (sym (first-then lent g (b ∷ s) (omega arith)))
+    subst (λ (f : FeedReply). Valid (f .reg .list)) (sym (first-then lent g (b ∷ s) (omega arith)))
     (go (λ x. still-valid n lent x (drop (length p) (b ∷ s)) (omega (arith, length-drop (length p) (b ∷ s), first-some (b ∷ s) (omega arith))))
     (called (change p) lent g) (called-valid (change p) lent g v))
   where
     p : List ℕ
     p = firstRecord (b ∷ s)
 
-    go : ((x : Reg) → Valid (x .list) → Valid (feeding lent x (drop (length p) (b ∷ s)) .reg .list)) → (st : Step) → Valid (after st g .list) → Valid (onward g p (b ∷ s) (feeding lent) st .reg .list)
+    go : ((x : Reg) → Valid (x .list) → Valid (feeding lent x (drop (length p) (b ∷ s)) .reg .list)) → (st : Step) → Valid (after st g .list) → Valid (feedOn g p (b ∷ s) (feeding lent) st .reg .list)
     go ih (answered r) w = w
     go ih (becomes x) w = ih x w
 
@@ -59,7 +59,7 @@ unfolding settled
 settles s input r s′ e m =
     go (feeding 65535 fresh input) (subst (λ (n : ℕ). Ends (feeding n fresh input) s r s′) e (m .together [] (load-fresh s)))
   where
-    go : (f : Fed) → Ends f s r s′ → Told (verdict (f .reg) (f .count) (f .number)) r s′
+    go : (f : FeedReply) → Ends f s r s′ → Told (verdict (f .reg) (f .count) (f .number)) r s′
     go f w = tell (f .number) (w .number)
       where
         tell : (k : ℕ) → r .number ≡ k → Told (verdict (f .reg) (f .count) k) r s′

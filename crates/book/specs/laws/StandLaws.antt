@@ -7,7 +7,7 @@ use native.Mathlib.Omega.{arith}
 use native.Mathlib.Nat.{not-suc-le-zero, le-of-suc-le-suc}
 use lib.ListN.{length, drop, getD, take-append-drop}
 use lib.Seq.{drop-append-le}
-use Rattle.book.specs.Layer.{Key, Name, Rec, Change, filed, corrected, withdrawn, write, Good, same, sameHour, nameOf, nameBefore, keyAsked, got, markBytes}
+use Rattle.book.specs.Layer.{Key, Name, Rec, Change, filed, corrected, withdrawn, write, Good, same, sameHour, decodedBytes, nameBefore, keyAsked, got, markBytes}
 use Rattle.book.specs.laws.LayerLaws.{good-co, same-refl, same-alike, names-apart, sameHour-same, asked}
 use Rattle.book.specs.Layer.{askBytes}
 use Rattle.book.specs.Register.{writeAll, without, standing, stands}
@@ -159,7 +159,7 @@ module _ {s : List ℕ} {l : List Change} (o : Begun s l) where
 all-in-order : {P : Rec → Type 0} (r : Rec) {xs : List Rec} → P r → All P xs → All P (inOrder r xs)
 unfolding inOrder
 all-in-order r p done = also p done
-all-in-order {P} r p (also {r = x} {rs = xs} q a) = go (all-in-order r p a) (nameBefore (nameOf (r .key .name)) (nameOf (x .key .name)))
+all-in-order {P} r p (also {r = x} {rs = xs} q a) = go (all-in-order r p a) (nameBefore (decodedBytes (r .key .name)) (decodedBytes (x .key .name)))
   where
     go : All P (inOrder r xs) → (b : Bool) → All P (cond b (r ∷ x ∷ xs) (x ∷ inOrder r xs))
     go w true = also p (also q a)
@@ -177,7 +177,7 @@ all-by-name {P} k (also {r = r} {rs = rs} p a) = go (all-by-name k a) (sameHour 
 
 -- no decoded name twice
 abbrev pub OtherName : Rec → Rec → Type 0
-OtherName a b = nameOf (a .key .name) ≡ nameOf (b .key .name) → ⊥
+OtherName a b = decodedBytes (a .key .name) ≡ decodedBytes (b .key .name) → ⊥
 
 pub data Apart : List Rec → Type 0 where
   lone : Apart []
@@ -186,7 +186,7 @@ pub data Apart : List Rec → Type 0 where
 apart-in-order : (r : Rec) {xs : List Rec} → All (OtherName r) xs → Apart xs → Apart (inOrder r xs)
 unfolding inOrder
 apart-in-order r done lone = apart done lone
-apart-in-order r (also {r = x} {rs = xs} n a) (apart b u) = go (apart-in-order r a u) (nameBefore (nameOf (r .key .name)) (nameOf (x .key .name)))
+apart-in-order r (also {r = x} {rs = xs} n a) (apart b u) = go (apart-in-order r a u) (nameBefore (decodedBytes (r .key .name)) (decodedBytes (x .key .name)))
   where
     go : Apart (inOrder r xs) → (t : Bool) → Apart (cond t (r ∷ x ∷ xs) (x ∷ inOrder r xs))
     go w true = apart (also n a) (apart b u)
@@ -209,7 +209,7 @@ all-at done d i h = absurd (not-suc-le-zero h)
 all-at (also p a) d zero h = p
 all-at (also p a) d (suc i) h = all-at a d i (le-of-suc-le-suc h)
 
-pub apart-at : {rs : List Rec} → Apart rs → (d : Rec) (i j : ℕ) → i < length rs → j < i → nameOf (getD rs j d .key .name) ≡ nameOf (getD rs i d .key .name) → ⊥
+pub apart-at : {rs : List Rec} → Apart rs → (d : Rec) (i j : ℕ) → i < length rs → j < i → decodedBytes (getD rs j d .key .name) ≡ decodedBytes (getD rs i d .key .name) → ⊥
 apart-at lone d i j h l = absurd (not-suc-le-zero h)
 apart-at (apart n u) d zero j h l = absurd (not-suc-le-zero l)
 apart-at (apart n u) d (suc i) zero h l = all-at n d i (le-of-suc-le-suc h)
@@ -220,7 +220,7 @@ apart-at (apart n u) d (suc i) (suc j) h l = apart-at u d i j (le-of-suc-le-suc 
 all-add : {P : Name → Type 0} (n : Name) {ns : List Name} → P n → All P ns → All P (addName n ns)
 unfolding addName
 all-add n p done = also p done
-all-add {P} n p (also {r = x} {rs = xs} q a) = go (all-add n p a) (nameBefore (nameOf n) (nameOf x)) (nameBefore (nameOf x) (nameOf n))
+all-add {P} n p (also {r = x} {rs = xs} q a) = go (all-add n p a) (nameBefore (decodedBytes n) (decodedBytes x)) (nameBefore (decodedBytes x) (decodedBytes n))
   where
     go : All P (addName n xs) → (b c : Bool) → All P (cond b (n ∷ x ∷ xs) (cond c (x ∷ addName n xs) (x ∷ xs)))
     go w true c = also p (also q a)

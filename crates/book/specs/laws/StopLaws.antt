@@ -11,11 +11,11 @@ use Rattle.records.specs.laws.BookLaws.{entry-early, unread-early, whole-early}
 use Rattle.book.specs.Register.{Reg, change, Reply, Step, answered, becomes, called}
 use Rattle.book.specs.Replies.{replied}
 use Rattle.book.specs.laws.EarlyLaws.{early}
-use Rattle.book.specs.Feed.{front, firstRecord, Fed, onward, fed, feeding}
+use Rattle.book.specs.Feed.{front, firstRecord, FeedReply, feedOn, fed, feeding}
 use Rattle.book.specs.laws.FeedLaws.{first-within, first-some, first-whole, first-then}
 
 -- of n bytes
-pub record Stops (f : Fed) (n : ℕ) : Type 0 where
+pub record Stops (f : FeedReply) (n : ℕ) : Type 0 where
   pub within : f .taken ≤ n
   -- each record took a byte
   pub few : f .count ≤ f .taken
@@ -28,13 +28,13 @@ stops-from zero lent g [] h = record { within = omega arith; few = omega arith; 
 stops-from (suc n) lent g [] h = record { within = omega arith; few = omega arith; refused = λ z. absurd (z refl) }
 stops-from zero lent g (b ∷ s) h = absurd (omega arith)
 stops-from (suc n) lent g (b ∷ s) h =
-    subst (λ (f : Fed). Stops f (length (b ∷ s))) (sym (first-then lent g (b ∷ s) (omega arith)))
+    subst (λ (f : FeedReply). Stops f (length (b ∷ s))) (sym (first-then lent g (b ∷ s) (omega arith)))
     (go (λ x. stops-from n lent x (drop (length p) (b ∷ s)) (omega (arith, length-drop (length p) (b ∷ s), first-some (b ∷ s) (omega arith)))) (called (change p) lent g))
   where
     p : List ℕ
     p = firstRecord (b ∷ s)
 
-    go : ((x : Reg) → Stops (feeding lent x (drop (length p) (b ∷ s))) (length (drop (length p) (b ∷ s)))) → (st : Step) → Stops (onward g p (b ∷ s) (feeding lent) st) (length (b ∷ s))
+    go : ((x : Reg) → Stops (feeding lent x (drop (length p) (b ∷ s))) (length (drop (length p) (b ∷ s)))) → (st : Step) → Stops (feedOn g p (b ∷ s) (feeding lent) st) (length (b ∷ s))
     go ih (answered r) = record { within = omega arith; few = omega arith; refused = λ z. omega arith }
     go ih (becomes x) =
         let i = ih x in
@@ -69,14 +69,14 @@ early-from (suc n) lent g (b ∷ s) h z =
     p : List ℕ
     p = firstRecord (b ∷ s)
 
-    Short : Fed → Type 0
+    Short : FeedReply → Type 0
     Short f = f .number ≡ 1 → length (drop (f .taken) (b ∷ s)) < 1383
 
     go : ((x : Reg) → feeding lent x (drop (length p) (b ∷ s)) .number ≡ 1 → length (drop (feeding lent x (drop (length p) (b ∷ s)) .taken) (drop (length p) (b ∷ s))) < 1383)
         → (st : Step) → called (change p) lent g ≡ st → length (drop (feeding lent g (b ∷ s) .taken) (b ∷ s)) < 1383
-    go ih st e = subst⁻¹ Short (first-then lent g (b ∷ s) (omega arith) ∙ ap (onward g p (b ∷ s) (feeding lent)) e) (by st e) z
+    go ih st e = subst⁻¹ Short (first-then lent g (b ∷ s) (omega arith) ∙ ap (feedOn g p (b ∷ s) (feeding lent)) e) (by st e) z
       where
-        by : (st : Step) → called (change p) lent g ≡ st → Short (onward g p (b ∷ s) (feeding lent) st)
+        by : (st : Step) → called (change p) lent g ≡ st → Short (feedOn g p (b ∷ s) (feeding lent) st)
         by (answered r) e w = early-first lent g (b ∷ s) r e w
         by (becomes x) e w = subst (λ (l : List ℕ). length l < 1383) (drop-drop (feeding lent x (drop (length p) (b ∷ s)) .taken) (length p) (b ∷ s)) (ih x w)
 

@@ -7,12 +7,12 @@ use native.Mathlib.Omega.{arith}
 use lib.ListN.{length, length-append}
 use lib.Dec.{leb, ltb}
 use borrow.Author.Tests.{leb-true, ltb-true, ltb-false}
-use Rattle.book.specs.Layer.{Key, Name, Rec, Change, filed, corrected, withdrawn, keyOf, kindOf, write, same, sameHour, nameOf, nameBefore, limitOf, isFiling}
+use Rattle.book.specs.Layer.{Key, Name, Rec, Change, filed, corrected, withdrawn, keyOf, kindOf, write, same, sameHour, decodedBytes, nameBefore, limitOf, isFiling}
 use Rattle.book.specs.laws.LayerLaws.{limit-most}
-use Rattle.book.specs.Register.{writeAll, room, without, standing, stands, count}
+use Rattle.book.specs.Register.{writeAll, spaceFault, without, standing, stands, count}
 use Rattle.book.specs.ByName.{inOrder, byName, addName, sameMark, namesOf}
 use Rattle.book.specs.Meaning.{Valid}
-use Rattle.book.specs.tables.Tables.{judge}
+use Rattle.book.specs.tables.Tables.{changeFault}
 use Rattle.book.specs.laws.RegisterLaws.{refusal-judge, hour-few}
 
 pub judge-room : (k f w : Bool) (r : ℕ) → cond k (cond f 10 (cond w r 12)) (cond f r 11) ≡ 0 → r ≡ 0
@@ -22,7 +22,7 @@ judge-room true false false r h = absurd (omega arith)
 judge-room false true w r h = h
 judge-room false false w r h = absurd (omega arith)
 
-pub room-facts : (n u len lent : ℕ) → room n u len lent ≡ 0 → (n < 512) × (u + len ≤ lent) × (u + len ≤ 65535)
+pub room-facts : (n u len lent : ℕ) → spaceFault n u len lent ≡ 0 → (n < 512) × (u + len ≤ lent) × (u + len ≤ 65535)
 room-facts n u len lent = go (ltb n 512) refl (leb (u + len) (cond (ltb 65535 lent) 65535 lent)) refl (ltb 65535 lent) refl
   where
     go : (a : Bool) → ltb n 512 ≡ a → (t : Bool) → leb (u + len) (cond (ltb 65535 lent) 65535 lent) ≡ t → (d : Bool) → ltb 65535 lent ≡ d
@@ -37,11 +37,11 @@ room-facts n u len lent = go (ltb n 512) refl (leb (u + len) (cond (ltb 65535 le
     go false ea t et d ed h = absurd (omega arith)
 
 pub valid-size : (l : List Change) → Valid l → (length l ≤ 512) × (length (writeAll l) ≤ 65535)
-unfolding Valid writeAll judge
+unfolding Valid writeAll changeFault
 valid-size [] v = (omega arith, omega arith)
 valid-size (c ∷ l) v =
     let f = room-facts (length l) (length (writeAll l)) (length (write c)) 65535
-    (judge-room (isFiling (kindOf c)) (stands (keyOf c) (standing l)) (ltb (count (keyOf c) (standing l)) (limitOf (keyOf c))) (room (length l) (length (writeAll l)) (length (write c)) 65535) (sym (refusal-judge l 65535 c) ∙ v .1)) in
+    (judge-room (isFiling (kindOf c)) (stands (keyOf c) (standing l)) (ltb (count (keyOf c) (standing l)) (limitOf (keyOf c))) (spaceFault (length l) (length (writeAll l)) (length (write c)) 65535) (sym (refusal-judge l 65535 c) ∙ v .1)) in
     (omega (arith, f .0), omega (arith, f .1, length-append (writeAll l) (write c)))
 
 -- ---- what stands
@@ -49,7 +49,7 @@ valid-size (c ∷ l) v =
 order-length : (r : Rec) (xs : List Rec) → length (inOrder r xs) ≡ suc (length xs)
 unfolding inOrder
 order-length r [] = refl
-order-length r (x ∷ xs) = go (nameBefore (nameOf (r .key .name)) (nameOf (x .key .name))) (order-length r xs)
+order-length r (x ∷ xs) = go (nameBefore (decodedBytes (r .key .name)) (decodedBytes (x .key .name))) (order-length r xs)
   where
     go : (b : Bool) → length (inOrder r xs) ≡ suc (length xs) → length (cond b (r ∷ x ∷ xs) (x ∷ inOrder r xs)) ≡ suc (suc (length xs))
     go true e = refl
@@ -87,7 +87,7 @@ standing-length (withdrawn k ∷ l) = omega (arith, standing-length l, without-l
 add-length : (n : Name) (ns : List Name) → length (addName n ns) ≤ suc (length ns)
 unfolding addName
 add-length n [] = omega arith
-add-length n (x ∷ ns) = go (nameBefore (nameOf n) (nameOf x)) (nameBefore (nameOf x) (nameOf n)) (add-length n ns)
+add-length n (x ∷ ns) = go (nameBefore (decodedBytes n) (decodedBytes x)) (nameBefore (decodedBytes x) (decodedBytes n)) (add-length n ns)
   where
     go : (a b : Bool) → length (addName n ns) ≤ suc (length ns) → length (cond a (n ∷ x ∷ ns) (cond b (x ∷ addName n ns) (x ∷ ns))) ≤ suc (suc (length ns))
     go true b h = omega arith

@@ -16,7 +16,7 @@ use Rattle.book.specs.declared.answers.DayAmounts.{DayAmounts}
 use Rattle.book.specs.Amounts.{HourPricing, priced, unpriced, ChargesReply, charged, hourKey, priceOf, creditAt, chargeLine, guaranteesAt, guaranteesOf, chargesAt, chargesOf, absent, payable, unitAt, dayTotal, unitDayOf}
 use Rattle.book.specs.ByName.{byName, namesOf}
 use Rattle.book.specs.Register.{Reply, refused, guarantees, unitDay, standing}
-use Rattle.book.specs.Meaning.{belongs, astray, Valid, guaranteesReply, chargesReply, dayReply}
+use Rattle.book.specs.Meaning.{belongs, mismatched, Valid, guaranteesReply, chargesReply, dayReply}
 use Rattle.book.specs.UnitNames.{ghKey, unitKey}
 use Rattle.book.specs.Handed.{maxCredits, maxCharges, noAmount, creditsOf, chargeListOf, guaranteesFrom, chargesFrom, unitDayFrom}
 use Rattle.book.specs.laws.HandedLaws.{pad-take}
@@ -136,7 +136,7 @@ units-are l v =
 
 -- ---- the number
 
-pub number-astray : dayFrom (dayAmounts astray) .number ≡ 16
+pub number-astray : dayFrom (dayAmounts mismatched) .number ≡ 16
 unfolding wholeHanded
 number-astray = refl
 

@@ -13,11 +13,11 @@ use Rattle.book.specs.Meaning.{belongs, load, Leaves, replyOf}
 use Rattle.book.specs.laws.LoadLaws.{Loaded}
 use Rattle.book.specs.tables.Tables.{survey, viewed}
 use Rattle.book.specs.tables.Places.{liveAt}
-use Rattle.book.specs.tables.Index.{hourSlot, slot, latestOf}
+use Rattle.book.specs.tables.Index.{hourSlot, bucket, latestOf}
 use Rattle.book.specs.tables.Rows.{Rows, Logged}
 
 -- book and bytes belong together, and the rows are those of their changes
-pub record Held (b : Book) (s rows : List ℕ) : Type 0 where
+pub record Checked (b : Book) (s rows : List ℕ) : Type 0 where
   pub base : Loaded b s
   pub kept : Rows rows (base .list) (base .list)
   pub size : length rows ≡ 512
@@ -25,14 +25,14 @@ pub record Held (b : Book) (s rows : List ℕ) : Type 0 where
 -- what every call leaves, accepted or refused, and the rows are those of the book that is handed back
 pub record Makes (f : ℕ → Reg → Step) (b : Book) (s : List ℕ) (k : Key) (r : Done) (s′ rows′ : List ℕ) : Type 0 where
   pub leaves : Leaves f b s (r .book) (replyOf (r .answer)) s′
-  pub held : Held (r .book) s′ rows′
+  pub held : Checked (r .book) s′ rows′
   -- but for the number of the key, the latest change of a number is no later than before
-  pub older : (l l′ : List Change) → load b s ≡ belongs l → load (r .book) s′ ≡ belongs l′ → (h : ℕ) → (h ≡ slot k → ⊥) → latestOf h l′ ≤ latestOf h l
+  pub older : (l l′ : List Change) → load b s ≡ belongs l → load (r .book) s′ ≡ belongs l′ → (h : ℕ) → (h ≡ bucket k → ⊥) → latestOf h l′ ≤ latestOf h l
 
 -- behind the first of the changes none has the number of the key
 pub record Since (b : Book) (s : List ℕ) (k : Key) (from : ℕ) : Type 0 where
   pub inside : from ≤ b .changes
-  pub none : (l : List Change) → load b s ≡ belongs l → latestOf (slot k) l ≤ from
+  pub none : (l : List Change) → load b s ≡ belongs l → latestOf (bucket k) l ≤ from
 
 -- the bytes are a change of the kind that is wanted, and this is its view
 pub record IsChange (want : Wanted) (rec : List ℕ) (v : View) : Type 0 where

@@ -14,10 +14,10 @@ unfoldable pub weighed : ℕ → ℕ → List ℕ → ℕ
 weighed sum weight [] = sum
 weighed sum weight (b ∷ bs) = weighed (sum + b * weight) (weight * 31 % 8192) bs
 
-unfoldable pub slot : Key → ℕ
-slot k = weighed (hourSlot k) 449 (k .name .bytes) % 8192
+unfoldable pub bucket : Key → ℕ
+bucket k = weighed (hourSlot k) 449 (k .name .bytes) % 8192
 
 -- 1 more than the place of the latest change whose key has a number, 0 for none
 unfoldable pub latestOf : ℕ → List Change → ℕ
 latestOf h [] = 0
-latestOf h (c ∷ l) = cond (eqb (slot (keyOf c)) h) (length l + 1) (latestOf h l)
+latestOf h (c ∷ l) = cond (eqb (bucket (keyOf c)) h) (length l + 1) (latestOf h l)

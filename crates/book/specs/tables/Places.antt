@@ -4,7 +4,7 @@ use mathlib.Core.List.{List, [], _∷_}
 use mathlib.Core.Bool.{Bool, false, cond}
 use lib.ListN.{take}
 use lib.Dec.{eqb}
-use Rattle.book.specs.Layer.{Kind, isCorrection, isWithdrawal, Rec, Change, nameOf, nameBefore}
+use Rattle.book.specs.Layer.{Kind, isCorrection, isWithdrawal, Rec, Change, decodedBytes, nameBefore}
 use Rattle.book.specs.declared.amounts.places.Spot.{Spot}
 use Rattle.book.specs.declared.amounts.places.Places.{Places}
 use Rattle.book.specs.tables.Tables.{Survey, survey}
@@ -28,7 +28,7 @@ spotOf l r = record { name = r .key .name; start = survey (r .key) l .start }
 -- a spot before the first whose name comes after its own
 unfoldable pub putSpot : Spot → List Spot → List Spot
 putSpot s [] = s ∷ []
-putSpot s (x ∷ xs) = cond (nameBefore (nameOf (s .name)) (nameOf (x .name))) (s ∷ x ∷ xs) (x ∷ putSpot s xs)
+putSpot s (x ∷ xs) = cond (nameBefore (decodedBytes (s .name)) (decodedBytes (x .name))) (s ∷ x ∷ xs) (x ∷ putSpot s xs)
 
 abbrev pub spots : Places → List Spot
 spots p = take (p .n) (p .at)

@@ -11,7 +11,7 @@ use Rattle.book.specs.laws.LayerLaws.{Padded}
 use Rattle.book.specs.Register.{writeAll}
 use Rattle.book.specs.Meaning.{Load, belongs, Valid}
 use Rattle.book.specs.tables.Tables.{survey, together}
-use Rattle.book.specs.tables.Index.{hourSlot, slot, latestOf}
+use Rattle.book.specs.tables.Index.{hourSlot, bucket, latestOf}
 use Rattle.book.specs.tables.Places.{leadLength, liveAt}
 use Rattle.book.specs.declared.log.rows.Seek.{Seek}
 
@@ -27,7 +27,7 @@ abbrev pub kindAt : ℕ → Kind
 kindAt code = cond (eqb code 1) File (cond (eqb code 2) Correct Withdraw)
 
 abbrev pub packed : Bool → Kind → ℕ → ℕ → ℕ
-packed live kind slot q = cond live 134217728 0 + kindCode kind * 33554432 + slot * 65536 + q
+packed live kind bucket q = cond live 134217728 0 + kindCode kind * 33554432 + bucket * 65536 + q
 
 abbrev pub rowStart : ℕ → ℕ
 rowStart row = row % 65536
@@ -101,7 +101,7 @@ pub record Search (s rows : List ℕ) (n from hs : ℕ) (head : List ℕ) (k : K
   pub head-is : head ≡ recordHead k
   pub low : k .hour < 32
   pub padded : Padded (k .name)
-  pub few : latestOf (slot k) l ≤ from
+  pub few : latestOf (bucket k) l ≤ from
 
 -- ---- one change more
 

@@ -7,8 +7,8 @@ use lib.Dec.{ltb}
 use Rattle.money.specs.Refusals.{keyStands, noSuchKey, hourFull}
 use Rattle.book.specs.Layer.{Key, View, Kind, Record, Change, keyOf, kindOf, isFiling, isCorrection, isWithdrawal, write, same, sameHour}
 use Rattle.book.specs.Replies.{replied}
-use Rattle.book.specs.Register.{writeAll, room, Step, answered, becomes}
-use Rattle.book.specs.Meaning.{Load, belongs, astray}
+use Rattle.book.specs.Register.{writeAll, spaceFault, Step, answered, becomes}
+use Rattle.book.specs.Meaning.{Load, belongs, mismatched}
 
 abbrev pub viewed : Change → View
 viewed c = record { act = Record (kindOf c); key = keyOf c; len = length (write c) }
@@ -42,13 +42,13 @@ survey k (c ∷ l) = noted k (length (writeAll l)) c (survey k l)
 -- whether book and bytes belong together
 abbrev pub together : Load → Bool
 together (belongs l) = true
-together astray = false
+together mismatched = false
 
 -- ---- the refusal of a change, by what the code knows of it
 -- n of its mark stand in the hour, which holds at most most
-unfoldable pub judge : Kind → Bool → ℕ → ℕ → ℕ → ℕ → ℕ → ℕ → ℕ
-judge kind found n most changes used len lent =
-    cond (isFiling kind) (cond found keyStands (cond (ltb n most) (room changes used len lent) hourFull)) (cond found (room changes used len lent) noSuchKey)
+unfoldable pub changeFault : Kind → Bool → ℕ → ℕ → ℕ → ℕ → ℕ → ℕ → ℕ
+changeFault kind found n most changes used len lent =
+    cond (isFiling kind) (cond found keyStands (cond (ltb n most) (spaceFault changes used len lent) hourFull)) (cond found (spaceFault changes used len lent) noSuchKey)
 
 -- ---- the number of a step; 0 where it is none
 

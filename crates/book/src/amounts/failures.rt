@@ -14,7 +14,7 @@ use crate::log::rows::find_in;
 use money::refusals::NO_SUCH_KEY;
 use money::refusals::NOT_TOGETHER;
 use money::refusals::PRICE_MISSING;
-use money::refusals::UNKNOWN_MARK;
+use money::refusals::MARK_UNKNOWN;
 use money::units::Answer as Charged;
 use money::units::Ticks;
 use records::amounts::failure_charge;
@@ -181,7 +181,7 @@ impl Book {
         let mut rows = [0u32; 512];
         if self.check_rows(log, &mut rows) {
             if !is_failure(mark) {
-                return no_charges(UNKNOWN_MARK);
+                return no_charges(MARK_UNKNOWN);
             }
             let q = hour_key(mark, hour);
             if q.number != 0 {

@@ -33,7 +33,7 @@ pub struct Places {
 }
 
 // The first place whose name comes after the spot's, n where none does.
-pub fn slot_for(p: Places, s: Spot) -> usize
+pub fn position_for(p: Places, s: Spot) -> usize
     requires { ⌜ p .n ≤ maxPlaces ⌝ }
     ensures { λ r. ⌜ (r ≤ p .n) × (putSpot s (spots p) ≡ take r (spots p) ++ (s ∷ drop r (spots p))) ⌝ }
 {
@@ -96,7 +96,7 @@ fn with_row(log: &[u8], p: Places, row: u32) -> Places
     let start = place_in(row);
     let name = name_at(log, start);
     let s = Spot { name, start };
-    let j = slot_for(p, s);
+    let j = position_for(p, s);
     inserted(p, j, s)
 }
 

@@ -53,7 +53,7 @@ fn of_mark(row: u32, mark: usize) -> bool
 }
 
 // Where a name is, or the first place whose name comes after it, n where none does.
-fn slot_of(u: Units, name: Name) -> Slot
+fn position_of(u: Units, name: Name) -> Slot
     requires { ⌜ u .n ≤ 512 ⌝ }
     ensures { λ r. ⌜ (r .at ≤ u .n) × (addName name (namesIn u) ≡ cond (r .new) (take (r .at) (namesIn u) ++ (name ∷ drop (r .at) (namesIn u))) (namesIn u)) ⌝ }
 {
@@ -94,7 +94,7 @@ fn with_name(u: Units, name: Name) -> Units
     requires { ⌜ u .n < 512 ⌝ }
     ensures { λ r. ⌜ (r .n ≤ u .n + 1) × (namesIn r ≡ addName name (namesIn u)) × (u ≡ unitsOf (namesIn u) → r ≡ unitsOf (namesIn r)) ⌝ }
 {
-    let s = slot_of(u, name);
+    let s = position_of(u, name);
     if s.new {
         return inserted(u, s.at, name);
     }

@@ -3,7 +3,7 @@ use crate::answers::Answer;
 use crate::answers::Done;
 use crate::log::index::hour_slot;
 use crate::book::Book;
-use crate::log::refusal::weigh;
+use crate::log::refusal::change_fault;
 use crate::log::rows::clear_row;
 use crate::log::rows::count_in;
 use crate::log::rows::find_in;
@@ -11,7 +11,7 @@ use crate::log::rows::kind_in;
 use crate::log::rows::place_in;
 use crate::log::rows::row_for;
 use crate::log::rows::start_in;
-use money::refusals::BOOK_CLOSED;
+use money::refusals::CLOSED;
 use money::refusals::NOTHING_TO_TAKE_BACK;
 use records::heads::head_key;
 use records::heads::record_head;
@@ -32,7 +32,7 @@ ghost use Prim.Native.Nat.{ℕ, _<_};
 ghost use Rattle.book.specs.Layer.{Key, Change, keyOf, isWithdrawal, parse};
 ghost use Rattle.book.specs.Register.{listed, takenBack, closing, general};
 ghost use Rattle.book.specs.tables.Rows.{rowSlot, rowKind, Rows, Logged, Log};
-ghost use Rattle.book.specs.tables.Held.{Held, Makes, Since, IsChange, Viewing, IsEntry, Undoing, Wrote};
+ghost use Rattle.book.specs.tables.Held.{Checked, Makes, Since, IsChange, Viewing, IsEntry, Undoing, Wrote};
 
 // Whether a change filed or corrected a record of the mark and hour.
 fn wrote_in(row: u32, slot: usize) -> bool
@@ -95,13 +95,13 @@ impl Book {
         view: View,
         rec: &[u8],
     ) -> Done
-        requires { ⌜ Held self (now log) (now rows) ⌝ ∗ ⌜ Since self (now log) (view .key) from ⌝ ∗ ⌜ Viewing (now rec) view ⌝ }
+        requires { ⌜ Checked self (now log) (now rows) ⌝ ∗ ⌜ Since self (now log) (view .key) from ⌝ ∗ ⌜ Viewing (now rec) view ⌝ }
         ensures { λ r. ⌜ ((want : Wanted) → IsChange want (now (rec .entry)) view → Makes (listed (parse want (now (rec .entry)))) self (now (log .entry)) (view .key) r (now (log .exit)) (now (rows .exit))) ⌝ }
     {
         if self.closed {
             return Done {
                 book: self,
-                answer: Answer::Refused(BOOK_CLOSED),
+                answer: Answer::Refused(CLOSED),
             };
         }
         let n = self.changes as usize;
@@ -109,7 +109,7 @@ impl Book {
         let s = find_in(log, rows, n, from, view.key);
         let count = count_in(rows, n, view.key);
         let most = limit_of(view.key);
-        let refusal = weigh(view, s.found, count, most, n, at, log.len());
+        let refusal = change_fault(view, s.found, count, most, n, at, log.len());
         if refusal != 0 {
             return Done {
                 book: self,
@@ -131,13 +131,13 @@ impl Book {
 
     // The used part then ends where the last change begins.
     pub(crate) fn held_take_back(mut self, log: &[u8], rows: &mut [u32; 512]) -> Done
-        requires { ⌜ Held self (now log) (now rows) ⌝ }
+        requires { ⌜ Checked self (now log) (now rows) ⌝ }
         ensures { λ r. ⌜ ((k : Key) → Makes (takenBack 0) self (now (log .entry)) k r (now (log .entry)) (now (rows .exit))) ⌝ }
     {
         if self.closed {
             return Done {
                 book: self,
-                answer: Answer::Refused(BOOK_CLOSED),
+                answer: Answer::Refused(CLOSED),
             };
         }
         if self.changes == 0 {
@@ -158,12 +158,12 @@ impl Book {
     }
 
     pub(crate) fn held_close(mut self) -> Done
-        ensures { λ r. ⌜ ((s rows : List ℕ) (k : Key) → Held self s rows → Makes (closing 0) self s k r s rows) ⌝ }
+        ensures { λ r. ⌜ ((s rows : List ℕ) (k : Key) → Checked self s rows → Makes (closing 0) self s k r s rows) ⌝ }
     {
         if self.closed {
             return Done {
                 book: self,
-                answer: Answer::Refused(BOOK_CLOSED),
+                answer: Answer::Refused(CLOSED),
             };
         }
         self.closed = true;
@@ -182,7 +182,7 @@ impl Book {
         view: View,
         rec: &[u8],
     ) -> Done
-        requires { ⌜ Held self (now log) (now rows) ⌝ ∗ ⌜ Since self (now log) (view .key) from ⌝ ∗ ⌜ IsEntry (now rec) view ⌝ }
+        requires { ⌜ Checked self (now log) (now rows) ⌝ ∗ ⌜ Since self (now log) (view .key) from ⌝ ∗ ⌜ IsEntry (now rec) view ⌝ }
         ensures { λ r. ⌜ Makes (general (now (rec .entry))) self (now (log .entry)) (view .key) r (now (log .exit)) (now (rows .exit)) ⌝ }
     {
         let act = view.act;

@@ -3,7 +3,7 @@ use records::keys::Key;
 use records::marks::order;
 ghost use mathlib.Core.Path.{_≡_};
 ghost use Prim.Native.Nat.{_<_};
-ghost use Rattle.book.specs.tables.Index.{hourSlot, slot};
+ghost use Rattle.book.specs.tables.Index.{hourSlot, bucket};
 
 fn wide(b: u8) -> usize
     ensures { λ r. ⌜ (r ≡ b) × (r < 256) ⌝ }
@@ -18,8 +18,8 @@ pub(crate) fn hour_slot(key: Key) -> usize
     wide(order(mark)) * 32 + wide(key.hour)
 }
 
-pub(crate) fn slot_of(key: Key) -> usize
-    ensures { λ r. ⌜ (r ≡ slot key) × (r < 8192) ⌝ }
+pub(crate) fn bucket_of(key: Key) -> usize
+    ensures { λ r. ⌜ (r ≡ bucket key) × (r < 8192) ⌝ }
 {
     let name = key.name;
     let bytes = name.bytes;

@@ -8,10 +8,10 @@ use records::scan::View;
 use records::scan::kind_of;
 ghost use mathlib.Core.Path.{_≡_};
 ghost use Rattle.book.specs.Layer.{kindIn};
-ghost use Rattle.book.specs.Register.{capped, room};
-ghost use Rattle.book.specs.tables.Tables.{judge};
+ghost use Rattle.book.specs.Register.{capped, spaceFault};
+ghost use Rattle.book.specs.tables.Tables.{changeFault};
 
-pub(crate) fn cap(lent: usize) -> usize
+pub(crate) fn capacity(lent: usize) -> usize
     ensures { λ r. ⌜ r ≡ capped lent ⌝ }
 {
     if 65535 < lent {
@@ -20,13 +20,13 @@ pub(crate) fn cap(lent: usize) -> usize
     lent
 }
 
-fn has_room(changes: usize, used: usize, len: usize, lent: usize) -> u8
-    ensures { λ r. ⌜ r ≡ room changes used len lent ⌝ }
+fn space_fault(changes: usize, used: usize, len: usize, lent: usize) -> u8
+    ensures { λ r. ⌜ r ≡ spaceFault changes used len lent ⌝ }
 {
     if 512 <= changes {
         return NO_SPACE;
     }
-    let most = cap(lent);
+    let most = capacity(lent);
     if most < used {
         return NO_SPACE;
     }
@@ -37,7 +37,7 @@ fn has_room(changes: usize, used: usize, len: usize, lent: usize) -> u8
 }
 
 // The number with which a change is refused, by what stands and what is free.
-pub(crate) fn weigh(
+pub(crate) fn change_fault(
     view: View,
     found: bool,
     count: usize,
@@ -46,7 +46,7 @@ pub(crate) fn weigh(
     used: usize,
     lent: usize,
 ) -> u8
-    ensures { λ r. ⌜ r ≡ judge (kindIn (view .act)) found count most changes used (view .len) lent ⌝ }
+    ensures { λ r. ⌜ r ≡ changeFault (kindIn (view .act)) found count most changes used (view .len) lent ⌝ }
 {
     let kind = kind_of(view);
     if is_filing(kind) {
@@ -54,12 +54,12 @@ pub(crate) fn weigh(
             return KEY_STANDS;
         }
         if count < most {
-            return has_room(changes, used, view.len, lent);
+            return space_fault(changes, used, view.len, lent);
         }
         return HOUR_FULL;
     }
     if found {
-        return has_room(changes, used, view.len, lent);
+        return space_fault(changes, used, view.len, lent);
     }
     NO_SUCH_KEY
 }

@@ -1,7 +1,7 @@
 // The one pass over a book's used part.
 use crate::log::index::hour_slot;
-use crate::log::index::slot_of;
-use crate::log::refusal::weigh;
+use crate::log::index::bucket_of;
+use crate::log::refusal::change_fault;
 use crate::log::rows::clear_row;
 use crate::log::rows::find_in;
 use crate::log::rows::row_for;
@@ -55,13 +55,13 @@ pub(crate) fn replayed_rows(part: &[u8], n: u16, rows: &mut [u32; 512]) -> bool
         if !is_record(v) {
             return false;
         }
-        let slot = slot_of(v.key);
+        let slot = bucket_of(v.key);
         let near = latest[slot] as usize;
         let s = find_in(part, rows, i, near, v.key);
         let hour = hour_slot(v.key);
         let count = counts[hour];
         let most = limit_of(v.key);
-        if weigh(v, s.found, count, most, i, q, 65535) != 0 {
+        if change_fault(v, s.found, count, most, i, q, 65535) != 0 {
             return false;
         }
         clear_row(rows, s);

@@ -18,7 +18,7 @@ ghost use Prim.Native.Nat.{_<_, _≤_, _+_, _%_, _/_};
 ghost use Rattle.book.specs.Layer.{Key, Change, isWithdrawal, kindIn, scan, viewOf};
 ghost use Rattle.book.specs.laws.LayerLaws.{Padded};
 ghost use Rattle.book.specs.Register.{standing, count};
-ghost use Rattle.book.specs.tables.Index.{slot, latestOf};
+ghost use Rattle.book.specs.tables.Index.{bucket, latestOf};
 ghost use Rattle.book.specs.tables.Rows.{rowSlot, rowLive, rowPlace, rowStart, rowKind, kindCode, packed, Ruled, Rules, Logged, Log, Search, Sought, cleared};
 
 pub(crate) fn start_in(row: u32) -> usize
@@ -62,20 +62,20 @@ pub(crate) fn place_in(row: u32) -> usize
 }
 
 // Whether the record that it wrote stands, and is of the mark and hour.
-pub(crate) fn stands_in(row: u32, slot: usize) -> bool
-    ensures { λ r. ⌜ r ≡ (rowLive row && eqb (rowSlot row) slot) ⌝ }
+pub(crate) fn stands_in(row: u32, bucket: usize) -> bool
+    ensures { λ r. ⌜ r ≡ (rowLive row && eqb (rowSlot row) bucket) ⌝ }
 {
     if row < 134217728 {
         return false;
     }
-    (row / 65536 % 512) as usize == slot
+    (row / 65536 % 512) as usize == bucket
 }
 
-fn counted(row: u32, slot: usize, count: usize) -> usize
+fn counted(row: u32, bucket: usize, count: usize) -> usize
     requires { ⌜ count < 65536 ⌝ }
-    ensures { λ r. ⌜ r ≡ cond (rowLive row && eqb (rowSlot row) slot) (count + 1) count ⌝ }
+    ensures { λ r. ⌜ r ≡ cond (rowLive row && eqb (rowSlot row) bucket) (count + 1) count ⌝ }
 {
-    if stands_in(row, slot) {
+    if stands_in(row, bucket) {
         return count + 1;
     }
     count
@@ -86,11 +86,11 @@ pub(crate) fn count_in(rows: &[u32; 512], n: usize, key: Key) -> usize
     requires { ⌜ Rules (now rows) n ⌝ }
     ensures { λ r. ⌜ ((l : List Change) → Ruled (now (rows .entry)) n l → key .hour < 32 → r ≡ count key (standing l)) ⌝ }
 {
-    let slot = hour_slot(key);
+    let bucket = hour_slot(key);
     let mut sum: usize = 0;
     let mut i: usize = 0;
     while i < n {
-        sum = counted(rows[i], slot, sum);
+        sum = counted(rows[i], bucket, sum);
         i = i + 1;
     }
     sum
@@ -123,15 +123,15 @@ fn not_found() -> Seek
 }
 
 // The newest of the first `from` changes whose record stands, is of the mark and hour, and begins with the head.
-fn find_head(log: &[u8], rows: &[u32; 512], n: usize, from: usize, slot: usize, head: &[u8]) -> Seek
+fn find_head(log: &[u8], rows: &[u32; 512], n: usize, from: usize, bucket: usize, head: &[u8]) -> Seek
     requires { ⌜ Log (now log) (now rows) n ⌝ ∗ ⌜ from ≤ n ⌝ }
-    ensures { λ r. ⌜ ((k : Key) (l : List Change) → Search (now (log .entry)) (now (rows .entry)) n from slot (now (head .entry)) k l → Sought (now (rows .entry)) n k r l) ⌝ }
+    ensures { λ r. ⌜ ((k : Key) (l : List Change) → Search (now (log .entry)) (now (rows .entry)) n from bucket (now (head .entry)) k l → Sought (now (rows .entry)) n k r l) ⌝ }
 {
     let mut i: usize = from;
     while 0 < i {
         let j = i - 1;
         let row = rows[j];
-        if stands_in(row, slot) {
+        if stands_in(row, bucket) {
             let start = place_in(row);
             if starts(&log[start..], head) {
                 return Seek {
@@ -149,25 +149,25 @@ fn find_head(log: &[u8], rows: &[u32; 512], n: usize, from: usize, slot: usize, 
 // The record of a key by the first `from` changes: no later one has the key's number. The key is spelled once, and no record is read.
 pub(crate) fn find_in(log: &[u8], rows: &[u32; 512], n: usize, from: usize, key: Key) -> Seek
     requires { ⌜ Log (now log) (now rows) n ⌝ ∗ ⌜ from ≤ n ⌝ }
-    ensures { λ r. ⌜ ((l : List Change) → Logged (now (log .entry)) (now (rows .entry)) n l → key .hour < 32 → Padded (key .name) → latestOf (slot key) l ≤ from → Sought (now (rows .entry)) n key r l) ⌝ }
+    ensures { λ r. ⌜ ((l : List Change) → Logged (now (log .entry)) (now (rows .entry)) n l → key .hour < 32 → Padded (key .name) → latestOf (bucket key) l ≤ from → Sought (now (rows .entry)) n key r l) ⌝ }
 {
     if from == 0 {
         return not_found();
     }
-    let slot = hour_slot(key);
+    let bucket = hour_slot(key);
     let h = record_head(key);
     let len = h.len;
     let bytes = h.bytes;
-    find_head(log, rows, n, from, slot, &bytes[..len])
+    find_head(log, rows, n, from, bucket, &bytes[..len])
 }
 
 // A change at q whose record stands, unless it is a withdrawal.
-pub(crate) fn row_for(view: View, slot: usize, q: usize) -> u32
-    requires { ⌜ (slot < 512) × (q < 65536) ⌝ }
-    ensures { λ r. ⌜ r ≡ packed (not (isWithdrawal (kindIn (view .act)))) (kindIn (view .act)) slot q ⌝ }
+pub(crate) fn row_for(view: View, bucket: usize, q: usize) -> u32
+    requires { ⌜ (bucket < 512) × (q < 65536) ⌝ }
+    ensures { λ r. ⌜ r ≡ packed (not (isWithdrawal (kindIn (view .act)))) (kindIn (view .act)) bucket q ⌝ }
 {
     let kind = kind_of(view);
-    let row = code_of(kind) * 33554432 + slot as u32 * 65536 + q as u32;
+    let row = code_of(kind) * 33554432 + bucket as u32 * 65536 + q as u32;
     if is_withdrawal(kind) {
         return row;
     }

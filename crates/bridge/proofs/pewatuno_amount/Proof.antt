@@ -10,8 +10,8 @@ use borrow.Author.Needs.{needs}
 use Rattle.bridge.proofs.pewatuno_amount.Statement.{statement}
 use Rattle.bridge.proofs.pewatuno_amount.Tie as tie
 
-bears-requires : tie.Need-bears-requires
-bears-requires c κs = search needs
+begins-with-requires : tie.Need-begins-with-requires
+begins-with-requires c κs = search needs
 
 filing-fault-requires : tie.Need-filing-fault-requires
 filing-fault-requires c κs = search needs
@@ -19,7 +19,7 @@ filing-fault-requires c κs = search needs
 returns : tie.Need-returns
 unfolding amountNumber
 returns c =
-    let e = (c .before .filing-fault) .ensures ∙ ap (λ (b : Bool). filingNumber ((c .before .before .before .before .before .args) .prices .now) b) ((c .before .before .bears) .ensures) in
+    let e = (c .before .filing-fault) .ensures ∙ ap (λ (b : Bool). filingNumber ((c .before .before .before .before .before .args) .prices .now) b) ((c .before .before .begins-with) .ensures) in
     let k = kept (orElse (filingNumber ((c .before .before .before .before .before .args) .bytes .now) (hasAmount ((c .before .before .before .before .before .args) .bytes .now))) (answerNumber (amountIn ((c .before .before .before .before .before .args) .prices .now) ((c .before .before .before .before .before .args) .bytes .now)))) e ((c .if1) .taken) in
     (k, if-no _ _ k ((c .if1) .taken))
 
@@ -32,7 +32,7 @@ filing-fault-requires-2 c κs = search needs
 returns-2 : tie.Need-returns-2
 unfolding amountNumber
 returns-2 c =
-    let e = (c .before .before .before .before .filing-fault) .ensures ∙ ap (λ (b : Bool). filingNumber ((c .before .before .before .before .before .before .before .before .args) .prices .now) b) ((c .before .before .before .before .before .bears) .ensures) in
+    let e = (c .before .before .before .before .filing-fault) .ensures ∙ ap (λ (b : Bool). filingNumber ((c .before .before .before .before .before .before .before .before .args) .prices .now) b) ((c .before .before .before .before .before .begins-with) .ensures) in
     let f = (c .before .filing-fault2) .ensures ∙ ap (λ (b : Bool). filingNumber ((c .before .before .before .before .before .before .before .before .args) .bytes .now) b) ((c .before .before .has-amount) .ensures) in
     let k =
     kept (answerNumber (amountIn ((c .before .before .before .before .before .before .before .before .args) .prices .now) ((c .before .before .before .before .before .before .before .before .args) .bytes .now))) f ((c .if2) .taken)
@@ -51,7 +51,7 @@ same-length c = search needs
 returns-3 : tie.Need-returns-3
 unfolding amountNumber
 returns-3 c =
-    let e = (c .before .before .before .before .before .before .before .before .filing-fault) .ensures ∙ ap (λ (b : Bool). filingNumber ((c .before .before .before .before .before .before .before .before .before .before .before .before .args) .prices .now) b) ((c .before .before .before .before .before .before .before .before .before .bears) .ensures) in
+    let e = (c .before .before .before .before .before .before .before .before .filing-fault) .ensures ∙ ap (λ (b : Bool). filingNumber ((c .before .before .before .before .before .before .before .before .before .before .before .before .args) .prices .now) b) ((c .before .before .before .before .before .before .before .before .before .begins-with) .ensures) in
     let f = (c .before .before .before .before .before .filing-fault2) .ensures ∙ ap (λ (b : Bool). filingNumber ((c .before .before .before .before .before .before .before .before .before .before .before .before .args) .bytes .now) b) ((c .before .before .before .before .before .before .has-amount) .ensures) in
     let k =
     (c .before .tell-amount) .ensures .0 ∙ ap (λ (a : Answer). answerNumber a) ((c .before .before .amount-of) .ensures)
@@ -67,7 +67,7 @@ pub pewatuno-amount-spec : {M : Type 1} → statement M
 pewatuno-amount-spec =
     tie.close
     (tie.spec
-    bears-requires
+    begins-with-requires
     filing-fault-requires
     returns
     has-amount-requires

@@ -10,7 +10,7 @@ use lib.Seq.{take-all}
 use borrow.Author.Tests.{lt-ltb}
 use Rattle.book.specs.declared.book.Book.{Book}
 use Rattle.book.specs.Register.{Call, ask, Question, refused, stepOf}
-use Rattle.book.specs.Meaning.{After, Load, astray, load, replay, leaving, stepped, outcome}
+use Rattle.book.specs.Meaning.{After, Load, mismatched, load, replay, leaving, stepped, outcome}
 use Rattle.book.specs.laws.LoadLaws.{load-long}
 use Rattle.book.specs.Replies.{replied}
 use Rattle.bridge.specs.Bridge.{noBook, bookIn, handedBack, Changed, asked, feedOf, feedIn}
@@ -19,7 +19,7 @@ use Rattle.bridge.specs.Bridge.{noBook, bookIn, handedBack, Changed, ask
 abbrev carried : List ℕ → Book
 carried state = record { changes = getD state 0 0; used = getD state 1 0; closed = not (eqb (getD state 2 0) 0) }
 
-pub none-belong : (s : List ℕ) → load noBook s ≡ astray
+pub none-belong : (s : List ℕ) → load noBook s ≡ mismatched
 unfolding load replay
 none-belong [] = refl
 none-belong (x ∷ s) = load-long noBook (x ∷ s) (omega arith)
@@ -66,6 +66,6 @@ unfolding asked
 beyond-asked q state lent b = ap (λ (x : Book). outcome (stepOf (ask q)) x lent .answer) (beyond state b) ∙ ap (λ (x : After). x .answer) (sixteen (ask q) lent)
 
 -- an input: 16 where it holds a record, 0 for none, and nothing is taken
-pub beyond-feed : (state lent input : List ℕ) → Beyond state → feedIn state lent input ≡ feedOf astray (bookIn state) (length lent) input
+pub beyond-feed : (state lent input : List ℕ) → Beyond state → feedIn state lent input ≡ feedOf mismatched (bookIn state) (length lent) input
 unfolding feedIn
 beyond-feed state lent input b = ap (λ (x : Load). feedOf x (bookIn state) (length lent) input) (ap (λ (x : Book). load x lent) (beyond state b) ∙ none-belong lent)

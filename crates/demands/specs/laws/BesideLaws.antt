@@ -11,10 +11,10 @@ use Rattle.book.specs.ByName.{byName}
 use Rattle.book.specs.declared.book.Book.{Book}
 use Rattle.book.specs.declared.feed.Fed.{Fed as Result}
 use Rattle.book.specs.Amounts.{Pick, is, pick, HourPricing, ChargesReply, charged, no, chargeLine, chargesAt, chargesOf, chargeAt, chargeOf, hourKey, priceOf, priced}
-use Rattle.book.specs.Register.{Reg, standing, writeAll, change, Reply, refused, accepted, Step, answered, becomes, called, after, reply, Turn, run, told}
+use Rattle.book.specs.Register.{Reg, standing, writeAll, change, Reply, refused, accepted, Step, answered, becomes, called, after, reply, Turn, run, repliesOf}
 use Rattle.book.specs.Meaning.{Load, belongs, load, bookOf, chargesKeyed, hourCharges, Valid}
 use Rattle.book.specs.Replies.{replied}
-use Rattle.book.specs.Feed.{firstRecord, Fed, stopped, later, onward, fed, feeding}
+use Rattle.book.specs.Feed.{firstRecord, FeedReply, stopped, later, feedOn, fed, feeding}
 use Rattle.book.specs.FeedPromise.{Feeds}
 use Rattle.book.specs.laws.CallLaws.{Refusal, Decided, decided-change}
 use Rattle.book.specs.laws.LoadLaws.{load-whole, loaded-valid}
@@ -27,9 +27,9 @@ use Rattle.demands.specs.Beside.{changing, thenOthers, recordTurns, endi
 
 -- ---- `feed`
 
-record Made (ts us : List Turn) (f : Fed) : Type 0 where
+record Made (ts us : List Turn) (f : FeedReply) : Type 0 where
   reg : run (us ++ ts) ≡ f .reg
-  said : told (us ++ ts) ≡ ending (f .number) (replicate (f .count) accepted ++ told ts)
+  said : repliesOf (us ++ ts) ≡ ending (f .number) (replicate (f .count) accepted ++ repliesOf ts)
 
 ending-above : (n : ℕ) (rs : List Reply) → 0 < n → refused n ∷ rs ≡ ending n rs
 ending-above zero rs h = absurd (omega arith)
@@ -40,7 +40,7 @@ one-later zero rs = refl
 one-later (suc n) rs = ap (λ (x : List Reply). accepted ∷ x) (one-later n rs)
 
 made : (n lent : ℕ) (ts : List Turn) (s : List ℕ) → Made ts (recordTurns n lent (run ts) s) (fed n lent (run ts) s)
-unfolding recordTurns fed run told
+unfolding recordTurns fed run repliesOf
 made zero lent ts s = record { reg = refl; said = refl }
 made (suc n) lent ts [] = record { reg = refl; said = refl }
 made (suc n) lent ts (b ∷ s) = go (made n lent (t ∷ ts) rest) (called (change p) lent (run ts)) refl (decided-change p lent (run ts))
@@ -60,23 +60,23 @@ made (suc n) lent ts (b ∷ s) = go (made n lent (t ∷ ts) rest) (called (chang
         let f = fed n lent h rest in
         let a = append-assoc (recordTurns n lent h rest) (t ∷ []) ts in
         let c : 1 + f .count ≡ suc (f .count) = omega arith in
-        let q : told (t ∷ ts) ≡ accepted ∷ told ts = ap (λ (x : Step). reply x ∷ told ts) e in
+        let q : repliesOf (t ∷ ts) ≡ accepted ∷ repliesOf ts = ap (λ (x : Step). reply x ∷ repliesOf ts) e in
         record {
           reg = ap run a ∙ w .reg;
-          said = ap told a ∙ w .said
+          said = ap repliesOf a ∙ w .said
               ∙ ap (ending (f .number))
-              (ap (λ (x : List Reply). replicate (f .count) accepted ++ x) q ∙ one-later (f .count) (told ts) ∙ ap (λ (k : ℕ). replicate k accepted ++ told ts) (sym c));
+              (ap (λ (x : List Reply). replicate (f .count) accepted ++ x) q ∙ one-later (f .count) (repliesOf ts) ∙ ap (λ (k : ℕ). replicate k accepted ++ repliesOf ts) (sym c));
         }
 
     go : Made (t ∷ ts) (recordTurns n lent (run (t ∷ ts)) rest) (fed n lent (run (t ∷ ts)) rest)
         → (st : Step) → called (change p) lent (run ts) ≡ st → Decided (called (change p) lent (run ts))
-        → Made ts (thenOthers t (λ (h : Reg). recordTurns n lent h rest) st) (onward (run ts) p (b ∷ s) (fed n lent) st)
+        → Made ts (thenOthers t (λ (h : Reg). recordTurns n lent h rest) st) (feedOn (run ts) p (b ∷ s) (fed n lent) st)
     go ih (answered r) e d =
         let w = subst Decided e d in
         record {
           reg = ap (λ (x : Step). after x (run ts)) e;
-          said = ap (λ (x : Step). reply x ∷ told ts) e ∙ ap (λ (x : Reply). x ∷ told ts) (w .is) ∙ ending-above (w .number) (told ts) (w .above)
-              ∙ ap (λ (x : Reply). ending (replied x) (told ts)) (sym (w .is));
+          said = ap (λ (x : Step). reply x ∷ repliesOf ts) e ∙ ap (λ (x : Reply). x ∷ repliesOf ts) (w .is) ∙ ending-above (w .number) (repliesOf ts) (w .above)
+              ∙ ap (λ (x : Reply). ending (replied x) (repliesOf ts)) (sym (w .is));
         }
     go ih (becomes h) e d =
         let k : run (t ∷ ts) ≡ h = ap (λ (x : Step). after x (run ts)) e in
@@ -92,18 +92,18 @@ read-as-calls b s input r s′ f ts rs held σ h =
     let g : feeding (length s) (record { list = run ts .list; closed = b .closed }) input ≡ feeding (length s) (run ts) input =
     ap (λ (x : Bool). feeding (length s) (record { list = run ts .list; closed = x }) input) open-is in
     let m = made (length input) (length s) ts input in
-    let i : feeding (length s) (record { list = run ts .list; closed = b .closed }) input .reg ≡ run (afterInput ts (length s) input) = ap (λ (x : Fed). x .reg) g ∙ sym (m .reg) in
+    let i : feeding (length s) (record { list = run ts .list; closed = b .closed }) input .reg ≡ run (afterInput ts (length s) input) = ap (λ (x : FeedReply). x .reg) g ∙ sym (m .reg) in
     record {
       book = e .book ∙ ap bookOf i;
       used = subst (λ (x : Reg). take (length (writeAll (x .list))) s′ ≡ writeAll (x .list)) i (e .bytes);
       answers = m .said ∙ (λ j. ending (number-is g (e .number) j) (replicate (count-is g (e .count) j) accepted ++ sym (a .answers) j));
     }
   where
-    number-is : {x y : Fed} → x ≡ y → r .number ≡ x .number → y .number ≡ r .number
-    number-is p q = sym (q ∙ ap (λ (z : Fed). z .number) p)
+    number-is : {x y : FeedReply} → x ≡ y → r .number ≡ x .number → y .number ≡ r .number
+    number-is p q = sym (q ∙ ap (λ (z : FeedReply). z .number) p)
 
-    count-is : {x y : Fed} → x ≡ y → r .count ≡ x .count → y .count ≡ r .count
-    count-is p q = sym (q ∙ ap (λ (z : Fed). z .count) p)
+    count-is : {x y : FeedReply} → x ≡ y → r .count ≡ x .count → y .count ≡ r .count
+    count-is p q = sym (q ∙ ap (λ (z : FeedReply). z .count) p)
 
 -- ---- `charges`
 

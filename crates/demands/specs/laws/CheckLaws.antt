@@ -17,7 +17,7 @@ use Rattle.book.specs.Amounts.{Pick, is, nil, pick, HourPricing, priced, unpric
 use Rattle.book.specs.Register.{Reg, standing, stands, count, capped, writeAll, refusal, Call, file, correct, withdraw, takeBack, close, change, ask, bareTakeBack, bareClose}
 use Rattle.book.specs.Register.{placeOf, keyed, Question, recordOf, countOf, freeBytes, hourGuarantees, dayOf, failureCharge, answer, Reply, refused}
 use Rattle.book.specs.Register.{unitDay, Step, answered, becomes, stepOf, listed, judged, takenBack, closing, shorter, unless-closed, after}
-use Rattle.book.specs.Meaning.{Load, belongs, astray, load, Valid, leaving, stepped, outcome, Meets}
+use Rattle.book.specs.Meaning.{Load, belongs, mismatched, load, Valid, leaving, stepped, outcome, Meets}
 use Rattle.book.specs.Session.{Shows}
 use Rattle.book.specs.laws.PlaceLaws.{place-shows}
 use Rattle.book.specs.laws.CallLaws.{unmoved, called-long}
@@ -256,5 +256,5 @@ module _ (b : Book) (s : List ℕ) (b′ : Book) (r : Reply) (s′ : List ℕ) w
   demand1 call m = demanded call b s b′ r s′ m (go (load b s) refl)
     where
       go : (x : Load) → load b s ≡ x → Verdict call b s b′ r s′ m (first (checksOver call (length s) (b .closed) x))
-      go astray e = kept call b s b′ r s′ m (refused 16) (ap (stepped (stepOf call) b s) e)
+      go mismatched e = kept call b s b′ r s′ m (refused 16) (ap (stepped (stepOf call) b s) e)
       go (belongs l) e = list-verdict call m l e

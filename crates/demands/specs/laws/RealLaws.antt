@@ -11,13 +11,13 @@ use borrow.Author.Tests.{ltb-true, ltb-false, leb-true}
 use Rattle.book.specs.Layer.{Change, filed, corrected, withdrawn, write, Input, fine, fault, parse, begins, takeBackBytes, closeBytes, limitOf, File, Correct, Withdraw, Any, Only}
 use Rattle.book.specs.declared.book.Book.{Book}
 use Rattle.book.specs.Register.{Reg, Call, file, correct, withdraw, takeBack, close, change, ask, Reply, refused, reply, Step, answered, becomes, stepOf, called, listed}
-use Rattle.book.specs.Register.{judged, takenBack, closing, shorter, unless-closed, bareTakeBack, bareClose, after, writeAll, refusal, room, roomFor, capped, stands, count, standing, Turn, run, told}
+use Rattle.book.specs.Register.{judged, takenBack, closing, shorter, unless-closed, bareTakeBack, bareClose, after, writeAll, refusal, spaceFault, roomFor, capped, stands, count, standing, Turn, run, repliesOf}
 use Rattle.book.specs.Meaning.{bookOf, After, leaving, outcome, Meets, Valid}
 use Rattle.book.specs.laws.ReplayLaws.{called-valid, outcome-is}
 use Rattle.book.specs.Session.{Session, start, next}
 use Rattle.book.specs.laws.SessionLaws.{held-is, book-is, answer-is}
 
--- ---- what is accepted has room in what is lent
+-- ---- what is accepted has spaceFault in what is lent
 
 -- a step that leaves no more than is lent
 abbrev Fits : ℕ → Step → Type 0
@@ -31,7 +31,7 @@ cap-least n = go (ltb 65535 n) refl
     go true e = omega (arith, ltb-true 65535 n e)
     go false e = omega arith
 
-room-fits : (n u len lent : ℕ) → room n u len lent ≡ 0 → u + len ≤ lent
+room-fits : (n u len lent : ℕ) → spaceFault n u len lent ≡ 0 → u + len ≤ lent
 room-fits n u len lent = go (ltb n 512) (leb (u + len) (capped lent)) refl
   where
     go : (a b : Bool) → leb (u + len) (capped lent) ≡ b → _≡_ {A = ℕ} (cond a (cond b 0 13) 13) 0 → u + len ≤ lent
@@ -166,18 +166,18 @@ module _ {ts : List Turn} {rs : List Reply} (g : Reg) (v : Valid (g .list)) (σ 
       (subst (λ (r : Reply). Session (record { call = call; lent = length s } ∷ ts) (r ∷ rs) (x .book) (take (x .book .used) (s′ ++ drop (length s) w))) er τ)))
 
 record Real (ts : List Turn) : Type 0 where
-  session : Session ts (told ts) (bookOf (run ts)) (writeAll (run ts .list))
+  session : Session ts (repliesOf ts) (bookOf (run ts)) (writeAll (run ts .list))
   valid : Valid (run ts .list)
 
 real : (ts : List Turn) → Real ts
-unfolding run told writeAll Valid
+unfolding run repliesOf writeAll Valid
 real [] = record { session = start; valid = tt }
 real (t ∷ ts) =
     let a = real ts in
     record { session = one-more (run ts) (a .valid) (a .session) (t .call) (t .lent); valid = called-valid (t .call) (t .lent) (run ts) (a .valid) }
 
 -- the promises can be kept, whatever the calls and lent lengths: no claim over sessions is empty
-pub realised : (ts : List Turn) → Session ts (told ts) (bookOf (run ts)) (writeAll (run ts .list))
+pub realised : (ts : List Turn) → Session ts (repliesOf ts) (bookOf (run ts)) (writeAll (run ts .list))
 realised ts = real ts .session
 
 -- ---- the takings back of demand 3 can be made

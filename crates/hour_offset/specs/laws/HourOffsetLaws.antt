@@ -14,7 +14,7 @@ use Rattle.records.specs.laws.BookLaws.{hour-record-got, hour-record-fault}
 use Rattle.book.specs.Register.{Reg, fresh, hourGuarantees, answer, file, Reply, refused, accepted, place, number, guarantees, unitDay, charge, Step, answered, becomes, called}
 use Rattle.book.specs.Replies.{replied}
 use Rattle.book.specs.laws.CallLaws.{Decided, decided-file, guarantees-fault}
-use Rattle.hour_offset.specs.HourOffset.{Result, ticks, no, offsetIn, atEnd, onward, recorded, offsetFrom, offsetAfter, hourOffset, eight, numberIn, bytesIn, callNumber, callBytes}
+use Rattle.hour_offset.specs.HourOffset.{Result, ticks, no, offsetIn, atEnd, recordOn, recorded, offsetFrom, offsetAfter, hourOffset, eight, numberIn, bytesIn, callNumber, callBytes}
 
 pub at-none : (n o : ℕ) (g : Reg) → offsetFrom n o g [] ≡ atEnd o g
 unfolding offsetFrom
@@ -32,7 +32,7 @@ enough (suc n) (suc m) o g (b ∷ s) h k = go (λ p x t l. enough n m p x t (ome
     Later : Type 0
     Later = (p : ℕ) (x : Reg) (t : List ℕ) → 2 + length t ≤ length (b ∷ s) → offsetFrom n p x t ≡ offsetFrom m p x t
 
-    then : Later → (p : ℕ) (t : List ℕ) → 2 + length t ≤ length (b ∷ s) → (st : Step) → onward p t (offsetFrom n) st ≡ onward p t (offsetFrom m) st
+    then : Later → (p : ℕ) (t : List ℕ) → 2 + length t ≤ length (b ∷ s) → (st : Step) → recordOn p t (offsetFrom n) st ≡ recordOn p t (offsetFrom m) st
     then ih p t l (answered r) = refl
     then ih p t l (becomes x) = ih p x t l
 
@@ -46,7 +46,7 @@ unfolding offsetFrom
 first-then o g [] h = absurd (omega arith)
 first-then o g (b ∷ s) h = go (hourRecord o (b ∷ s)) refl
   where
-    then : (p : ℕ) (t : List ℕ) → 2 + length t ≤ length (b ∷ s) → (st : Step) → onward p t (offsetFrom (length s)) st ≡ onward p t offsetAfter st
+    then : (p : ℕ) (t : List ℕ) → 2 + length t ≤ length (b ∷ s) → (st : Step) → recordOn p t (offsetFrom (length s)) st ≡ recordOn p t offsetAfter st
     then p t l (answered r) = refl
     then p t l (becomes x) = enough (length s) (length t) p x t (omega arith) (omega arith)
 
@@ -88,7 +88,7 @@ all-above (suc n) o g (b ∷ s) = go (λ p x t. all-above n p x t) (hourRecord o
     Later : Type 0
     Later = (p : ℕ) (x : Reg) (t : List ℕ) → Above (offsetFrom n p x t)
 
-    then : Later → (p : ℕ) (t : List ℕ) (st : Step) → Decided st → Above (onward p t (offsetFrom n) st)
+    then : Later → (p : ℕ) (t : List ℕ) (st : Step) → Decided st → Above (recordOn p t (offsetFrom n) st)
     then ih p t (answered r) d = subst (λ (y : Reply). 0 < replied y) (sym (d .is)) (d .above)
     then ih p t (becomes x) d = ih p x t
 

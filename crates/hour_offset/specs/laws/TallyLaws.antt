@@ -9,7 +9,7 @@ use lib.ListN.{length, drop}
 use borrow.Author.Tests.{eq-eqb, ne-eqb, eqb-true, ltb-true, lt-ltb, le-leb, le-ltb}
 use Rattle.records.specs.Amounts.{sameName}
 use Rattle.records.specs.Reading.{got}
-use Rattle.records.specs.Names.{noOne}
+use Rattle.records.specs.Names.{emptyName}
 use Rattle.records.specs.Marks.{order}
 use Rattle.records.specs.Keys.{same, sameHour}
 use Rattle.records.specs.Hours.{limitOf}
@@ -24,7 +24,7 @@ use Rattle.records.specs.declared.marks.Wanted.the-variants.{Only}
 use Rattle.money.specs.declared.names.Name.{Name}
 use Rattle.book.specs.declared.amounts.places.Spot.{Spot}
 use Rattle.book.specs.tables.Places.{putSpot}
-use Rattle.book.specs.Register.{writeAll, standing, stands, count, room, refusal}
+use Rattle.book.specs.Register.{writeAll, standing, stands, count, spaceFault, refusal}
 use Rattle.book.specs.Amounts.{Pick, is, nil, pick, hourKey, absent}
 use Rattle.book.specs.ByName.{byName}
 use Rattle.book.specs.Meaning.{Valid}
@@ -46,7 +46,7 @@ pub record Stood (s : List ℕ) (x : Spot) (r : Rec) : Type 0 where
 -- whether the hour's prices stand, and where
 abbrev pub Priced : List ℕ → Bool → ℕ → Pick → Type 0
 Priced s b at nil = b ≡ false
-Priced s b at (is r) = (b ≡ true) × Stood s (record { name = noOne; start = at }) r
+Priced s b at (is r) = (b ≡ true) × Stood s (record { name = emptyName; start = at }) r
 
 -- an hour is one of the day's, or there is no record yet
 pub data Hour : ℕ → List Change → Type 0 where
@@ -91,9 +91,9 @@ priced-found : (s : List ℕ) (b : Bool) (at : ℕ) (q : Pick) → Priced s b at
 priced-found s b at nil e = e
 priced-found s b at (is r) e = e .0
 
--- ---- room for every record: at most 1 + 16 + 16 of at most 297 bytes
+-- ---- spaceFault for every record: at most 1 + 16 + 16 of at most 297 bytes
 
-roomy : (n used len : ℕ) → n ≤ 33 → used ≤ 297 * n → len ≤ 297 → room n used len 65535 ≡ 0
+roomy : (n used len : ℕ) → n ≤ 33 → used ≤ 297 * n → len ≤ 297 → spaceFault n used len 65535 ≡ 0
 roomy n used len a b c =
     ap₂ (λ (x y : Bool). cond x (cond y 0 13) 13) (lt-ltb n 512 (omega arith))
     (ap (λ (t : Bool). leb (used + len) (cond t 65535 65535)) (le-ltb 65535 65535 (omega arith)) ∙ le-leb (used + len) 65535 (omega arith))
@@ -117,7 +117,7 @@ module _ (s : List ℕ) (l : List Change) (h : Sheet) (r : Rec) (g : Good (filed
   all-good : All (λ (x : Rec). Good (filed x)) rs
   all-good = standing-good l (b .valid)
 
-  room-is : room (length l) (length (writeAll l)) (length (write (filed r))) 65535 ≡ 0
+  room-is : spaceFault (length l) (length (writeAll l)) (length (write (filed r))) 65535 ≡ 0
   room-is = roomy (length l) (length (writeAll l)) (length (write (filed r))) (booked-few b) (b .short) (hour-written r g o)
 
   mine : (m : Mark) → k .mark ≡ m → sameHour (hourKey m (k .hour)) k ≡ true

@@ -5,7 +5,7 @@ use Prim.Native.Nat.{ℕ, _≤_}
 use lib.Dec.{eqb, ltb}
 use lib.IntN.{pos}
 use lib.ListN.{length, drop}
-use Rattle.money.specs.Refusals.{unknownMark, keyStands, hourFull, priceMissing}
+use Rattle.money.specs.Refusals.{markUnknown, keyStands, hourFull, priceMissing}
 use Rattle.money.specs.Names.{sameName}
 use Rattle.money.specs.declared.names.Name.{Name}
 use Rattle.money.specs.declared.units.Answer.{Answer}
@@ -54,9 +54,9 @@ abbrev pub addNumber : Mark → Name → Sheet → ℕ
 addNumber Pr n h = cond (h .priced) keyStands 0
 addNumber Im n h = placedNumber n (h .imports)
 addNumber Ex n h = placedNumber n (h .exports)
-addNumber Gh n h = unknownMark
-addNumber Fi n h = unknownMark
-addNumber Fe n h = unknownMark
+addNumber Gh n h = markUnknown
+addNumber Fi n h = markUnknown
+addNumber Fe n h = markUnknown
 
 abbrev pub withPrice : ℕ → Sheet → Sheet
 withPrice at h = record { priced = true; price = at; imports = h .imports; exports = h .exports }

@@ -18,8 +18,8 @@ use Rattle.money.specs.declared.units.Price.{Price}
 use Rattle.money.specs.declared.units.Quantity.{Quantity}
 use Rattle.money.specs.declared.imports.Import.{Import}
 use Rattle.money.specs.Units.{quantityAt, unless}
-use Rattle.money.specs.Names.{nameOf, nameBefore, sameName}
-use Rattle.money.specs.Offset.{entry, mqsi, precedes, upTo, counted, adj, entryFault, freshName, faultAt, listFault}
+use Rattle.money.specs.Names.{decodedBytes, nameBefore, sameName}
+use Rattle.money.specs.Offset.{entry, mqsi, precedes, upTo, counted, adj, entryFault, freshName, faultAt, entriesFault}
 use Rattle.money.specs.laws.UnitLaws.{passes, neither}
 use Rattle.money.specs.laws.NameLaws.{name-trans, name-tri, name-self, same-of, same-names}
 
@@ -132,7 +132,7 @@ less-true x y h = on (ltZ x y) (λ e. e) (λ e. absurd (<ℤ-irrefl (back x y x 
     back = by₃ _ (λ a a′ b b′ c c′. simp ints (omega arith))
 
 module _ (a b : Import) where
-  first-cases : precedes a b ≡ true → (a .credit .0 <ℤ b .credit .0) ⊎ ((a .credit .0 ≡ b .credit .0) × (nameBefore (nameOf (a .name)) (nameOf (b .name)) ≡ true))
+  first-cases : precedes a b ≡ true → (a .credit .0 <ℤ b .credit .0) ⊎ ((a .credit .0 ≡ b .credit .0) × (nameBefore (decodedBytes (a .name)) (decodedBytes (b .name)) ≡ true))
   unfolding precedes
   first-cases e = go (ltZ x y) (ltZ y x) refl refl e
     where
@@ -143,7 +143,7 @@ module _ (a b : Import) where
       y = b .credit .0
 
       r : Bool
-      r = nameBefore (nameOf (a .name)) (nameOf (b .name))
+      r = nameBefore (decodedBytes (a .name)) (decodedBytes (b .name))
 
       go : (u v : Bool) → ltZ x y ≡ u → ltZ y x ≡ v → cond u true (cond v false r) ≡ true → (x <ℤ y) ⊎ ((x ≡ y) × (r ≡ true))
       go true v p q e = inl (lt-true x y p)
@@ -154,7 +154,7 @@ module _ (a b : Import) where
   unfolding precedes
   first-lt h = rw (less-true (a .credit .0) (b .credit .0) h)
 
-  first-eq : a .credit .0 ≡ b .credit .0 → nameBefore (nameOf (a .name)) (nameOf (b .name)) ≡ true → precedes a b ≡ true
+  first-eq : a .credit .0 ≡ b .credit .0 → nameBefore (decodedBytes (a .name)) (decodedBytes (b .name)) ≡ true → precedes a b ≡ true
   unfolding precedes
   first-eq h k = rw (h, lt-self (b .credit .0)) k
 
@@ -162,19 +162,19 @@ first-trans : (a b c : Import) → precedes a b ≡ true → precedes b c ≡ tr
 first-trans a b c e f =
     ⊎-elim
     (λ x. ⊎-elim (λ y. first-lt a c (lt-both _ _ _ x y)) (λ y. first-lt a c (subst (λ (z : ℤ). a .credit .0 <ℤ z) (y .0) x)) (first-cases b c f))
-    (λ x. ⊎-elim (λ y. first-lt a c (subst (λ (z : ℤ). z <ℤ c .credit .0) (sym (x .0)) y)) (λ y. first-eq a c (x .0 ∙ y .0) (name-trans (nameOf (a .name)) (nameOf (b .name)) (nameOf (c .name)) (x .1) (y .1))) (first-cases b c f))
+    (λ x. ⊎-elim (λ y. first-lt a c (subst (λ (z : ℤ). z <ℤ c .credit .0) (sym (x .0)) y)) (λ y. first-eq a c (x .0 ∙ y .0) (name-trans (decodedBytes (a .name)) (decodedBytes (b .name)) (decodedBytes (c .name)) (x .1) (y .1))) (first-cases b c f))
     (first-cases a b e)
 
 first-self : (a : Import) → precedes a a ≡ true → ⊥
-first-self a e = ⊎-elim (λ x. <ℤ-irrefl x) (λ x. name-self (nameOf (a .name)) (x .1)) (first-cases a a e)
+first-self a e = ⊎-elim (λ x. <ℤ-irrefl x) (λ x. name-self (decodedBytes (a .name)) (x .1)) (first-cases a a e)
 
-first-tri : (a b : Import) → (precedes a b ≡ true) ⊎ ((nameOf (a .name) ≡ nameOf (b .name)) ⊎ (precedes b a ≡ true))
+first-tri : (a b : Import) → (precedes a b ≡ true) ⊎ ((decodedBytes (a .name) ≡ decodedBytes (b .name)) ⊎ (precedes b a ≡ true))
 first-tri a b =
     on (ltZ (a .credit .0) (b .credit .0)) (λ e. inl (first-lt a b (lt-true _ _ e)))
     (λ e. on (ltZ (b .credit .0) (a .credit .0)) (λ f. inr (inr (first-lt b a (lt-true _ _ f))))
     (λ f.
     let w : a .credit .0 ≡ b .credit .0 = ≤ℤ-antisym _ _ (lt-false _ _ f) (lt-false _ _ e) in
-    ⊎-elim (λ r. inl (first-eq a b w r)) (λ r. ⊎-elim (λ z. inr (inl z)) (λ z. inr (inr (first-eq b a (sym w) z))) r) (name-tri (nameOf (a .name)) (nameOf (b .name)))))
+    ⊎-elim (λ r. inl (first-eq a b w r)) (λ r. ⊎-elim (λ z. inr (inl z)) (λ z. inr (inr (first-eq b a (sym w) z))) r) (name-tri (decodedBytes (a .name)) (decodedBytes (b .name)))))
 
 -- ---- a list with distinct names
 pub record Distinct (n : ℕ) (es : List Import) : Type 0 where
@@ -211,8 +211,8 @@ module _ (n : ℕ) (es : List Import) (d : Distinct n es) where
       (λ i j hi hj. ⊎-elim (λ x. inl (le-first i j x)) (λ x. ⊎-elim (λ y. inl (le-same i j (same-of (E i .name) (E j .name) y))) (λ y. inr (le-first j i y)) x) (first-tri (E i) (E j)))
 
 -- a list that is not refused has distinct names
-pub distinct-of : (n : ℕ) (ps : List Price) (es : List Import) → listFault n ps es ≡ 0 → Distinct n es
-unfolding listFault faultAt freshName
+pub distinct-of : (n : ℕ) (ps : List Price) (es : List Import) → entriesFault n ps es ≡ 0 → Distinct n es
+unfolding entriesFault faultAt freshName
 distinct-of n ps es h = record { differ = λ i j hi hj e. by i j hi hj e (decLt i j) (decLt j i) }
   where
     fresh : (i j : ℕ) → i < n → j < i → sameName (entry es i .name) (entry es j .name) ≡ true → ⊥

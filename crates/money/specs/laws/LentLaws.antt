@@ -20,7 +20,7 @@ use Rattle.money.specs.declared.offset.Taken.{Taken}
 use Rattle.money.specs.Units.{intervals, quantityAt, unless, answer}
 use Rattle.money.specs.Guarantee.{credit}
 use Rattle.money.specs.Names.{sameName}
-use Rattle.money.specs.Offset.{maxImports, noImport, entry, mqsi, counted, adj, offset, entryFault, freshName, faultAt, listFault, ratesOk, offsetAnswer}
+use Rattle.money.specs.Offset.{maxImports, noImport, entry, mqsi, counted, adj, offset, entryFault, freshName, faultAt, entriesFault, ratesOk, offsetAnswer}
 use Rattle.money.specs.laws.GuaranteeLaws.{credit-ext}
 use Rattle.money.specs.Offers.{maxPairs}
 
@@ -46,7 +46,7 @@ module _ (n : ℕ) (es es′ : List Import) (same : (i : ℕ) → i < n → entr
       (λ x. orElse (entryFault ps (same i l x)) (unless (f x) 10 0))
 
   pub answer-front : offsetAnswer n es ps ts ≡ offsetAnswer n es′ ps ts
-  unfolding offsetAnswer listFault
+  unfolding offsetAnswer entriesFault
   answer-front =
       let f = firstOf-ext n (faultAt ps es) (faultAt ps es′) fault-front in
       (λ x. cond (leb n maxImports) (cond (ratesOk ps ts) (answer (f x) (offset-front x)) (Refused 5)) (Refused 12))

@@ -13,7 +13,7 @@ use lib.Seq.{drop-cons, getD-take, take-all}
 use Rattle.laws.specs.Sums.{every}
 use Rattle.laws.specs.SumLaws.{never, on, below-or, and-true, every-yes}
 use Rattle.money.specs.declared.names.Name.{Name}
-use Rattle.money.specs.Names.{nameOf, nameBefore, sameBytes, sameName, nameByteOk, nameOk}
+use Rattle.money.specs.Names.{decodedBytes, nameBefore, sameBytes, sameName, nameByteOk, nameOk}
 
 -- a name of more than its twelve places has twelve bytes
 pub take-used : (xs : List ℕ) (n : ℕ) → length xs ≡ 12 → take n xs ≡ take (min n 12) xs
@@ -105,13 +105,13 @@ pub bytes-long : (xs ys : List ℕ) → (length xs ≡ length ys → ⊥) → sa
 bytes-long xs ys h = on (sameBytes xs ys) (λ e. absurd (h (ap length (bytes-is xs ys e)))) (λ e. e)
 
 -- two names are the same exactly when their bytes are
-pub same-of : (a b : Name) → nameOf a ≡ nameOf b → sameName a b ≡ true
+pub same-of : (a b : Name) → decodedBytes a ≡ decodedBytes b → sameName a b ≡ true
 unfolding sameName
-same-of a b e = subst (λ (xs : List ℕ). sameBytes (nameOf a) xs ≡ true) e (bytes-same (nameOf a))
+same-of a b e = subst (λ (xs : List ℕ). sameBytes (decodedBytes a) xs ≡ true) e (bytes-same (decodedBytes a))
 
-pub same-names : (a b : Name) → sameName a b ≡ true → nameOf a ≡ nameOf b
+pub same-names : (a b : Name) → sameName a b ≡ true → decodedBytes a ≡ decodedBytes b
 unfolding sameName
-same-names a b e = bytes-is (nameOf a) (nameOf b) e
+same-names a b e = bytes-is (decodedBytes a) (decodedBytes b) e
 
 pub name-fine : (a : Name) → 1 ≤ a .len → a .len ≤ 12 → ((i : ℕ) → i < a .len → nameByteOk (getD (a .bytes) i 0) ≡ true) → nameOk a ≡ true
 unfolding nameOk
@@ -126,13 +126,13 @@ name-most a h =
 
 -- ---- what a loop over the places that are used finds, of the names
 module _ (a b : Name) (ha : length (a .bytes) ≡ 12) (hb : length (b .bytes) ≡ 12) {m n : ℕ} (em : m ≡ min (a .len) 12) (en : n ≡ min (b .len) 12) where
-  one : nameOf a ≡ take m (a .bytes)
+  one : decodedBytes a ≡ take m (a .bytes)
   one = take-used (a .bytes) (a .len) ha ∙ ap (λ (x : ℕ). take x (a .bytes)) (sym em)
 
-  other : nameOf b ≡ take n (b .bytes)
+  other : decodedBytes b ≡ take n (b .bytes)
   other = take-used (b .bytes) (b .len) hb ∙ ap (λ (x : ℕ). take x (b .bytes)) (sym en)
 
-  pub before-used : {r : Bool} → r ≡ nameBefore (take m (a .bytes)) (take n (b .bytes)) → r ≡ nameBefore (nameOf a) (nameOf b)
+  pub before-used : {r : Bool} → r ≡ nameBefore (take m (a .bytes)) (take n (b .bytes)) → r ≡ nameBefore (decodedBytes a) (decodedBytes b)
   before-used e = e ∙ sym (λ i. nameBefore (one i) (other i))
 
   pub same-used : {r : Bool} → m ≡ n → r ≡ sameBytes (take m (a .bytes)) (take m (b .bytes)) → r ≡ sameName a b
@@ -141,9 +141,9 @@ module _ (a b : Name) (ha : length (a .bytes) ≡ 12) (hb : length (b .bytes) �
 
   pub differ-used : (m ≡ n → ⊥) → false ≡ sameName a b
   unfolding sameName
-  differ-used h = sym (bytes-long (nameOf a) (nameOf b) (λ e.
-      let x : length (nameOf a) ≡ m = simp length-take (omega (arith, em, ha)) in
-      let y : length (nameOf b) ≡ n = simp length-take (omega (arith, en, hb)) in
+  differ-used h = sym (bytes-long (decodedBytes a) (decodedBytes b) (λ e.
+      let x : length (decodedBytes a) ≡ m = simp length-take (omega (arith, em, ha)) in
+      let y : length (decodedBytes b) ≡ n = simp length-take (omega (arith, en, hb)) in
       h (sym x ∙ e ∙ y)))
 
 -- ---- byte order is a total order

@@ -13,7 +13,7 @@ use lib.Seq.{getD-set-same, getD-set-other}
 use mir.Syntax.{w64}
 use mir.Val.{SFits, toZ, ofZ}
 use mir.Facts.{toZ-ofZ}
-use Rattle.laws.specs.Held.{Held}
+use Rattle.laws.specs.Held.{Carried}
 use Rattle.laws.specs.Ints.{minℤ}
 use Rattle.laws.specs.IntLaws.{ints, by₁, by₂, dif, dif-abs, pos-dif, neg-*, le-true, ≤ℤ-antisym}
 use Rattle.laws.specs.Sums.{every, orElse}
@@ -140,7 +140,7 @@ pub abs-most : (x : ℤ) → SFits w64 x → natAbs x ≤ 9223372036854775808
 abs-most (pos n) f = omega (arith, f .sfits)
 abs-most (negsuc n) f = omega (arith, f .sfits)
 
-pub flipped : {z : ℤ} → SFits w64 z → z <ℤ pos 0 → Held (negsuc 0 -ℤ toZ w64 (ofZ w64 z)) (negsuc 0 -ℤ z) 9223372036854775807
+pub flipped : {z : ℤ} → SFits w64 z → z <ℤ pos 0 → Carried (negsuc 0 -ℤ toZ w64 (ofZ w64 z)) (negsuc 0 -ℤ z) 9223372036854775807
 flipped {z} f l = record { same = ap (λ (y : ℤ). negsuc 0 -ℤ y) (toZ-ofZ f); within = omega (arith, flip-abs z l, abs-most z f) }
 
 -- ---- ticks to cents, by the test that code makes

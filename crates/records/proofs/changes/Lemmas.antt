@@ -9,7 +9,7 @@ use Rattle.records.specs.Reading.{Res, bad, got, Reader, _>>=_, check, f
 use Rattle.records.specs.Numbers.{hour}
 use Rattle.records.specs.Layouts.{layout, taken, skip}
 use Rattle.records.specs.Changes.{Change, made, bodyOf, bodyFor, head, nameFor, rest, change}
-use Rattle.records.specs.tables.Inner.{shown, EndIn, then, layoutFor, placeOf, told, Placed, headed, Named, ReadIs}
+use Rattle.records.specs.tables.Inner.{shown, EndIn, then, layoutFor, placeOf, changeShown, Placed, headed, Named, ReadIs}
 use Rattle.records.specs.declared.fields.End.{End}
 use Rattle.records.specs.declared.fields.End.the-variants.{At, No}
 use Rattle.records.proofs.fields.Step.{first, next, last}
@@ -48,7 +48,7 @@ body-own Withdraw x s b t e = let p : [] ≡ b = cc in p
 
 -- the end of a body that was read from a place of the bytes
 pub record Body (s : List ℕ) (start f : End) (k : Kind) (x : Key) : Type 0 where
-  pub value : told s f k x (placeOf start) ≡ then s start (λ t. bodyFor k (x .mark) t >>= λ b v. got (made k x b) v)
+  pub value : changeShown s f k x (placeOf start) ≡ then s start (λ t. bodyFor k (x .mark) t >>= λ b v. got (made k x b) v)
   pub placed : Placed s f k x (placeOf start)
 
 module _ (s : List ℕ) (k : Kind) (x : Key) where

@@ -10,7 +10,7 @@ use borrow.Author.Tests.{eq-eqb, ne-eqb, le-leb, lt-leb}
 use Rattle.money.specs.declared.names.Name.{Name}
 use Rattle.records.specs.Reading.{Res, bad, got, _>>=_, check, from}
 use Rattle.records.specs.Numbers.{between}
-use Rattle.records.specs.Names.{decodeName, noOne, held}
+use Rattle.records.specs.Names.{decodeName, emptyName, storedName}
 use Rattle.records.specs.Marks.{mark, hasName}
 use Rattle.records.specs.Keys.{askMark, askName, askFrom, askHourOf, askHour, askUnit}
 use Rattle.records.specs.declared.marks.Mark.{Mark}
@@ -37,19 +37,19 @@ empty [] e = refl
 empty (x ∷ n) e = absurd (omega arith)
 
 module _ (m : Mark) (n : List ℕ) where
-  pub name-asked : hasName m ≡ true → held (decodeName n) ≡ askName m n
+  pub name-asked : hasName m ≡ true → storedName (decodeName n) ≡ askName m n
   unfolding askName
-  name-asked h = sym (ap (λ b. cond b (held (decodeName n)) (check (eqb (length n) 0) 4 (got noOne []))) h)
+  name-asked h = sym (ap (λ b. cond b (storedName (decodeName n)) (check (eqb (length n) 0) 4 (got emptyName []))) h)
 
-  nameless : hasName m ≡ false → askName m n ≡ check (eqb (length n) 0) 4 (got noOne [])
+  nameless : hasName m ≡ false → askName m n ≡ check (eqb (length n) 0) 4 (got emptyName [])
   unfolding askName
-  nameless h = ap (λ b. cond b (held (decodeName n)) (check (eqb (length n) 0) 4 (got noOne []))) h
+  nameless h = ap (λ b. cond b (storedName (decodeName n)) (check (eqb (length n) 0) 4 (got emptyName []))) h
 
-  pub name-none : hasName m ≡ false → length n ≡ 0 → got noOne (from n 0) ≡ askName m n
-  name-none h l = ap (got noOne) (empty n l) ∙ sym (nameless h ∙ ap (λ b. check b 4 (got noOne [])) (eq-eqb (length n) 0 l))
+  pub name-none : hasName m ≡ false → length n ≡ 0 → got emptyName (from n 0) ≡ askName m n
+  name-none h l = ap (got emptyName) (empty n l) ∙ sym (nameless h ∙ ap (λ b. check b 4 (got emptyName [])) (eq-eqb (length n) 0 l))
 
   pub name-some : hasName m ≡ false → (length n ≡ 0 → ⊥) → bad 4 ≡ askName m n
-  name-some h l = sym (nameless h ∙ ap (λ b. check b 4 (got noOne [])) (ne-eqb (length n) 0 l))
+  name-some h l = sym (nameless h ∙ ap (λ b. check b 4 (got emptyName [])) (ne-eqb (length n) 0 l))
 
 module _ (h : ℕ) (ns : List ℕ) where
   pub ask-mark : (k : ℕ) → askFrom (bad k) h ns ≡ bad k
@@ -74,7 +74,7 @@ module _ (m : Mark) (h : ℕ) where
   unfolding askHourOf
   hour-out f = rw f
 
-  pub hour-got : between 1 24 h ≡ true → askHourOf m h ≡ got (record { mark = m; hour = h; name = noOne }) []
+  pub hour-got : between 1 24 h ≡ true → askHourOf m h ≡ got (record { mark = m; hour = h; name = emptyName }) []
   unfolding askHourOf
   hour-got f = rw f
 
@@ -88,10 +88,10 @@ module _ (ms : List ℕ) (h : ℕ) where
   hour-of m t e = rw e
 
 module _ (ns : List ℕ) where
-  pub unit-fault : (k : ℕ) → held (decodeName ns) ≡ bad k → askUnit ns ≡ bad k
+  pub unit-fault : (k : ℕ) → storedName (decodeName ns) ≡ bad k → askUnit ns ≡ bad k
   unfolding askUnit
   unit-fault k e = rw e
 
-  pub unit-got : (n : Name) (t : List ℕ) → held (decodeName ns) ≡ got n t → askUnit ns ≡ got (record { mark = Gh; hour = 1; name = n }) []
+  pub unit-got : (n : Name) (t : List ℕ) → storedName (decodeName ns) ≡ got n t → askUnit ns ≡ got (record { mark = Gh; hour = 1; name = n }) []
   unfolding askUnit
   unit-got n t e = rw e

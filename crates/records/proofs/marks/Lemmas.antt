@@ -12,7 +12,7 @@ use lib.Seq.{take-suc, length-take-le, take-all, drop-cons}
 use borrow.Author.Tests.{le-leb, lt-leb, ne-eqb, eq-eqb, eqb-true, eqb-false}
 use Rattle.records.specs.Reading.{Res, bad, got, Reader, _>>=_, check, byte, from}
 use Rattle.records.specs.Numbers.{pad, hour}
-use Rattle.records.specs.Names.{held, bytesOf, nameField, nameOf, noOne}
+use Rattle.records.specs.Names.{storedName, bytesOf, nameField, nameFrom, emptyName}
 use Rattle.records.specs.Marks.{markBytes, is, listing, markAmong, mark, hasName}
 use Rattle.records.specs.Changes.{Head, allowed, number, inside, head, nameless, nameFor, bare}
 use Rattle.records.specs.laws.MarkLaws.{bytes-are}
@@ -88,7 +88,7 @@ module _ (s : List ℕ) (at : ℕ) where
   unfolding byte
   zero-past h = rw (at-end s at h)
 
-  pub zero-here : at < length s → getD s at 0 ≡ 0 → got noOne (from s (at + 1)) ≡ nameless Withdraw (from s at)
+  pub zero-here : at < length s → getD s at 0 ≡ 0 → got emptyName (from s (at + 1)) ≡ nameless Withdraw (from s at)
   unfolding byte
   zero-here h e = rw (at-next s at h, eq-eqb (getD s at 0) 0 e)
 
@@ -119,13 +119,13 @@ head-is want (a ∷ b ∷ s) h p q e f = sym (λ i. cond (e i) (inside want Corr
 
 -- ---- names
 
-pub name-named : (s : List ℕ) (e : End) (k : Kind) (m : Mark) → hasName m ≡ true → then s e (λ t. held (nameField t)) ≡ then s e (nameFor k m)
+pub name-named : (s : List ℕ) (e : End) (k : Kind) (m : Mark) → hasName m ≡ true → then s e (λ t. storedName (nameField t)) ≡ then s e (nameFor k m)
 unfolding nameFor
-name-named s e k m h = sym (ap (λ b. then s e (λ t. cond b (held (nameField t)) (nameless k t))) h)
+name-named s e k m h = sym (ap (λ b. then s e (λ t. cond b (storedName (nameField t)) (nameless k t))) h)
 
 pub name-less : (s : List ℕ) (e : End) (k : Kind) (m : Mark) → hasName m ≡ false → then s e (nameless k) ≡ then s e (nameFor k m)
 unfolding nameFor
-name-less s e k m h = sym (ap (λ b. then s e (λ t. cond b (held (nameField t)) (nameless k t))) h)
+name-less s e k m h = sym (ap (λ b. then s e (λ t. cond b (storedName (nameField t)) (nameless k t))) h)
 
 -- ---- tests one after the other
 

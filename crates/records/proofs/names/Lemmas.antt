@@ -10,7 +10,7 @@ use lib.ListN.{length, take, drop, getD, length-drop, drop-of-length-le}
 use lib.Seq.{drop-cons}
 use Rattle.records.specs.Reading.{Res, bad, got, Reader, _>>=_, check, from}
 use Rattle.money.specs.declared.names.Name.{Name}
-use Rattle.records.specs.Names.{visible, hexVal, escaped, one, upTo, nameOf, held}
+use Rattle.records.specs.Names.{visible, hexVal, escaped, one, upTo, nameFrom, storedName}
 use Rattle.records.specs.laws.ReaderLaws.{bad-got}
 use Rattle.records.proofs.lists.Lemmas.{Padded}
 use lib.ListN.{set}
@@ -72,21 +72,21 @@ module _ {s : List ℕ} {n at₀ i at : ℕ} {xs : List ℕ} (h : Spelled s n at
 
 -- ---- names with zeros behind them
 
-name-is : (xs : List ℕ) (i : ℕ) → i ≤ 12 → Padded 0 12 xs i → _≡_ {A = Name} (record { len = i; bytes = xs }) (nameOf (take i xs))
+name-is : (xs : List ℕ) (i : ℕ) → i ≤ 12 → Padded 0 12 xs i → _≡_ {A = Name} (record { len = i; bytes = xs }) (nameFrom (take i xs))
 name-is xs i h p =
     let m = p .long in
     let l : length (take i xs) ≡ i = length-take-le i xs (omega arith) in
     λ j. record { len = sym l j; bytes = p .behind j }
 
 pub name-all : {s : List ℕ} {n at₀ i at : ℕ} {xs : List ℕ} → Spelled s n at₀ xs i at → i ≤ 12 → Padded 0 12 xs i → length s ≤ at
-    → got (record { len = i; bytes = xs }) (from s at) ≡ held (upTo n (from s at₀))
-name-all {s} {n} {at₀} {i} {at} {xs} h l p a = ap (λ m. got m (from s at)) (name-is xs i l p) ∙ ap held (spelled-all h a)
+    → got (record { len = i; bytes = xs }) (from s at) ≡ storedName (upTo n (from s at₀))
+name-all {s} {n} {at₀} {i} {at} {xs} h l p a = ap (λ m. got m (from s at)) (name-is xs i l p) ∙ ap storedName (spelled-all h a)
 
 -- a name that was decoded from a part of the bytes
-pub held-got : (r : Res (List ℕ)) (n : Name) (t u : List ℕ) → got n t ≡ held r → got n u ≡ held (r >>= λ vs z. got vs u)
+pub held-got : (r : Res (List ℕ)) (n : Name) (t u : List ℕ) → got n t ≡ storedName r → got n u ≡ storedName (r >>= λ vs z. got vs u)
 held-got (bad k) n t u e = absurd (bad-got (sym e))
-held-got (got v z) n t u e = let p : n ≡ nameOf v = cc in ap (λ x. got x u) p
+held-got (got v z) n t u e = let p : n ≡ nameFrom v = cc in ap (λ x. got x u) p
 
-pub held-bad : (r : Res (List ℕ)) (j : ℕ) (u : List ℕ) → bad j ≡ held r → bad j ≡ held (r >>= λ vs z. got vs u)
+pub held-bad : (r : Res (List ℕ)) (j : ℕ) (u : List ℕ) → bad j ≡ storedName r → bad j ≡ storedName (r >>= λ vs z. got vs u)
 held-bad (bad k) j u e = e
 held-bad (got v z) j u e = absurd (bad-got e)

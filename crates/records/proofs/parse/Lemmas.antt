@@ -7,7 +7,7 @@ use native.Mathlib.Omega.{arith}
 use lib.ListN.{length, getD}
 use Rattle.records.specs.Reading.{Res, bad, got, Reader, _>>=_, from}
 use Rattle.records.specs.Marks.{is}
-use Rattle.records.specs.Changes.{Change, Entry, changed, takingBack, closing, change, entry, takeBackBytes, closeBytes, Input, fine, fault, whole, parse, parseAny, seen, blind, viewOf, write, changeView, entryView, entryRead, parsedOf, entryOf, frontOf}
+use Rattle.records.specs.Changes.{Change, Entry, changed, takingBack, closing, change, entry, takeBackBytes, closeBytes, Input, fine, fault, whole, parse, parseAny, seen, unseen, viewOf, write, changeView, entryView, entryRead, parsedOf, entryOf, frontOf}
 use Rattle.records.specs.laws.ReaderLaws.{bad-got}
 use Rattle.records.specs.declared.scan.View.{View}
 use Rattle.records.specs.declared.parse.Parsed.{Parsed}
@@ -85,14 +85,14 @@ module _ (s : List ℕ) where
   pub front-at : (v : View) (n : ℕ) → got v (from s n) ≡ entryRead (entry s) → n ≤ length s → _≡_ {A = Front} (record { number = 0; view = v; end = n }) (frontOf s (entry s))
   front-at v n e l = front-go (entry s) v n e l
 
-  front-bad : (r : Res Entry) (k : ℕ) → bad k ≡ entryRead r → _≡_ {A = Front} (record { number = k; view = viewOf blind; end = 0 }) (frontOf s r)
-  front-bad (bad j) k e = ap (λ (n : ℕ). record { number = n; view = viewOf blind; end = 0 }) (bad-is e)
+  front-bad : (r : Res Entry) (k : ℕ) → bad k ≡ entryRead r → _≡_ {A = Front} (record { number = k; view = viewOf unseen; end = 0 }) (frontOf s r)
+  front-bad (bad j) k e = ap (λ (n : ℕ). record { number = n; view = viewOf unseen; end = 0 }) (bad-is e)
   front-bad (got x t) k e = absurd (bad-got e)
 
-  pub front-no : (k : ℕ) → bad k ≡ entryRead (entry s) → _≡_ {A = Front} (record { number = k; view = viewOf blind; end = 0 }) (frontOf s (entry s))
+  pub front-no : (k : ℕ) → bad k ≡ entryRead (entry s) → _≡_ {A = Front} (record { number = k; view = viewOf unseen; end = 0 }) (frontOf s (entry s))
   front-no k e = front-bad (entry s) k e
 
-pub any-faulted : (p : Parsed) (n : ℕ) (i : Input Entry) → p ≡ record { number = n; view = viewOf blind } → i ≡ fault n → p ≡ entryOf i
+pub any-faulted : (p : Parsed) (n : ℕ) (i : Input Entry) → p ≡ record { number = n; view = viewOf unseen } → i ≡ fault n → p ≡ entryOf i
 any-faulted p n i e f = e ∙ sym (ap entryOf f)
 
 pub entry-short : (s : List ℕ) → length s < 2 → bad 1 ≡ entryRead (entry s)

@@ -14,10 +14,10 @@ use Rattle.records.specs.Reading.{Res, bad, got, Reader, _>>=_, from}
 use Rattle.records.specs.Names.{spell, bytesOf}
 use Rattle.records.specs.Marks.{hasName, order, markBytes}
 use Rattle.records.specs.laws.MarkLaws.{mark-two}
-use Rattle.records.specs.Changes.{changeView, put, putNumber, putBytes, Change, kind, keyOf, kindOf, bodyOf, number, made, leadBytes, noName, nameBytes, headBytes, bodyFor, change, write, Input, fine, fault, whole, parse, Scan, seen, blind, begins, written, scan, viewOf, parsedOf}
+use Rattle.records.specs.Changes.{changeView, put, putNumber, putBytes, Change, kind, keyOf, kindOf, bodyOf, number, made, leadBytes, noName, nameBytes, headBytes, bodyFor, change, write, Input, fine, fault, whole, parse, Scan, seen, unseen, begins, written, scan, viewOf, parsedOf}
 use Rattle.money.specs.Names.{sameName}
 use Rattle.records.specs.Keys.{same, sameHour}
-use Rattle.records.specs.tables.Inner.{Wrote, HeadIs, told, Placed, Stands, ReadIs}
+use Rattle.records.specs.tables.Inner.{Wrote, HeadIs, changeShown, Placed, Stands, ReadIs}
 use Rattle.records.specs.declared.fields.End.{End}
 use Rattle.records.specs.declared.fields.End.the-variants.{At, No}
 use Rattle.records.proofs.writing.Putting.{wrote-one, wrote-then, wrote-length}
@@ -125,12 +125,12 @@ pub record Full (s : List ℕ) (want : Wanted) (n : ℕ) (c : Read) : Type 0 whe
 module _ (s : List ℕ) (want : Wanted) (c : Read) (h : ReadIs s want c) where
   pub full : (n : ℕ) → c .end ≡ At n → Full s want n c
   full n e = record {
-    value = sym (h .value) ∙ ap (λ d. told s d (c .kind) (c .key) (c .body)) e;
+    value = sym (h .value) ∙ ap (λ d. changeShown s d (c .kind) (c .key) (c .body)) e;
     stands = subst (λ d. Placed s d (c .kind) (c .key) (c .body)) e (h .placed);
   }
 
   pub read-bad : (k : ℕ) → c .end ≡ No k → change want s ≡ bad k
-  read-bad k e = sym (h .value) ∙ ap (λ d. told s d (c .kind) (c .key) (c .body)) e
+  read-bad k e = sym (h .value) ∙ ap (λ d. changeShown s d (c .kind) (c .key) (c .body)) e
 
 -- the change that was read
 abbrev pub readOf : List ℕ → ℕ → Read → Change
@@ -219,19 +219,19 @@ module _ (s : List ℕ) (n : ℕ) (c : Read) (h : Full s Any n c) where
   unfolding scan
   peek-yes m e b =
       let g = begins-yes s (readOf s n c) (from s n) (h .value) (ap (λ l. begins l s) (made-kind (c .kind) (c .key) _) ∙ b) in
-      full-view s Any n c h m e ∙ sym (ap (λ r. viewOf (written s r)) (h .value) ∙ ap (λ t. viewOf (cond t (seen (readOf s n c) (length (write (readOf s n c)))) blind)) g)
+      full-view s Any n c h m e ∙ sym (ap (λ r. viewOf (written s r)) (h .value) ∙ ap (λ t. viewOf (cond t (seen (readOf s n c) (length (write (readOf s n c)))) unseen)) g)
 
-  pub peek-no : begins (headBytes (c .kind) (c .key)) s ≡ false → viewOf blind ≡ viewOf (scan s)
+  pub peek-no : begins (headBytes (c .kind) (c .key)) s ≡ false → viewOf unseen ≡ viewOf (scan s)
   unfolding scan
   peek-no b =
       let g : begins (write (readOf s n c)) s ≡ false = ap (λ l. begins l s) (full-bytes s Any n c h) ∙ begins-more (headBytes (c .kind) (c .key)) _ s b in
-      sym (ap (λ r. viewOf (written s r)) (h .value) ∙ ap (λ t. viewOf (cond t (seen (readOf s n c) (length (write (readOf s n c)))) blind)) g)
+      sym (ap (λ r. viewOf (written s r)) (h .value) ∙ ap (λ t. viewOf (cond t (seen (readOf s n c) (length (write (readOf s n c)))) unseen)) g)
 
-pub peek-bad : (s : List ℕ) (k : ℕ) → change Any s ≡ bad k → viewOf blind ≡ viewOf (scan s)
+pub peek-bad : (s : List ℕ) (k : ℕ) → change Any s ≡ bad k → viewOf unseen ≡ viewOf (scan s)
 unfolding scan
 peek-bad s k e = sym (ap (λ r. viewOf (written s r)) e)
 
-pub faulted : (p : Parsed) (n : ℕ) (i : Input Change) → p ≡ record { number = n; view = viewOf blind } → i ≡ fault n → p ≡ parsedOf i
+pub faulted : (p : Parsed) (n : ℕ) (i : Input Change) → p ≡ record { number = n; view = viewOf unseen } → i ≡ fault n → p ≡ parsedOf i
 faulted p n i e f = e ∙ sym (ap parsedOf f)
 
 -- ---- putting

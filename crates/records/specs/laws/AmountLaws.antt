@@ -21,7 +21,7 @@ use Rattle.money.specs.declared.production.Reserve.{Reserve}
 use Rattle.money.specs.declared.production.UnitHour.{UnitHour}
 use Rattle.money.specs.declared.names.Name.{Name}
 use Rattle.records.specs.Numbers.{pad}
-use Rattle.records.specs.Names.{visible, nameOf}
+use Rattle.records.specs.Names.{visible, nameFrom}
 use Rattle.records.specs.Marks.{hasName, isFailure}
 use Rattle.records.specs.laws.MarkLaws.{failure-mark}
 use Rattle.records.specs.Reading.{Res, got, _>>=_}
@@ -53,7 +53,7 @@ pub name-sound : (r : Rec) → Good (filed r) → hasName (r .key .mark) ≡ tru
 name-sound r g h =
     let d = name-decoded r g h in
     let v = d .valid in
-    subst (λ (n : Name). nameOk n ≡ true) (d .is) (name-fine (nameOf (d .bytes)) (v .some) (v .few) (bytes-fine 12 (d .bytes) (v .few) (v .seen)))
+    subst (λ (n : Name). nameOk n ≡ true) (d .is) (name-fine (nameFrom (d .bytes)) (v .some) (v .few) (bytes-fine 12 (d .bytes) (v .few) (v .seen)))
 
 -- ---- an import
 

@@ -10,11 +10,11 @@ use lib.ListN.{length, take, drop, length-append}
 use borrow.Author.Tests.{eq-eqb, eqb-true}
 use Rattle.records.specs.Reading.{Res, bad, got, _>>=_, check, byte, some}
 use Rattle.records.specs.Numbers.{between, hour}
-use Rattle.records.specs.Names.{decodeName, upTo, one, escaped, hexVal, visible, spell, bytesOf, nameField, nameOf}
+use Rattle.records.specs.Names.{decodeName, upTo, one, escaped, hexVal, visible, spell, bytesOf, nameField, nameFrom}
 use Rattle.records.specs.Marks.{is, listing, markAmong, mark, markBytes, hasName}
 use Rattle.records.specs.laws.MarkLaws.{mark-two}
 use Rattle.records.specs.Layouts.{layout}
-use Rattle.records.specs.Changes.{Rec, Change, filed, corrected, withdrawn, keyOf, kind, isRecord, bodyOf, made, Head, allowed, inside, head, nameless, nameFor, bodyFor, rest, change, leadBytes, noName, nameBytes, headBytes, write, fine, fault, whole, parse, Scan, seen, blind, begins, written, scan, Good, bare, viewOf}
+use Rattle.records.specs.Changes.{Rec, Change, filed, corrected, withdrawn, keyOf, kind, isRecord, bodyOf, made, Head, allowed, inside, head, nameless, nameFor, bodyFor, rest, change, leadBytes, noName, nameBytes, headBytes, write, fine, fault, whole, parse, Scan, seen, unseen, begins, written, scan, Good, bare, viewOf}
 use Rattle.money.specs.declared.names.Name.{Name}
 use Rattle.records.specs.laws.NameLaws.{take-pad, field-again, field-spelled}
 use Rattle.records.specs.declared.marks.Mark.{Mark}
@@ -78,20 +78,20 @@ unfolding nameFor nameBytes byte
 name-again k m s n t e u = go (hasName m) e
   where
     less : (k : Kind) → nameless k s ≡ got n t → nameless k (noName k ++ u) ≡ got n u
-    less File f = let p : nameOf [] ≡ n = cc in ap (λ x. got x u) p
-    less Correct f = let p : nameOf [] ≡ n = cc in ap (λ x. got x u) p
+    less File f = let p : nameFrom [] ≡ n = cc in ap (λ x. got x u) p
+    less Correct f = let p : nameFrom [] ≡ n = cc in ap (λ x. got x u) p
     less Withdraw f =
-        let x = bind-got (byte s) (λ j t. check (eqb j 0) 4 (got (nameOf []) t)) n t f in
-        let y = check-got (eqb (x .0) 0) 4 (got (nameOf []) (x .1)) n t (x .3) in
-        let p : nameOf [] ≡ n = cc (y .1) in
+        let x = bind-got (byte s) (λ j t. check (eqb j 0) 4 (got (nameFrom []) t)) n t f in
+        let y = check-got (eqb (x .0) 0) 4 (got (nameFrom []) (x .1)) n t (x .3) in
+        let p : nameFrom [] ≡ n = cc (y .1) in
         ap (λ x. got x u) p
 
-    go : (b : Bool) → cond b (nameField s >>= λ v t. got (nameOf v) t) (nameless k s) ≡ got n t
-        → (cond b (nameField (cond b (length (spell (bytesOf n)) ∷ spell (bytesOf n)) (noName k) ++ u) >>= λ v t. got (nameOf v) t)
+    go : (b : Bool) → cond b (nameField s >>= λ v t. got (nameFrom v) t) (nameless k s) ≡ got n t
+        → (cond b (nameField (cond b (length (spell (bytesOf n)) ∷ spell (bytesOf n)) (noName k) ++ u) >>= λ v t. got (nameFrom v) t)
         (nameless k (cond b (length (spell (bytesOf n)) ∷ spell (bytesOf n)) (noName k) ++ u))) ≡ got n u
     go true f =
-        let x = bind-got (nameField s) (λ v t. got (nameOf v) t) n t f in
-        let p : nameOf (x .0) ≡ n = cc (x .3) in
+        let x = bind-got (nameField s) (λ v t. got (nameFrom v) t) n t f in
+        let p : nameFrom (x .0) ≡ n = cc (x .3) in
         let w = field-spelled s (x .0) (x .1) (x .2) in
         let b : bytesOf n ≡ x .0 = ap bytesOf (sym p) ∙ take-pad 0 12 (x .0) (w .few) in
         rw (b, field-again (x .0) (w .back) u, p)
@@ -224,7 +224,7 @@ pub scan-got : (s : List ℕ) (c : Change) (n : ℕ) → scan s ≡ seen c n →
 unfolding scan
 scan-got s c n = go (change Any s) refl
   where
-    go2 : (d : Change) (t : List ℕ) → change Any s ≡ got d t → (b : Bool) → begins (write d) s ≡ b → cond b (seen d (length (write d))) blind ≡ seen c n → Found s c n
+    go2 : (d : Change) (t : List ℕ) → change Any s ≡ got d t → (b : Bool) → begins (write d) s ≡ b → cond b (seen d (length (write d))) unseen ≡ seen c n → Found s c n
     go2 d t q true f e =
         let p : d ≡ c = cc in
         let l : length (write d) ≡ n = cc in
@@ -361,12 +361,12 @@ counted-field =
 
 pub counted-name : (k : Kind) (m : Mark) → Counted (nameFor k m)
 unfolding nameFor
-counted-name k m = counted-cond (hasName m) _ (nameless k) (counted-bind nameField _ counted-field (λ n. counted-got (nameOf n))) (less k)
+counted-name k m = counted-cond (hasName m) _ (nameless k) (counted-bind nameField _ counted-field (λ n. counted-got (nameFrom n))) (less k)
   where
     less : (k : Kind) → Counted (nameless k)
-    less File = counted-got (nameOf [])
-    less Correct = counted-got (nameOf [])
-    less Withdraw = counted-bind byte _ (lawful-byte .counted) (λ n. counted-check (eqb n 0) 4 (λ t. got (nameOf []) t) (omega arith) (counted-got (nameOf [])))
+    less File = counted-got (nameFrom [])
+    less Correct = counted-got (nameFrom [])
+    less Withdraw = counted-bind byte _ (lawful-byte .counted) (λ n. counted-check (eqb n 0) 4 (λ t. got (nameFrom []) t) (omega arith) (counted-got (nameFrom [])))
 
 counted-body : (k : Kind) (m : Mark) → Counted (bodyFor k m)
 unfolding bodyFor
@@ -411,18 +411,18 @@ pub record Read (s : List ℕ) (v : View) : Type 0 where
   pub scanned : scan s ≡ seen what (v .len)
   pub view-is : v ≡ record { act = Record (kind what); key = keyOf what; len = length (write what) }
 
-pub view-bad : (s : List ℕ) (v : View) → v ≡ viewOf (scan s) → isRecord (v .act) ≡ false → scan s ≡ blind
+pub view-bad : (s : List ℕ) (v : View) → v ≡ viewOf (scan s) → isRecord (v .act) ≡ false → scan s ≡ unseen
 view-bad s v e h = go (scan s) e
   where
-    go : (r : Scan) → v ≡ viewOf r → r ≡ blind
-    go blind p = refl
+    go : (r : Scan) → v ≡ viewOf r → r ≡ unseen
+    go unseen p = refl
     go (seen c n) p = absurd (true≢false (sym (ap (λ (x : View). isRecord (x .act)) p) ∙ h))
 
 pub view-got : (s : List ℕ) (v : View) → v ≡ viewOf (scan s) → isRecord (v .act) ≡ true → Read s v
 view-got s v e h = go (scan s) refl
   where
     go : (r : Scan) → scan s ≡ r → Read s v
-    go blind q = absurd (true≢false (sym h ∙ ap (λ (x : View). isRecord (x .act)) (e ∙ ap viewOf q)))
+    go unseen q = absurd (true≢false (sym h ∙ ap (λ (x : View). isRecord (x .act)) (e ∙ ap viewOf q)))
     go (seen c n) q =
         let p = e ∙ ap viewOf q in
         record {

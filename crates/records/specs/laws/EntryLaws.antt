@@ -10,7 +10,7 @@ use borrow.Author.Tests.{ne-eqb}
 use Rattle.money.specs.declared.names.Name.{Name}
 use Rattle.records.specs.Reading.{Res, bad, got, Reader, _>>=_, check, byte, some}
 use Rattle.records.specs.Numbers.{between, hour}
-use Rattle.records.specs.Names.{decodeName, nameField, nameOf, noOne, held}
+use Rattle.records.specs.Names.{decodeName, nameField, nameFrom, emptyName, storedName}
 use Rattle.records.specs.Marks.{is, listing, markAmong, mark, markBytes, hasName}
 use Rattle.records.specs.Changes.{Change, Head, made, allowed, inside, head, leadBytes, nameless, nameFor, bodyFor, rest, change, Entry, changed, takingBack, closing, entry, takeBackBytes, closeBytes, Input, fine, fault, whole, parse, parseAny, bare, Good}
 use Rattle.records.specs.laws.ReaderLaws.{bad-got, check-got, bind-got, Local, Lawful, Counted, lawful-byte}
@@ -58,14 +58,14 @@ name-less k m s n t = go (hasName m)
     none File e = let p : s ≡ t = cc in rw p (omega arith)
     none Correct e = let p : s ≡ t = cc in rw p (omega arith)
     none Withdraw e =
-        let x = bind-got (byte s) (λ j t. check (eqb j 0) 4 (got noOne t)) n t e in
-        let y = check-got (eqb (x .0) 0) 4 (got noOne (x .1)) n t (x .3) in
+        let x = bind-got (byte s) (λ j t. check (eqb j 0) 4 (got emptyName t)) n t e in
+        let y = check-got (eqb (x .0) 0) 4 (got emptyName (x .1)) n t (x .3) in
         let p : x .1 ≡ t = cc (y .1) in
         rw (← p) (byte-less s (x .0) (x .1) (x .2))
 
-    go : (b : Bool) → cond b (held (nameField s)) (nameless k s) ≡ got n t → length t ≤ length s
+    go : (b : Bool) → cond b (storedName (nameField s)) (nameless k s) ≡ got n t → length t ≤ length s
     go true e =
-        let x = bind-got (nameField s) (λ v t. got (nameOf v) t) n t e in
+        let x = bind-got (nameField s) (λ v t. got (nameFrom v) t) n t e in
         let p : x .1 ≡ t = cc (x .3) in
         rw (← p) (field-less s (x .0) (x .1) (x .2))
     go false e = none k e

@@ -13,7 +13,7 @@ use Rattle.money.specs.Units.{priceOk, quantityOk, maxCents}
 use Rattle.money.specs.declared.units.Quantity.{Quantity}
 use Rattle.records.specs.Reading.{Res, bad, got, Reader, _>>=_, check, byte, some, many}
 use Rattle.records.specs.Numbers.{between, word, signed, price, quantity, amount, hour, pair, offerOf, pairs, listOk, listFrom}
-use Rattle.records.specs.Names.{decodeName, nameField, nameOf, noOne}
+use Rattle.records.specs.Names.{decodeName, nameField, nameFrom, emptyName}
 use Rattle.records.specs.Marks.{is, listing, markAmong, mark, markBytes, hasName}
 use Rattle.records.specs.Layouts.{within, hourPrices, import, export, schedules, reserveRows, fewest, lists, allWithin, unit, failure, skip, layout, taken}
 use Rattle.records.specs.Changes.{Change, bodyOf, made, Head, allowed, inside, head, leadBytes, nameless, nameFor, bodyFor, rest, change, Entry, changed, takingBack, closing, entry, takeBackBytes, closeBytes, fine, fault, whole, parse, parseAny, begins}
@@ -235,12 +235,12 @@ firm-field = firm-bind byte _ firm-byte (λ n. firm-check (between 1 36 n) 4 _ (
 
 firm-name : (k : Kind) (m : Mark) → Firm (nameFor k m)
 unfolding nameFor
-firm-name k m = firm-cond (hasName m) _ (nameless k) (firm-bind nameField _ firm-field (λ n. firm-got (nameOf n))) (less k)
+firm-name k m = firm-cond (hasName m) _ (nameless k) (firm-bind nameField _ firm-field (λ n. firm-got (nameFrom n))) (less k)
   where
     less : (k : Kind) → Firm (nameless k)
-    less File = firm-got noOne
-    less Correct = firm-got noOne
-    less Withdraw = firm-bind byte _ firm-byte (λ n. firm-check (eqb n 0) 4 (λ t. got noOne t) (omega arith) (firm-got noOne))
+    less File = firm-got emptyName
+    less Correct = firm-got emptyName
+    less Withdraw = firm-bind byte _ firm-byte (λ n. firm-check (eqb n 0) 4 (λ t. got emptyName t) (omega arith) (firm-got emptyName))
 
 -- ---- changes
 

@@ -14,7 +14,7 @@ use Rattle.money.specs.Names.{nameByteOk, nameOk}
 use Rattle.money.specs.declared.names.Name.{Name}
 use Rattle.records.specs.Reading.{Res, got, _>>=_, byte}
 use Rattle.records.specs.Numbers.{between, hour}
-use Rattle.records.specs.Names.{visible, spell, nameField, nameOf, noOne, bytesOf}
+use Rattle.records.specs.Names.{visible, spell, nameField, nameFrom, emptyName, bytesOf}
 use Rattle.records.specs.Marks.{markBytes, hasName}
 use Rattle.records.specs.laws.MarkLaws.{two-bytes, mark-first}
 use Rattle.records.specs.Changes.{Rec, Change, filed, keyOf, kind, bodyOf, head, nameFor, nameBytes, headBytes, write, begins, Good}
@@ -64,16 +64,16 @@ fine-valid n p h =
       seen = fine-visible (bytesOf n) (λ i q. ap nameByteOk (getD-take (n .len) (n .bytes) i 0 (omega arith)) ∙ every-at (n .len) f (and-right sized (every (n .len) f) h) i (omega arith));
     }
 
-unnamed : (n : Name) → Padded n → n .len ≡ 0 → noOne ≡ n
-unnamed n p z = sym (ap (λ (m : ℕ). nameOf (take m (n .bytes))) z) ∙ p
+unnamed : (n : Name) → Padded n → n .len ≡ 0 → emptyName ≡ n
+unnamed n p z = sym (ap (λ (m : ℕ). nameFrom (take m (n .bytes))) z) ∙ p
 
 name-read : (m : Mark) (n : Name) → Padded n → cond (hasName m) (nameOk n) (eqb (n .len) 0) ≡ true → (u : List ℕ) → nameFor File m (nameBytes File m n ++ u) ≡ got n u
 unfolding nameFor nameBytes
 name-read m n p h u = go (hasName m) h
   where
     go : (b : Bool) → cond b (nameOk n) (eqb (n .len) 0) ≡ true
-        → cond b (nameField (cond b (length (spell (bytesOf n)) ∷ spell (bytesOf n)) [] ++ u) >>= λ v t. got (nameOf v) t) (got noOne (cond b (length (spell (bytesOf n)) ∷ spell (bytesOf n)) [] ++ u)) ≡ got n u
-    go true e = ap (λ (r : Res (List ℕ)). r >>= λ v t. got (nameOf v) t) (field-again (bytesOf n) (spelled-back (bytesOf n) (fine-valid n p e)) u) ∙ ap (λ (x : Name). got x u) p
+        → cond b (nameField (cond b (length (spell (bytesOf n)) ∷ spell (bytesOf n)) [] ++ u) >>= λ v t. got (nameFrom v) t) (got emptyName (cond b (length (spell (bytesOf n)) ∷ spell (bytesOf n)) [] ++ u)) ≡ got n u
+    go true e = ap (λ (r : Res (List ℕ)). r >>= λ v t. got (nameFrom v) t) (field-again (bytesOf n) (spelled-back (bytesOf n) (fine-valid n p e)) u) ∙ ap (λ (x : Name). got x u) p
     go false e = ap (λ (x : Name). got x u) (unnamed n p (eqb-true (n .len) 0 e))
 
 hour-read : (h : ℕ) → between 1 24 h ≡ true → (u : List ℕ) → hour (h ∷ u) ≡ got h u

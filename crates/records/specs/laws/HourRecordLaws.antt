@@ -9,7 +9,7 @@ use lib.ListN.{length, take, drop}
 use borrow.Author.Tests.{leb-true, eqb-true}
 use Rattle.records.specs.Reading.{Res, bad, got, _>>=_, check}
 use Rattle.records.specs.Numbers.{hour}
-use Rattle.records.specs.Names.{noOne}
+use Rattle.records.specs.Names.{emptyName}
 use Rattle.records.specs.Marks.{hourLimit, limit}
 use Rattle.records.specs.laws.MarkLaws.{every-such}
 use Rattle.records.specs.Changes.{Rec, Change, filed, corrected, withdrawn, kindOf, Head, head, rest, change, nameFor, nameBytes, fine, parse, write, Good, kind, isFiling}
@@ -83,12 +83,12 @@ pub hour-record-fault : (first : ℕ) (s : List ℕ) (k : ℕ) → hourRecord fi
 hour-record-fault first = counted-record first .above
 
 -- a `PR` that stands has no name
-pub price-name : (r : Rec) → Good (filed r) → r .key .mark ≡ Pr → r .key .name ≡ noOne
+pub price-name : (r : Rec) → Good (filed r) → r .key .mark ≡ Pr → r .key .name ≡ emptyName
 unfolding nameFor
 price-name r g e =
     let s = nameBytes File (r .key .mark) (r .key .name) in
     let q : nameFor File Pr (s ++ []) ≡ got (r .key .name) [] = subst (λ (m : Mark). nameFor File m (s ++ []) ≡ got (r .key .name) []) e (good-kept (filed r) g .name-back []) in
-    let p : noOne ≡ r .key .name = cc in
+    let p : emptyName ≡ r .key .name = cc in
     sym p
 
 -- an hour holds as many of each

@@ -12,7 +12,7 @@ use Rattle.money.specs.Names.{sameName}
 use Rattle.money.specs.laws.NameLaws.{same-of, same-names}
 use Rattle.records.specs.Reading.{Res, bad, got, _>>=_, check, byte}
 use Rattle.records.specs.Numbers.{between, hour}
-use Rattle.records.specs.Names.{decodeName, nameField, spell, nameOf, noOne, bytesOf, held}
+use Rattle.records.specs.Names.{decodeName, nameField, spell, nameFrom, emptyName, bytesOf, storedName}
 use Rattle.records.specs.Marks.{markBytes, markAmong, mark, hasName, isFailure, order}
 use Rattle.records.specs.laws.MarkLaws.{order-same}
 use Rattle.records.specs.Changes.{Rec, Change, filed, keyOf, kind, Good, nameless, nameFor, noName, nameBytes}
@@ -114,21 +114,21 @@ name-asked : (k : Kind) (m : Mark) (n : Name) → nameFor k m (nameBytes k m n +
 unfolding nameFor nameBytes askName
 name-asked k m n = go (hasName m)
   where
-    less : (k : Kind) (s : List ℕ) → nameless k s ≡ got n [] → got noOne [] ≡ got n []
-    less File s e = let p : noOne ≡ n = cc in ap (λ x. got x []) p
-    less Correct s e = let p : noOne ≡ n = cc in ap (λ x. got x []) p
+    less : (k : Kind) (s : List ℕ) → nameless k s ≡ got n [] → got emptyName [] ≡ got n []
+    less File s e = let p : emptyName ≡ n = cc in ap (λ x. got x []) p
+    less Correct s e = let p : emptyName ≡ n = cc in ap (λ x. got x []) p
     less Withdraw s e =
-        let x = bind-got (byte s) (λ j t. check (eqb j 0) 4 (got noOne t)) n [] e in
-        let y = check-got (eqb (x .0) 0) 4 (got noOne (x .1)) n [] (x .3) in
-        let p : noOne ≡ n = cc (y .1) in
+        let x = bind-got (byte s) (λ j t. check (eqb j 0) 4 (got emptyName t)) n [] e in
+        let y = check-got (eqb (x .0) 0) 4 (got emptyName (x .1)) n [] (x .3) in
+        let p : emptyName ≡ n = cc (y .1) in
         ap (λ x. got x []) p
 
-    go : (b : Bool) → cond b (held (nameField (cond b (length (spell (bytesOf n)) ∷ spell (bytesOf n)) (noName k) ++ []))) (nameless k (cond b (length (spell (bytesOf n)) ∷ spell (bytesOf n)) (noName k) ++ [])) ≡ got n []
-        → cond b (held (decodeName (cond b (spell (bytesOf n)) []))) (check (eqb (length (cond b (spell (bytesOf n)) [])) 0) 4 (got noOne [])) ≡ got n []
+    go : (b : Bool) → cond b (storedName (nameField (cond b (length (spell (bytesOf n)) ∷ spell (bytesOf n)) (noName k) ++ []))) (nameless k (cond b (length (spell (bytesOf n)) ∷ spell (bytesOf n)) (noName k) ++ [])) ≡ got n []
+        → cond b (storedName (decodeName (cond b (spell (bytesOf n)) []))) (check (eqb (length (cond b (spell (bytesOf n)) [])) 0) 4 (got emptyName [])) ≡ got n []
     go true f =
         let s : List ℕ = length (spell (bytesOf n)) ∷ (spell (bytesOf n) ++ []) in
-        let x = bind-got (nameField s) (λ v t. got (nameOf v) t) n [] f in
-        let p : nameOf (x .0) ≡ n = cc (x .3) in
+        let x = bind-got (nameField s) (λ v t. got (nameFrom v) t) n [] f in
+        let p : nameFrom (x .0) ≡ n = cc (x .3) in
         let w = field-spelled s (x .0) (x .1) (x .2) in
         let b : bytesOf n ≡ x .0 = ap bytesOf (sym p) ∙ take-pad 0 12 (x .0) (w .few) in
         rw (b, w .back, p)
@@ -152,7 +152,7 @@ askMark-fault (a ∷ b ∷ c ∷ s) k e = let q : 2 ≡ k = cc in omega arith
 bad-is : {A : Type 0} (j k : ℕ) → 0 < j → _≡_ {A = Res A} (bad j) (bad k) → 0 < k
 bad-is j k h e = let q : j ≡ k = cc in omega arith
 
-held-fault : (r : Res (List ℕ)) (k : ℕ) → held r ≡ bad k → r ≡ bad k
+held-fault : (r : Res (List ℕ)) (k : ℕ) → storedName r ≡ bad k → r ≡ bad k
 held-fault (bad j) k e = let q : j ≡ k = cc in ap bad q
 held-fault (got v t) k e = absurd (bad-got (sym e))
 
@@ -160,7 +160,7 @@ askName-fault : (m : Mark) (s : List ℕ) (k : ℕ) → askName m s ≡ bad k �
 unfolding askName
 askName-fault m s k = go (hasName m) (eqb (length s) 0)
   where
-    go : (b c : Bool) → cond b (held (decodeName s)) (check c 4 (got noOne [])) ≡ bad k → 0 < k
+    go : (b c : Bool) → cond b (storedName (decodeName s)) (check c 4 (got emptyName [])) ≡ bad k → 0 < k
     go true c e = counted-decode .above s k (held-fault (decodeName s) k e)
     go false true e = absurd (bad-got (sym e))
     go false false e = bad-is 4 k (omega arith) e
@@ -200,7 +200,7 @@ pub askHourOf-fault : (m : Mark) (h : ℕ) (k : ℕ) → askHourOf m h ≡ bad k
 unfolding askHourOf
 askHourOf-fault m h k = go (between 1 24 h)
   where
-    go : (b : Bool) → _≡_ {A = Res Key} (check b 3 (got (record { mark = m; hour = h; name = noOne }) [])) (bad k) → 0 < k
+    go : (b : Bool) → _≡_ {A = Res Key} (check b 3 (got (record { mark = m; hour = h; name = emptyName }) [])) (bad k) → 0 < k
     go true e = absurd (bad-got (sym e))
     go false e = bad-is 3 k (omega arith) e
 
@@ -213,14 +213,14 @@ askHour-fault ms h k = go (askMark ms) refl
     go (got m t) q e = askHourOf-fault m h k e
 
 -- nor of a name
-pub name-fault : (s : List ℕ) (k : ℕ) → held (decodeName s) ≡ bad k → 0 < k
+pub name-fault : (s : List ℕ) (k : ℕ) → storedName (decodeName s) ≡ bad k → 0 < k
 name-fault s k e = counted-decode .above s k (held-fault (decodeName s) k e)
 
 pub askUnit-fault : (ns : List ℕ) (k : ℕ) → askUnit ns ≡ bad k → 0 < k
 unfolding askUnit
-askUnit-fault ns k = go (held (decodeName ns)) refl
+askUnit-fault ns k = go (storedName (decodeName ns)) refl
   where
-    go : (r : Res Name) → held (decodeName ns) ≡ r → _≡_ {A = Res Key} (r >>= λ n u. got (record { mark = Gh; hour = 1; name = n }) []) (bad k) → 0 < k
+    go : (r : Res Name) → storedName (decodeName ns) ≡ r → _≡_ {A = Res Key} (r >>= λ n u. got (record { mark = Gh; hour = 1; name = n }) []) (bad k) → 0 < k
     go (bad j) q e = name-fault ns k (q ∙ (let p : j ≡ k = cc in ap bad p))
     go (got n u) q e = absurd (bad-got (sym e))
 
@@ -233,51 +233,51 @@ name-own : (r : Rec) → Good (filed r) → askName (r .key .mark) (askBytes (r 
 name-own r g = name-asked File (r .key .mark) (r .key .name) (good-kept (filed r) g .name-back [])
 
 -- a record of a mark without names stands under none
-pub own-unnamed : (r : Rec) → Good (filed r) → hasName (r .key .mark) ≡ false → r .key .name ≡ noOne
+pub own-unnamed : (r : Rec) → Good (filed r) → hasName (r .key .mark) ≡ false → r .key .name ≡ emptyName
 unfolding askName
 own-unnamed r g h =
     sym (got-value
-    (sym (λ i. cond (h i) (held (decodeName (cond (h i) (spell (bytesOf (r .key .name))) []))) (check (eqb (length (cond (h i) (spell (bytesOf (r .key .name))) [])) 0) 4 (got noOne []))) ∙ name-own r g))
+    (sym (λ i. cond (h i) (storedName (decodeName (cond (h i) (spell (bytesOf (r .key .name))) []))) (check (eqb (length (cond (h i) (spell (bytesOf (r .key .name))) [])) 0) 4 (got emptyName []))) ∙ name-own r g))
 
 -- a name that stands is the one that its written spelling decodes to
-pub own-name : (r : Rec) → Good (filed r) → hasName (r .key .mark) ≡ true → held (decodeName (spell (bytesOf (r .key .name)))) ≡ got (r .key .name) []
+pub own-name : (r : Rec) → Good (filed r) → hasName (r .key .mark) ≡ true → storedName (decodeName (spell (bytesOf (r .key .name)))) ≡ got (r .key .name) []
 unfolding askName
-own-name r g h = sym (λ i. cond (h i) (held (decodeName (cond (h i) (spell (bytesOf (r .key .name))) []))) (check (eqb (length (cond (h i) (spell (bytesOf (r .key .name))) [])) 0) 4 (got noOne []))) ∙ name-own r g
+own-name r g h = sym (λ i. cond (h i) (storedName (decodeName (cond (h i) (spell (bytesOf (r .key .name))) []))) (check (eqb (length (cond (h i) (spell (bytesOf (r .key .name))) [])) 0) 4 (got emptyName []))) ∙ name-own r g
 
 -- and it may stand
 pub record Decoded (n : Name) : Type 0 where
   pub bytes : List ℕ
   pub valid : Valid bytes
-  pub is : nameOf bytes ≡ n
+  pub is : nameFrom bytes ≡ n
 
 pub name-decoded : (r : Rec) → Good (filed r) → hasName (r .key .mark) ≡ true → Decoded (r .key .name)
 name-decoded r g h =
     let s = spell (bytesOf (r .key .name)) in
-    let x = bind-got (decodeName s) (λ v t. got (nameOf v) t) (r .key .name) [] (own-name r g h) in
+    let x = bind-got (decodeName s) (λ v t. got (nameFrom v) t) (r .key .name) [] (own-name r g h) in
     record { bytes = x .0; valid = decoded-valid s (x .0) (x .1) (x .2); is = cc (x .3) }
 
 -- ---- names as reading makes them have zeros behind their bytes: of these, names of the same bytes are one name
 abbrev pub Padded : Name → Type 0
-Padded n = nameOf (bytesOf n) ≡ n
+Padded n = nameFrom (bytesOf n) ≡ n
 
 -- a name that was read: of at most 12 bytes
 record Short (n : Name) : Type 0 where
   bytes : List ℕ
   few : length bytes ≤ 12
-  is : nameOf bytes ≡ n
+  is : nameFrom bytes ≡ n
 
 asked-short : (m : Mark) (s : List ℕ) (n : Name) (t : List ℕ) → askName m s ≡ got n t → Short n
 unfolding askName
 asked-short m s n t = go (hasName m)
   where
-    go : (b : Bool) → cond b (held (decodeName s)) (check (eqb (length s) 0) 4 (got noOne [])) ≡ got n t → Short n
+    go : (b : Bool) → cond b (storedName (decodeName s)) (check (eqb (length s) 0) 4 (got emptyName [])) ≡ got n t → Short n
     go true e =
-        let x = bind-got (decodeName s) (λ v u. got (nameOf v) u) n t e in
+        let x = bind-got (decodeName s) (λ v u. got (nameFrom v) u) n t e in
         record { bytes = x .0; few = decoded-valid s (x .0) (x .1) (x .2) .few; is = got-value (x .3) }
-    go false e = let y = check-got (eqb (length s) 0) 4 (got noOne []) n t e in record { bytes = []; few = omega arith; is = got-value (y .1) }
+    go false e = let y = check-got (eqb (length s) 0) 4 (got emptyName []) n t e in record { bytes = []; few = omega arith; is = got-value (y .1) }
 
 short-padded : (n : Name) → Short n → Padded n
-short-padded n x = subst Padded (x .is) (ap nameOf (take-pad 0 12 (x .bytes) (x .few)))
+short-padded n x = subst Padded (x .is) (ap nameFrom (take-pad 0 12 (x .bytes) (x .few)))
 
 asked-padded : (m : Mark) (s : List ℕ) (n : Name) (t : List ℕ) → askName m s ≡ got n t → Padded n
 asked-padded m s n t e = short-padded n (asked-short m s n t e)
@@ -295,7 +295,7 @@ good-few c g = let x = good-short c g in subst (λ (n : Name). n .len ≤ 12) (x
 pub same-true : (a b : Key) → Padded (a .name) → Padded (b .name) → same a b ≡ true → a ≡ b
 same-true a b p q h =
     let w = same-alike a b h in
-    let n : a .name ≡ b .name = sym p ∙ ap nameOf (w .name) ∙ q in
+    let n : a .name ≡ b .name = sym p ∙ ap nameFrom (w .name) ∙ q in
     λ i. record { mark = w .mark i; hour = w .hour i; name = n i }
 
 -- two keys of one mark and hour have names of other bytes, unless they are the same
@@ -304,17 +304,17 @@ names-apart a b s d e = let p = hour-parts a b s in true≢false (sym (alike-sam
 
 -- ---- what the key of a question is
 
-pub hour-key : (m : Mark) (h : ℕ) → 1 ≤ h → h ≤ 24 → askHourOf m h ≡ got (record { mark = m; hour = h; name = noOne }) []
+pub hour-key : (m : Mark) (h : ℕ) → 1 ≤ h → h ≤ 24 → askHourOf m h ≡ got (record { mark = m; hour = h; name = emptyName }) []
 unfolding askHourOf
 hour-key m h a b = rw (le-leb 1 h a, le-leb h 24 b)
 
-pub hour-asked : (m : Mark) (h : ℕ) (k : Key) (t : List ℕ) → askHourOf m h ≡ got k t → k ≡ record { mark = m; hour = h; name = noOne }
+pub hour-asked : (m : Mark) (h : ℕ) (k : Key) (t : List ℕ) → askHourOf m h ≡ got k t → k ≡ record { mark = m; hour = h; name = emptyName }
 unfolding askHourOf
-hour-asked m h k t e = sym (got-value (check-got (between 1 24 h) 3 (got (record { mark = m; hour = h; name = noOne }) []) k t e .1))
+hour-asked m h k t e = sym (got-value (check-got (between 1 24 h) 3 (got (record { mark = m; hour = h; name = emptyName }) []) k t e .1))
 
 pub unit-marked : (ns : List ℕ) (k : Key) (t : List ℕ) → askUnit ns ≡ got k t → k .mark ≡ Gh
 unfolding askUnit
-unit-marked ns k t e = let x = bind-got (held (decodeName ns)) (λ n u. got (record { mark = Gh; hour = 1; name = n }) []) k t e in ap (λ (y : Key). y .mark) (sym (got-value (x .3)))
+unit-marked ns k t e = let x = bind-got (storedName (decodeName ns)) (λ n u. got (record { mark = Gh; hour = 1; name = n }) []) k t e in ap (λ (y : Key). y .mark) (sym (got-value (x .3)))
 
 pub failure-marked : (ms : List ℕ) (h : ℕ) (ns : List ℕ) (k : Key) (t : List ℕ) → askFailure ms h ns ≡ got k t → isFailure (k .mark) ≡ true
 unfolding askFrom askFailureMark
@@ -358,7 +358,7 @@ failure-formed ms h ns r e = answer-formed (askFailure ms h ns) (formed-from (as
 formed-hour : (m : Mark) (h : ℕ) (k : Key) (t : List ℕ) → askHourOf m h ≡ got k t → Wellformed k
 unfolding askHourOf
 formed-hour m h k t e =
-    let c = check-got (between 1 24 h) 3 (got (record { mark = m; hour = h; name = noOne }) []) k t e in
+    let c = check-got (between 1 24 h) 3 (got (record { mark = m; hour = h; name = emptyName }) []) k t e in
     subst Wellformed (got-value (c .1)) (record { low = in-day h (c .0); padded = refl })
 
 pub mark-hour-formed : (m : Mark) (h : ℕ) (r : KeyAnswer) → r ≡ keyAnswer (askHourOf m h) → Wellformed (r .key)
@@ -371,7 +371,7 @@ hour-formed ms h r e = answer-formed (askHour ms h) (λ k t g. let y = bind-got 
 formed-unit : (ns : List ℕ) (k : Key) (t : List ℕ) → askUnit ns ≡ got k t → Wellformed k
 unfolding askUnit askName
 formed-unit ns k t e =
-    let y = bind-got (held (decodeName ns)) (λ n u. got (record { mark = Gh; hour = 1; name = n }) []) k t e in
+    let y = bind-got (storedName (decodeName ns)) (λ n u. got (record { mark = Gh; hour = 1; name = n }) []) k t e in
     subst Wellformed (got-value (y .3)) (record { low = omega arith; padded = asked-padded Gh ns (y .0) (y .1) (y .2) })
 
 pub unit-formed : (ns : List ℕ) (r : KeyAnswer) → r ≡ keyAnswer (askUnit ns) → Wellformed (r .key)

@@ -11,7 +11,7 @@ use Rattle.money.specs.Units.{priceOk, quantityOk, maxCents}
 use Rattle.money.specs.declared.units.Quantity.{Quantity}
 use Rattle.records.specs.Reading.{Res, bad, got, Reader, _>>=_, check, byte, some, many}
 use Rattle.records.specs.Numbers.{between, word, signed, price, quantity, amount, hour, pair, offerOf, pairs, listOk, listFrom}
-use Rattle.records.specs.Names.{visible, hexVal, escaped, one, upTo, decodeName, nameField, nameOf, noOne}
+use Rattle.records.specs.Names.{visible, hexVal, escaped, one, upTo, decodeName, nameField, nameFrom, emptyName}
 use Rattle.records.specs.Marks.{is, listing, markAmong, mark, markBytes, hasName}
 use Rattle.records.specs.laws.MarkLaws.{every-mark, mark-two}
 use Rattle.records.specs.Layouts.{within, hourPrices, import, export, schedules, reserveRows, fewest, lists, allWithin, unit, failure, skip, layout, taken}
@@ -313,12 +313,12 @@ brief-field =
 
 brief-name : (k : Kind) (m : Mark) → Brief 37 (nameFor k m)
 unfolding nameFor
-brief-name k m = brief-cond 37 (hasName m) _ (nameless k) (brief-bind 37 0 nameField _ brief-field (λ n. brief-got (nameOf n))) (less k)
+brief-name k m = brief-cond 37 (hasName m) _ (nameless k) (brief-bind 37 0 nameField _ brief-field (λ n. brief-got (nameFrom n))) (less k)
   where
     less : (k : Kind) → Brief 37 (nameless k)
-    less File = brief-more 0 37 _ (omega arith) (brief-got noOne)
-    less Correct = brief-more 0 37 _ (omega arith) (brief-got noOne)
-    less Withdraw = brief-more 1 37 _ (omega arith) (brief-bind 1 0 byte _ brief-byte (λ n. brief-check 0 (eqb n 0) 4 (λ t. got noOne t) (λ z. omega arith) (λ e. brief-got noOne)))
+    less File = brief-more 0 37 _ (omega arith) (brief-got emptyName)
+    less Correct = brief-more 0 37 _ (omega arith) (brief-got emptyName)
+    less Withdraw = brief-more 1 37 _ (omega arith) (brief-bind 1 0 byte _ brief-byte (λ n. brief-check 0 (eqb n 0) 4 (λ t. got emptyName t) (λ z. omega arith) (λ e. brief-got emptyName)))
 
 -- ---- changes
 

@@ -10,12 +10,12 @@ use lib.Dec.{ltb, leb, eqb}
 use lib.ListN.{length, take, getD, length-append}
 use lib.Seq.{take-suc, take-append-seam, drop-append-seam}
 use borrow.Author.Tests.{lt-ltb, le-leb, lt-leb, ltb-true, ltb-false, ne-eqb, leb-true}
-use Rattle.money.specs.Refusals.{badName}
+use Rattle.money.specs.Refusals.{nameFault}
 use Rattle.money.specs.Names.{nameOk}
 use Rattle.money.specs.declared.names.Name.{Name}
 use Rattle.records.specs.Reading.{got, _>>=_, check, byte, some}
 use Rattle.records.specs.Numbers.{between, pad}
-use Rattle.records.specs.Names.{nameField, nameOf, bytesOf, spellingOf, spellingBytes, visible, hexVal, escaped, one, upTo, decodeName, spell, spellByte, unreserved, digit}
+use Rattle.records.specs.Names.{nameField, nameFrom, bytesOf, spellingOf, spellingBytes, visible, hexVal, escaped, one, upTo, decodeName, spell, spellByte, unreserved, digit}
 use Rattle.records.specs.laws.ReaderLaws.{check-got, bind-got, bad-got}
 
 pub spell-append : (xs ys : List ℕ) → spell (xs ++ ys) ≡ spell xs ++ spell ys
@@ -230,11 +230,11 @@ pub spelled-short : (v : List ℕ) → length v ≤ 12 → length (spell v) ≤ 
 spelled-short v h = omega (arith, spell-length v)
 
 -- two spellings are one name, as a key holds it, exactly when their decoded bytes are the same
-pub one-name : (s a t u b v : List ℕ) → decodeName s ≡ got a t → decodeName u ≡ got b v → (nameOf a ≡ nameOf b → a ≡ b) × (a ≡ b → nameOf a ≡ nameOf b)
+pub one-name : (s a t u b v : List ℕ) → decodeName s ≡ got a t → decodeName u ≡ got b v → (nameFrom a ≡ nameFrom b → a ≡ b) × (a ≡ b → nameFrom a ≡ nameFrom b)
 one-name s a t u b v e f =
     let p = decoded-valid s a t e in
     let q = decoded-valid u b v f in
-    (λ h. sym (take-pad 0 12 a (p .few)) ∙ ap bytesOf h ∙ take-pad 0 12 b (q .few), λ h. ap nameOf h)
+    (λ h. sym (take-pad 0 12 a (p .few)) ∙ ap bytesOf h ∙ take-pad 0 12 b (q .few), λ h. ap nameFrom h)
 
 -- a name that keeps its rule is written in full
 pub spelling-full : (n : Name) → nameOk n ≡ true → spellingOf n ≡ spellingBytes 0 (spell (bytesOf n))
@@ -242,6 +242,6 @@ unfolding spellingOf
 spelling-full n h = rw h
 
 -- another has no spelling
-pub spelling-none : (n : Name) → nameOk n ≡ false → spellingOf n ≡ spellingBytes badName []
+pub spelling-none : (n : Name) → nameOk n ≡ false → spellingOf n ≡ spellingBytes nameFault []
 unfolding spellingOf
 spelling-none n h = rw h

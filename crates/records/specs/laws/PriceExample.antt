@@ -6,7 +6,7 @@ use lib.ListN.{length, replicate}
 use Rattle.laws.specs.Text.{char}
 use Rattle.records.specs.Reading.{byte, many}
 use Rattle.records.specs.Numbers.{word, price, hour}
-use Rattle.records.specs.Names.{noOne}
+use Rattle.records.specs.Names.{emptyName}
 use Rattle.records.specs.Marks.{markAmong, mark, hourLimit}
 use Rattle.records.specs.Layouts.{hourPrices, layout, taken}
 use Rattle.records.specs.Changes.{Rec, filed, Input, fine, parse, change, head, rest, nameFor, bodyFor, write, headBytes, nameBytes}
@@ -20,7 +20,7 @@ abbrev pub priceBytes : List ℕ
 priceBytes = char "P" ∷ char "R" ∷ 1 ∷ replicate 52 0
 
 abbrev pub priceRecord : Rec
-priceRecord = record { key = record { mark = Pr; hour = 1; name = noOne }; body = replicate 52 0 }
+priceRecord = record { key = record { mark = Pr; hour = 1; name = emptyName }; body = replicate 52 0 }
 
 pub price-read : parse (Only File) priceBytes ≡ fine (filed priceRecord)
 unfolding parse change head mark markAmong rest hour byte nameFor bodyFor taken layout hourPrices many price word

@@ -8,7 +8,7 @@ use lib.Dec.{leb, eqb}
 use lib.ListN.{length, take, drop, length-append}
 use lib.Seq.{drop-at}
 use borrow.Author.Tests.{le-leb, eq-eqb, ne-eqb, eqb-true}
-use Rattle.money.specs.Refusals.{unknownMark, noSpace}
+use Rattle.money.specs.Refusals.{markUnknown, noSpace}
 use Rattle.records.specs.Reading.{Res, bad, got, _>>=_}
 use Rattle.records.specs.Marks.{is}
 use Rattle.records.specs.Changes.{Change, kind, keyOf, bodyOf, headBytes, change, write, put, putNumber, putBytes, Entry, changed, takingBack, closing, entry, takeBackBytes, closeBytes, Input, fine, fault, whole, parse, parseAny, begins, viewOf, seen, entryView, parsedOf, frontOf}
@@ -64,7 +64,7 @@ viewed-put want s v e at d = go (parse want s) refl e
   where
     both : (c : Change) (v : View) → Right v s c → (viewedNumber v at s d ≡ putNumber (fine c) at d) × (viewedBytes v at s d ≡ putBytes (fine c) at d)
     both c v x = (
-      ap (λ (b : Bool). cond b (cond (leb (at + v .len) (length d)) 0 noSpace) unknownMark) (x .is) ∙ ap (λ (n : ℕ). cond (leb (at + n) (length d)) 0 noSpace) (x .len),
+      ap (λ (b : Bool). cond b (cond (leb (at + v .len) (length d)) 0 noSpace) markUnknown) (x .is) ∙ ap (λ (n : ℕ). cond (leb (at + n) (length d)) 0 noSpace) (x .len),
       ap (λ (b : Bool). cond b (cond (leb (at + v .len) (length d)) (put d at (viewWritten v s)) d) d) (x .is) ∙ (λ i. cond (leb (at + x .len i) (length d)) (put d at (x .bytes i)) d),
     )
 

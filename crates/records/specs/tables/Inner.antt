@@ -139,9 +139,9 @@ layoutFor File m s = layout m s
 layoutFor Correct m s = layout m s
 layoutFor Withdraw m s = got tt s
 
-abbrev pub told : List ℕ → End → Kind → Key → ℕ → Res Change
-told s (At n) k x b = got (made k x (take (n - b) (from s b))) (from s n)
-told s (No j) k x b = bad j
+abbrev pub changeShown : List ℕ → End → Kind → Key → ℕ → Res Change
+changeShown s (At n) k x b = got (made k x (take (n - b) (from s b))) (from s n)
+changeShown s (No j) k x b = bad j
 
 -- a body from b to n
 pub record Stands (s : List ℕ) (n : ℕ) (k : Kind) (x : Key) (b : ℕ) : Type 0 where
@@ -154,7 +154,7 @@ Placed s (At n) k x b = Stands s n k x b
 Placed s (No j) k x b = Unit
 
 pub record ReadIs (s : List ℕ) (want : Wanted) (r : Read) : Type 0 where
-  pub value : told s (r .end) (r .kind) (r .key) (r .body) ≡ change want s
+  pub value : changeShown s (r .end) (r .kind) (r .key) (r .body) ≡ change want s
   pub placed : Placed s (r .end) (r .kind) (r .key) (r .body)
   pub few : r .key .name .len ≤ 12
 

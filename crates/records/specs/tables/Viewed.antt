@@ -4,7 +4,7 @@ use mathlib.Core.Bool.{Bool, cond, _&&_}
 use Prim.Native.Nat.{ℕ, _+_, _-_}
 use lib.Dec.{leb}
 use lib.ListN.{length, drop}
-use Rattle.money.specs.Refusals.{unknownMark, noSpace}
+use Rattle.money.specs.Refusals.{markUnknown, noSpace}
 use Rattle.records.specs.Changes.{isRecord, kindIn, headBytes, put}
 use Rattle.records.specs.declared.scan.View.{View}
 
@@ -24,7 +24,7 @@ viewWritten v s = viewHead v ++ drop (length s - viewRest v) s
 
 -- written at a place of lent bytes: 13 where it does not fit, 2 of what is no view, and then the bytes remain
 abbrev pub viewedNumber : View → ℕ → List ℕ → List ℕ → ℕ
-viewedNumber v at s d = cond (isView v (length s)) (cond (leb (at + v .len) (length d)) 0 noSpace) unknownMark
+viewedNumber v at s d = cond (isView v (length s)) (cond (leb (at + v .len) (length d)) 0 noSpace) markUnknown
 
 abbrev pub viewedBytes : View → ℕ → List ℕ → List ℕ → List ℕ
 viewedBytes v at s d = cond (isView v (length s)) (cond (leb (at + v .len) (length d)) (put d at (viewWritten v s)) d) d

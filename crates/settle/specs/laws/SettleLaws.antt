@@ -11,12 +11,12 @@ use Rattle.records.specs.Changes.{put}
 use Rattle.records.specs.laws.BookLaws.{put-length}
 use Rattle.statement.specs.Statement.{Fits, statementOf, longestStatement}
 use Rattle.statement.specs.declared.day.Written.{Written}
-use Rattle.settling.specs.Program.{inputOf}
-use Rattle.settling.specs.Output.{outputOf}
-use Rattle.settling.specs.laws.OutputLaws.{every-input}
-use Rattle.intake.specs.Rounds.{ReadAll, failed}
-use Rattle.intake.specs.laws.RoundLaws.{read-run, read-few, apart}
-use Rattle.intake.specs.declared.Input.{Input}
+use Rattle.filter.specs.Program.{inputOf}
+use Rattle.filter.specs.Output.{outputOf}
+use Rattle.filter.specs.laws.OutputLaws.{every-input}
+use Rattle.stdin.specs.Rounds.{ReadAll, failed}
+use Rattle.stdin.specs.laws.RoundLaws.{read-run, read-few, apart}
+use Rattle.stdin.specs.declared.Input.{Input}
 use Rattle.settle.specs.Settle.{Writes, Shows, Outputs, Printed}
 use Rattle.settle.specs.declared.Settled.{Settled}
 

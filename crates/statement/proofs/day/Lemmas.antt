@@ -8,7 +8,7 @@ use borrow.Author.Tests.{le-leb, lt-leb}
 use Rattle.book.specs.Layer.{Change}
 use Rattle.book.specs.declared.book.Book.{Book}
 use Rattle.book.specs.declared.answers.DayAmounts.{DayAmounts}
-use Rattle.book.specs.Meaning.{Load, belongs, astray, load, Valid}
+use Rattle.book.specs.Meaning.{Load, belongs, mismatched, load, Valid}
 use Rattle.book.specs.laws.LoadLaws.{loaded-valid}
 use Rattle.book.specs.WholeDay.{dayAmounts, dayFrom}
 use Rattle.book.specs.laws.WholeDayLaws.{units-are, number-astray, number-whole}
@@ -51,13 +51,13 @@ module _ (b : Book) (s : List ℕ) (day : DayAmounts) (e : day ≡ dayFrom (dayA
     where
       go : (x : Load) → load b s ≡ x → Held b s day
       go (belongs l) q = record { list = l; is = q; valid = loaded-valid b s l q; amounts = e ∙ ap (λ (x : Load). dayFrom (dayAmounts x)) q }
-      go astray q = absurd (omega (arith, ap (λ (x : DayAmounts). x .number) (e ∙ ap (λ (x : Load). dayFrom (dayAmounts x)) q), number-astray))
+      go mismatched q = absurd (omega (arith, ap (λ (x : DayAmounts). x .number) (e ∙ ap (λ (x : Load). dayFrom (dayAmounts x)) q), number-astray))
 
-  pub is-astray : (day .number ≡ 0 → ⊥) → load b s ≡ astray
+  pub is-astray : (day .number ≡ 0 → ⊥) → load b s ≡ mismatched
   is-astray z = go (load b s) refl
     where
-      go : (x : Load) → load b s ≡ x → load b s ≡ astray
-      go astray q = q
+      go : (x : Load) → load b s ≡ x → load b s ≡ mismatched
+      go mismatched q = q
       go (belongs l) q = absurd (z (ap (λ (x : DayAmounts). x .number) (e ∙ ap (λ (x : Load). dayFrom (dayAmounts x)) q) ∙ number-whole l))
 
 pub few-units : {b : Book} {s : List ℕ} {day : DayAmounts} → Held b s day → day .n ≤ 512
@@ -76,7 +76,7 @@ stated {b} {s} {d} {e} {day} {r} x w =
 same-list : {l k : List Change} → belongs l ≡ belongs k → l ≡ k
 same-list e = cc
 
-pub answers-astray : {x : Load} (d : List ℕ) → x ≡ astray → Answers x d d (record { number = 16; len = 0 })
+pub answers-astray : {x : Load} (d : List ℕ) → x ≡ mismatched → Answers x d d (record { number = 16; len = 0 })
 answers-astray {x} d e = subst (λ (y : Load). Answers y d d (record { number = 16; len = 0 })) (sym e) (record {
   number = refl;
   len = refl;

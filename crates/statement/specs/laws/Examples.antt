@@ -11,7 +11,7 @@ use Rattle.laws.specs.Text.{bytes}
 use Rattle.laws.specs.Sums.{every}
 use Rattle.money.specs.Units.{centsOf}
 use Rattle.money.specs.Names.{nameOk, sameBytes}
-use Rattle.records.specs.Names.{nameOf, spell, spellByte, unreserved, digit}
+use Rattle.records.specs.Names.{nameFrom, spell, spellByte, unreserved, digit}
 use Rattle.book.specs.declared.answers.NamedAmount.{NamedAmount}
 use Rattle.book.specs.Replies.{Reply, refused, guarantees, unitDay}
 use Rattle.book.specs.Amounts.{ChargesReply, charged, no}
@@ -25,14 +25,14 @@ use Rattle.statement.specs.declared.lines.Line.{Line}
 -- ---- what they are made of
 -- no name is `-`
 abbrev line : ℕ → Kind → String → ℤ → Line
-line h k n z = record { hour = h; kind = k; name = nameOf (bytes n); cents = record { 0 = z } }
+line h k n z = record { hour = h; kind = k; name = nameFrom (bytes n); cents = record { 0 = z } }
 
 -- an amount of ticks, as it is printed
 abbrev amount : ℕ → Kind → String → ℤ → Line
 amount h k n t = line h k n (centsOf t)
 
 abbrev named : String → ℤ → NamedAmount
-named n t = record { name = nameOf (bytes n); ticks = record { 0 = t } }
+named n t = record { name = nameFrom (bytes n); ticks = record { 0 = t } }
 
 -- ---- cases
 pub data Case : Type 0 where
@@ -49,7 +49,7 @@ abbrev pub holds : Case → Bool
 holds (shows ls s) = sameBytes (textOf ls) (bytes s)
 holds (takes l n) = eqb (length (lineBytes l)) n
 holds (hour h g fs es s) = sameBytes (textOf (hourLines h g fs es)) (bytes s)
-holds (unit n r s) = sameBytes (textOf (unitLines (nameOf (bytes n)) r)) (bytes s)
+holds (unit n r s) = sameBytes (textOf (unitLines (nameFrom (bytes n)) r)) (bytes s)
 
 abbrev pub all : List Case → Bool
 all [] = true

@@ -18,7 +18,7 @@ use Rattle.book.specs.declared.amounts.prices.HourPrice.{HourPrice}
 use Rattle.book.specs.declared.amounts.prices.PriceTable.{PriceTable}
 use Rattle.book.specs.Register.{standing, ask, dayOf, Reply, refused, unitDay, answered, stepOf, keyed}
 use Rattle.book.specs.Amounts.{HourPricing, priceOf, absent, payable, unitAt, dayTotal, unitDayOf}
-use Rattle.book.specs.Meaning.{load, astray, Meets, dayReply}
+use Rattle.book.specs.Meaning.{load, mismatched, Meets, dayReply}
 use Rattle.book.specs.tables.Hours.{DayIs}
 use Rattle.book.specs.tables.Prices.{TableOf}
 use Rattle.book.specs.Handed.{unitDayFrom}
@@ -136,7 +136,7 @@ module _ {s : List ℕ} {l : List Change} (o : Begun s l) (k : Key) (u : Day) (d
 
 -- ---- the question
 
-pub unit-astray : (b : Book) (s name : List ℕ) → load b s ≡ astray → (d : UnitDay) → d ≡ unitDayFrom (refused 16) → Meets (ask (dayOf name)) b s b (dayReply d) s
+pub unit-astray : (b : Book) (s name : List ℕ) → load b s ≡ mismatched → (d : UnitDay) → d ≡ unitDayFrom (refused 16) → Meets (ask (dayOf name)) b s b (dayReply d) s
 unit-astray b s name e d ed = subst (λ (y : Reply). Meets (ask (dayOf name)) b s b y s) (sym (ap dayReply ed)) (leaves-16 (stepOf (ask (dayOf name))) b s e)
 
 module _ (b : Book) (s name : List ℕ) (x : Loaded b s) (r : KeyAnswer) (e : r ≡ keyAnswer (askUnit name)) where

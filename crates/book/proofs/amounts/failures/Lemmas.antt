@@ -17,7 +17,7 @@ use Rattle.book.specs.declared.amounts.prices.HourPrice.{HourPrice}
 use Rattle.book.specs.Register.{standing, ask, failureCharge, Reply, refused, answered, stepOf}
 use Rattle.book.specs.Amounts.{HourPricing, hourKey, priceOf, chargeOf, ChargesReply, charged, no, chargesOf}
 use Rattle.book.specs.ByName.{byName}
-use Rattle.book.specs.Meaning.{Load, belongs, astray, Meets, chargesKeyed, hourCharges}
+use Rattle.book.specs.Meaning.{Load, belongs, mismatched, Meets, chargesKeyed, hourCharges}
 use Rattle.book.specs.tables.Places.{spotOf, spots}
 use Rattle.book.specs.tables.Rows.{Logged, Log}
 use Rattle.book.specs.tables.Prices.{PriceIs}
@@ -151,7 +151,7 @@ pub no-charges-for : (n : ℕ) → (n ≡ 0 → ⊥) → noCharges n ≡ no n
 no-charges-for n z = ap (λ (b : Bool). cond b (charged []) (no n)) (ne-eqb n 0 z)
 
 module _ (m : Mark) (h : ℕ) (d : Load) where
-  pub charges-astray : (c : ChargesReply) → c ≡ noCharges 16 → d ≡ astray → c ≡ hourCharges m h d
+  pub charges-astray : (c : ChargesReply) → c ≡ noCharges 16 → d ≡ mismatched → c ≡ hourCharges m h d
   charges-astray c ec e = ec ∙ sym (ap (hourCharges m h) e)
 
   module _ (l : List Change) (e : d ≡ belongs l) where

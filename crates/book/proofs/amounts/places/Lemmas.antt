@@ -5,7 +5,7 @@ use mathlib.Core.List.{List, [], _∷_, _++_}
 use mathlib.Core.Bool.{Bool, true, false, cond, _&&_}
 use native.Mathlib.Omega.{arith}
 use lib.ListN.{length, take, drop, getD}
-use Rattle.book.specs.Layer.{Kind, isCorrection, Key, Rec, Change, kindOf, keyOf, sameHour, nameOf, nameBefore}
+use Rattle.book.specs.Layer.{Kind, isCorrection, Key, Rec, Change, kindOf, keyOf, sameHour, decodedBytes, nameBefore}
 use Rattle.book.specs.laws.LayerLaws.{limit-most}
 use Rattle.book.specs.declared.amounts.places.Spot.{Spot}
 use Rattle.book.specs.declared.amounts.places.Places.{Places}
@@ -34,7 +34,7 @@ left-out b x y h = sym (ap (λ (t : Bool). cond t x y) h)
 pub put-length : (s : Spot) (xs : List Spot) → length (putSpot s xs) ≡ length xs + 1
 unfolding putSpot
 put-length s [] = refl
-put-length s (x ∷ xs) = go (nameBefore (nameOf (s .name)) (nameOf (x .name))) (put-length s xs)
+put-length s (x ∷ xs) = go (nameBefore (decodedBytes (s .name)) (decodedBytes (x .name))) (put-length s xs)
   where
     go : (b : Bool) → length (putSpot s xs) ≡ length xs + 1 → length (cond b (s ∷ x ∷ xs) (x ∷ putSpot s xs)) ≡ length (x ∷ xs) + 1
     go true e = omega arith
@@ -70,7 +70,7 @@ gather-few k l v m =
 
 -- ---- the place of a spot
 module _ (s : Spot) (p : Places) (i : ℕ) (h : Sought (putSpot s) (p .at) (p .n) i) (le : p .n ≤ length (p .at)) where
-  module _ (d : Spot) (lt : i < p .n) (b : Bool) (e : b ≡ nameBefore (nameOf (s .name)) (nameOf (getD (p .at) i d .name))) where
+  module _ (d : Spot) (lt : i < p .n) (b : Bool) (e : b ≡ nameBefore (decodedBytes (s .name)) (decodedBytes (getD (p .at) i d .name))) where
     pub slot-here : b ≡ true → putSpot s (spots p) ≡ take i (spots p) ++ (s ∷ drop i (spots p))
     unfolding putSpot
     slot-here t = sought-here h d le lt s (λ xs. ap (λ (y : Bool). cond y (s ∷ getD (p .at) i d ∷ xs) (getD (p .at) i d ∷ putSpot s xs)) (sym e ∙ t))

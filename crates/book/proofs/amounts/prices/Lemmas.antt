@@ -12,14 +12,14 @@ use borrow.Author.Tests.{eqb-true, eqb-false, lt-ltb, le-ltb, lt-leb, le-leb}
 use Rattle.money.specs.Names.{sameName}
 use Rattle.records.specs.Marks.{hasName}
 use Rattle.records.specs.Keys.{same, sameHour}
-use Rattle.book.specs.Layer.{Key, Rec, Change, filed, keyOf, kindOf, Good, Pr, order, noOne, pricesOf}
+use Rattle.book.specs.Layer.{Key, Rec, Change, filed, keyOf, kindOf, Good, Pr, order, emptyName, pricesOf}
 use Rattle.book.specs.laws.LayerLaws.{same-refl, hour-parts, good-hour, own-unnamed, Padded, Wellformed}
 use Rattle.book.specs.declared.amounts.prices.HourPrice.{HourPrice}
 use Rattle.book.specs.declared.log.rows.Seek.{Seek}
 use Rattle.book.specs.Register.{writeAll, standing}
 use Rattle.book.specs.Amounts.{is, pick, priced, hourKey, priceFrom, priceOf}
 use Rattle.book.specs.tables.Tables.{survey}
-use Rattle.book.specs.tables.Index.{slot, latestOf, hourSlot}
+use Rattle.book.specs.tables.Index.{bucket, latestOf, hourSlot}
 use Rattle.book.specs.tables.Places.{leadLength, liveAt}
 use Rattle.book.specs.tables.Rows.{rowLive, rowSlot, rowPlace, Logged, Log, Sought}
 use Rattle.book.specs.tables.Prices.{PriceIs, TableOf, priceAt, priceHour}
@@ -35,11 +35,11 @@ use Rattle.book.proofs.log.rows.Lemmas.{Seen, ruled-at, ruled-few, rule
 -- ---- what was sought among all rows
 
 abbrev pub Finds : List ℕ → List ℕ → ℕ → Key → Seek → Type 0
-Finds s rows n k r = (l : List Change) → Logged s rows n l → k .hour < 32 → Padded (k .name) → latestOf (slot k) l ≤ n → Sought rows n k r l
+Finds s rows n k r = (l : List Change) → Logged s rows n l → k .hour < 32 → Padded (k .name) → latestOf (bucket k) l ≤ n → Sought rows n k r l
 
 module _ {s rows : List ℕ} {n : ℕ} {k : Key} {r : Seek} (f : Finds s rows n k r) (wk : Wellformed k) where
   pub sought : (l : List Change) → Logged s rows n l → Sought rows n k r l
-  sought l g = f l g (wk .low) (wk .padded) (omega (arith, latest-few (slot k) l, g .ruled .count))
+  sought l g = f l g (wk .low) (wk .padded) (omega (arith, latest-few (bucket k) l, g .ruled .count))
 
   pub sought-inside : Log s rows n → r .found ≡ true → r .start ≤ length s
   sought-inside o t =
@@ -76,10 +76,10 @@ price-same : (r : Rec) → Good (filed r) → (h : ℕ) → same (hourKey Pr h) 
 unfolding same
 price-same r g h = by-test (sameHour (hourKey Pr h) (r .key))
     (λ t. let p = hour-parts (hourKey Pr h) (r .key) t in
-    let nm : r .key .name ≡ noOne = own-unnamed r g (ap hasName (sym (p .0))) in
+    let nm : r .key .name ≡ emptyName = own-unnamed r g (ap hasName (sym (p .0))) in
     let e : r .key ≡ hourKey Pr h = λ i. record { mark = sym (p .0) i; hour = sym (p .1) i; name = nm i } in
     ap (same (hourKey Pr h)) e ∙ same-refl (hourKey Pr h) ∙ sym t)
-    (λ t. ap (λ (b : Bool). b && sameName noOne (r .key .name)) t ∙ sym t)
+    (λ t. ap (λ (b : Bool). b && sameName emptyName (r .key .name)) t ∙ sym t)
 
 collected-size : (s : List ℕ) (none : List HourPrice) (all : List Change) (rs : List Rec) → length (collect (tablePass s none) all rs) ≡ length none
 unfolding collect

@@ -8,7 +8,7 @@ use lib.ListN.{length, take, drop, getD, set, length-set, drop-of-length-le}
 use lib.Dec.{eqb}
 use borrow.Author.Tests.{eq-eqb, ne-eqb, eqb-true, le-leb, lt-leb}
 use lib.Seq.{length-take-le}
-use Rattle.book.specs.Layer.{Key, Name, Change, keyOf, order, nameOf, nameBefore, noOne, pad, kindOf}
+use Rattle.book.specs.Layer.{Key, Name, Change, keyOf, order, decodedBytes, nameBefore, emptyName, pad, kindOf}
 use Rattle.book.specs.declared.amounts.units.Units.{Units}
 use Rattle.book.specs.Register.{writeAll, standing}
 use Rattle.book.specs.ByName.{addName, sameMark, namesOf}
@@ -28,19 +28,19 @@ use Rattle.book.proofs.Inserting.{Sought, sought-here, sought-there, so
 
 -- ---- the place of a name
 module _ (a : Name) (u : Units) (i : ℕ) (h : Sought (addName a) (u .names) (u .n) i) (le : u .n ≤ length (u .names)) where
-  module _ (d : Name) (lt : i < u .n) {b : Bool} (e : b ≡ nameBefore (nameOf a) (nameOf (getD (u .names) i d))) where
+  module _ (d : Name) (lt : i < u .n) {b : Bool} (e : b ≡ nameBefore (decodedBytes a) (decodedBytes (getD (u .names) i d))) where
     pub name-here : b ≡ true → addName a (namesIn u) ≡ take i (namesIn u) ++ (a ∷ drop i (namesIn u))
     unfolding addName
     name-here t =
         let x = getD (u .names) i d in
-        sought-here h d le lt a (λ xs. ap (λ (y : Bool). cond y (a ∷ x ∷ xs) (cond (nameBefore (nameOf x) (nameOf a)) (x ∷ addName a xs) (x ∷ xs))) (sym e ∙ t))
+        sought-here h d le lt a (λ xs. ap (λ (y : Bool). cond y (a ∷ x ∷ xs) (cond (nameBefore (decodedBytes x) (decodedBytes a)) (x ∷ addName a xs) (x ∷ xs))) (sym e ∙ t))
 
-    module _ (t : b ≡ false) {w : Bool} (ew : w ≡ nameBefore (nameOf (getD (u .names) i d)) (nameOf a)) where
+    module _ (t : b ≡ false) {w : Bool} (ew : w ≡ nameBefore (decodedBytes (getD (u .names) i d)) (decodedBytes a)) where
       later : (xs : List Name) → addName a (getD (u .names) i d ∷ xs) ≡ cond w (getD (u .names) i d ∷ addName a xs) (getD (u .names) i d ∷ xs)
       unfolding addName
       later xs =
           let x = getD (u .names) i d in
-          ap (λ (y : Bool). cond y (a ∷ x ∷ xs) (cond (nameBefore (nameOf x) (nameOf a)) (x ∷ addName a xs) (x ∷ xs))) (sym e ∙ t)
+          ap (λ (y : Bool). cond y (a ∷ x ∷ xs) (cond (nameBefore (decodedBytes x) (decodedBytes a)) (x ∷ addName a xs) (x ∷ xs))) (sym e ∙ t)
           ∙ ap (λ (y : Bool). cond y (x ∷ addName a xs) (x ∷ xs)) (sym ew)
 
       pub name-there : w ≡ false → addName a (namesIn u) ≡ namesIn u
@@ -57,11 +57,11 @@ module _ (a : Name) (u : Units) (i : ℕ) (h : Sought (addName a) (u .names) (u 
 
 -- ---- the places behind the names
 module _ (u : Units) (size : length (u .names) ≡ 512) (few : u .n < 512) where
-  blank-behind : u ≡ unitsOf (namesIn u) → drop (u .n + 1) (u .names) ≡ drop (u .n + 1) (pad noOne 512 [])
+  blank-behind : u ≡ unitsOf (namesIn u) → drop (u .n + 1) (u .names) ≡ drop (u .n + 1) (pad emptyName 512 [])
   unfolding unitsOf
   blank-behind e =
       let count : length (namesIn u) ≡ u .n = length-take-le (u .n) (u .names) (omega arith) in
-      ap (λ (x : Units). drop (u .n + 1) (x .names)) e ∙ pad-behind noOne 512 (namesIn u) (u .n + 1) (omega arith)
+      ap (λ (x : Units). drop (u .n + 1) (x .names)) e ∙ pad-behind emptyName 512 (namesIn u) (u .n + 1) (omega arith)
 
   pub inserted-whole : {row : List Name} {j i : ℕ} → Opened (u .names) row (u .n) j i → i ≤ j → (s : Name) → u ≡ unitsOf (namesIn u)
       → _≡_ {A = Units} (record { n = u .n + 1; names = set row j s }) (unitsOf (take (u .n + 1) (set row j s)))
@@ -70,7 +70,7 @@ module _ (u : Units) (size : length (u .names) ≡ 512) (few : u .n < 512) where
       let names = set row j s in
       let long : length names ≡ 512 = length-set row j s ∙ o .size ∙ size in
       let count : length (take (u .n + 1) names) ≡ u .n + 1 = length-take-le (u .n + 1) names (omega arith) in
-      let blank : names ≡ pad noOne 512 (take (u .n + 1) names) = pad-front noOne 512 (u .n + 1) names long (opened-behind (omega arith) o le s ∙ blank-behind e) in
+      let blank : names ≡ pad emptyName 512 (take (u .n + 1) names) = pad-front emptyName 512 (u .n + 1) names long (opened-behind (omega arith) o le s ∙ blank-behind e) in
       λ k. record { n = sym count k; names = blank k }
 
 -- ---- a row of a mark
@@ -160,7 +160,7 @@ module _ {s rows : List ℕ} {n mark i : ℕ} {u : Units} (h : Listed s rows n m
       few = omega (arith, h .few);
       whole = h .whole;
       inside = omega arith;
-      is = λ l g k ek. step l g k ek false f noOne (λ t. true≠false t refl);
+      is = λ l g k ek. step l g k ek false f emptyName (λ t. true≠false t refl);
     }
 
     pub listed-next : ofMark (getD rows i 0) mark ≡ true → (name : Name) → name ≡ keyAt s (rowPlace (getD rows i 0)) .name → (u′ : Units) → length (u′ .names) ≡ 512

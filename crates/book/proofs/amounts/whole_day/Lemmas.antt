@@ -6,7 +6,7 @@ use native.Mathlib.Omega.{arith}
 use native.Mathlib.Nat.{not-suc-le-zero}
 use lib.ListN.{length, take, drop, getD, set, replicate, length-set, length-map}
 use lib.Seq.{ext-getD, drop-set-lt, drop-drop, getD-take, length-take-le}
-use Rattle.book.specs.Layer.{Name, Change, filed, Gh, Fi, Fe, noOne, pad}
+use Rattle.book.specs.Layer.{Name, Change, filed, Gh, Fi, Fe, emptyName, pad}
 use Rattle.book.specs.laws.LayerLaws.{Padded, Wellformed, good-padded}
 use Rattle.book.specs.declared.answers.Guarantees.{Guarantees}
 use Rattle.book.specs.declared.answers.Charges.{Charges}
@@ -20,7 +20,7 @@ use Rattle.book.specs.declared.amounts.prices.PriceTable.{PriceTable}
 use Rattle.book.specs.Register.{standing}
 use Rattle.book.specs.Amounts.{HourPricing, hourKey, priceOf, guaranteesOf, chargesOf, unitDayOf}
 use Rattle.book.specs.ByName.{namesOf}
-use Rattle.book.specs.Meaning.{Load, belongs, astray, Valid, guaranteesReply, chargesReply, dayReply}
+use Rattle.book.specs.Meaning.{Load, belongs, mismatched, Valid, guaranteesReply, chargesReply, dayReply}
 use Rattle.book.specs.tables.Units.{Named}
 use Rattle.book.specs.UnitNames.{ghKey, unitKey, namesIn}
 use Rattle.book.specs.Handed.{guaranteesFrom, chargesFrom, unitDayFrom}
@@ -95,7 +95,7 @@ module _ {s rows : List ℕ} {n : ℕ} {t : PriceTable} {row : List HourAmounts}
 pub record Dealt (s rows : List ℕ) (n : ℕ) (u : Units) (t : PriceTable) (row : List UnitAmounts) (i : ℕ) : Type 0 where
   pub long : length row ≡ 512
   pub upto : i ≤ u .n
-  pub built : (l : List Change) → Logged s rows n l → (q : ℕ → HourPricing) → TableOf q t → Built (unitAs l q) (u .names) noOne row noUnit i
+  pub built : (l : List Change) → Logged s rows n l → (q : ℕ → HourPricing) → TableOf q t → Built (unitAs l q) (u .names) emptyName row noUnit i
   pub behind : drop i row ≡ drop i (pad noUnit 512 [])
 
 pub dealt-start : (s rows : List ℕ) (n : ℕ) (u : Units) (t : PriceTable) (x : UnitAmounts) → x ≡ noUnit → length (replicate 512 x) ≡ 512 → Dealt s rows n u t (replicate 512 x) 0
@@ -109,7 +109,7 @@ module _ {s rows : List ℕ} {n : ℕ} {u : Units} {t : PriceTable} {row : List 
     long = length-set row i v ∙ h .long;
     upto = omega arith;
     built = λ l g q w. built-more (h .built l g q w) (omega (arith, h .long))
-        ((λ k. record { name = getD (u .names) i d; day = (e .1 ∙ ap unitDayFrom (e .0 l g refl q w)) k }) ∙ ap (unitAs l q) (getD-same (u .names) i d noOne (omega arith)));
+        ((λ k. record { name = getD (u .names) i d; day = (e .1 ∙ ap unitDayFrom (e .0 l g refl q w)) k }) ∙ ap (unitAs l q) (getD-same (u .names) i d emptyName (omega arith)));
     behind = drop-set-lt (i + 1) row i v (omega arith) ∙ sym (drop-drop 1 i row) ∙ ap (drop 1) (h .behind) ∙ drop-drop 1 i (pad noUnit 512 []);
   }
     where
@@ -123,7 +123,7 @@ module _ {s rows : List ℕ} {n : ℕ} {u : Units} {t : PriceTable} {row : List 
       let all : i ≡ u .n = omega (arith, h .upto) in
       let f = unitReply (standing l) q in
       let front : take (u .n) row ≡ map (unitAs l q) (take (u .n) (u .names)) =
-      built-all (u .n) (subst (Built (unitAs l q) (u .names) noOne row noUnit) all (h .built l g q w)) (omega (arith, h .long)) (omega arith) in
+      built-all (u .n) (subst (Built (unitAs l q) (u .names) emptyName row noUnit) all (h .built l g q w)) (omega (arith, h .long)) (omega arith) in
       pad-front noUnit 512 (u .n) row (h .long) (subst (λ (k : ℕ). drop k row ≡ drop k (pad noUnit 512 [])) all (h .behind))
       ∙ ap (pad noUnit 512) (front ∙ ap (map (unitAs l q)) named ∙ sym (map-map unitFrom f (namesOf ghKey (standing l))))
 
@@ -153,7 +153,7 @@ day-made d l e hs eh u few size named us eu =
     sym (length-take-le (u .n) (u .names) (omega arith)) ∙ ap length named ∙ sym (length-map ns f) ∙ sym (length-map (map f ns) unitFrom) in
     (λ k. record { number = 0; hours = eh k; n = count k; units = eu k }) ∙ sym (ap (λ (y : Load). dayFrom (dayAmounts y)) e)
 
-pub day-astray : (d : Load) → d ≡ astray → (h : HourAmounts) → h ≡ noHour → (u : UnitAmounts) → u ≡ noUnit
+pub day-astray : (d : Load) → d ≡ mismatched → (h : HourAmounts) → h ≡ noHour → (u : UnitAmounts) → u ≡ noUnit
     → _≡_ {A = DayAmounts} (record { number = 16; hours = replicate 24 h; n = 0; units = replicate 512 u }) (dayFrom (dayAmounts d))
 unfolding wholeHanded
 day-astray d e h eh u eu =

@@ -43,14 +43,14 @@ add-ordinal c = omega (arith, (c .before .before .before .before .before .loop) 
 add-end : tie.Need-add-end Inv-loop μ-loop
 add-end c = omega (arith, end-within ((c .before .before .before .before .before .before .loop) .inv) ((c .before .before .before .before .before .loop-test) .taken) ((c .before .before .before .first-change) .ensures) ((c .before .if1) .left), (c .before .before .before .before .before .before .before .before .before .good))
 
-slot-of-requires : tie.Need-slot-of-requires Inv-loop μ-loop
-slot-of-requires c κs = search needs
+bucket-of-requires : tie.Need-bucket-of-requires Inv-loop μ-loop
+bucket-of-requires c κs = search needs
 
 mul-search-from : tie.Need-mul-search-from Inv-loop μ-loop
-mul-search-from c = omega (arith, (c .slot-of) .ensures .1)
+mul-search-from c = omega (arith, (c .bucket-of) .ensures .1)
 
 array-read-search-from : tie.Need-array-read-search-from Inv-loop μ-loop
-array-read-search-from c = (c .slot-of) .ensures .1
+array-read-search-from c = (c .bucket-of) .ensures .1
 
 search-from-requires : tie.Need-search-from-requires Inv-loop μ-loop
 search-from-requires c κs = search needs
@@ -65,7 +65,7 @@ part-held-change-end : tie.Need-part-held-change-end Inv-loop μ-loop
 part-held-change-end c = end-within ((c .before .before .before .before .before .before .before .before .before .before .before .loop) .inv) ((c .before .before .before .before .before .before .before .before .before .before .loop-test) .taken) ((c .before .before .before .before .before .before .before .before .first-change) .ensures) ((c .before .before .before .before .before .before .if1) .left)
 
 held-change-requires : tie.Need-held-change-requires Inv-loop μ-loop
-held-change-requires c κs = ((c .before .before .before .before .before .before .before .before .before .before .before .before .loop) .inv .held, (since ((c .before .before .before .before .before .before .before .before .before .before .before .before .loop) .inv) ((c .before .before .before .before .slot-of) .ensures .0) ((c .before .before .before .before .slot-of) .ensures .1) ((c .before .before .before .search-from) .ensures), read-there ((c .before .before .before .before .before .before .before .before .before .before .before .before .loop) .inv) ((c .before .before .before .before .before .before .before .before .before .before .before .loop-test) .taken) ((c .before .before .before .before .before .before .before .before .before .first-change) .ensures) ((c .before .before .before .before .before .before .before .if1) .left)))
+held-change-requires c κs = ((c .before .before .before .before .before .before .before .before .before .before .before .before .loop) .inv .held, (since ((c .before .before .before .before .before .before .before .before .before .before .before .before .loop) .inv) ((c .before .before .before .before .bucket-of) .ensures .0) ((c .before .before .before .before .bucket-of) .ensures .1) ((c .before .before .before .search-from) .ensures), read-there ((c .before .before .before .before .before .before .before .before .before .before .before .before .loop) .inv) ((c .before .before .before .before .before .before .before .before .before .before .before .loop-test) .taken) ((c .before .before .before .before .before .before .before .before .before .first-change) .ensures) ((c .before .before .before .before .before .before .before .if1) .left)))
 
 refusal-in-requires : tie.Need-refusal-in-requires Inv-loop μ-loop
 refusal-in-requires c κs = search needs
@@ -80,16 +80,16 @@ returns-2 : tie.Need-returns-2 Inv-loop μ-loop
 returns-2 c = λ l e. ends-by ((c .fed-so2) .ensures) (stops ((c .before .before .before .before .before .before .before .before .before .before .before .before .before .before .before .before .before .before .before .loop) .inv) ((c .before .before .before .before .before .before .before .before .before .before .before .before .before .before .before .before .before .before .loop-test) .taken) ((c .before .before .before .before .before .before .before .before .before .before .before .before .before .before .before .before .first-change) .ensures) ((c .before .before .before .before .before .before .before .before .before .before .before .before .before .before .if1) .left) ((c .before .before .before .before .before .before .held-change) .ensures) ((c .before .before .before .refusal-in) .ensures) ((c .before .if2) .taken) l e)
 
 mul-latest : tie.Need-mul-latest Inv-loop μ-loop
-mul-latest c = omega (arith, (c .before .before .before .before .before .before .before .before .before .before .slot-of) .ensures .1)
+mul-latest c = omega (arith, (c .before .before .before .before .before .before .before .before .before .before .bucket-of) .ensures .1)
 
 array-write-latest : tie.Need-array-write-latest Inv-loop μ-loop
-array-write-latest c = (c .before .before .before .before .before .before .before .before .before .before .slot-of) .ensures .1
+array-write-latest c = (c .before .before .before .before .before .before .before .before .before .before .bucket-of) .ensures .1
 
 loop-less : tie.Need-loop-less Inv-loop μ-loop
 loop-less c = omega (arith, end-after ((c .before .before .before .before .before .before .before .before .before .before .before .before .before .before .before .before .before .before .loop) .inv) ((c .before .before .before .before .before .before .before .before .before .before .before .before .before .before .before .before .before .loop-test) .taken) ((c .before .before .before .before .before .before .before .before .before .before .before .before .before .before .before .first-change) .ensures) ((c .before .before .before .before .before .before .before .before .before .before .before .before .before .if1) .left), end-within ((c .before .before .before .before .before .before .before .before .before .before .before .before .before .before .before .before .before .before .loop) .inv) ((c .before .before .before .before .before .before .before .before .before .before .before .before .before .before .before .before .before .loop-test) .taken) ((c .before .before .before .before .before .before .before .before .before .before .before .before .before .before .before .first-change) .ensures) ((c .before .before .before .before .before .before .before .before .before .before .before .before .before .if1) .left))
 
 loop-again : tie.Need-loop-again Inv-loop μ-loop
-loop-again c = continues ((c .before .before .before .before .before .before .before .before .before .before .before .before .before .before .before .before .before .before .loop) .inv) ((c .before .before .before .before .before .before .before .before .before .before .before .before .before .before .before .before .before .loop-test) .taken) ((c .before .before .before .before .before .before .before .before .before .before .before .before .before .before .before .first-change) .ensures) ((c .before .before .before .before .before .before .before .before .before .before .before .before .before .if1) .left) ((c .before .before .before .before .before .held-change) .ensures) ((c .before .before .refusal-in) .ensures) ((c .if2) .left) ((c .before .before .before .before .before .before .before .before .before .before .slot-of) .ensures .0) ((c .before .before .before .before .before .before .before .before .before .before .slot-of) .ensures .1)
+loop-again c = continues ((c .before .before .before .before .before .before .before .before .before .before .before .before .before .before .before .before .before .before .loop) .inv) ((c .before .before .before .before .before .before .before .before .before .before .before .before .before .before .before .before .before .loop-test) .taken) ((c .before .before .before .before .before .before .before .before .before .before .before .before .before .before .before .first-change) .ensures) ((c .before .before .before .before .before .before .before .before .before .before .before .before .before .if1) .left) ((c .before .before .before .before .before .held-change) .ensures) ((c .before .before .refusal-in) .ensures) ((c .if2) .left) ((c .before .before .before .before .before .before .before .before .before .before .bucket-of) .ensures .0) ((c .before .before .before .before .before .before .before .before .before .before .bucket-of) .ensures .1)
 
 fed-so-requires-3 : tie.Need-fed-so-requires-3 Inv-loop μ-loop
 fed-so-requires-3 c κs = search needs
@@ -116,7 +116,7 @@ feed-held-spec =
     returns
     add-ordinal
     add-end
-    slot-of-requires
+    bucket-of-requires
     mul-search-from
     array-read-search-from
     search-from-requires

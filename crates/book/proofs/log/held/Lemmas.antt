@@ -18,12 +18,12 @@ use Rattle.book.specs.declared.book.Book.{Book}
 use Rattle.book.specs.declared.answers.Answer.the-variants.{Accepted, Refused}
 use Rattle.book.specs.declared.answers.Done.{Done}
 use Rattle.book.specs.declared.log.rows.Seek.{Seek}
-use Rattle.book.specs.Register.{Reg, refused, Step, answered, becomes, listed, judged, takenBack, closing, general, shorter, after, bareTakeBack, bareClose, writeAll, refusal, room, stands, standing, count}
+use Rattle.book.specs.Register.{Reg, refused, Step, answered, becomes, listed, judged, takenBack, closing, general, shorter, after, bareTakeBack, bareClose, writeAll, refusal, spaceFault, stands, standing, count}
 use Rattle.book.specs.Meaning.{belongs, load, Valid, bookOf, stepped, Leaves}
-use Rattle.book.specs.tables.Tables.{judge}
-use Rattle.book.specs.tables.Index.{hourSlot, slot, latestOf}
+use Rattle.book.specs.tables.Tables.{changeFault}
+use Rattle.book.specs.tables.Index.{hourSlot, bucket, latestOf}
 use Rattle.book.specs.tables.Rows.{packed, rowStart, Rows, Rowed, Ruled, Rules, Logged, Log, Sought, cleared}
-use Rattle.book.specs.tables.Held.{Held, Makes, Since, IsChange, IsEntry}
+use Rattle.book.specs.tables.Held.{Checked, Makes, Since, IsChange, IsEntry}
 use Rattle.book.specs.laws.RegisterLaws.{by-test, survey-found, refusal-judge}
 use Rattle.book.specs.laws.ReplayLaws.{listed-valid}
 use Rattle.book.specs.laws.LoadLaws.{Loaded, load-whole, loaded-whole}
@@ -36,10 +36,10 @@ use Rattle.book.proofs.book.Lemmas.{regOf, step-is, leaves-answered, le
 
 -- ---- a checked book
 
-pub held-from : (b : Book) (s : List ℕ) {ok : Bool} {rows : List ℕ} → Rowed (load b s) ok rows → ok ≡ true → Held b s rows
+pub held-from : (b : Book) (s : List ℕ) {ok : Bool} {rows : List ℕ} → Rowed (load b s) ok rows → ok ≡ true → Checked b s rows
 held-from b s w t = let x = is-rowed b s w t in record { base = x; kept = w .kept (x .list) (x .is); size = w .size }
 
-module _ {b : Book} {s rows : List ℕ} (h : Held b s rows) where
+module _ {b : Book} {s rows : List ℕ} (h : Checked b s rows) where
   held-logged : Logged s rows (b .changes) (h .base .list)
   held-logged = record {
     ruled = record { valid = h .base .valid; kept = h .kept; count = h .base .count-is };
@@ -58,7 +58,7 @@ module _ {b : Book} {s rows : List ℕ} (h : Held b s rows) where
 belongs-one : {l l′ : List Change} → belongs l ≡ belongs l′ → l ≡ l′
 belongs-one e = cc
 
-module _ {f : ℕ → Reg → Step} {b : Book} {s rows : List ℕ} {k : Key} (h : Held b s rows) where
+module _ {f : ℕ → Reg → Step} {b : Book} {s rows : List ℕ} {k : Key} (h : Checked b s rows) where
   makes-refused : (n : ℕ) → stepped f b s (load b s) ≡ answered (refused n) → Makes f b s k (record { book = b; answer = Refused n }) s rows
   makes-refused n e = record {
     leaves = leaves-answered f b s (refused n) e;
@@ -68,10 +68,10 @@ module _ {f : ℕ → Reg → Step} {b : Book} {s rows : List ℕ} {k : Key} (h 
 
   makes-accepted : (g : Reg) (b′ : Book) (s′ rows′ : List ℕ) → stepped f b s (load b s) ≡ becomes g → b′ ≡ bookOf g → length s′ ≡ length s
       → take (length (writeAll (g .list))) s′ ≡ writeAll (g .list) → Valid (g .list) → Rows rows′ (g .list) (g .list) → length rows′ ≡ 512
-      → ((m : ℕ) → (m ≡ slot k → ⊥) → latestOf m (g .list) ≤ latestOf m (h .base .list)) → Makes f b s k (record { book = b′; answer = Accepted }) s′ rows′
+      → ((m : ℕ) → (m ≡ bucket k → ⊥) → latestOf m (g .list) ≤ latestOf m (h .base .list)) → Makes f b s k (record { book = b′; answer = Accepted }) s′ rows′
   makes-accepted g b′ s′ rows′ e is size q v kept n o = record {
     leaves = leaves-accepted f b s g b′ s′ e is size q;
-    held = subst⁻¹ (λ (y : Book). Held y s′ rows′) is (record { base = loaded-whole g s′ v q; kept = kept; size = n });
+    held = subst⁻¹ (λ (y : Book). Checked y s′ rows′) is (record { base = loaded-whole g s′ v q; kept = kept; size = n });
     older = λ l l′ p p′ m z.
         let was : h .base .list ≡ l = belongs-one (sym (h .base .is) ∙ p) in
         let now-is : g .list ≡ l′ = belongs-one (sym (load-whole g s′ v q) ∙ ap (λ (y : Book). load y s′) (sym is) ∙ p′) in
@@ -79,21 +79,21 @@ module _ {f : ℕ → Reg → Step} {b : Book} {s rows : List ℕ} {k : Key} (h 
   }
 
 -- the latest change of a number after one change more, and after one less
-newer-other : (c : Change) (l : List Change) (m : ℕ) → (m ≡ slot (keyOf c) → ⊥) → latestOf m (c ∷ l) ≤ latestOf m l
+newer-other : (c : Change) (l : List Change) (m : ℕ) → (m ≡ bucket (keyOf c) → ⊥) → latestOf m (c ∷ l) ≤ latestOf m l
 unfolding latestOf
-newer-other c l m z = omega (arith, ap (λ (t : Bool). cond t (length l + 1) (latestOf m l)) (ne-eqb (slot (keyOf c)) m (λ e. z (sym e))))
+newer-other c l m z = omega (arith, ap (λ (t : Bool). cond t (length l + 1) (latestOf m l)) (ne-eqb (bucket (keyOf c)) m (λ e. z (sym e))))
 
 older-less : (c : Change) (l : List Change) (m : ℕ) → latestOf m l ≤ latestOf m (c ∷ l)
 unfolding latestOf
-older-less c l m = go (eqb (slot (keyOf c)) m) (latest-few m l)
+older-less c l m = go (eqb (bucket (keyOf c)) m) (latest-few m l)
   where
     go : (t : Bool) → latestOf m l ≤ length l → latestOf m l ≤ cond t (length l + 1) (latestOf m l)
     go true le = omega arith
     go false le = omega arith
 
 -- all changes are among all
-pub since-all : {b : Book} {s rows : List ℕ} → Held b s rows → (k : Key) → Since b s k (b .changes)
-since-all h k = record { inside = omega arith; none = λ l p. omega (arith, latest-few (slot k) l, ap length (belongs-one (sym (h .base .is) ∙ p)), h .base .count-is) }
+pub since-all : {b : Book} {s rows : List ℕ} → Checked b s rows → (k : Key) → Since b s k (b .changes)
+since-all h k = record { inside = omega arith; none = λ l p. omega (arith, latest-few (bucket k) l, ap length (belongs-one (sym (h .base .is) ∙ p)), h .base .count-is) }
 
 -- ---- a record that is listed
 
@@ -101,7 +101,7 @@ judged-no : (c : Change) (g : Reg) (n : ℕ) → (n ≡ 0 → ⊥) → judged c 
 judged-no c g zero z = absurd (z refl)
 judged-no c g (suc n) z = refl
 
-module _ {b : Book} {s rows : List ℕ} (h : Held b s rows) {want : Wanted} {rec : List ℕ} {v : View} (r : IsChange want rec v) where
+module _ {b : Book} {s rows : List ℕ} (h : Checked b s rows) {want : Wanted} {rec : List ℕ} {v : View} (r : IsChange want rec v) where
   good : Good (r .what)
   good = parse-fine want rec (r .what) (r .input) .good
 
@@ -127,9 +127,9 @@ module _ {b : Book} {s rows : List ℕ} (h : Held b s rows) {want : Wanted} {rec
 
   -- it is open; the key was looked for, and the records of its mark and hour were counted
   module _ (t : b .closed ≡ false) {from : ℕ} (sn : Since b s (v .key) from) {x : Seek}
-      (fs : (l : List Change) → Logged s rows (b .changes) l → v .key .hour < 32 → Padded (v .key .name) → latestOf (slot (v .key)) l ≤ from → Sought rows (b .changes) (v .key) x l)
+      (fs : (l : List Change) → Logged s rows (b .changes) l → v .key .hour < 32 → Padded (v .key .name) → latestOf (bucket (v .key)) l ≤ from → Sought rows (b .changes) (v .key) x l)
       {m : ℕ} (fm : (l : List Change) → Ruled rows (b .changes) l → v .key .hour < 32 → m ≡ count (v .key) (standing l))
-      {most : ℕ} (em : most ≡ limitOf (v .key)) {w : ℕ} (ew : w ≡ judge (kindIn (v .act)) (x .found) m most (b .changes) (b .used) (v .len) (length s)) where
+      {most : ℕ} (em : most ≡ limitOf (v .key)) {w : ℕ} (ew : w ≡ changeFault (kindIn (v .act)) (x .found) m most (b .changes) (b .used) (v .len) (length s)) where
     sought : Sought rows (b .changes) (v .key) x (h .base .list)
     sought = fs (h .base .list) (held-logged h) low padded (sn .none (h .base .list) (h .base .is))
 
@@ -141,7 +141,7 @@ module _ {b : Book} {s rows : List ℕ} (h : Held b s rows) {want : Wanted} {rec
         let fd : x .found ≡ stands (keyOf c) (standing l) = sought .found ∙ survey-found (v .key) l ∙ ap (λ (y : Key). stands y (standing l)) (sym key-is) in
         let cs : m ≡ count (keyOf c) (standing l) = fm l (held-logged h .ruled) low ∙ ap (λ (y : Key). count y (standing l)) (sym key-is) in
         let ms : most ≡ limitOf (keyOf c) = em ∙ ap limitOf (sym key-is) in
-        sym (ew ∙ (λ i. judge (kindIn (r .is i .act)) (fd i) (cs i) (ms i) (sym (h .base .count-is) i) (sym (h .base .size) i) (r .is i .len) (length s)) ∙ sym (refusal-judge l (length s) c))
+        sym (ew ∙ (λ i. changeFault (kindIn (r .is i .act)) (fd i) (cs i) (ms i) (sym (h .base .count-is) i) (sym (h .base .size) i) (r .is i .len) (length s)) ∙ sym (refusal-judge l (length s) c))
 
     pub listed-refused : (w ≡ 0 → ⊥) → Makes (listed (parse want rec)) b s (v .key) (record { book = b; answer = Refused w }) s rows
     listed-refused z = makes-refused h w (open-or false t ∙ ap (judged (r .what) (regOf b s (h .base))) judged-is ∙ judged-no (r .what) (regOf b s (h .base)) w z)
@@ -149,10 +149,10 @@ module _ {b : Book} {s rows : List ℕ} (h : Held b s rows) {want : Wanted} {rec
     -- it is taken
     module _ (z : w ≡ 0) where
       pub listed-few : (b .changes < 512) × (b .used + v .len ≤ length s) × (b .used + v .len ≤ 65535)
-      unfolding judge
+      unfolding changeFault
       listed-few =
           room-facts (b .changes) (b .used) (v .len) (length s)
-          (judge-room (isFiling (kindIn (v .act))) (x .found) (ltb m most) (room (b .changes) (b .used) (v .len) (length s)) (sym ew ∙ z))
+          (judge-room (isFiling (kindIn (v .act))) (x .found) (ltb m most) (spaceFault (b .changes) (b .used) (v .len) (length s)) (sym ew ∙ z))
 
       pub listed-clear : x .found ≡ true → x .at < 512
       listed-clear f = omega (arith, sought .inside f, listed-few .0)
@@ -188,7 +188,7 @@ module _ {b : Book} {s rows : List ℕ} (h : Held b s rows) {want : Wanted} {rec
           (subst (λ (k : Step). Valid (after k (regOf b s y) .list)) st (listed-valid (parse want rec) (length s) (regOf b s y) (λ k e. parse-fine want rec k e .good) (y .valid)))
           (subst (λ (k : List ℕ). Rows (set k (b .changes) row) (c ∷ l) (c ∷ l)) (sym ex) (rows-next (held-logged h) (h .size) (listed-few .0) c x f row er′))
           (length-set rows₁ (b .changes) row ∙ ap length ex ∙ cleared-size rows x ∙ h .size)
-          (λ m z. newer-other c l m (λ e. z (e ∙ ap slot key-is)))
+          (λ m z. newer-other c l m (λ e. z (e ∙ ap bucket key-is)))
 
 -- ---- what is refused before it is listed
 
@@ -221,7 +221,7 @@ parse-taken want rec p e z = go (parse want rec) refl
 
 -- ---- the last change taken back
 
-module _ {b : Book} {s rows : List ℕ} (h : Held b s rows) where
+module _ {b : Book} {s rows : List ℕ} (h : Checked b s rows) where
   back-step : (t : Bool) → b .closed ≡ t → stepped (takenBack 0) b s (load b s) ≡ cond t (answered (refused 9)) (shorter (b .closed) (h .base .list))
   back-step t e = step-is (takenBack 0) b s (h .base) ∙ ap (λ (y : Bool). cond y (answered (refused 9)) (shorter (b .closed) (h .base .list))) e
 
@@ -298,7 +298,7 @@ module _ {b : Book} {s rows : List ℕ} (h : Held b s rows) where
 
 -- ---- a book that is closed
 
-module _ {b : Book} {s rows : List ℕ} (h : Held b s rows) where
+module _ {b : Book} {s rows : List ℕ} (h : Checked b s rows) where
   close-step : (t : Bool) → b .closed ≡ t → stepped (closing 0) b s (load b s) ≡ cond t (answered (refused 9)) (becomes (record { list = h .base .list; closed = true }))
   close-step t e = step-is (closing 0) b s (h .base) ∙ ap (λ (y : Bool). cond y (answered (refused 9)) (becomes (record { list = h .base .list; closed = true }))) e
 
@@ -461,7 +461,7 @@ any-refused b s x rec p e z = leaves-answered (general rec) b s (refused (p .num
     go (fault n) q = general-fault rec n q (length s) (regOf b s x) ∙ ap (λ (k : Parsed). answered (refused (k .number))) (sym (e ∙ ap entryOf q))
 
 -- bytes of which no record can be read
-pub unread-refused : {b : Book} {s rows : List ℕ} → Held b s rows → (rec : List ℕ) (j : ℕ) → entry rec ≡ bad j → Leaves (general rec) b s b (refused j) s
+pub unread-refused : {b : Book} {s rows : List ℕ} → Checked b s rows → (rec : List ℕ) (j : ℕ) → entry rec ≡ bad j → Leaves (general rec) b s b (refused j) s
 unfolding parseAny
 unread-refused {b} {s} h rec j e = leaves-answered (general rec) b s (refused j) (step-is (general rec) b s (h .base) ∙ general-fault rec j (ap whole e) (length s) (regOf b s (h .base)))
 

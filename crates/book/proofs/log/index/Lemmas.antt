@@ -13,7 +13,7 @@ use borrow.Author.Tests.{eq-eqb, eqb-true, leb-true}
 use Rattle.book.specs.Layer.{Key, Change, Good, keyOf, kindOf, same, sameHour, Mark, order, Pr, Im, Ex, Gh, Fi, Fe, isFiling, isWithdrawal}
 use Rattle.book.specs.laws.LayerLaws.{every-mark, Padded, good-padded, same-true, hour-parts, parts-hour}
 use Rattle.book.specs.tables.Tables.{survey}
-use Rattle.book.specs.tables.Index.{hourSlot, weighed, slot, latestOf}
+use Rattle.book.specs.tables.Index.{hourSlot, weighed, bucket, latestOf}
 use Rattle.book.specs.laws.RegisterLaws.{by-test, true≠false}
 
 -- ---- the numbers
@@ -48,8 +48,8 @@ weighing-next start bytes sum weight i d b size h lt e w =
       inside = omega arith;
     }
 
-pub weighing-end : (k : Key) (sum weight i : ℕ) → length (k .name .bytes) ≡ 12 → Weighing (hourSlot k) (k .name .bytes) sum weight i → 12 ≤ i → (sum % 8192 ≡ slot k) × (sum % 8192 < 8192)
-unfolding slot weighed
+pub weighing-end : (k : Key) (sum weight i : ℕ) → length (k .name .bytes) ≡ 12 → Weighing (hourSlot k) (k .name .bytes) sum weight i → 12 ≤ i → (sum % 8192 ≡ bucket k) × (sum % 8192 < 8192)
+unfolding bucket weighed
 weighing-end k sum weight i size h le =
     (ap (λ (x : ℕ). x % 8192) (sym (ap (weighed sum weight) (drop-of-length-le (k .name .bytes) {i = i} (omega arith))) ∙ h .so-far), omega arith)
 
@@ -58,26 +58,26 @@ weighing-end k sum weight i size h le =
 pub latest-few : (h : ℕ) (l : List Change) → latestOf h l ≤ length l
 unfolding latestOf
 latest-few h [] = omega arith
-latest-few h (c ∷ l) = go (eqb (slot (keyOf c)) h) (latest-few h l)
+latest-few h (c ∷ l) = go (eqb (bucket (keyOf c)) h) (latest-few h l)
   where
     go : (t : Bool) → latestOf h l ≤ length l → cond t (length l + 1) (latestOf h l) ≤ suc (length l)
     go true ih = omega arith
     go false ih = omega arith
 
 -- another number is another key: the number is made of all places of a name, which are as reading makes them
-pub other-slot : (k : Key) → Padded (k .name) → (c : Change) → Good c → eqb (slot (keyOf c)) (slot k) ≡ false → same k (keyOf c) ≡ false
+pub other-slot : (k : Key) → Padded (k .name) → (c : Change) → Good c → eqb (bucket (keyOf c)) (bucket k) ≡ false → same k (keyOf c) ≡ false
 other-slot k p c g h =
-    by-test (same k (keyOf c)) (λ t. true≠false (eq-eqb (slot (keyOf c)) (slot k) (ap slot (sym (same-true k (keyOf c) p (good-padded c g) t)))) h) (λ t. t)
+    by-test (same k (keyOf c)) (λ t. true≠false (eq-eqb (bucket (keyOf c)) (bucket k) (ap bucket (sym (same-true k (keyOf c) p (good-padded c g) t)))) h) (λ t. t)
 
 -- ---- one change more
 
-pub latest-next : (latest : List ℕ) (c : Change) (l : List Change) (h : ℕ) → slot (keyOf c) < length latest → getD latest h 0 ≡ latestOf h l
-    → getD (set latest (slot (keyOf c)) (length l + 1)) h 0 ≡ latestOf h (c ∷ l)
+pub latest-next : (latest : List ℕ) (c : Change) (l : List Change) (h : ℕ) → bucket (keyOf c) < length latest → getD latest h 0 ≡ latestOf h l
+    → getD (set latest (bucket (keyOf c)) (length l + 1)) h 0 ≡ latestOf h (c ∷ l)
 unfolding latestOf
 latest-next latest c l h fits is =
-    by-test (eqb (slot (keyOf c)) h)
-    (λ t. ap (λ (n : ℕ). getD (set latest (slot (keyOf c)) (length l + 1)) n 0) (sym (eqb-true (slot (keyOf c)) h t)) ∙ getD-set-same latest (slot (keyOf c)) (length l + 1) 0 fits ∙ sym (ap (λ (b : Bool). cond b (length l + 1) (latestOf h l)) t))
-    (λ t. getD-set-other latest (slot (keyOf c)) h (length l + 1) 0 (λ e. true≠false (eq-eqb (slot (keyOf c)) h (sym e)) t) ∙ is ∙ sym (ap (λ (b : Bool). cond b (length l + 1) (latestOf h l)) t))
+    by-test (eqb (bucket (keyOf c)) h)
+    (λ t. ap (λ (n : ℕ). getD (set latest (bucket (keyOf c)) (length l + 1)) n 0) (sym (eqb-true (bucket (keyOf c)) h t)) ∙ getD-set-same latest (bucket (keyOf c)) (length l + 1) 0 fits ∙ sym (ap (λ (b : Bool). cond b (length l + 1) (latestOf h l)) t))
+    (λ t. getD-set-other latest (bucket (keyOf c)) h (length l + 1) 0 (λ e. true≠false (eq-eqb (bucket (keyOf c)) h (sym e)) t) ∙ is ∙ sym (ap (λ (b : Bool). cond b (length l + 1) (latestOf h l)) t))
 
 -- two keys of different mark or hour are counted at different places
 apart : (a b : Key) → a .hour < 32 → b .hour < 32 → sameHour a b ≡ false → hourSlot a ≡ hourSlot b → ⊥

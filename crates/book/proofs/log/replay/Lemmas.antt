@@ -8,12 +8,12 @@ use lib.ListN.{length, take, drop, getD, set, replicate, length-replicate, lengt
 use lib.Seq.{drop-drop, getD-set-same, getD-set-other, take-length, take-append-le}
 use lib.Dec.{eqb, ltb}
 use borrow.Author.Tests.{eq-eqb, ne-eqb, eqb-true, ltb-true, ltb-false}
-use Rattle.book.specs.Layer.{Key, View, Rec, Change, filed, corrected, withdrawn, keyOf, kindOf, write, blind, scan, limitOf, same, Kind, isFiling, isCorrection, isWithdrawal, kindIn}
+use Rattle.book.specs.Layer.{Key, View, Rec, Change, filed, corrected, withdrawn, keyOf, kindOf, write, unseen, scan, limitOf, same, Kind, isFiling, isCorrection, isWithdrawal, kindIn}
 use Rattle.book.specs.laws.LayerLaws.{write-pos, write-co, Found, scan-got, Read, good-hour, good-padded, Padded, same-refl}
-use Rattle.book.specs.Register.{writeAll, refusal, room, stands, count, standing}
-use Rattle.book.specs.Meaning.{Load, belongs, astray, onward, ended, replay, Valid}
-use Rattle.book.specs.tables.Tables.{Survey, together, survey, judge}
-use Rattle.book.specs.tables.Index.{hourSlot, slot, latestOf}
+use Rattle.book.specs.Register.{writeAll, refusal, spaceFault, stands, count, standing}
+use Rattle.book.specs.Meaning.{Load, belongs, mismatched, replayOn, ended, replay, Valid}
+use Rattle.book.specs.tables.Tables.{Survey, together, survey, changeFault}
+use Rattle.book.specs.tables.Index.{hourSlot, bucket, latestOf}
 use Rattle.book.specs.tables.Places.{leadLength, liveAt}
 use Rattle.book.specs.declared.log.rows.Seek.{Seek}
 use Rattle.book.specs.tables.Rows.{packed, rowPlace, rowOf, Rows, Rowed, Ruled, Logged, Log, Sought, rowGone, cleared}
@@ -216,9 +216,9 @@ module _ {s rows : List ℕ} {n : ℕ} {l : List Change} (g : Logged s rows n l)
 
 -- ---- the loop over the changes
 
-judge-few : (kind : Kind) (f : Bool) (n most changes used len : ℕ) → judge kind f n most changes used len 65535 ≡ 0 → (changes < 512) × (used + len ≤ 65535)
-unfolding judge
-judge-few kind f n most changes used len e = let r = room-facts changes used len 65535 (judge-room (isFiling kind) f (ltb n most) (room changes used len 65535) e) in (r .0, r .2)
+judge-few : (kind : Kind) (f : Bool) (n most changes used len : ℕ) → changeFault kind f n most changes used len 65535 ≡ 0 → (changes < 512) × (used + len ≤ 65535)
+unfolding changeFault
+judge-few kind f n most changes used len e = let r = room-facts changes used len 65535 (judge-room (isFiling kind) f (ltb n most) (spaceFault changes used len 65535) e) in (r .0, r .2)
 
 belongs-one : (a b : List Change) → belongs a ≡ belongs b → a ≡ b
 belongs-one a b e = cc
@@ -265,7 +265,7 @@ head-start part n rows e =
       goes = ap (λ (m : ℕ). replay m [] part) p;
     }
 
-pub astray-rowed : (d : Load) (rows : List ℕ) → length rows ≡ 512 → d ≡ astray → Rowed d false rows
+pub astray-rowed : (d : Load) (rows : List ℕ) → length rows ≡ 512 → d ≡ mismatched → Rowed d false rows
 astray-rowed d rows size e = record {
   checked = sym (ap together e);
   kept = λ l b. let z : _≡_ {A = ℕ} 0 1 = cc in absurd (omega arith);
@@ -290,21 +290,21 @@ module _ {part : List ℕ} {n : ℕ} {rows latest counts : List ℕ} {q i : ℕ}
   pub head-near : (s : ℕ) → getD latest s 0 ≤ i
   head-near s = omega (arith, h .latest-is s, latest-few s (h .acc), h .count)
 
-  one-turn : i < n → replay n [] part ≡ onward (h .acc) (drop q part) (replay (n - (i + 1))) (scan (drop q part))
+  one-turn : i < n → replay n [] part ≡ replayOn (h .acc) (drop q part) (replay (n - (i + 1))) (scan (drop q part))
   unfolding replay
   one-turn lt = let p : n - i ≡ suc (n - (i + 1)) = omega arith in h .goes ∙ ap (λ (m : ℕ). replay m (h .acc) (drop q part)) p
 
-  pub head-bad : i < n → scan (drop q part) ≡ blind → Rowed (replay n [] part) false rows
-  head-bad lt e = astray-rowed _ rows (h .size) (one-turn lt ∙ ap (onward (h .acc) (drop q part) (replay (n - (i + 1)))) e)
+  pub head-bad : i < n → scan (drop q part) ≡ unseen → Rowed (replay n [] part) false rows
+  head-bad lt e = astray-rowed _ rows (h .size) (one-turn lt ∙ ap (replayOn (h .acc) (drop q part) (replay (n - (i + 1)))) e)
 
   at-end : n ≤ i → replay n [] part ≡ ended (h .acc) (drop q part)
   unfolding replay
   at-end le = let p : n - i ≡ 0 = omega arith in h .goes ∙ ap (λ (m : ℕ). replay m (h .acc) (drop q part)) p
 
-  left-over : n ≤ i → (q ≡ length part → ⊥) → replay n [] part ≡ astray
+  left-over : n ≤ i → (q ≡ length part → ⊥) → replay n [] part ≡ mismatched
   left-over le z = at-end le ∙ go (drop q part) (length-drop q part)
     where
-      go : (rest : List ℕ) → length rest ≡ length part - q → ended (h .acc) rest ≡ astray
+      go : (rest : List ℕ) → length rest ≡ length part - q → ended (h .acc) rest ≡ mismatched
       go [] e = absurd (z (omega (arith, head-within)))
       go (b ∷ rest) e = refl
 
@@ -321,8 +321,8 @@ module _ {part : List ℕ} {n : ℕ} {rows latest counts : List ℕ} {q i : ℕ}
       (λ t. subst (λ (b : Bool). Rowed (replay n [] part) b rows) (sym t) (astray-rowed _ rows (h .size) (left-over le (λ z. true≠false (eq-eqb q (length part) z) t))))
 
   -- a change is read, and its key was looked for
-  module _ (lt : i < n) {v : View} (r : Read (drop q part) v) {sl : ℕ} (es : sl ≡ slot (v .key)) {x : Seek}
-      (fs : (l : List Change) → Logged part rows i l → v .key .hour < 32 → Padded (v .key .name) → latestOf (slot (v .key)) l ≤ getD latest sl 0 → Sought rows i (v .key) x l) where
+  module _ (lt : i < n) {v : View} (r : Read (drop q part) v) {sl : ℕ} (es : sl ≡ bucket (v .key)) {x : Seek}
+      (fs : (l : List Change) → Logged part rows i l → v .key .hour < 32 → Padded (v .key .name) → latestOf (bucket (v .key)) l ≤ getD latest sl 0 → Sought rows i (v .key) x l) where
     c-is : keyOf (r .what) ≡ v .key
     c-is = sym (ap (λ (y : View). y .key) (r .view-is))
 
@@ -348,7 +348,7 @@ module _ {part : List ℕ} {n : ℕ} {rows latest counts : List ℕ} {q i : ℕ}
       pub head-fewer : getD counts hour 0 < 65536
       head-fewer = omega (arith, head-count, survey-few (v .key) (h .acc), h .count, h .few)
 
-      module _ {most : ℕ} (em : most ≡ limitOf (v .key)) {w : ℕ} (e : w ≡ judge (kindIn (v .act)) (x .found) (getD counts hour 0) most i q (v .len) 65535) where
+      module _ {most : ℕ} (em : most ≡ limitOf (v .key)) {w : ℕ} (e : w ≡ changeFault (kindIn (v .act)) (x .found) (getD counts hour 0) most i q (v .len) 65535) where
         -- the code's judgement is the register's
         judged-is : refusal (h .acc) 65535 (r .what) ≡ w
         judged-is =
@@ -356,12 +356,12 @@ module _ {part : List ℕ} {n : ℕ} {rows latest counts : List ℕ} {q i : ℕ}
             let fd : x .found ≡ stands (keyOf c) (standing (h .acc)) = sought .found ∙ ap (λ (y : Key). survey y (h .acc) .found) (sym c-is) ∙ survey-found (keyOf c) (h .acc) in
             let cs : getD counts hour 0 ≡ count (keyOf c) (standing (h .acc)) = head-count ∙ ap (λ (y : Key). survey y (h .acc) .count) (sym c-is) ∙ survey-count (keyOf c) (h .acc) (h .valid) in
             let ms : most ≡ limitOf (keyOf c) = em ∙ ap limitOf (sym c-is) in
-            sym (e ∙ (λ s. judge (kindIn (r .view-is s .act)) (fd s) (cs s) (ms s) (sym (h .count) s) (sym (h .at) s) (r .view-is s .len) 65535) ∙ sym (refusal-judge (h .acc) 65535 c))
+            sym (e ∙ (λ s. changeFault (kindIn (r .view-is s .act)) (fd s) (cs s) (ms s) (sym (h .count) s) (sym (h .at) s) (r .view-is s .len) 65535) ∙ sym (refusal-judge (h .acc) 65535 c))
 
         pub head-refused : (w ≡ 0 → ⊥) → Rowed (replay n [] part) false rows
         head-refused z =
-            astray-rowed _ rows (h .size) (one-turn lt ∙ ap (onward (h .acc) (drop q part) (replay (n - (i + 1)))) (r .scanned)
-            ∙ ap (λ (b : Bool). cond b (replay (n - (i + 1)) (r .what ∷ h .acc) (drop (v .len) (drop q part))) astray)
+            astray-rowed _ rows (h .size) (one-turn lt ∙ ap (replayOn (h .acc) (drop q part) (replay (n - (i + 1)))) (r .scanned)
+            ∙ ap (λ (b : Bool). cond b (replay (n - (i + 1)) (r .what ∷ h .acc) (drop (v .len) (drop q part))) mismatched)
             (ne-eqb (refusal (h .acc) 65535 (r .what)) 0 (λ y. z (sym judged-is ∙ y))))
 
         -- it is taken
@@ -379,8 +379,8 @@ module _ {part : List ℕ} {n : ℕ} {rows latest counts : List ℕ} {q i : ℕ}
           head-next sl-in {rows′} ex {row} er {m} em′ =
               let c = r .what in
               let y : refusal (h .acc) 65535 c ≡ 0 = judged-is ∙ z in
-              let room = head-few .0 in
-              let sk : sl ≡ slot (keyOf c) = es ∙ ap slot (sym c-is) in
+              let spaceFault = head-few .0 in
+              let sk : sl ≡ bucket (keyOf c) = es ∙ ap bucket (sym c-is) in
               let i-is : i + 1 ≡ length (h .acc) + 1 = omega (arith, h .count) in
               let hr : hour ≡ hourSlot (keyOf c) = eh ∙ ap hourSlot (sym c-is) in
               let f : Sought rows i (keyOf c) x (h .acc) = subst (λ (k : Key). Sought rows i k x (h .acc)) (sym c-is) sought in
@@ -392,7 +392,7 @@ module _ {part : List ℕ} {n : ℕ} {rows latest counts : List ℕ} {q i : ℕ}
                 inside = omega arith;
                 few = omega arith;
                 size = length-set rows′ i row ∙ ap length ex ∙ cleared-size rows x ∙ h .size;
-                kept = subst (λ (t : List ℕ). Rows (set t i row) (c ∷ h .acc) (c ∷ h .acc)) (sym ex) (rows-next head-logged (h .size) room c x f row er′);
+                kept = subst (λ (t : List ℕ). Rows (set t i row) (c ∷ h .acc) (c ∷ h .acc)) (sym ex) (rows-next head-logged (h .size) spaceFault c x f row er′);
                 latest-size = length-set latest sl (i + 1) ∙ h .latest-size;
                 latest-is = λ k. (λ j. getD (set latest (sk j) (i-is j)) k 0) ∙ latest-next latest c (h .acc) k (omega (arith, sk, h .latest-size)) (h .latest-is k);
                 counts-size = length-set counts hour m ∙ h .counts-size;
@@ -403,8 +403,8 @@ module _ {part : List ℕ} {n : ℕ} {rows latest counts : List ℕ} {q i : ℕ}
                 at = length-append (writeAll (h .acc)) (write c) ∙ ap₂ _+_ (h .at) (sym (good .len));
                 split = h .split ∙ ap (λ (t : List ℕ). writeAll (h .acc) ++ t) (good .bytes ∙ ap (λ (t : List ℕ). write c ++ t) (drop-drop (v .len) q part))
                     ∙ sym (append-assoc (writeAll (h .acc)) (write c) (drop (q + v .len) part));
-                goes = one-turn lt ∙ ap (onward (h .acc) (drop q part) (replay (n - (i + 1)))) (r .scanned)
-                    ∙ ap (λ (b : Bool). cond b (replay (n - (i + 1)) (c ∷ h .acc) (drop (v .len) (drop q part))) astray) (eq-eqb (refusal (h .acc) 65535 c) 0 y)
+                goes = one-turn lt ∙ ap (replayOn (h .acc) (drop q part) (replay (n - (i + 1)))) (r .scanned)
+                    ∙ ap (λ (b : Bool). cond b (replay (n - (i + 1)) (c ∷ h .acc) (drop (v .len) (drop q part))) mismatched) (eq-eqb (refusal (h .acc) 65535 c) 0 y)
                     ∙ ap (replay (n - (i + 1)) (c ∷ h .acc)) (drop-drop (v .len) q part);
               }
 

@@ -13,7 +13,7 @@ use Rattle.book.specs.laws.LayerLaws.{head-written, head-same, same-left
 use Rattle.book.specs.Register.{writeAll, standing, stands, count}
 use Rattle.book.specs.Meaning.{Valid}
 use Rattle.book.specs.tables.Tables.{Survey, survey}
-use Rattle.book.specs.tables.Index.{hourSlot, slot as keyNumber, latestOf}
+use Rattle.book.specs.tables.Index.{hourSlot, bucket as keyNumber, latestOf}
 use Rattle.book.specs.tables.Places.{leadLength, liveAt}
 use Rattle.book.specs.tables.Worked.{begun}
 use Rattle.book.specs.laws.StandLaws.{At, Found, found-at, pick-key}

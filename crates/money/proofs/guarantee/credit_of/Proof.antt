@@ -8,17 +8,17 @@ use Rattle.money.proofs.guarantee.credit_of.Statement.{statement}
 use Rattle.money.proofs.guarantee.credit_of.Tie as tie
 use Rattle.money.proofs.guarantee.credit_of.Reads as reads
 use Rattle.money.proofs.guarantee.credit_of.Lts as lts
-use Rattle.money.proofs.units.Ticks.lacking.Reads as lacking-reads
+use Rattle.money.proofs.units.Ticks.deficit.Reads as deficit-reads
 use Rattle.money.proofs.guarantee.profit_sum.Reads as profit-sum-reads
 
 profit-sum-requires : tie.Need-profit-sum-requires
 profit-sum-requires c κs = search needs
 
-lacking-requires : tie.Need-lacking-requires
-lacking-requires c κs = rw ((c .profit-sum) .ensures) (omega (arith, profits-size _ _ _ ((c .before .pre))))
+deficit-requires : tie.Need-deficit-requires
+deficit-requires c κs = rw ((c .profit-sum) .ensures) (omega (arith, profits-size _ _ _ ((c .before .pre))))
 
 returns : tie.Need-returns
-returns c = (c .lacking) .ensures ∙ ap (λ (z : ℤ). negℤ (minℤ (pos 0) z)) ((c .before .profit-sum) .ensures)
+returns c = (c .deficit) .ensures ∙ ap (λ (z : ℤ). negℤ (minℤ (pos 0) z)) ((c .before .profit-sum) .ensures)
 
 pub credit-of-spec : {M : Type 1} → statement M
-credit-of-spec = tie.close (tie.spec profit-sum-requires lacking-requires returns)
+credit-of-spec = tie.close (tie.spec profit-sum-requires deficit-requires returns)

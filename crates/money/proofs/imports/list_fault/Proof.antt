@@ -1,6 +1,6 @@
 use mathlib.Core.Path.{sym, _∙_}
 use Prim.Native.Nat.{_-_}
-use Rattle.money.specs.Offset.{faultAt, listFault}
+use Rattle.money.specs.Offset.{faultAt, entriesFault}
 use Rattle.laws.specs.SumLaws.{Clean, clean-none, clean-more, clean-all, clean-no}
 use borrow.Author.Needs.{needs}
 use native.Mathlib.Omega.{arith}
@@ -23,7 +23,7 @@ fault-at-requires : tie.Need-fault-at-requires Inv-loop μ-loop
 fault-at-requires c κs = ((c .before .before .pre) .1, omega (arith, (c .loop-test) .taken, (c .before .before .pre) .0))
 
 returns : tie.Need-returns Inv-loop μ-loop
-unfolding listFault
+unfolding entriesFault
 returns c = clean-no ((c .before .before .before .loop) .inv) ((c .before .before .loop-test) .taken) ((c .before .fault-at) .ensures) ((c .if1) .taken)
 
 add-i : tie.Need-add-i Inv-loop μ-loop
@@ -36,7 +36,7 @@ loop-again : tie.Need-loop-again Inv-loop μ-loop
 loop-again c = clean-more ((c .before .before .before .loop) .inv) ((c .before .before .loop-test) .taken) (sym ((c .before .fault-at) .ensures) ∙ (c .if1) .left)
 
 returns-2 : tie.Need-returns-2 Inv-loop μ-loop
-unfolding listFault
+unfolding entriesFault
 returns-2 c = sym (clean-all ((c .before .loop) .inv) ((c .loop-test) .left))
 
 pub list-fault-spec : {M : Type 1} → statement M

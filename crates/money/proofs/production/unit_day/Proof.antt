@@ -10,7 +10,7 @@ use Rattle.money.proofs.production.unit_day.Reads as reads
 use Rattle.money.proofs.production.unit_day.Lts as lts
 use Rattle.money.proofs.production.day_sum.Reads as day-sum-reads
 use Rattle.money.proofs.production.hours_ok.Reads as hours-ok-reads
-use Rattle.money.proofs.units.Ticks.lacking.Reads as lacking-reads
+use Rattle.money.proofs.units.Ticks.deficit.Reads as deficit-reads
 
 hours-ok-requires : tie.Need-hours-ok-requires
 hours-ok-requires c κs = search needs
@@ -22,13 +22,13 @@ returns c = rw (sym ((c .before .hours-ok) .ensures) ∙ not-true _ ((c .if1) .t
 day-sum-requires : tie.Need-day-sum-requires
 day-sum-requires c κs = day-of ((c .before .before .args) .amounts) ((c .before .before .args) .starts) (sym ((c .before .hours-ok) .ensures) ∙ not-false _ ((c .if1) .left))
 
-lacking-requires : tie.Need-lacking-requires
-lacking-requires c κs = (c .day-sum) .ensures .1
+deficit-requires : tie.Need-deficit-requires
+deficit-requires c κs = (c .day-sum) .ensures .1
 
 returns-2 : tie.Need-returns-2
 unfolding dayAnswer
-returns-2 c = rw (sym ((c .before .before .before .hours-ok) .ensures) ∙ not-false _ ((c .before .before .if1) .left)) (λ i. day-variants.Day (record { 0 = (c .before .day-sum) .ensures .0 i }) (record { 0 = reversal-is ((c .before .day-sum) .ensures .0) ((c .lacking) .ensures) i }))
+returns-2 c = rw (sym ((c .before .before .before .hours-ok) .ensures) ∙ not-false _ ((c .before .before .if1) .left)) (λ i. day-variants.Day (record { 0 = (c .before .day-sum) .ensures .0 i }) (record { 0 = reversal-is ((c .before .day-sum) .ensures .0) ((c .deficit) .ensures) i }))
 
 pub unit-day-spec : {M : Type 1} → statement M
 unit-day-spec =
-    tie.close (tie.spec hours-ok-requires returns day-sum-requires lacking-requires returns-2)
+    tie.close (tie.spec hours-ok-requires returns day-sum-requires deficit-requires returns-2)

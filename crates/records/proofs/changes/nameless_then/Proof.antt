@@ -1,4 +1,4 @@
-use Rattle.records.specs.Names.{noOne}
+use Rattle.records.specs.Names.{emptyName}
 use Rattle.records.proofs.fields.Step.{last}
 use mathlib.Core.Path.{_≡_, sym, _∙_}
 use native.Mathlib.Omega.{arith}
@@ -32,10 +32,10 @@ unnamed-requires-3 : tie.Need-unnamed-requires-3
 unnamed-requires-3 c κs = search needs
 
 returns : tie.Need-returns
-returns c = record { value = rw ((c .before .enum-told) .given .1, (c .unnamed) .ensures .0, (c .unnamed) .ensures .1) (sym (last ((c .before .before .before .before .args) .s .now) ((c .before .before .before .before .args) .e) noOne)); placed = rw ((c .unnamed) .ensures .0) ((c .before .before .before .before .pre)); few = rw ((c .unnamed) .ensures .1) (omega arith) }
+returns c = record { value = rw ((c .before .enum-told) .given .1, (c .unnamed) .ensures .0, (c .unnamed) .ensures .1) (sym (last ((c .before .before .before .before .args) .s .now) ((c .before .before .before .before .args) .e) emptyName)); placed = rw ((c .unnamed) .ensures .0) ((c .before .before .before .before .pre)); few = rw ((c .unnamed) .ensures .1) (omega arith) }
 
 returns-2 : tie.Need-returns-2
-returns-2 c = record { value = rw ((c .before .enum-told2) .given .1, (c .unnamed2) .ensures .0, (c .unnamed2) .ensures .1) (sym (last ((c .before .before .before .before .args) .s .now) ((c .before .before .before .before .args) .e) noOne)); placed = rw ((c .unnamed2) .ensures .0) ((c .before .before .before .before .pre)); few = rw ((c .unnamed2) .ensures .1) (omega arith) }
+returns-2 c = record { value = rw ((c .before .enum-told2) .given .1, (c .unnamed2) .ensures .0, (c .unnamed2) .ensures .1) (sym (last ((c .before .before .before .before .args) .s .now) ((c .before .before .before .before .args) .e) emptyName)); placed = rw ((c .unnamed2) .ensures .0) ((c .before .before .before .before .pre)); few = rw ((c .unnamed2) .ensures .1) (omega arith) }
 
 returns-3 : tie.Need-returns-3
 returns-3 c = record { value = rw ((c .before .before .enum-told3) .given .1, (c .unnamed3) .ensures .0, (c .unnamed3) .ensures .1) ((c .before .zero-then) .ensures .0); placed = rw ((c .unnamed3) .ensures .0) ((c .before .zero-then) .ensures .1); few = rw ((c .unnamed3) .ensures .1) (omega arith) }

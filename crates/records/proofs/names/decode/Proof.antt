@@ -3,7 +3,7 @@ use mathlib.Core.Path.{_≡_, refl, sym, ap, _∙_}
 use lib.ListN.{length}
 use borrow.Author.Tests.{le-leb, lt-leb}
 use Rattle.records.specs.Reading.{from}
-use Rattle.records.specs.Names.{decodeName, held}
+use Rattle.records.specs.Names.{decodeName, storedName}
 use Rattle.records.specs.tables.Inner.{chr}
 use Rattle.records.proofs.lists.Lemmas.{Padded, padded-more}
 use Rattle.records.proofs.names.Lemmas.{Spelled, spelled-none, spelled-more, spelled-bad, spelled-full, name-all}
@@ -44,7 +44,7 @@ name-no-requires-3 c κs = search needs
 
 returns-3 : tie.Need-returns-3 Inv-loop μ-loop
 unfolding decodeName from
-returns-3 c = record { value = rw ((c .name-no3) .ensures .0, le-leb _ _ ((c .before .before .before .before .before .if1) .left), le-leb _ _ ((c .before .before .before .before .if2) .left)) (ap held (spelled-full ((c .before .before .before .loop) .inv .3) ((c .before .before .loop-test) .taken) ((c .before .if3) .taken))); placed = rw ((c .name-no3) .ensures .0) tt; few = omega (arith, (c .name-no3) .ensures .1) }
+returns-3 c = record { value = rw ((c .name-no3) .ensures .0, le-leb _ _ ((c .before .before .before .before .before .if1) .left), le-leb _ _ ((c .before .before .before .before .if2) .left)) (ap storedName (spelled-full ((c .before .before .before .loop) .inv .3) ((c .before .before .loop-test) .taken) ((c .before .if3) .taken))); placed = rw ((c .name-no3) .ensures .0) tt; few = omega (arith, (c .name-no3) .ensures .1) }
 
 one-at-requires : tie.Need-one-at-requires Inv-loop μ-loop
 one-at-requires c κs = search needs
@@ -74,7 +74,7 @@ name-no-requires-4 c κs = search needs
 
 returns-4 : tie.Need-returns-4 Inv-loop μ-loop
 unfolding decodeName from
-returns-4 c = record { value = rw ((c .name-no4) .ensures .0, le-leb _ _ ((c .before .before .before .before .before .before .before .before .before .if1) .left), le-leb _ _ ((c .before .before .before .before .before .before .before .before .if2) .left)) (ap held (spelled-bad ((c .before .before .before .before .before .before .before .loop) .inv .3) ((c .before .before .before .before .before .before .loop-test) .taken) ((c .before .before .before .before .before .if3) .left) (sym ((c .before .before .before .before .one-at) .ensures .0) ∙ ap (chr _) ((c .before .before .b2) .given .1)))); placed = rw ((c .name-no4) .ensures .0) tt; few = omega (arith, (c .name-no4) .ensures .1) }
+returns-4 c = record { value = rw ((c .name-no4) .ensures .0, le-leb _ _ ((c .before .before .before .before .before .before .before .before .before .if1) .left), le-leb _ _ ((c .before .before .before .before .before .before .before .before .if2) .left)) (ap storedName (spelled-bad ((c .before .before .before .before .before .before .before .loop) .inv .3) ((c .before .before .before .before .before .before .loop-test) .taken) ((c .before .before .before .before .before .if3) .left) (sym ((c .before .before .before .before .one-at) .ensures .0) ∙ ap (chr _) ((c .before .before .b2) .given .1)))); placed = rw ((c .name-no4) .ensures .0) tt; few = omega (arith, (c .name-no4) .ensures .1) }
 
 cast-t16 : tie.Need-cast-t16 Inv-loop μ-loop
 cast-t16 c = search needs

@@ -12,20 +12,20 @@ place-in-requires c κs = search needs
 name-at-requires : tie.Need-name-at-requires
 name-at-requires c κs = omega (arith, (c .place-in) .ensures .0, (c .before .before .pre) .1)
 
-slot-for-requires : tie.Need-slot-for-requires
-slot-for-requires c κs = omega (arith, (c .before .before .before .pre) .0)
+position-for-requires : tie.Need-position-for-requires
+position-for-requires c κs = omega (arith, (c .before .before .before .pre) .0)
 
 inserted-requires : tie.Need-inserted-requires
-inserted-requires c κs = ((c .slot-for) .ensures .0, (c .before .before .before .before .pre) .0)
+inserted-requires c κs = ((c .position-for) .ensures .0, (c .before .before .before .before .pre) .0)
 
 returns : tie.Need-returns
 returns c = (
   omega (arith, (c .inserted) .ensures .0, (c .before .before .before .before .before .pre) .0),
-  (c .inserted) .ensures .1 ∙ sym ((c .before .slot-for) .ensures .1)
+  (c .inserted) .ensures .1 ∙ sym ((c .before .position-for) .ensures .1)
       ∙ ap (λ y. putSpot y (spots ((c .before .before .before .before .before .args) .p))) (spot-read ((c .before .before .before .before .before .args) .log .now) ((c .before .before .before .before .before .args) .row) ((c .before .before .before .place-in) .result) ((c .before .before .name-at) .result) ((c .before .before .before .place-in) .ensures .0) ((c .before .before .name-at) .ensures)),
 )
 
 pub with-row-spec : {M : Type 1} → statement M
 with-row-spec =
     tie.close
-    (tie.spec place-in-requires name-at-requires slot-for-requires inserted-requires returns)
+    (tie.spec place-in-requires name-at-requires position-for-requires inserted-requires returns)

@@ -6,8 +6,8 @@ use borrow.Author.Needs.{needs}
 use Rattle.book.proofs.amounts.units.with_name.Statement.{statement}
 use Rattle.book.proofs.amounts.units.with_name.Tie as tie
 
-slot-of-requires : tie.Need-slot-of-requires
-slot-of-requires c κs = search needs
+position-of-requires : tie.Need-position-of-requires
+position-of-requires c κs = search needs
 
 inserted-requires : tie.Need-inserted-requires
 inserted-requires c κs = search needs
@@ -15,16 +15,16 @@ inserted-requires c κs = search needs
 returns : tie.Need-returns
 returns c = (
   omega (arith, (c .inserted) .ensures .0),
-  (c .inserted) .ensures .1 ∙ taken-up ((c .before .before .slot-of) .result .new) _ (namesIn ((c .before .before .before .args) .u)) ((c .before .if1) .taken) ∙ sym ((c .before .before .slot-of) .ensures .1),
+  (c .inserted) .ensures .1 ∙ taken-up ((c .before .before .position-of) .result .new) _ (namesIn ((c .before .before .before .args) .u)) ((c .before .if1) .taken) ∙ sym ((c .before .before .position-of) .ensures .1),
   (c .inserted) .ensures .2,
 )
 
 returns-2 : tie.Need-returns-2
 returns-2 c = (
   omega arith,
-  left-out ((c .before .slot-of) .result .new) _ (namesIn ((c .before .before .args) .u)) ((c .if1) .left) ∙ sym ((c .before .slot-of) .ensures .1),
+  left-out ((c .before .position-of) .result .new) _ (namesIn ((c .before .before .args) .u)) ((c .if1) .left) ∙ sym ((c .before .position-of) .ensures .1),
   λ e. e,
 )
 
 pub with-name-spec : {M : Type 1} → statement M
-with-name-spec = tie.close (tie.spec slot-of-requires inserted-requires returns returns-2)
+with-name-spec = tie.close (tie.spec position-of-requires inserted-requires returns returns-2)

@@ -37,20 +37,20 @@ is-record-requires c κs = tt
 returns : tie.Need-returns Inv-loop μ-loop
 returns c = head-bad ((c .before .before .before .before .before) .loop .inv) ((c .before .before .before .before) .loop-test .taken) (view-bad _ ((c .before .before) .peek .result) (((c .before .before) .peek .ensures) ∙ ap (λ r. viewOf (scan r)) (to-end ((c .before .before .before .before .before) .loop .q) (((c .before .before .before .before .before .before .before) .args .part .now)))) (sym ((c .before) .is-record .ensures) ∙ not-true _ ((c) .if1 .taken)))
 
-slot-of-requires : tie.Need-slot-of-requires Inv-loop μ-loop
-slot-of-requires c κs = tt
+bucket-of-requires : tie.Need-bucket-of-requires Inv-loop μ-loop
+bucket-of-requires c κs = tt
 
 mul-near : tie.Need-mul-near Inv-loop μ-loop
-mul-near c = omega (arith, ((c) .slot-of .ensures .1))
+mul-near c = omega (arith, ((c) .bucket-of .ensures .1))
 
 array-read-near : tie.Need-array-read-near Inv-loop μ-loop
-array-read-near c = ((c) .slot-of .ensures .1)
+array-read-near c = ((c) .bucket-of .ensures .1)
 
 cast-near : tie.Need-cast-near Inv-loop μ-loop
-cast-near c = omega (arith, (head-near ((c .before .before .before .before .before .before) .loop .inv) ((c) .slot-of .result)), ((c .before .before .before .before .before .before) .loop .inv) .few)
+cast-near c = omega (arith, (head-near ((c .before .before .before .before .before .before) .loop .inv) ((c) .bucket-of .result)), ((c .before .before .before .before .before .before) .loop .inv) .few)
 
 find-in-requires : tie.Need-find-in-requires Inv-loop μ-loop
-find-in-requires c κs = (head-log ((c .before .before .before .before .before .before .before) .loop .inv), (head-near ((c .before .before .before .before .before .before .before) .loop .inv) ((c .before) .slot-of .result)))
+find-in-requires c κs = (head-log ((c .before .before .before .before .before .before .before) .loop .inv), (head-near ((c .before .before .before .before .before .before .before) .loop .inv) ((c .before) .bucket-of .result)))
 
 hour-slot-requires : tie.Need-hour-slot-requires Inv-loop μ-loop
 hour-slot-requires c κs = tt
@@ -64,38 +64,38 @@ array-read-count c = ((c) .hour-slot .ensures .1)
 limit-of-requires : tie.Need-limit-of-requires Inv-loop μ-loop
 limit-of-requires c κs = tt
 
-weigh-requires : tie.Need-weigh-requires Inv-loop μ-loop
-weigh-requires c κs = tt
+change-fault-requires : tie.Need-change-fault-requires Inv-loop μ-loop
+change-fault-requires c κs = tt
 
 returns-2 : tie.Need-returns-2 Inv-loop μ-loop
-returns-2 c = head-refused ((c .before .before .before .before .before .before .before .before .before .before .before .before) .loop .inv) ((c .before .before .before .before .before .before .before .before .before .before .before) .loop-test .taken) (view-got _ ((c .before .before .before .before .before .before .before .before .before) .peek .result) (((c .before .before .before .before .before .before .before .before .before) .peek .ensures) ∙ ap (λ r. viewOf (scan r)) (to-end ((c .before .before .before .before .before .before .before .before .before .before .before .before) .loop .q) (((c .before .before .before .before .before .before .before .before .before .before .before .before .before .before) .args .part .now)))) (sym ((c .before .before .before .before .before .before .before .before) .is-record .ensures) ∙ not-false _ ((c .before .before .before .before .before .before .before) .if1 .left))) ((c .before .before .before .before .before .before) .slot-of .ensures .0) ((c .before .before .before .before) .find-in .ensures) ((c .before .before .before) .hour-slot .ensures .0) ((c .before .before) .limit-of .ensures) ((c .before) .weigh .ensures) ((c) .if2 .taken)
+returns-2 c = head-refused ((c .before .before .before .before .before .before .before .before .before .before .before .before) .loop .inv) ((c .before .before .before .before .before .before .before .before .before .before .before) .loop-test .taken) (view-got _ ((c .before .before .before .before .before .before .before .before .before) .peek .result) (((c .before .before .before .before .before .before .before .before .before) .peek .ensures) ∙ ap (λ r. viewOf (scan r)) (to-end ((c .before .before .before .before .before .before .before .before .before .before .before .before) .loop .q) (((c .before .before .before .before .before .before .before .before .before .before .before .before .before .before) .args .part .now)))) (sym ((c .before .before .before .before .before .before .before .before) .is-record .ensures) ∙ not-false _ ((c .before .before .before .before .before .before .before) .if1 .left))) ((c .before .before .before .before .before .before) .bucket-of .ensures .0) ((c .before .before .before .before) .find-in .ensures) ((c .before .before .before) .hour-slot .ensures .0) ((c .before .before) .limit-of .ensures) ((c .before) .change-fault .ensures) ((c) .if2 .taken)
 
 clear-row-requires : tie.Need-clear-row-requires Inv-loop μ-loop
-clear-row-requires c κs = head-clear ((c .before .before .before .before .before .before .before .before .before .before .before .before .before) .loop .inv) ((c .before .before .before .before .before .before .before .before .before .before .before .before) .loop-test .taken) (view-got _ ((c .before .before .before .before .before .before .before .before .before .before) .peek .result) (((c .before .before .before .before .before .before .before .before .before .before) .peek .ensures) ∙ ap (λ r. viewOf (scan r)) (to-end ((c .before .before .before .before .before .before .before .before .before .before .before .before .before) .loop .q) (((c .before .before .before .before .before .before .before .before .before .before .before .before .before .before .before) .args .part .now)))) (sym ((c .before .before .before .before .before .before .before .before .before) .is-record .ensures) ∙ not-false _ ((c .before .before .before .before .before .before .before .before) .if1 .left))) ((c .before .before .before .before .before .before .before) .slot-of .ensures .0) ((c .before .before .before .before .before) .find-in .ensures)
+clear-row-requires c κs = head-clear ((c .before .before .before .before .before .before .before .before .before .before .before .before .before) .loop .inv) ((c .before .before .before .before .before .before .before .before .before .before .before .before) .loop-test .taken) (view-got _ ((c .before .before .before .before .before .before .before .before .before .before) .peek .result) (((c .before .before .before .before .before .before .before .before .before .before) .peek .ensures) ∙ ap (λ r. viewOf (scan r)) (to-end ((c .before .before .before .before .before .before .before .before .before .before .before .before .before) .loop .q) (((c .before .before .before .before .before .before .before .before .before .before .before .before .before .before .before) .args .part .now)))) (sym ((c .before .before .before .before .before .before .before .before .before) .is-record .ensures) ∙ not-false _ ((c .before .before .before .before .before .before .before .before) .if1 .left))) ((c .before .before .before .before .before .before .before) .bucket-of .ensures .0) ((c .before .before .before .before .before) .find-in .ensures)
 
 row-for-requires : tie.Need-row-for-requires Inv-loop μ-loop
-row-for-requires c κs = head-row ((c .before .before .before .before .before .before .before .before .before .before .before .before .before .before) .loop .inv) ((c .before .before .before .before .before .before .before .before .before .before .before .before .before) .loop-test .taken) (view-got _ ((c .before .before .before .before .before .before .before .before .before .before .before) .peek .result) (((c .before .before .before .before .before .before .before .before .before .before .before) .peek .ensures) ∙ ap (λ r. viewOf (scan r)) (to-end ((c .before .before .before .before .before .before .before .before .before .before .before .before .before .before) .loop .q) (((c .before .before .before .before .before .before .before .before .before .before .before .before .before .before .before .before) .args .part .now)))) (sym ((c .before .before .before .before .before .before .before .before .before .before) .is-record .ensures) ∙ not-false _ ((c .before .before .before .before .before .before .before .before .before) .if1 .left))) ((c .before .before .before .before .before .before .before .before) .slot-of .ensures .0) ((c .before .before .before .before .before .before) .find-in .ensures) ((c .before .before .before .before .before) .hour-slot .ensures .0) ((c .before .before .before .before) .limit-of .ensures) ((c .before .before .before) .weigh .ensures) ((c .before .before) .if2 .left)
+row-for-requires c κs = head-row ((c .before .before .before .before .before .before .before .before .before .before .before .before .before .before) .loop .inv) ((c .before .before .before .before .before .before .before .before .before .before .before .before .before) .loop-test .taken) (view-got _ ((c .before .before .before .before .before .before .before .before .before .before .before) .peek .result) (((c .before .before .before .before .before .before .before .before .before .before .before) .peek .ensures) ∙ ap (λ r. viewOf (scan r)) (to-end ((c .before .before .before .before .before .before .before .before .before .before .before .before .before .before) .loop .q) (((c .before .before .before .before .before .before .before .before .before .before .before .before .before .before .before .before) .args .part .now)))) (sym ((c .before .before .before .before .before .before .before .before .before .before) .is-record .ensures) ∙ not-false _ ((c .before .before .before .before .before .before .before .before .before) .if1 .left))) ((c .before .before .before .before .before .before .before .before) .bucket-of .ensures .0) ((c .before .before .before .before .before .before) .find-in .ensures) ((c .before .before .before .before .before) .hour-slot .ensures .0) ((c .before .before .before .before) .limit-of .ensures) ((c .before .before .before) .change-fault .ensures) ((c .before .before) .if2 .left)
 
 mul-rows : tie.Need-mul-rows Inv-loop μ-loop
-mul-rows c = omega (arith, head-few ((c .before .before .before .before .before .before .before .before .before .before .before .before .before .before .before) .loop .inv) ((c .before .before .before .before .before .before .before .before .before .before .before .before .before .before) .loop-test .taken) (view-got _ ((c .before .before .before .before .before .before .before .before .before .before .before .before) .peek .result) (((c .before .before .before .before .before .before .before .before .before .before .before .before) .peek .ensures) ∙ ap (λ r. viewOf (scan r)) (to-end ((c .before .before .before .before .before .before .before .before .before .before .before .before .before .before .before) .loop .q) (((c .before .before .before .before .before .before .before .before .before .before .before .before .before .before .before .before .before) .args .part .now)))) (sym ((c .before .before .before .before .before .before .before .before .before .before .before) .is-record .ensures) ∙ not-false _ ((c .before .before .before .before .before .before .before .before .before .before) .if1 .left))) ((c .before .before .before .before .before .before .before .before .before) .slot-of .ensures .0) ((c .before .before .before .before .before .before .before) .find-in .ensures) ((c .before .before .before .before .before .before) .hour-slot .ensures .0) ((c .before .before .before .before .before) .limit-of .ensures) ((c .before .before .before .before) .weigh .ensures) ((c .before .before .before) .if2 .left) .0)
+mul-rows c = omega (arith, head-few ((c .before .before .before .before .before .before .before .before .before .before .before .before .before .before .before) .loop .inv) ((c .before .before .before .before .before .before .before .before .before .before .before .before .before .before) .loop-test .taken) (view-got _ ((c .before .before .before .before .before .before .before .before .before .before .before .before) .peek .result) (((c .before .before .before .before .before .before .before .before .before .before .before .before) .peek .ensures) ∙ ap (λ r. viewOf (scan r)) (to-end ((c .before .before .before .before .before .before .before .before .before .before .before .before .before .before .before) .loop .q) (((c .before .before .before .before .before .before .before .before .before .before .before .before .before .before .before .before .before) .args .part .now)))) (sym ((c .before .before .before .before .before .before .before .before .before .before .before) .is-record .ensures) ∙ not-false _ ((c .before .before .before .before .before .before .before .before .before .before) .if1 .left))) ((c .before .before .before .before .before .before .before .before .before) .bucket-of .ensures .0) ((c .before .before .before .before .before .before .before) .find-in .ensures) ((c .before .before .before .before .before .before) .hour-slot .ensures .0) ((c .before .before .before .before .before) .limit-of .ensures) ((c .before .before .before .before) .change-fault .ensures) ((c .before .before .before) .if2 .left) .0)
 
 element-write-rows : tie.Need-element-write-rows Inv-loop μ-loop
-element-write-rows c = head-few ((c .before .before .before .before .before .before .before .before .before .before .before .before .before .before .before) .loop .inv) ((c .before .before .before .before .before .before .before .before .before .before .before .before .before .before) .loop-test .taken) (view-got _ ((c .before .before .before .before .before .before .before .before .before .before .before .before) .peek .result) (((c .before .before .before .before .before .before .before .before .before .before .before .before) .peek .ensures) ∙ ap (λ r. viewOf (scan r)) (to-end ((c .before .before .before .before .before .before .before .before .before .before .before .before .before .before .before) .loop .q) (((c .before .before .before .before .before .before .before .before .before .before .before .before .before .before .before .before .before) .args .part .now)))) (sym ((c .before .before .before .before .before .before .before .before .before .before .before) .is-record .ensures) ∙ not-false _ ((c .before .before .before .before .before .before .before .before .before .before) .if1 .left))) ((c .before .before .before .before .before .before .before .before .before) .slot-of .ensures .0) ((c .before .before .before .before .before .before .before) .find-in .ensures) ((c .before .before .before .before .before .before) .hour-slot .ensures .0) ((c .before .before .before .before .before) .limit-of .ensures) ((c .before .before .before .before) .weigh .ensures) ((c .before .before .before) .if2 .left) .0
+element-write-rows c = head-few ((c .before .before .before .before .before .before .before .before .before .before .before .before .before .before .before) .loop .inv) ((c .before .before .before .before .before .before .before .before .before .before .before .before .before .before) .loop-test .taken) (view-got _ ((c .before .before .before .before .before .before .before .before .before .before .before .before) .peek .result) (((c .before .before .before .before .before .before .before .before .before .before .before .before) .peek .ensures) ∙ ap (λ r. viewOf (scan r)) (to-end ((c .before .before .before .before .before .before .before .before .before .before .before .before .before .before .before) .loop .q) (((c .before .before .before .before .before .before .before .before .before .before .before .before .before .before .before .before .before) .args .part .now)))) (sym ((c .before .before .before .before .before .before .before .before .before .before .before) .is-record .ensures) ∙ not-false _ ((c .before .before .before .before .before .before .before .before .before .before) .if1 .left))) ((c .before .before .before .before .before .before .before .before .before) .bucket-of .ensures .0) ((c .before .before .before .before .before .before .before) .find-in .ensures) ((c .before .before .before .before .before .before) .hour-slot .ensures .0) ((c .before .before .before .before .before) .limit-of .ensures) ((c .before .before .before .before) .change-fault .ensures) ((c .before .before .before) .if2 .left) .0
 
 add-latest : tie.Need-add-latest Inv-loop μ-loop
-add-latest c = omega (arith, head-few ((c .before .before .before .before .before .before .before .before .before .before .before .before .before .before .before) .loop .inv) ((c .before .before .before .before .before .before .before .before .before .before .before .before .before .before) .loop-test .taken) (view-got _ ((c .before .before .before .before .before .before .before .before .before .before .before .before) .peek .result) (((c .before .before .before .before .before .before .before .before .before .before .before .before) .peek .ensures) ∙ ap (λ r. viewOf (scan r)) (to-end ((c .before .before .before .before .before .before .before .before .before .before .before .before .before .before .before) .loop .q) (((c .before .before .before .before .before .before .before .before .before .before .before .before .before .before .before .before .before) .args .part .now)))) (sym ((c .before .before .before .before .before .before .before .before .before .before .before) .is-record .ensures) ∙ not-false _ ((c .before .before .before .before .before .before .before .before .before .before) .if1 .left))) ((c .before .before .before .before .before .before .before .before .before) .slot-of .ensures .0) ((c .before .before .before .before .before .before .before) .find-in .ensures) ((c .before .before .before .before .before .before) .hour-slot .ensures .0) ((c .before .before .before .before .before) .limit-of .ensures) ((c .before .before .before .before) .weigh .ensures) ((c .before .before .before) .if2 .left) .0)
+add-latest c = omega (arith, head-few ((c .before .before .before .before .before .before .before .before .before .before .before .before .before .before .before) .loop .inv) ((c .before .before .before .before .before .before .before .before .before .before .before .before .before .before) .loop-test .taken) (view-got _ ((c .before .before .before .before .before .before .before .before .before .before .before .before) .peek .result) (((c .before .before .before .before .before .before .before .before .before .before .before .before) .peek .ensures) ∙ ap (λ r. viewOf (scan r)) (to-end ((c .before .before .before .before .before .before .before .before .before .before .before .before .before .before .before) .loop .q) (((c .before .before .before .before .before .before .before .before .before .before .before .before .before .before .before .before .before) .args .part .now)))) (sym ((c .before .before .before .before .before .before .before .before .before .before .before) .is-record .ensures) ∙ not-false _ ((c .before .before .before .before .before .before .before .before .before .before) .if1 .left))) ((c .before .before .before .before .before .before .before .before .before) .bucket-of .ensures .0) ((c .before .before .before .before .before .before .before) .find-in .ensures) ((c .before .before .before .before .before .before) .hour-slot .ensures .0) ((c .before .before .before .before .before) .limit-of .ensures) ((c .before .before .before .before) .change-fault .ensures) ((c .before .before .before) .if2 .left) .0)
 
 cast-latest : tie.Need-cast-latest Inv-loop μ-loop
-cast-latest c = omega (arith, head-few ((c .before .before .before .before .before .before .before .before .before .before .before .before .before .before .before) .loop .inv) ((c .before .before .before .before .before .before .before .before .before .before .before .before .before .before) .loop-test .taken) (view-got _ ((c .before .before .before .before .before .before .before .before .before .before .before .before) .peek .result) (((c .before .before .before .before .before .before .before .before .before .before .before .before) .peek .ensures) ∙ ap (λ r. viewOf (scan r)) (to-end ((c .before .before .before .before .before .before .before .before .before .before .before .before .before .before .before) .loop .q) (((c .before .before .before .before .before .before .before .before .before .before .before .before .before .before .before .before .before) .args .part .now)))) (sym ((c .before .before .before .before .before .before .before .before .before .before .before) .is-record .ensures) ∙ not-false _ ((c .before .before .before .before .before .before .before .before .before .before) .if1 .left))) ((c .before .before .before .before .before .before .before .before .before) .slot-of .ensures .0) ((c .before .before .before .before .before .before .before) .find-in .ensures) ((c .before .before .before .before .before .before) .hour-slot .ensures .0) ((c .before .before .before .before .before) .limit-of .ensures) ((c .before .before .before .before) .weigh .ensures) ((c .before .before .before) .if2 .left) .0)
+cast-latest c = omega (arith, head-few ((c .before .before .before .before .before .before .before .before .before .before .before .before .before .before .before) .loop .inv) ((c .before .before .before .before .before .before .before .before .before .before .before .before .before .before) .loop-test .taken) (view-got _ ((c .before .before .before .before .before .before .before .before .before .before .before .before) .peek .result) (((c .before .before .before .before .before .before .before .before .before .before .before .before) .peek .ensures) ∙ ap (λ r. viewOf (scan r)) (to-end ((c .before .before .before .before .before .before .before .before .before .before .before .before .before .before .before) .loop .q) (((c .before .before .before .before .before .before .before .before .before .before .before .before .before .before .before .before .before) .args .part .now)))) (sym ((c .before .before .before .before .before .before .before .before .before .before .before) .is-record .ensures) ∙ not-false _ ((c .before .before .before .before .before .before .before .before .before .before) .if1 .left))) ((c .before .before .before .before .before .before .before .before .before) .bucket-of .ensures .0) ((c .before .before .before .before .before .before .before) .find-in .ensures) ((c .before .before .before .before .before .before) .hour-slot .ensures .0) ((c .before .before .before .before .before) .limit-of .ensures) ((c .before .before .before .before) .change-fault .ensures) ((c .before .before .before) .if2 .left) .0)
 
 mul-latest : tie.Need-mul-latest Inv-loop μ-loop
-mul-latest c = omega (arith, ((c .before .before .before .before .before .before .before .before .before) .slot-of .ensures .1))
+mul-latest c = omega (arith, ((c .before .before .before .before .before .before .before .before .before) .bucket-of .ensures .1))
 
 array-write-latest : tie.Need-array-write-latest Inv-loop μ-loop
-array-write-latest c = ((c .before .before .before .before .before .before .before .before .before) .slot-of .ensures .1)
+array-write-latest c = ((c .before .before .before .before .before .before .before .before .before) .bucket-of .ensures .1)
 
 count-with-requires : tie.Need-count-with-requires Inv-loop μ-loop
-count-with-requires c κs = head-fewer ((c .before .before .before .before .before .before .before .before .before .before .before .before .before .before .before) .loop .inv) ((c .before .before .before .before .before .before .before .before .before .before .before .before .before .before) .loop-test .taken) (view-got _ ((c .before .before .before .before .before .before .before .before .before .before .before .before) .peek .result) (((c .before .before .before .before .before .before .before .before .before .before .before .before) .peek .ensures) ∙ ap (λ r. viewOf (scan r)) (to-end ((c .before .before .before .before .before .before .before .before .before .before .before .before .before .before .before) .loop .q) (((c .before .before .before .before .before .before .before .before .before .before .before .before .before .before .before .before .before) .args .part .now)))) (sym ((c .before .before .before .before .before .before .before .before .before .before .before) .is-record .ensures) ∙ not-false _ ((c .before .before .before .before .before .before .before .before .before .before) .if1 .left))) ((c .before .before .before .before .before .before .before .before .before) .slot-of .ensures .0) ((c .before .before .before .before .before .before .before) .find-in .ensures) ((c .before .before .before .before .before .before) .hour-slot .ensures .0)
+count-with-requires c κs = head-fewer ((c .before .before .before .before .before .before .before .before .before .before .before .before .before .before .before) .loop .inv) ((c .before .before .before .before .before .before .before .before .before .before .before .before .before .before) .loop-test .taken) (view-got _ ((c .before .before .before .before .before .before .before .before .before .before .before .before) .peek .result) (((c .before .before .before .before .before .before .before .before .before .before .before .before) .peek .ensures) ∙ ap (λ r. viewOf (scan r)) (to-end ((c .before .before .before .before .before .before .before .before .before .before .before .before .before .before .before) .loop .q) (((c .before .before .before .before .before .before .before .before .before .before .before .before .before .before .before .before .before) .args .part .now)))) (sym ((c .before .before .before .before .before .before .before .before .before .before .before) .is-record .ensures) ∙ not-false _ ((c .before .before .before .before .before .before .before .before .before .before) .if1 .left))) ((c .before .before .before .before .before .before .before .before .before) .bucket-of .ensures .0) ((c .before .before .before .before .before .before .before) .find-in .ensures) ((c .before .before .before .before .before .before) .hour-slot .ensures .0)
 
 mul-counts : tie.Need-mul-counts Inv-loop μ-loop
 mul-counts c = omega (arith, ((c .before .before .before .before .before .before .before) .hour-slot .ensures .1))
@@ -104,16 +104,16 @@ array-write-counts : tie.Need-array-write-counts Inv-loop μ-loop
 array-write-counts c = ((c .before .before .before .before .before .before .before) .hour-slot .ensures .1)
 
 add-q : tie.Need-add-q Inv-loop μ-loop
-add-q c = omega (arith, head-few ((c .before .before .before .before .before .before .before .before .before .before .before .before .before .before .before .before .before) .loop .inv) ((c .before .before .before .before .before .before .before .before .before .before .before .before .before .before .before .before) .loop-test .taken) (view-got _ ((c .before .before .before .before .before .before .before .before .before .before .before .before .before .before) .peek .result) (((c .before .before .before .before .before .before .before .before .before .before .before .before .before .before) .peek .ensures) ∙ ap (λ r. viewOf (scan r)) (to-end ((c .before .before .before .before .before .before .before .before .before .before .before .before .before .before .before .before .before) .loop .q) (((c .before .before .before .before .before .before .before .before .before .before .before .before .before .before .before .before .before .before .before) .args .part .now)))) (sym ((c .before .before .before .before .before .before .before .before .before .before .before .before .before) .is-record .ensures) ∙ not-false _ ((c .before .before .before .before .before .before .before .before .before .before .before .before) .if1 .left))) ((c .before .before .before .before .before .before .before .before .before .before .before) .slot-of .ensures .0) ((c .before .before .before .before .before .before .before .before .before) .find-in .ensures) ((c .before .before .before .before .before .before .before .before) .hour-slot .ensures .0) ((c .before .before .before .before .before .before .before) .limit-of .ensures) ((c .before .before .before .before .before .before) .weigh .ensures) ((c .before .before .before .before .before) .if2 .left) .1)
+add-q c = omega (arith, head-few ((c .before .before .before .before .before .before .before .before .before .before .before .before .before .before .before .before .before) .loop .inv) ((c .before .before .before .before .before .before .before .before .before .before .before .before .before .before .before .before) .loop-test .taken) (view-got _ ((c .before .before .before .before .before .before .before .before .before .before .before .before .before .before) .peek .result) (((c .before .before .before .before .before .before .before .before .before .before .before .before .before .before) .peek .ensures) ∙ ap (λ r. viewOf (scan r)) (to-end ((c .before .before .before .before .before .before .before .before .before .before .before .before .before .before .before .before .before) .loop .q) (((c .before .before .before .before .before .before .before .before .before .before .before .before .before .before .before .before .before .before .before) .args .part .now)))) (sym ((c .before .before .before .before .before .before .before .before .before .before .before .before .before) .is-record .ensures) ∙ not-false _ ((c .before .before .before .before .before .before .before .before .before .before .before .before) .if1 .left))) ((c .before .before .before .before .before .before .before .before .before .before .before) .bucket-of .ensures .0) ((c .before .before .before .before .before .before .before .before .before) .find-in .ensures) ((c .before .before .before .before .before .before .before .before) .hour-slot .ensures .0) ((c .before .before .before .before .before .before .before) .limit-of .ensures) ((c .before .before .before .before .before .before) .change-fault .ensures) ((c .before .before .before .before .before) .if2 .left) .1)
 
 add-i : tie.Need-add-i Inv-loop μ-loop
-add-i c = omega (arith, head-few ((c .before .before .before .before .before .before .before .before .before .before .before .before .before .before .before .before .before) .loop .inv) ((c .before .before .before .before .before .before .before .before .before .before .before .before .before .before .before .before) .loop-test .taken) (view-got _ ((c .before .before .before .before .before .before .before .before .before .before .before .before .before .before) .peek .result) (((c .before .before .before .before .before .before .before .before .before .before .before .before .before .before) .peek .ensures) ∙ ap (λ r. viewOf (scan r)) (to-end ((c .before .before .before .before .before .before .before .before .before .before .before .before .before .before .before .before .before) .loop .q) (((c .before .before .before .before .before .before .before .before .before .before .before .before .before .before .before .before .before .before .before) .args .part .now)))) (sym ((c .before .before .before .before .before .before .before .before .before .before .before .before .before) .is-record .ensures) ∙ not-false _ ((c .before .before .before .before .before .before .before .before .before .before .before .before) .if1 .left))) ((c .before .before .before .before .before .before .before .before .before .before .before) .slot-of .ensures .0) ((c .before .before .before .before .before .before .before .before .before) .find-in .ensures) ((c .before .before .before .before .before .before .before .before) .hour-slot .ensures .0) ((c .before .before .before .before .before .before .before) .limit-of .ensures) ((c .before .before .before .before .before .before) .weigh .ensures) ((c .before .before .before .before .before) .if2 .left) .0)
+add-i c = omega (arith, head-few ((c .before .before .before .before .before .before .before .before .before .before .before .before .before .before .before .before .before) .loop .inv) ((c .before .before .before .before .before .before .before .before .before .before .before .before .before .before .before .before) .loop-test .taken) (view-got _ ((c .before .before .before .before .before .before .before .before .before .before .before .before .before .before) .peek .result) (((c .before .before .before .before .before .before .before .before .before .before .before .before .before .before) .peek .ensures) ∙ ap (λ r. viewOf (scan r)) (to-end ((c .before .before .before .before .before .before .before .before .before .before .before .before .before .before .before .before .before) .loop .q) (((c .before .before .before .before .before .before .before .before .before .before .before .before .before .before .before .before .before .before .before) .args .part .now)))) (sym ((c .before .before .before .before .before .before .before .before .before .before .before .before .before) .is-record .ensures) ∙ not-false _ ((c .before .before .before .before .before .before .before .before .before .before .before .before) .if1 .left))) ((c .before .before .before .before .before .before .before .before .before .before .before) .bucket-of .ensures .0) ((c .before .before .before .before .before .before .before .before .before) .find-in .ensures) ((c .before .before .before .before .before .before .before .before) .hour-slot .ensures .0) ((c .before .before .before .before .before .before .before) .limit-of .ensures) ((c .before .before .before .before .before .before) .change-fault .ensures) ((c .before .before .before .before .before) .if2 .left) .0)
 
 loop-less : tie.Need-loop-less Inv-loop μ-loop
 loop-less c = omega (arith, ((c .before .before .before .before .before .before .before .before .before .before .before .before .before .before .before .before) .loop-test .taken))
 
 loop-again : tie.Need-loop-again Inv-loop μ-loop
-loop-again c = head-next ((c .before .before .before .before .before .before .before .before .before .before .before .before .before .before .before .before .before) .loop .inv) ((c .before .before .before .before .before .before .before .before .before .before .before .before .before .before .before .before) .loop-test .taken) (view-got _ ((c .before .before .before .before .before .before .before .before .before .before .before .before .before .before) .peek .result) (((c .before .before .before .before .before .before .before .before .before .before .before .before .before .before) .peek .ensures) ∙ ap (λ r. viewOf (scan r)) (to-end ((c .before .before .before .before .before .before .before .before .before .before .before .before .before .before .before .before .before) .loop .q) (((c .before .before .before .before .before .before .before .before .before .before .before .before .before .before .before .before .before .before .before) .args .part .now)))) (sym ((c .before .before .before .before .before .before .before .before .before .before .before .before .before) .is-record .ensures) ∙ not-false _ ((c .before .before .before .before .before .before .before .before .before .before .before .before) .if1 .left))) ((c .before .before .before .before .before .before .before .before .before .before .before) .slot-of .ensures .0) ((c .before .before .before .before .before .before .before .before .before) .find-in .ensures) ((c .before .before .before .before .before .before .before .before) .hour-slot .ensures .0) ((c .before .before .before .before .before .before .before) .limit-of .ensures) ((c .before .before .before .before .before .before) .weigh .ensures) ((c .before .before .before .before .before) .if2 .left) ((c .before .before .before .before .before .before .before .before .before .before .before) .slot-of .ensures .1) ((c .before .before .before) .clear-row .ensures) ((c .before .before) .row-for .ensures) ((c .before) .count-with .ensures)
+loop-again c = head-next ((c .before .before .before .before .before .before .before .before .before .before .before .before .before .before .before .before .before) .loop .inv) ((c .before .before .before .before .before .before .before .before .before .before .before .before .before .before .before .before) .loop-test .taken) (view-got _ ((c .before .before .before .before .before .before .before .before .before .before .before .before .before .before) .peek .result) (((c .before .before .before .before .before .before .before .before .before .before .before .before .before .before) .peek .ensures) ∙ ap (λ r. viewOf (scan r)) (to-end ((c .before .before .before .before .before .before .before .before .before .before .before .before .before .before .before .before .before) .loop .q) (((c .before .before .before .before .before .before .before .before .before .before .before .before .before .before .before .before .before .before .before) .args .part .now)))) (sym ((c .before .before .before .before .before .before .before .before .before .before .before .before .before) .is-record .ensures) ∙ not-false _ ((c .before .before .before .before .before .before .before .before .before .before .before .before) .if1 .left))) ((c .before .before .before .before .before .before .before .before .before .before .before) .bucket-of .ensures .0) ((c .before .before .before .before .before .before .before .before .before) .find-in .ensures) ((c .before .before .before .before .before .before .before .before) .hour-slot .ensures .0) ((c .before .before .before .before .before .before .before) .limit-of .ensures) ((c .before .before .before .before .before .before) .change-fault .ensures) ((c .before .before .before .before .before) .if2 .left) ((c .before .before .before .before .before .before .before .before .before .before .before) .bucket-of .ensures .1) ((c .before .before .before) .clear-row .ensures) ((c .before .before) .row-for .ensures) ((c .before) .count-with .ensures)
 
 returns-3 : tie.Need-returns-3 Inv-loop μ-loop
 returns-3 c = head-end ((c .before) .loop .inv) ((c) .loop-test .left)
@@ -131,7 +131,7 @@ replayed-rows-spec =
     peek-requires
     is-record-requires
     returns
-    slot-of-requires
+    bucket-of-requires
     mul-near
     array-read-near
     cast-near
@@ -140,7 +140,7 @@ replayed-rows-spec =
     mul-count
     array-read-count
     limit-of-requires
-    weigh-requires
+    change-fault-requires
     returns-2
     clear-row-requires
     row-for-requires

@@ -5,7 +5,7 @@ use Prim.Native.Nat.{ℕ, _+_, _≤_}
 use mir.Syntax.{w64}
 use mir.Val.{SFits, toZ, ofZ}
 use Rattle.laws.specs.Held as h
-use Rattle.laws.specs.Held.{Held}
+use Rattle.laws.specs.Held.{Carried}
 use Rattle.laws.specs.IntLaws.{lt-true, lt-false}
 use Rattle.money.specs.laws.UnitLaws.{flip-abs, flip-above, abs-most, flipped}
 use borrow.Author.Needs.{needs}

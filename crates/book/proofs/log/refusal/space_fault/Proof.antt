@@ -1,0 +1,23 @@
+use Rattle.book.proofs.log.refusal.Lemmas.{room-many, room-short, room-enough}
+use native.Mathlib.Omega.{arith}
+use borrow.Author.Needs.{needs}
+use Rattle.book.proofs.log.refusal.space_fault.Statement.{statement}
+use Rattle.book.proofs.log.refusal.space_fault.Tie as tie
+
+returns : tie.Need-returns
+returns c = room-many ((c .before .args) .changes) ((c .before .args) .used) ((c .before .args) .len) ((c .before .args) .lent) ((c .if1) .taken)
+
+capacity-requires : tie.Need-capacity-requires
+capacity-requires c κs = search needs
+
+returns-2 : tie.Need-returns-2
+returns-2 c = room-short ((c .before .before .before .args) .changes) ((c .before .before .before .args) .used) ((c .before .before .before .args) .len) ((c .before .before .before .args) .lent) ((c .before .capacity) .result) ((c .before .capacity) .ensures) ((c .before .before .if1) .left) (omega arith)
+
+returns-3 : tie.Need-returns-3
+returns-3 c = room-short ((c .before .before .before .before .args) .changes) ((c .before .before .before .before .args) .used) ((c .before .before .before .before .args) .len) ((c .before .before .before .before .args) .lent) ((c .before .before .capacity) .result) ((c .before .before .capacity) .ensures) ((c .before .before .before .if1) .left) (omega arith)
+
+returns-4 : tie.Need-returns-4
+returns-4 c = room-enough ((c .before .before .before .before .args) .changes) ((c .before .before .before .before .args) .used) ((c .before .before .before .before .args) .len) ((c .before .before .before .before .args) .lent) ((c .before .before .capacity) .result) ((c .before .before .capacity) .ensures) ((c .before .before .before .if1) .left) (omega arith)
+
+pub space-fault-spec : {M : Type 1} → statement M
+space-fault-spec = tie.close (tie.spec returns capacity-requires returns-2 returns-3 returns-4)
