@@ -11,6 +11,7 @@ use Rattle.book.specs.Layer.{Key, Rec, Mark, Pr, Im, Ex, HourPrices, emp
 use Rattle.book.specs.declared.answers.NamedAmount.{NamedAmount}
 use Rattle.book.specs.ByName.{byName}
 use Rattle.book.specs.Replies.{Reply, refused, guarantees, unitDay, charge}
+use Rattle.money.specs.Units.{dayHours, intervals}
 
 -- the standing record of a key, if there is one
 pub data Pick : Type 0 where
@@ -51,7 +52,7 @@ exported [] k = 0
 exported (r ∷ rs) k = quantityAt (exportOf r .mqsw) k + exported rs k
 
 abbrev pub totalsOf : List Rec → List Quantity
-totalsOf es = rowOf 0 12 (exported es)
+totalsOf es = rowOf 0 intervals (exported es)
 
 -- of the imports and exports of the hour; "an hour without imports has offset 0 and needs none"
 abbrev pub guaranteesAt : HourPricing → List Rec → List Rec → Reply
@@ -88,13 +89,13 @@ unitAt k rs j = pick (atHour k (1 + j)) rs
 
 -- "Day total of a unit"
 unfoldable pub dayTotal : Key → List Rec → (ℕ → HourPricing) → ℤ
-dayTotal k rs price = Σℤ 24 (λ (j : ℕ). hourTicks (unitAt k rs j) (price (1 + j)))
+dayTotal k rs price = Σℤ dayHours (λ (j : ℕ). hourTicks (unitAt k rs j) (price (1 + j)))
 
 -- "A unit without `GH` gives 11", then 15; "The reversal is max(0, -total)"
 unfoldable pub unitDayOf : Key → List Rec → (ℕ → HourPricing) → Reply
 unitDayOf k rs price =
-    cond (every 24 (λ (j : ℕ). absent (unitAt k rs j))) (refused noSuchKey)
-    (cond (every 24 (λ (j : ℕ). payable (unitAt k rs j) (price (1 + j)))) (unitDay (dayTotal k rs price) (reversal (dayTotal k rs price))) (refused priceMissing))
+    cond (every dayHours (λ (j : ℕ). absent (unitAt k rs j))) (refused noSuchKey)
+    (cond (every dayHours (λ (j : ℕ). payable (unitAt k rs j) (price (1 + j)))) (unitDay (dayTotal k rs price) (reversal (dayTotal k rs price))) (refused priceMissing))
 
 -- ---- failure charges
 

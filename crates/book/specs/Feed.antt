@@ -3,7 +3,7 @@ use mathlib.Core.List.{List, [], _∷_}
 use Prim.Native.Nat.{ℕ, zero, suc, _+_, _-_}
 use lib.ListN.{length, take, drop}
 use Rattle.book.specs.Layer.{Res, bad, got, Entry, readEntry}
-use Rattle.book.specs.Register.{Reg, fresh, change, Step, answered, becomes, called}
+use Rattle.book.specs.Register.{Reg, fresh, change, Step, answered, becomes, called, maxUsed}
 use Rattle.book.specs.Replies.{replied}
 
 -- ---- "records back to back"
@@ -59,4 +59,4 @@ verdict g n (suc k) = ref (n + 1) (suc k)
 
 -- "reads records back to back from standard input into a book over 65,535 bytes"
 unfoldable pub settled : List ℕ → Settled
-settled s = verdict (feeding 65535 fresh s .reg) (feeding 65535 fresh s .count) (feeding 65535 fresh s .number)
+settled s = verdict (feeding maxUsed fresh s .reg) (feeding maxUsed fresh s .count) (feeding maxUsed fresh s .number)

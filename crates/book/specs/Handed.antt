@@ -16,6 +16,7 @@ use Rattle.book.specs.declared.amounts.units.UnitList.{UnitList}
 use Rattle.book.specs.Replies.{Reply, refused, accepted, place, number, guarantees, unitDay, charge}
 use Rattle.book.specs.Amounts.{ChargesReply, charged, no}
 use Rattle.book.specs.UnitNames.{NameList, named, no as unlisted}
+use Rattle.book.specs.Register.{maxChanges}
 
 -- ---- credits and charges by name
 
@@ -71,7 +72,7 @@ unitDayFrom (charge t) = dayHanded 0 (noTicks .0) (noTicks .0)
 -- ---- the names of units, in 512 places
 
 unfoldable pub unitsOf : List Name → Units
-unitsOf ns = record { n = length ns; names = pad emptyName 512 ns }
+unitsOf ns = record { n = length ns; names = pad emptyName maxChanges ns }
 
 abbrev pub unitListFrom : NameList → UnitList
 unitListFrom (named ns) = record { number = 0; units = unitsOf ns }

@@ -14,7 +14,7 @@ use Rattle.book.specs.declared.answers.Guarantees.{Guarantees}
 use Rattle.book.specs.declared.answers.Charges.{Charges}
 use Rattle.book.specs.declared.answers.UnitDay.{UnitDay}
 use Rattle.book.specs.Amounts.{ChargesReply, charged, no, chargesOf, priceOf}
-use Rattle.book.specs.Register.{Reg, standing, Call, Step, answered, becomes, stepOf, writeAll, refusal, Reply, refused, accepted, place, number, guarantees, unitDay, charge}
+use Rattle.book.specs.Register.{Reg, standing, Call, Step, answered, becomes, stepOf, writeAll, refusal, Reply, refused, accepted, place, number, guarantees, unitDay, charge, maxUsed}
 
 -- ---- which changes a book and its bytes stand for
 
@@ -25,7 +25,7 @@ pub data Load : Type 0 where
 
 -- one written change more, if it can be played
 abbrev pub replayOn : List Change → List ℕ → (List Change → List ℕ → Load) → Scan → Load
-replayOn acc rest f (seen c n) = cond (eqb (refusal acc 65535 c) 0) (f (c ∷ acc) (drop n rest)) mismatched
+replayOn acc rest f (seen c n) = cond (eqb (refusal acc maxUsed c) 0) (f (c ∷ acc) (drop n rest)) mismatched
 replayOn acc rest f unseen = mismatched
 
 abbrev pub ended : List Change → List ℕ → Load
@@ -45,7 +45,7 @@ load b s = cond (leb (b .used) (length s)) (replay (b .changes) [] (take (b .use
 -- a list that a book can stand for: each change is one that can be written, and is played without a refusal
 unfoldable pub Valid : List Change → Type 0
 Valid [] = Unit {0}
-Valid (c ∷ l) = Good c × (refusal l 65535 c ≡ 0) × Valid l
+Valid (c ∷ l) = Good c × (refusal l maxUsed c ≡ 0) × Valid l
 
 -- ---- what a call leaves
 

@@ -9,6 +9,14 @@ use Rattle.book.specs.Layer.{Key, Rec, Change, filed, corrected, withdra
 pub use Rattle.book.specs.Replies.{Reply, refused, accepted, place, number, guarantees, unitDay, charge}
 use Rattle.book.specs.Amounts.{guaranteesOf, unitDayOf, chargeOf, priceOf}
 
+-- "free bytes short, or 512 listed"
+abbrev pub maxChanges : ℕ
+maxChanges = 512
+
+-- of lent bytes no more than 65,535 are used
+abbrev pub maxUsed : ℕ
+maxUsed = 65535
+
 -- "State: a list of accepted changes, and open or closed."
 pub record Reg : Type 0 where
   pub list : List Change
@@ -53,13 +61,13 @@ count k (x ∷ xs) = cond (sameHour k (x .key)) (count k xs + 1) (count k xs)
 
 -- "the lent length of the call (above 65,535 counted as 65,535)"
 abbrev pub capped : ℕ → ℕ
-capped lent = cond (ltb 65535 lent) 65535 lent
+capped lent = cond (ltb maxUsed lent) maxUsed lent
 
 -- ---- the refusals 10 to 13
 
 -- 13, "free bytes short, or 512 listed"; the written length counts
 abbrev pub spaceFault : ℕ → ℕ → ℕ → ℕ → ℕ
-spaceFault changes used len lent = cond (ltb changes 512) (cond (leb (used + len) (capped lent)) 0 noSpace) noSpace
+spaceFault changes used len lent = cond (ltb changes maxChanges) (cond (leb (used + len) (capped lent)) 0 noSpace) noSpace
 
 abbrev pub roomFor : List Change → ℕ → Change → ℕ
 roomFor l lent c = spaceFault (length l) (length (writeAll l)) (length (write c)) lent

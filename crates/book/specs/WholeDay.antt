@@ -9,10 +9,11 @@ use Rattle.book.specs.declared.answers.UnitAmounts.{UnitAmounts}
 use Rattle.book.specs.declared.answers.DayAmounts.{DayAmounts}
 use Rattle.book.specs.Amounts.{HourPricing, ChargesReply, charged, hourKey, priceOf, guaranteesOf, chargesOf, unitDayOf}
 use Rattle.book.specs.ByName.{namesOf}
-use Rattle.book.specs.Register.{Reply, standing}
+use Rattle.book.specs.Register.{Reply, standing, maxChanges}
 use Rattle.book.specs.Meaning.{Load, belongs, mismatched}
 use Rattle.book.specs.UnitNames.{ghKey, unitKey}
 use Rattle.book.specs.Handed.{hourHanded, guaranteesFrom, chargesFrom, dayHanded, unitDayFrom}
+use Rattle.money.specs.Units.{dayHours}
 
 -- an hour: its guarantees, its charges of failed imports and those of failed exports
 pub record HourReply : Type 0 where
@@ -43,7 +44,7 @@ pub data WholeDay : Type 0 where
 
 -- of standing records, at a price of each hour: hours 1 to 24, and the units by name
 abbrev pub wholeOf : List Rec → (ℕ → HourPricing) → WholeDay
-wholeOf rs price = whole (map (hourReply rs price) (hoursFrom 1 24)) (map (unitReply rs price) (namesOf ghKey rs))
+wholeOf rs price = whole (map (hourReply rs price) (hoursFrom 1 dayHours)) (map (unitReply rs price) (namesOf ghKey rs))
 
 -- 16, or the day
 abbrev pub dayAmounts : Load → WholeDay
@@ -66,7 +67,7 @@ abbrev pub noUnit : UnitAmounts
 noUnit = record { name = emptyName; day = dayHanded 0 (noTicks .0) (noTicks .0) }
 
 unfoldable pub wholeHanded : ℕ → List HourAmounts → List UnitAmounts → DayAmounts
-wholeHanded k hs us = record { number = k; hours = pad noHour 24 hs; n = length us; units = pad noUnit 512 us }
+wholeHanded k hs us = record { number = k; hours = pad noHour dayHours hs; n = length us; units = pad noUnit maxChanges us }
 
 -- beside a number all places are blank
 abbrev pub dayFrom : WholeDay → DayAmounts

@@ -3,6 +3,8 @@ use crate::book::Book;
 use money::names::Name;
 use money::units::Ticks;
 use records::names::no_name;
+use crate::book::CHANGES_MAX;
+use money::units::HOURS;
 ghost use mathlib.Core.Path.{_≡_};
 ghost use Rattle.book.specs.Meaning.{replyOf};
 ghost use Rattle.book.specs.Replies.{replied};
@@ -106,7 +108,7 @@ pub struct UnitAmounts {
 // All amounts of a day, or the number of a refusal: those of hour h at h - 1, and the first n units by name.
 pub struct DayAmounts {
     pub number: u8,
-    pub hours: [HourAmounts; 24],
+    pub hours: [HourAmounts; HOURS],
     pub n: usize,
-    pub units: [UnitAmounts; 512],
+    pub units: [UnitAmounts; CHANGES_MAX],
 }

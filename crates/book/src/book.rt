@@ -6,6 +6,9 @@ ghost use Rattle.book.specs.Meaning.{load};
 ghost use lib.ListN.{length};
 ghost use Rattle.book.specs.tables.Rows.{Rowed};
 
+// Changes in a book, at most.
+pub const CHANGES_MAX: usize = 512;
+
 // What the book carries: its number of changes, its used bytes, and whether it is closed.
 pub struct Book {
     pub changes: u16,
@@ -25,7 +28,7 @@ impl Book {
     }
 
     // Whether the book and the bytes belong together, with a row for each change.
-    pub(crate) fn check_rows(self, log: &[u8], rows: &mut [u32; 512]) -> bool
+    pub(crate) fn check_rows(self, log: &[u8], rows: &mut [u32; CHANGES_MAX]) -> bool
         requires { ⌜ length (now rows) ≡ 512 ⌝ }
         ensures { λ r. ⌜ Rowed (load self (now (log .entry))) r (now (rows .exit)) ⌝ }
     {

@@ -9,6 +9,7 @@ use records::parse::parse_any;
 use records::parse::parse_change;
 use records::parse::parse_close;
 use records::parse::parse_take_back;
+use crate::book::CHANGES_MAX;
 ghost use Rattle.book.specs.Layer.{parse};
 ghost use Rattle.book.specs.Register.{listed, file, correct, withdraw, takeBack, close, change};
 ghost use Rattle.book.specs.Meaning.{Leaves, Meets, replyOf};
@@ -17,7 +18,7 @@ impl Book {
     fn enter(mut self, log: &mut [u8], rec: &[u8], want: Wanted) -> Done
         ensures { λ r. ⌜ Leaves (listed (parse want (now (rec .entry)))) self (now (log .entry)) (r .book) (replyOf (r .answer)) (now (log .exit)) ⌝ }
     {
-        let mut rows = [0u32; 512];
+        let mut rows = [0u32; CHANGES_MAX];
         if self.check_rows(log, &mut rows) {
             let p = parse_change(rec, want);
             if p.number != 0 {
@@ -57,7 +58,7 @@ impl Book {
     pub fn take_back(mut self, log: &[u8], rec: &[u8]) -> Done
         ensures { λ r. ⌜ Meets (takeBack (now (rec .entry))) self (now (log .entry)) (r .book) (replyOf (r .answer)) (now (log .entry)) ⌝ }
     {
-        let mut rows = [0u32; 512];
+        let mut rows = [0u32; CHANGES_MAX];
         if self.check_rows(log, &mut rows) {
             let m = parse_take_back(rec);
             if m != 0 {
@@ -77,7 +78,7 @@ impl Book {
     pub fn close(mut self, log: &[u8], rec: &[u8]) -> Done
         ensures { λ r. ⌜ Meets (close (now (rec .entry))) self (now (log .entry)) (r .book) (replyOf (r .answer)) (now (log .entry)) ⌝ }
     {
-        let mut rows = [0u32; 512];
+        let mut rows = [0u32; CHANGES_MAX];
         if self.check_rows(log, &mut rows) {
             let m = parse_close(rec);
             if m != 0 {
@@ -98,7 +99,7 @@ impl Book {
     pub fn change(mut self, log: &mut [u8], rec: &[u8]) -> Done
         ensures { λ r. ⌜ Meets (change (now (rec .entry))) self (now (log .entry)) (r .book) (replyOf (r .answer)) (now (log .exit)) ⌝ }
     {
-        let mut rows = [0u32; 512];
+        let mut rows = [0u32; CHANGES_MAX];
         if self.check_rows(log, &mut rows) {
             let p = parse_any(rec);
             if p.number != 0 {

@@ -4,6 +4,7 @@ use crate::log::index::bucket_of;
 use crate::book::Book;
 use money::refusals::NOT_TOGETHER;
 use records::parse::first_change;
+use crate::book::CHANGES_MAX;
 ghost use mathlib.Core.Path.{_≡_};
 ghost use mathlib.Core.List.{List};
 ghost use Prim.Native.Nat.{ℕ, _≤_};
@@ -44,7 +45,7 @@ fn search_from(latest: u16, changes: u16) -> usize
 }
 
 // Takes the records into a book that was checked, up to the first that is refused. Each is read once.
-fn feed_held(mut book: Book, log: &mut [u8], rows: &mut [u32; 512], input: &[u8]) -> Fed
+fn feed_held(mut book: Book, log: &mut [u8], rows: &mut [u32; CHANGES_MAX], input: &[u8]) -> Fed
     requires { ⌜ Checked book (now log) (now rows) ⌝ }
     ensures { λ r. ⌜ ((l : List Change) → load book (now (log .entry)) ≡ belongs l → Ends (feeding (length (now (log .entry))) (record { list = l; closed = book .closed }) (now (input .entry))) (now (log .entry)) r (now (log .exit))) ⌝ }
 {
@@ -83,7 +84,7 @@ pub fn feed(mut book: Book, log: &mut [u8], input: &[u8]) -> Fed
     if input.len() == 0 {
         return fed_so(book, 0, 0, 0);
     }
-    let mut rows = [0u32; 512];
+    let mut rows = [0u32; CHANGES_MAX];
     if book.check_rows(log, &mut rows) {
         return feed_held(book, log, &mut rows, input);
     }

@@ -9,6 +9,7 @@ use money::refusals::NO_SUCH_KEY;
 use money::refusals::NOT_TOGETHER;
 use records::keys::ask_hour;
 use records::keys::ask_key;
+use crate::book::CHANGES_MAX;
 ghost use Rattle.book.specs.Register.{ask, recordOf, countOf, freeBytes};
 ghost use Rattle.book.specs.Meaning.{Meets, replyOf};
 
@@ -17,7 +18,7 @@ impl Book {
     pub fn record_of(self, log: &[u8], mark: &[u8], hour: u8, name: &[u8]) -> Answer
         ensures { λ r. ⌜ Meets (ask (recordOf (now (mark .entry)) hour (now (name .entry)))) self (now (log .entry)) self (replyOf r) (now (log .entry)) ⌝ }
     {
-        let mut rows = [0u32; 512];
+        let mut rows = [0u32; CHANGES_MAX];
         if self.check_rows(log, &mut rows) {
             let q = ask_key(mark, hour, name);
             if q.number != 0 {
@@ -38,7 +39,7 @@ impl Book {
     pub fn count_of(self, log: &[u8], mark: &[u8], hour: u8) -> Answer
         ensures { λ r. ⌜ Meets (ask (countOf (now (mark .entry)) hour)) self (now (log .entry)) self (replyOf r) (now (log .entry)) ⌝ }
     {
-        let mut rows = [0u32; 512];
+        let mut rows = [0u32; CHANGES_MAX];
         if self.check_rows(log, &mut rows) {
             let q = ask_hour(mark, hour);
             if q.number != 0 {
@@ -53,7 +54,7 @@ impl Book {
     pub fn free_bytes(self, log: &[u8]) -> Answer
         ensures { λ r. ⌜ Meets (ask freeBytes) self (now (log .entry)) self (replyOf r) (now (log .entry)) ⌝ }
     {
-        let mut rows = [0u32; 512];
+        let mut rows = [0u32; CHANGES_MAX];
         if self.check_rows(log, &mut rows) {
             let used = self.used as usize;
             let most = refusal::capacity(log.len());

@@ -22,6 +22,7 @@ use Rattle.book.specs.Meaning.{belongs, load, bookOf, outcome, Meets}
 use Rattle.book.specs.Session.{Session, next, Undo, Shows}
 use Rattle.demands.specs.Checks.{first, checks}
 use Rattle.demands.specs.Formulas.{Formulas}
+use Rattle.money.specs.Units.{dayHours}
 
 -- ---- demand 1
 
@@ -92,8 +93,8 @@ pub record Amounts (b : Book) (s : List ℕ) (l : List Change) : Type 0 where
   -- "Day total of a unit = .. over all its intervals, plus its start-up amounts (120 ticks a cent). The reversal is max(0, -total)."
   pub day : (n : List ℕ) (k : Key) (t : List ℕ) → askUnit n ≡ got k t → first (checks (ask (dayOf n)) b s) ≡ 0
       → (b′ : Book) (r : Reply) (s′ : List ℕ) → Meets (ask (dayOf n)) b s b′ r s′
-      → r ≡ unitDay (Σℤ 24 (λ (j : ℕ). hourTicks (unitAt k (standing l) j) (priceOf (standing l) (1 + j))))
-      (maxℤ (pos 0) (negℤ (Σℤ 24 (λ (j : ℕ). hourTicks (unitAt k (standing l) j) (priceOf (standing l) (1 + j))))))
+      → r ≡ unitDay (Σℤ dayHours (λ (j : ℕ). hourTicks (unitAt k (standing l) j) (priceOf (standing l) (1 + j))))
+      (maxℤ (pos 0) (negℤ (Σℤ dayHours (λ (j : ℕ). hourTicks (unitAt k (standing l) j) (priceOf (standing l) (1 + j))))))
   -- "a failure charge" of an `FI` or `FE` that stands, at its hour's PD price
   pub failure : (m : List ℕ) (h : ℕ) (n : List ℕ) (k : Key) (t : List ℕ) → askFailure m h n ≡ got k t
       → (x : Rec) → pick k (standing l) ≡ is x → (p : HourPrices) → priceOf (standing l) (k .hour) ≡ priced p

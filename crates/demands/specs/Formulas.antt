@@ -10,7 +10,7 @@ use lib.Signed.{ltZ}
 use lib.Dec.{leb, ltb}
 use Rattle.laws.specs.Ints.{minℤ, maxℤ}
 use Rattle.laws.specs.Sums.{Σℤ, Σℕ}
-use Rattle.money.specs.Units.{priceAt}
+use Rattle.money.specs.Units.{priceAt, intervals}
 use Rattle.money.specs.Offers.{P, Q, before, cost}
 use Rattle.money.specs.Names.{sameName}
 use Rattle.money.specs.Offset.{mqsi, precedes, upTo, adj}
@@ -42,7 +42,7 @@ part o q s = cond (ltb s (o .count)) (P o s *ℤ pos (q - before o s)) (pos 0)
 
 -- "-min(0, sum of OP over 12 intervals)" with "Profit OP = EMP × Q - C(Q)", q k being the quantity in interval k
 abbrev pub creditOver : Offer → List Price → (ℕ → ℕ) → ℤ
-creditOver o emp q = negℤ (minℤ (pos 0) (Σℤ 12 (λ (k : ℕ). priceAt emp k *ℤ pos (q k) -ℤ cost o (q k))))
+creditOver o emp q = negℤ (minℤ (pos 0) (Σℤ intervals (λ (k : ℕ). priceAt emp k *ℤ pos (q k) -ℤ cost o (q k))))
 
 -- "price × q - cost(q)" of a reserve in interval k
 abbrev pub net : Reserve → ℕ → ℕ → ℤ
@@ -87,7 +87,7 @@ pub record Formulas : Type 0 where
   -- an hour of "C1 + C2 - C3 - C4 over all its intervals, plus its start-up amounts (120 ticks a cent)"
   pub unit-hour : (r : Rec) (p : HourPrices)
       → hourTicks (is r) (priced p)
-      ≡ Σℤ 12 (λ (k : ℕ). C1 (unitHourOf r) (p .emp) k +ℤ C2 (unitHourOf r) (p .emp) k -ℤ C3 (unitHourOf r) (p .emp) k -ℤ C4 (unitHourOf r) (p .emp) k)
+      ≡ Σℤ intervals (λ (k : ℕ). C1 (unitHourOf r) (p .emp) k +ℤ C2 (unitHourOf r) (p .emp) k -ℤ C3 (unitHourOf r) (p .emp) k -ℤ C4 (unitHourOf r) (p .emp) k)
       +ℤ pos (unitHourOf r .startup .0 * 120)
   -- "The reversal is max(0, -total)"
   pub reversed : (total : ℤ) → reversal total ≡ maxℤ (pos 0) (negℤ total)

@@ -7,6 +7,10 @@ use lib.ListN.{getD, take}
 use Rattle.laws.specs.Sums.{every}
 use Rattle.money.specs.declared.names.Name.{Name}
 
+-- "1 to 12 bytes" of a decoded name
+abbrev pub maxName : ℕ
+maxName = 12
+
 -- the bytes of a decoded name
 abbrev pub decodedBytes : Name → List ℕ
 decodedBytes a = take (a .len) (a .bytes)
@@ -31,4 +35,4 @@ abbrev pub nameByteOk : ℕ → Bool
 nameByteOk b = leb 33 b && leb b 126
 
 unfoldable pub nameOk : Name → Bool
-nameOk a = (leb 1 (a .len) && leb (a .len) 12) && every (a .len) (λ i. nameByteOk (getD (a .bytes) i 0))
+nameOk a = (leb 1 (a .len) && leb (a .len) maxName) && every (a .len) (λ i. nameByteOk (getD (a .bytes) i 0))

@@ -1,3 +1,4 @@
+// The intertie offer guarantee: an import's credit for an hour.
 ghost use mathlib.Core.Path.{_≡_};
 ghost use Rattle.money.specs.Units.{quantityAt};
 ghost use Rattle.money.specs.Guarantee.{profits, credit, creditAnswer};

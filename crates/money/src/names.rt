@@ -1,12 +1,16 @@
+// Decoded names: their rule and their order.
 ghost use mathlib.Core.Path.{_≡_};
 ghost use Prim.Native.Nat.{min};
 ghost use lib.Dec.{eqb};
 ghost use Rattle.money.specs.Names.{decodedBytes, nameBefore, sameName, nameByteOk, nameOk};
 
+// Bytes of a decoded name, at most.
+pub const NAME_MAX: usize = 12;
+
 // A decoded name: its length, and places for twelve bytes.
 pub struct Name {
     pub len: u8,
-    pub bytes: [u8; 12],
+    pub bytes: [u8; NAME_MAX],
 }
 
 // The number of places that a name uses.

@@ -1,3 +1,4 @@
+// Offers: pairs of a price and a quantity, their rule, and what a quantity costs.
 ghost use mathlib.Core.Path.{_≡_};
 ghost use Prim.Native.Nat.{ℕ, _≤_, _<_};
 ghost use mathlib.Core.Bool.{_&&_};

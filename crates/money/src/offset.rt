@@ -1,3 +1,4 @@
+// The wheel offset of an hour.
 ghost use mathlib.Core.Path.{_≡_};
 ghost use Prim.Native.Nat.{ℕ, _<_, _+_, _-_, min};
 ghost use mathlib.Core.Bool.{_&&_};

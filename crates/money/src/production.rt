@@ -1,3 +1,4 @@
+// The production cost guarantee: a unit's hour and its day.
 ghost use mathlib.Core.Path.{_≡_};
 ghost use Prim.Native.Nat.{ℕ, _<_, _≤_, min};
 ghost use lib.IntN.{natAbs};

@@ -1,3 +1,4 @@
+// Prices, quantities and money, each a type of its own, and what a call answers.
 ghost use mathlib.Core.Path.{_≡_};
 ghost use Prim.Native.Nat.{ℕ, _<_, _≤_, _+_, _-_, _*_, min, max};
 ghost use lib.IntN.{ℤ, pos, negℤ, natAbs, _+ℤ_, _-ℤ_, _*ℤ_};

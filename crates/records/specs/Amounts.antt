@@ -34,6 +34,7 @@ use Rattle.records.specs.declared.amounts.UnitPart.{UnitPart}
 use Rattle.records.specs.declared.amounts.EntryAnswer.{EntryAnswer}
 use Rattle.records.specs.declared.amounts.PartAnswer.{PartAnswer}
 use Rattle.records.specs.declared.amounts.TotalsAnswer.{TotalsAnswer}
+use Rattle.money.specs.Units.{intervals}
 
 -- "An import's credit for an hour"
 abbrev pub creditFor : ImportFields → HourPrices → Answer
@@ -119,7 +120,7 @@ abbrev pub entryRead : HourPrices → Reader Import
 entryRead p s = ahead Im s >>= λ n t. import t >>= λ i u. given (creditFor i p) (entryFrom n i) u
 
 abbrev pub noEntry : Import
-noEntry = record { name = emptyName; credit = noTicks; quantities = pad noQuantity 12 []; offer = noOffer }
+noEntry = record { name = emptyName; credit = noTicks; quantities = pad noQuantity intervals []; offer = noOffer }
 
 abbrev pub entryAnswer : Res Import → EntryAnswer
 entryAnswer r = record { number = faultOf r; entry = valueOr noEntry r }
@@ -145,7 +146,7 @@ abbrev pub totalsRead : List Quantity → Reader (List Quantity)
 totalsRead ts s = viewed Ex export s >>= λ x t. got (totalsWith ts (x .mqsw)) t
 
 abbrev pub totalsAnswer : Res (List Quantity) → TotalsAnswer
-totalsAnswer r = record { number = faultOf r; totals = valueOr (pad noQuantity 12 []) r }
+totalsAnswer r = record { number = faultOf r; totals = valueOr (pad noQuantity intervals []) r }
 
 abbrev pub totalsWithIn : List ℕ → List Quantity → TotalsAnswer
 totalsWithIn s ts = totalsAnswer (totalsRead ts s)

@@ -17,6 +17,7 @@ use Rattle.records.specs.declared.marks.Mark.the-variants.{Gh}
 use Rattle.records.specs.declared.keys.Key.{Key}
 use Rattle.records.specs.declared.keys.KeyAnswer.{KeyAnswer}
 use Rattle.records.specs.declared.keys.NameAnswer.{NameAnswer}
+use Rattle.money.specs.Units.{dayHours}
 
 -- the same mark and hour
 unfoldable pub sameHour : Key → Key → Bool
@@ -45,7 +46,7 @@ askFailureMark ms = askMark ms >>= λ m t. check (isFailure m) markUnknown (got 
 
 -- a mark, then the hour, then the name
 unfoldable pub askFrom : Res Mark → ℕ → List ℕ → Res Key
-askFrom x h ns = x >>= λ m t. check (between 1 24 h) hourOutside (askName m ns >>= λ n u. got (record { mark = m; hour = h; name = n }) [])
+askFrom x h ns = x >>= λ m t. check (between 1 dayHours h) hourOutside (askName m ns >>= λ n u. got (record { mark = m; hour = h; name = n }) [])
 
 abbrev pub ask : List ℕ → ℕ → List ℕ → Res Key
 ask ms h ns = askFrom (askMark ms) h ns
@@ -55,7 +56,7 @@ askFailure ms h ns = askFrom (askFailureMark ms) h ns
 
 -- a mark and an hour alone
 unfoldable pub askHourOf : Mark → ℕ → Res Key
-askHourOf m h = check (between 1 24 h) hourOutside (got (record { mark = m; hour = h; name = emptyName }) [])
+askHourOf m h = check (between 1 dayHours h) hourOutside (got (record { mark = m; hour = h; name = emptyName }) [])
 
 unfoldable pub askHour : List ℕ → ℕ → Res Key
 askHour ms h = askMark ms >>= λ m t. askHourOf m h

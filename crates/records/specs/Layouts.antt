@@ -4,7 +4,7 @@ use mathlib.Core.Bool.{Bool, true, false, cond, _&&_}
 use Prim.Native.Nat.{ℕ, _-_}
 use lib.ListN.{length, take}
 use Rattle.money.specs.Refusals.{beyondList}
-use Rattle.money.specs.Units.{maxCents, withinOk}
+use Rattle.money.specs.Units.{maxCents, withinOk, intervals}
 use Rattle.money.specs.Offers.{lastQ}
 use Rattle.money.specs.declared.units.Price.{Price}
 use Rattle.money.specs.declared.units.Quantity.{Quantity}
@@ -29,28 +29,28 @@ within o qs = withinOk qs (lastQ o)
 
 -- "`PR`: hour byte 1 to 24, 12 EMP i32, PD price i32"
 unfoldable pub hourPrices : Reader HourPrices
-hourPrices s = many 12 price s >>= λ es s. price s >>= λ p s. got (record { emp = es; pd = p }) s
+hourPrices s = many intervals price s >>= λ es s. price s >>= λ p s. got (record { emp = es; pd = p }) s
 
 -- "`IM`: hour, name, 12 MQSI u32, list"
 unfoldable pub import : Reader Import
 import s =
-    many 12 quantity s >>= λ qs s. listFrom 1 s >>= λ o s.
+    many intervals quantity s >>= λ qs s. listFrom 1 s >>= λ o s.
     check (within o qs) beyondList (got (record { mqsi = qs; offer = o }) s)
 
 -- "`EX`: hour, name, 12 MQSW"
 unfoldable pub export : Reader Export
-export s = many 12 quantity s >>= λ qs s. got (record { mqsw = qs }) s
+export s = many intervals quantity s >>= λ qs s. got (record { mqsw = qs }) s
 
 -- "`GH`: hour, name, start-up cents u32 .., speed no-load cents u32 .., 12 of each D, R, U, A, K,"
 unfoldable pub schedules : Reader Schedules
 schedules s =
     amount maxCents s >>= λ su s. amount maxCents s >>= λ nl s.
-    many 12 quantity s >>= λ d s. many 12 quantity s >>= λ r s. many 12 quantity s >>= λ u s. many 12 quantity s >>= λ a s. many 12 quantity s >>= λ k s.
+    many intervals quantity s >>= λ d s. many intervals quantity s >>= λ r s. many intervals quantity s >>= λ u s. many intervals quantity s >>= λ a s. many intervals quantity s >>= λ k s.
     got (record { startup = record { 0 = su }; noload = record { 0 = nl }; ahead = d; constrained = r; unconstrained = u; metered = a; capacity = k }) s
 
 -- "then for each of the three reserves, in C4's order, 12 prices and 12 schedules,"
 unfoldable pub reserveRows : Reader ReserveRows
-reserveRows s = many 12 price s >>= λ ps s. many 12 quantity s >>= λ qs s. got (record { prices = ps; schedules = qs }) s
+reserveRows s = many intervals price s >>= λ ps s. many intervals quantity s >>= λ qs s. got (record { prices = ps; schedules = qs }) s
 
 -- "A reserve list may be empty if its schedules are all 0, else count 0 gives 6"
 abbrev pub fewest : List Quantity → ℕ

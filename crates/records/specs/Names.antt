@@ -6,11 +6,15 @@ use lib.Dec.{ltb, eqb}
 use lib.ListN.{length, take}
 use Rattle.laws.specs.Text.{char}
 use Rattle.money.specs.Refusals.{nameFault}
-use Rattle.money.specs.Names.{nameOk}
+use Rattle.money.specs.Names.{nameOk, maxName}
 use Rattle.money.specs.declared.names.Name.{Name}
 use Rattle.records.specs.Reading.{Res, bad, got, Reader, _>>=_, check, byte, some}
 use Rattle.records.specs.Numbers.{between, pad}
 use Rattle.records.specs.declared.names.Spelling.{Spelling}
+
+-- a written name is "1 to 36 bytes"
+abbrev pub maxSpelling : ℕ
+maxSpelling = 36
 
 -- "bytes 0x21 to 0x7E"
 unfoldable pub visible : ℕ → Bool
@@ -43,11 +47,11 @@ upTo (suc n) (x ∷ s) = one (x ∷ s) >>= λ v t. upTo n t >>= λ vs u. got (v 
 
 -- "a length byte 1 to 36 .. Decoded exactly once, 1 to 12 bytes, each 0x21 to 0x7E"
 unfoldable pub decodeName : Reader (List ℕ)
-decodeName s = check (between 1 36 (length s)) nameFault (upTo 12 s)
+decodeName s = check (between 1 maxSpelling (length s)) nameFault (upTo maxName s)
 
 -- "Name: a length byte 1 to 36, then that many bytes"; "a name's length byte .. by [itself]"
 unfoldable pub nameField : Reader (List ℕ)
-nameField s = byte s >>= λ n t. check (between 1 36 n) nameFault (some n t >>= λ bs u. decodeName bs >>= λ vs z. got vs u)
+nameField s = byte s >>= λ n t. check (between 1 maxSpelling n) nameFault (some n t >>= λ bs u. decodeName bs >>= λ vs z. got vs u)
 
 -- ---- writing
 
@@ -72,7 +76,7 @@ spell (x ∷ xs) = spellByte x ++ spell xs
 -- ---- a decoded name as a key holds it: its length, and its bytes with zeros behind them
 
 abbrev pub nameFrom : List ℕ → Name
-nameFrom n = record { len = length n; bytes = pad 0 12 n }
+nameFrom n = record { len = length n; bytes = pad 0 maxName n }
 
 abbrev pub bytesOf : Name → List ℕ
 bytesOf n = take (n .len) (n .bytes)
@@ -88,7 +92,7 @@ storedName r = r >>= λ n t. got (nameFrom n) t
 -- ---- a name as it is written, with zeros behind it: number 0, or "name breaks its rule" of one that is none, and no bytes
 
 abbrev pub spellingBytes : ℕ → List ℕ → Spelling
-spellingBytes k s = record { number = k; len = length s; bytes = pad 0 36 s }
+spellingBytes k s = record { number = k; len = length s; bytes = pad 0 maxSpelling s }
 
 unfoldable pub spellingOf : Name → Spelling
 spellingOf n = cond (nameOk n) (spellingBytes 0 (spell (bytesOf n))) (spellingBytes nameFault [])

@@ -6,8 +6,8 @@ use lib.Dec.{ltb, leb, eqb}
 use lib.IntN.{ℤ, pos, negsuc}
 use lib.ListN.{length}
 use Rattle.money.specs.Refusals.{endsEarly, hourOutside, numberOutside, listFault}
-use Rattle.money.specs.Units.{priceOk, quantityOk, noPrice, noQuantity}
-use Rattle.money.specs.Offers.{offerFault}
+use Rattle.money.specs.Units.{priceOk, quantityOk, noPrice, noQuantity, dayHours}
+use Rattle.money.specs.Offers.{offerFault, maxPairs}
 use Rattle.money.specs.declared.units.Price.{Price}
 use Rattle.money.specs.declared.units.Quantity.{Quantity}
 use Rattle.money.specs.declared.offers.Offer.{Offer}
@@ -44,7 +44,7 @@ amount most s = word s >>= λ v t. check (leb v most) numberOutside (got v t)
 
 -- "hour byte 1 to 24"
 unfoldable pub hour : Reader ℕ
-hour s = byte s >>= λ h t. check (between 1 24 h) hourOutside (got h t)
+hour s = byte s >>= λ h t. check (between 1 dayHours h) hourOutside (got h t)
 
 -- "(i32 price, u32 quantity) pairs"
 unfoldable pub pair : Reader (Price × Quantity)
@@ -58,7 +58,7 @@ pad z (suc n) (x ∷ xs) = x ∷ pad z n xs
 
 -- "An offer holds its count and places for 20 pairs"
 abbrev pub offerOf : List (Price × Quantity) → Offer
-offerOf xs = record { count = length xs; prices = pad noPrice 20 (map (λ x. x .0) xs); quantities = pad noQuantity 20 (map (λ x. x .1) xs) }
+offerOf xs = record { count = length xs; prices = pad noPrice maxPairs (map (λ x. x .0) xs); quantities = pad noQuantity maxPairs (map (λ x. x .1) xs) }
 
 unfoldable pub pairs : ℕ → Reader Offer
 pairs n s = many n pair s >>= λ xs t. got (offerOf xs) t
@@ -71,4 +71,4 @@ listOk o = eqb (o .count) 0 || eqb (offerFault o) 0
 -- "List: count byte, then (i32 price, u32 quantity) pairs"; "a list's count by [itself], a list's order after its last pair".
 -- The least count is lo.
 unfoldable pub listFrom : ℕ → Reader Offer
-listFrom lo s = byte s >>= λ n t. check (between lo 20 n) listFault (pairs n t >>= λ o u. check (listOk o) listFault (got o u))
+listFrom lo s = byte s >>= λ n t. check (between lo maxPairs n) listFault (pairs n t >>= λ o u. check (listOk o) listFault (got o u))

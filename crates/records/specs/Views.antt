@@ -2,7 +2,7 @@
 use mathlib.Core.List.{List, []}
 use Prim.Native.Nat.{ℕ}
 use Rattle.money.specs.Refusals.{markUnknown}
-use Rattle.money.specs.Units.{noPrice, noQuantity}
+use Rattle.money.specs.Units.{noPrice, noQuantity, intervals}
 use Rattle.money.specs.declared.names.Name.{Name}
 use Rattle.money.specs.declared.offers.Offer.{Offer}
 use Rattle.money.specs.declared.production.Reserve.{Reserve}
@@ -42,26 +42,26 @@ abbrev pub noOffer : Offer
 noOffer = offerOf []
 
 abbrev pub noPrices : HourPrices
-noPrices = record { emp = pad noPrice 12 []; pd = noPrice }
+noPrices = record { emp = pad noPrice intervals []; pd = noPrice }
 
 abbrev pub noImport : Import
-noImport = record { mqsi = pad noQuantity 12 []; offer = noOffer }
+noImport = record { mqsi = pad noQuantity intervals []; offer = noOffer }
 
 abbrev pub noExport : Export
-noExport = record { mqsw = pad noQuantity 12 [] }
+noExport = record { mqsw = pad noQuantity intervals [] }
 
 abbrev pub noReserve : Reserve
-noReserve = record { prices = pad noPrice 12 []; schedules = pad noQuantity 12 []; offer = noOffer }
+noReserve = record { prices = pad noPrice intervals []; schedules = pad noQuantity intervals []; offer = noOffer }
 
 abbrev pub noUnit : UnitHour
 noUnit = record {
   startup = record { 0 = 0 };
   noload = record { 0 = 0 };
-  ahead = pad noQuantity 12 [];
-  constrained = pad noQuantity 12 [];
-  unconstrained = pad noQuantity 12 [];
-  metered = pad noQuantity 12 [];
-  capacity = pad noQuantity 12 [];
+  ahead = pad noQuantity intervals [];
+  constrained = pad noQuantity intervals [];
+  unconstrained = pad noQuantity intervals [];
+  metered = pad noQuantity intervals [];
+  capacity = pad noQuantity intervals [];
   spinning = noReserve;
   nonspinning = noReserve;
   thirty = noReserve;

@@ -1,3 +1,4 @@
+// The amounts of a written record, at its hour's prices.
 use crate::fields::End;
 use crate::layouts;
 use crate::layouts::HourPrices;
@@ -27,6 +28,8 @@ use money::units::Answer;
 use money::units::CentsPerStart;
 use money::units::Quantity;
 use money::units::Ticks;
+use money::units::HOURS;
+use money::units::INTERVALS;
 ghost use mathlib.Core.Path.{_≡_};
 ghost use mathlib.Core.List.{[]};
 ghost use Rattle.records.specs.Amounts.{offsetAnswer, dayAnswer, creditFor, creditIn, unitAmountIn, chargeFor, chargeIn, given, entryFrom, noEntry, entryAnswer, offsetEntryIn, noPart, unitPartIn, totalsWithIn};
@@ -106,7 +109,7 @@ fn no_entry(number: u8) -> EntryAnswer
     ensures { λ r. ⌜ r ≡ record { number = number; entry = noEntry } ⌝ }
 {
     let name = no_name();
-    let quantities = [Quantity(0); 12];
+    let quantities = [Quantity(0); INTERVALS];
     let offer = no_offer();
     EntryAnswer {
         number,
@@ -204,17 +207,17 @@ pub fn unit_part(s: &[u8], prices: HourPrices) -> PartAnswer
 
 pub struct TotalsAnswer {
     pub number: u8,
-    pub totals: [Quantity; 12],
+    pub totals: [Quantity; INTERVALS],
 }
 
 // The export totals with those of one more export.
-pub fn totals_with_export(s: &[u8], totals: [Quantity; 12]) -> TotalsAnswer
+pub fn totals_with_export(s: &[u8], totals: [Quantity; INTERVALS]) -> TotalsAnswer
     ensures { λ r. ⌜ r ≡ totalsWithIn (now (s .entry)) totals ⌝ }
 {
     let x = export_of(s);
     let number = x.number;
     if number != 0 {
-        let none = [Quantity(0); 12];
+        let none = [Quantity(0); INTERVALS];
         return TotalsAnswer {
             number,
             totals: none,
@@ -236,7 +239,7 @@ pub fn hour_offset(
     count: u8,
     entries: [Import; IMPORTS_MAX],
     prices: HourPrices,
-    totals: [Quantity; 12],
+    totals: [Quantity; INTERVALS],
 ) -> Answer
     ensures { λ r. ⌜ r ≡ offsetAnswer count entries (prices .emp) totals ⌝ }
 {
@@ -245,7 +248,7 @@ pub fn hour_offset(
 }
 
 // The day total and the reversal of 24 hours' amounts and start-ups.
-pub fn day_of(ticks: [Ticks; 24], starts: [CentsPerStart; 24]) -> DayAnswer
+pub fn day_of(ticks: [Ticks; HOURS], starts: [CentsPerStart; HOURS]) -> DayAnswer
     ensures { λ r. ⌜ r ≡ dayAnswer ticks starts ⌝ }
 {
     unit_day(ticks, starts)

@@ -1,3 +1,4 @@
+// A change as it is read: mark, hour, name and fields.
 use crate::fields::End;
 use crate::fields::hour_then;
 use crate::fields::place;

@@ -1,3 +1,4 @@
+// One field at a place of some bytes: a byte, a number, an hour.
 use money::refusals::HOUR_OUTSIDE;
 use money::refusals::ENDS_EARLY;
 use money::refusals::NUMBER_OUTSIDE;

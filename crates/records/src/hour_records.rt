@@ -11,6 +11,7 @@ use crate::marks::head_at;
 use money::names::Name;
 use money::refusals::HOUR_OUTSIDE;
 use money::refusals::MARK_UNKNOWN;
+use money::names::NAME_MAX;
 ghost use mathlib.Core.Path.{_≡_};
 ghost use Rattle.records.specs.HourRecord.{ofHour, sameAs, hourRecord, hourFrontOf};
 ghost use Rattle.records.specs.Changes.{change, noKey};
@@ -63,7 +64,7 @@ fn start_of(s: &[u8], first: u8) -> End
 fn no_record(number: u8) -> HourFront
     ensures { λ r. ⌜ r ≡ record { number = number; key = noKey; end = 0 } ⌝ }
 {
-    let bytes = [0u8; 12];
+    let bytes = [0u8; NAME_MAX];
     HourFront {
         number,
         key: Key {

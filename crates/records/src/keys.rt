@@ -1,3 +1,4 @@
+// Keys, and the key that a question asks for.
 use crate::fields::End;
 use crate::fields::guard_end;
 use crate::marks::Mark;
@@ -16,6 +17,7 @@ use money::names::same_name;
 use money::refusals::HOUR_OUTSIDE;
 use money::refusals::NAME_FAULT;
 use money::refusals::MARK_UNKNOWN;
+use money::names::NAME_MAX;
 ghost use mathlib.Core.Path.{_≡_};
 ghost use mathlib.Core.List.{List};
 ghost use Prim.Native.Nat.{ℕ};
@@ -103,7 +105,7 @@ pub(crate) fn hour_ok(hour: u8) -> bool
 pub fn key_of(mark: Mark, hour: u8) -> Key
     ensures { λ r. ⌜ r ≡ record { mark = mark; hour = hour; name = emptyName } ⌝ }
 {
-    let bytes = [0u8; 12];
+    let bytes = [0u8; NAME_MAX];
     Key {
         mark,
         hour,
@@ -114,7 +116,7 @@ pub fn key_of(mark: Mark, hour: u8) -> Key
 pub(crate) fn key_no(n: u8) -> KeyAnswer
     ensures { λ r. ⌜ r ≡ record { number = n; key = noKey } ⌝ }
 {
-    let bytes = [0u8; 12];
+    let bytes = [0u8; NAME_MAX];
     KeyAnswer {
         number: n,
         key: Key {

@@ -1,3 +1,4 @@
+// The fields of each record, one layout for each mark.
 use crate::fields::End;
 use crate::fields::amount_then;
 use crate::fields::guard_end;
@@ -18,6 +19,7 @@ use money::units::CentsPerHour;
 use money::units::CentsPerStart;
 use money::units::Price;
 use money::units::Quantity;
+use money::units::INTERVALS;
 ghost use mathlib.Core.Path.{_≡_};
 ghost use Prim.Native.Nat.{ℕ, _≤_};
 ghost use Rattle.records.specs.Layouts.{hourPrices, import, export, failure, schedules, reserveRows, fewest, lists, within, allWithin, unitOf, unit, layout};
@@ -25,17 +27,17 @@ ghost use Rattle.records.specs.tables.Inner.{shown, EndIn, ListsIs, then
 
 // The hour's energy prices, and its pre-dispatch price.
 pub struct HourPrices {
-    pub emp: [Price; 12],
+    pub emp: [Price; INTERVALS],
     pub pd: Price,
 }
 
 pub struct Import {
-    pub mqsi: [Quantity; 12],
+    pub mqsi: [Quantity; INTERVALS],
     pub offer: Offer,
 }
 
 pub struct Export {
-    pub mqsw: [Quantity; 12],
+    pub mqsw: [Quantity; INTERVALS],
 }
 
 pub struct HourPricesRead {
@@ -68,11 +70,11 @@ pub struct UnitRead {
 pub struct Schedules {
     pub startup: CentsPerStart,
     pub noload: CentsPerHour,
-    pub ahead: [Quantity; 12],
-    pub constrained: [Quantity; 12],
-    pub unconstrained: [Quantity; 12],
-    pub metered: [Quantity; 12],
-    pub capacity: [Quantity; 12],
+    pub ahead: [Quantity; INTERVALS],
+    pub constrained: [Quantity; INTERVALS],
+    pub unconstrained: [Quantity; INTERVALS],
+    pub metered: [Quantity; INTERVALS],
+    pub capacity: [Quantity; INTERVALS],
 }
 
 pub struct SchedulesRead {
@@ -81,8 +83,8 @@ pub struct SchedulesRead {
 }
 
 pub struct ReserveRows {
-    pub prices: [Price; 12],
-    pub schedules: [Quantity; 12],
+    pub prices: [Price; INTERVALS],
+    pub schedules: [Quantity; INTERVALS],
 }
 
 pub struct ReserveRowsRead {
@@ -227,7 +229,7 @@ fn reserve_rows_then(s: &[u8], e: End) -> ReserveRowsRead
 }
 
 // The least count of a reserve's list: 0 if its schedules are all 0.
-fn fewest_of(schedules: [Quantity; 12]) -> u32
+fn fewest_of(schedules: [Quantity; INTERVALS]) -> u32
     ensures { λ r. ⌜ r ≡ fewest schedules ⌝ }
 {
     if within(schedules, 0) { 0 } else { 1 }
@@ -236,9 +238,9 @@ fn fewest_of(schedules: [Quantity; 12]) -> u32
 fn lists_then(
     s: &[u8],
     e: End,
-    s1: [Quantity; 12],
-    s2: [Quantity; 12],
-    s3: [Quantity; 12],
+    s1: [Quantity; INTERVALS],
+    s2: [Quantity; INTERVALS],
+    s3: [Quantity; INTERVALS],
 ) -> ListsRead
     ensures { λ r. ⌜ ListsIs (now (s .entry)) (then (now (s .entry)) e (lists s1 s2 s3)) r ⌝ }
 {
@@ -269,7 +271,7 @@ fn lists_then(
     }
 }
 
-fn inside_list(o: Offer, values: [Quantity; 12]) -> bool
+fn inside_list(o: Offer, values: [Quantity; INTERVALS]) -> bool
     requires { ⌜ o .count ≤ 20 ⌝ }
     ensures { λ r. ⌜ r ≡ within o values ⌝ }
 {
@@ -280,10 +282,10 @@ fn inside_list(o: Offer, values: [Quantity; 12]) -> bool
 // D within both lists, each reserve schedule within its own.
 fn all_inside(
     l: Lists,
-    d: [Quantity; 12],
-    s1: [Quantity; 12],
-    s2: [Quantity; 12],
-    s3: [Quantity; 12],
+    d: [Quantity; INTERVALS],
+    s1: [Quantity; INTERVALS],
+    s2: [Quantity; INTERVALS],
+    s3: [Quantity; INTERVALS],
 ) -> bool
     requires { ⌜ (l .ahead .count ≤ 20) × (l .real .count ≤ 20) × (l .spinning .count ≤ 20) × (l .nonspinning .count ≤ 20) × (l .thirty .count ≤ 20) ⌝ }
     ensures { λ r. ⌜ r ≡ allWithin l d s1 s2 s3 ⌝ }

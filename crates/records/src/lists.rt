@@ -1,3 +1,4 @@
+// Lists of pairs of a price and a quantity.
 use crate::fields::End;
 use crate::fields::Num;
 use crate::fields::PriceAt;
@@ -10,6 +11,7 @@ use money::offers::offer_fault;
 use money::refusals::LIST_FAULT;
 use money::units::Price;
 use money::units::Quantity;
+use money::offers::PAIRS_MAX;
 ghost use mathlib.Core.Path.{_≡_};
 ghost use Prim.Native.Nat.{ℕ, _≤_};
 ghost use lib.ListN.{length};
@@ -47,8 +49,8 @@ fn read_pair(s: &[u8], at: usize) -> PairAt
 fn offer_no(k: u8) -> OfferRead
     ensures { λ r. ⌜ (r .end ≡ End.No k) × (r .offer .count ≡ 0) ⌝ }
 {
-    let prices = [Price(0); 20];
-    let quantities = [Quantity(0); 20];
+    let prices = [Price(0); PAIRS_MAX];
+    let quantities = [Quantity(0); PAIRS_MAX];
     OfferRead {
         end: End::No(k),
         offer: Offer {
@@ -64,8 +66,8 @@ fn read_pairs(s: &[u8], at: usize, n: usize) -> OfferRead
     requires { ⌜ (n ≤ 20) × (at ≤ length (now s)) ⌝ }
     ensures { λ r. ⌜ OfferIs (now (s .entry)) (pairs n (from (now (s .entry)) at)) r ⌝ }
 {
-    let mut prices = [Price(0); 20];
-    let mut quantities = [Quantity(0); 20];
+    let mut prices = [Price(0); PAIRS_MAX];
+    let mut quantities = [Quantity(0); PAIRS_MAX];
     let mut next = at;
     let mut i: usize = 0;
     while i < n {

@@ -1,3 +1,4 @@
+// Marks: of records, and of the changes that bear them.
 use crate::fields::End;
 use money::refusals::ENDS_EARLY;
 use money::refusals::MARK_UNKNOWN;

@@ -1,3 +1,4 @@
+// Names: read in any spelling, decoded once, written in one spelling.
 use crate::fields::End;
 use crate::fields::Num;
 use crate::fields::read_byte;
@@ -6,6 +7,7 @@ use money::names::name_before;
 use money::names::name_ok;
 use money::refusals::NAME_FAULT;
 use money::refusals::ENDS_EARLY;
+use money::names::NAME_MAX;
 ghost use mathlib.Core.Path.{_≡_};
 ghost use Prim.Native.Nat.{ℕ, _+_, _≤_, _<_};
 ghost use lib.ListN.{length};
@@ -19,11 +21,14 @@ pub struct NameRead {
     pub name: Name,
 }
 
+// Bytes of a written name, at most: each byte of a decoded one takes three.
+pub const SPELLING_MAX: usize = 36;
+
 // The written spelling of a name: its length, and places for thirty-six bytes; or the number 4 of a name that is none.
 pub struct Spelling {
     pub number: u8,
     pub len: u8,
-    pub bytes: [u8; 36],
+    pub bytes: [u8; SPELLING_MAX],
 }
 
 pub enum Chr {
@@ -109,7 +114,7 @@ fn one_at(s: &[u8], at: usize) -> Chr
 pub fn no_name() -> Name
     ensures { λ r. ⌜ r ≡ emptyName ⌝ }
 {
-    let bytes = [0u8; 12];
+    let bytes = [0u8; NAME_MAX];
     Name { len: 0, bytes }
 }
 
@@ -135,7 +140,7 @@ pub(crate) fn decode(spelled: &[u8]) -> NameRead
     if 36 < spelled.len() {
         return name_no(NAME_FAULT);
     }
-    let mut bytes = [0u8; 12];
+    let mut bytes = [0u8; NAME_MAX];
     let mut n: usize = 0;
     let mut at: usize = 0;
     while at < spelled.len() {
@@ -233,7 +238,7 @@ pub(crate) fn write_name(name: Name, out: &mut [u8], at: usize) -> usize
 pub fn spell_name(name: Name) -> Spelling
     ensures { λ r. ⌜ r ≡ spellingOf name ⌝ }
 {
-    let mut bytes = [0u8; 36];
+    let mut bytes = [0u8; SPELLING_MAX];
     if !name_ok(name) {
         return Spelling {
             number: NAME_FAULT,

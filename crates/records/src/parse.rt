@@ -1,3 +1,4 @@
+// What the bytes of an argument are: a change, or any of the ten marks.
 use crate::changes::read_change;
 use crate::fields::End;
 use crate::keys::Key;

@@ -1,3 +1,4 @@
+// Twelve prices, or twelve quantities, one for each interval.
 use crate::fields::End;
 use crate::fields::PriceAt;
 use crate::fields::QuantityAt;
@@ -5,6 +6,7 @@ use crate::fields::read_price;
 use crate::fields::read_quantity;
 use money::units::Price;
 use money::units::Quantity;
+use money::units::INTERVALS;
 ghost use mathlib.Core.Path.{_≡_};
 ghost use Rattle.money.specs.Units.{withinOk};
 ghost use Rattle.records.specs.Reading.{from, many};
@@ -13,18 +15,18 @@ ghost use Rattle.records.specs.tables.Inner.{shown, EndIn, then};
 
 pub struct PriceRow {
     pub end: End,
-    pub values: [Price; 12],
+    pub values: [Price; INTERVALS],
 }
 
 pub struct QuantityRow {
     pub end: End,
-    pub values: [Quantity; 12],
+    pub values: [Quantity; INTERVALS],
 }
 
 fn read_prices(s: &[u8], at: usize) -> PriceRow
     ensures { λ r. ⌜ (shown (now (s .entry)) (r .end) (r .values) ≡ many 12 price (from (now (s .entry)) at)) × EndIn (now (s .entry)) (r .end) ⌝ }
 {
-    let mut values = [Price(0); 12];
+    let mut values = [Price(0); INTERVALS];
     let mut next = at;
     let mut i: usize = 0;
     while i < 12 {
@@ -52,7 +54,7 @@ fn read_prices(s: &[u8], at: usize) -> PriceRow
 fn read_quantities(s: &[u8], at: usize) -> QuantityRow
     ensures { λ r. ⌜ (shown (now (s .entry)) (r .end) (r .values) ≡ many 12 quantity (from (now (s .entry)) at)) × EndIn (now (s .entry)) (r .end) ⌝ }
 {
-    let mut values = [Quantity(0); 12];
+    let mut values = [Quantity(0); INTERVALS];
     let mut next = at;
     let mut i: usize = 0;
     while i < 12 {
@@ -83,7 +85,7 @@ pub(crate) fn prices_then(s: &[u8], e: End) -> PriceRow
     match e {
         End::At(at) => read_prices(s, at),
         End::No(k) => {
-            let values = [Price(0); 12];
+            let values = [Price(0); INTERVALS];
             PriceRow {
                 end: End::No(k),
                 values,
@@ -98,7 +100,7 @@ pub(crate) fn quantities_then(s: &[u8], e: End) -> QuantityRow
     match e {
         End::At(at) => read_quantities(s, at),
         End::No(k) => {
-            let values = [Quantity(0); 12];
+            let values = [Quantity(0); INTERVALS];
             QuantityRow {
                 end: End::No(k),
                 values,
@@ -108,7 +110,7 @@ pub(crate) fn quantities_then(s: &[u8], e: End) -> QuantityRow
 }
 
 // No quantity of a row lies beyond the last of a list.
-pub(crate) fn within(values: [Quantity; 12], last: u32) -> bool
+pub(crate) fn within(values: [Quantity; INTERVALS], last: u32) -> bool
     ensures { λ r. ⌜ r ≡ withinOk values last ⌝ }
 {
     let mut i: usize = 0;

@@ -1,3 +1,4 @@
+// What the written bytes of a book are.
 use crate::changes::read_change;
 use crate::fields::End;
 use crate::keys::Key;
@@ -7,6 +8,7 @@ use crate::marks::Mark;
 use crate::marks::Wanted;
 use crate::writing::head_of;
 use money::names::Name;
+use money::names::NAME_MAX;
 ghost use mathlib.Core.Path.{_≡_};
 ghost use Rattle.records.specs.Changes.{isRecord, kindIn, unseen, begins, scan, viewOf};
 
@@ -64,7 +66,7 @@ pub fn starts(s: &[u8], front: &[u8]) -> bool
 pub fn nothing() -> View
     ensures { λ r. ⌜ r ≡ viewOf unseen ⌝ }
 {
-    let bytes = [0u8; 12];
+    let bytes = [0u8; NAME_MAX];
     View {
         act: Act::Nothing,
         key: Key {

@@ -1,3 +1,4 @@
+// The fields of a written record as the money rules take them.
 use crate::changes::name_then;
 use crate::fields::End;
 use crate::fields::guard_end;
@@ -26,6 +27,8 @@ use money::units::CentsPerHour;
 use money::units::CentsPerStart;
 use money::units::Price;
 use money::units::Quantity;
+use money::offers::PAIRS_MAX;
+use money::units::INTERVALS;
 ghost use mathlib.Core.Path.{_≡_};
 ghost use mathlib.Core.Bool.{Bool, true, false};
 ghost use Rattle.records.specs.Layouts.{hourPrices, import, export, unit};
@@ -76,8 +79,8 @@ pub(crate) fn fields_at(s: &[u8], mark: Mark) -> NameRead
 pub(crate) fn no_offer() -> Offer
     ensures { λ r. ⌜ r ≡ noOffer ⌝ }
 {
-    let prices = [Price(0); 20];
-    let quantities = [Quantity(0); 20];
+    let prices = [Price(0); PAIRS_MAX];
+    let quantities = [Quantity(0); PAIRS_MAX];
     Offer {
         count: 0,
         prices,
@@ -98,7 +101,7 @@ pub fn prices_of(s: &[u8]) -> PricesAnswer
             PricesAnswer { number: 0, prices }
         }
         End::No(number) => {
-            let emp = [Price(0); 12];
+            let emp = [Price(0); INTERVALS];
             let prices = HourPrices { emp, pd: Price(0) };
             PricesAnswer { number, prices }
         }
@@ -108,7 +111,7 @@ pub fn prices_of(s: &[u8]) -> PricesAnswer
 fn no_import() -> Import
     ensures { λ r. ⌜ r ≡ noImport ⌝ }
 {
-    let mqsi = [Quantity(0); 12];
+    let mqsi = [Quantity(0); INTERVALS];
     let offer = no_offer();
     Import { mqsi, offer }
 }
@@ -145,7 +148,7 @@ pub fn export_of(s: &[u8]) -> ExportAnswer
             ExportAnswer { number: 0, export }
         }
         End::No(number) => {
-            let mqsw = [Quantity(0); 12];
+            let mqsw = [Quantity(0); INTERVALS];
             let export = Export { mqsw };
             ExportAnswer { number, export }
         }
@@ -155,8 +158,8 @@ pub fn export_of(s: &[u8]) -> ExportAnswer
 fn no_reserve() -> Reserve
     ensures { λ r. ⌜ r ≡ noReserve ⌝ }
 {
-    let prices = [Price(0); 12];
-    let schedules = [Quantity(0); 12];
+    let prices = [Price(0); INTERVALS];
+    let schedules = [Quantity(0); INTERVALS];
     let offer = no_offer();
     Reserve {
         prices,
@@ -168,7 +171,7 @@ fn no_reserve() -> Reserve
 fn no_unit() -> UnitHour
     ensures { λ r. ⌜ r ≡ noUnit ⌝ }
 {
-    let row = [Quantity(0); 12];
+    let row = [Quantity(0); INTERVALS];
     let offer = no_offer();
     let reserve = no_reserve();
     UnitHour {

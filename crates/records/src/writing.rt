@@ -1,3 +1,4 @@
+// Changes written, each name in its one spelling.
 use crate::changes::read_change;
 use crate::fields::End;
 use crate::keys::Key;

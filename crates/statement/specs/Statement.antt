@@ -7,7 +7,7 @@ use Prim.Native.Nat.{ℕ, zero, suc, _≤_}
 use lib.Dec.{eqb, leb}
 use lib.IntN.{ℤ, pos}
 use lib.ListN.{length}
-use Rattle.money.specs.Units.{centsOf}
+use Rattle.money.specs.Units.{centsOf, dayHours}
 use Rattle.money.specs.Refusals.{noSpace, priceMissing, notTogether}
 use Rattle.records.specs.Changes.{put}
 use Rattle.book.specs.Layer.{Name, Rec, Change, Fi, Fe, emptyName}
@@ -99,7 +99,7 @@ eachUnit f (n ∷ ns) = f n ++ eachUnit f ns
 
 -- "by hour: ..; then for each unit by name"
 unfoldable pub statementLines : List Rec → (ℕ → HourPricing) → List Line
-statementLines rs price = hoursTo 24 (hourOf rs price) ++ eachUnit (unitOf rs price) (namesOf ghKey rs)
+statementLines rs price = hoursTo dayHours (hourOf rs price) ++ eachUnit (unitOf rs price) (namesOf ghKey rs)
 
 -- of a list of changes
 unfoldable pub statementOf : List Change → List ℕ

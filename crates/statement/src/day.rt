@@ -8,6 +8,8 @@ use book::answers::HourAmounts;
 use book::answers::UnitAmounts;
 use book::book::Book;
 use money::refusals::NOT_TOGETHER;
+use book::book::CHANGES_MAX;
+use money::units::HOURS;
 ghost use Prim.Native.Nat.{_+_, _*_, _≤_};
 ghost use lib.ListN.{length, take};
 ghost use Rattle.book.specs.Meaning.{load};
@@ -24,13 +26,13 @@ pub struct Written {
 }
 
 // Writes the hours in turn.
-fn put_hours(out: &mut [u8], c: Cursor, hours: [HourAmounts; 24]) -> Cursor
+fn put_hours(out: &mut [u8], c: Cursor, hours: [HourAmounts; HOURS]) -> Cursor
     requires { ⌜ FewInAll hours × (c .at + 77616 ≤ length (now out)) ⌝ }
     ensures { λ r. ⌜ WritesLines (now (out .entry)) c (linesOfHours 24 hours) (now (out .exit)) r × (r .at ≤ c .at + 77616) ⌝ }
 {
     let mut next = c;
     let mut h: usize = 0;
-    while h < 24 {
+    while h < HOURS {
         let a = hours[h];
         next = put_hour(out, next, h as u8 + 1, a);
         h += 1;
@@ -39,7 +41,7 @@ fn put_hours(out: &mut [u8], c: Cursor, hours: [HourAmounts; 24]) -> Cursor
 }
 
 // Writes the first n units in turn.
-fn put_units(out: &mut [u8], c: Cursor, units: [UnitAmounts; 512], n: usize) -> Cursor
+fn put_units(out: &mut [u8], c: Cursor, units: [UnitAmounts; CHANGES_MAX], n: usize) -> Cursor
     requires { ⌜ (n ≤ 512) × (c .at + 67584 ≤ length (now out)) ⌝ }
     ensures { λ r. ⌜ WritesLines (now (out .entry)) c (linesOfUnits (take n units)) (now (out .exit)) r × (r .at ≤ c .at + 67584) ⌝ }
 {

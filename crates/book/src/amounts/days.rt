@@ -18,6 +18,8 @@ use records::amounts::day_of;
 use records::amounts::unit_part;
 use records::keys::Key;
 use records::keys::unit_key;
+use crate::book::CHANGES_MAX;
+use money::units::HOURS;
 ghost use mathlib.Core.Path.{_≡_};
 ghost use mathlib.Core.Bool.{true, not};
 ghost use mathlib.Core.List.{List};
@@ -36,8 +38,8 @@ ghost use Rattle.book.specs.tables.Worked.{InDay, placeIn, priceFor, pai
 
 // The amounts of the day's hours and their start-ups, 0 where the unit has no hour.
 struct DayParts {
-    ticks: [Ticks; 24],
-    starts: [CentsPerStart; 24],
+    ticks: [Ticks; HOURS],
+    starts: [CentsPerStart; HOURS],
 }
 
 // No hour of the day has a record.
@@ -45,7 +47,7 @@ fn nowhere(d: Day) -> bool
     ensures { λ r. ⌜ r ≡ every 24 (λ (j : ℕ). not (placeIn d j .known)) ⌝ }
 {
     let mut j: usize = 0;
-    while j < 24 {
+    while j < HOURS {
         let u = d.hours[j];
         if u.known {
             return false;
@@ -70,7 +72,7 @@ fn payable(units: Day, table: PriceTable) -> bool
     ensures { λ r. ⌜ r ≡ every 24 (λ (j : ℕ). paid (placeIn units j) (priceFor table j)) ⌝ }
 {
     let mut j: usize = 0;
-    while j < 24 {
+    while j < HOURS {
         let u = units.hours[j];
         let p = table.hours[j];
         if !hour_payable(u, p) {
@@ -103,11 +105,11 @@ fn parts_of(log: &[u8], units: Day, table: PriceTable) -> DayParts
     ensures { λ r. ⌜ Parts (now (log .entry)) units table (r .ticks) (r .starts) 24 ⌝ }
 {
     let mut d = DayParts {
-        ticks: [Ticks(0); 24],
-        starts: [CentsPerStart(0); 24],
+        ticks: [Ticks(0); HOURS],
+        starts: [CentsPerStart(0); HOURS],
     };
     let mut h: usize = 0;
-    while h < 24 {
+    while h < HOURS {
         let u = units.hours[h];
         let q = table.hours[h];
         let p = part_at(log, u, q);
@@ -147,7 +149,7 @@ fn answer_of(d: DayAnswer) -> UnitDay
 // By the rows of n changes, for the key's mark and name, at the prices of a table.
 pub(crate) fn of_unit(
     log: &[u8],
-    rows: &[u32; 512],
+    rows: &[u32; CHANGES_MAX],
     n: usize,
     key: Key,
     table: PriceTable,
@@ -173,7 +175,7 @@ impl Book {
     pub fn unit_day(self, log: &[u8], name: &[u8]) -> UnitDay
         ensures { λ r. ⌜ Meets (ask (dayOf (now (name .entry)))) self (now (log .entry)) self (dayReply r) (now (log .entry)) × (r ≡ unitDayFrom (dayReply r)) ⌝ }
     {
-        let mut rows = [0u32; 512];
+        let mut rows = [0u32; CHANGES_MAX];
         if self.check_rows(log, &mut rows) {
             let q = unit_key(name);
             if q.number != 0 {

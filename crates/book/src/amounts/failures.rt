@@ -25,6 +25,7 @@ use records::keys::key_of;
 use records::layouts::HourPrices;
 use records::marks::Mark;
 use records::marks::is_failure;
+use crate::book::CHANGES_MAX;
 ghost use mathlib.Core.Path.{_≡_};
 ghost use mathlib.Core.Bool.{true};
 ghost use mathlib.Core.List.{List, []};
@@ -51,7 +52,7 @@ fn answer_of(a: Charged) -> Answer
 }
 
 // By the rows of n changes, for a key, at a price of its hour.
-pub(crate) fn of_key(log: &[u8], rows: &[u32; 512], n: usize, key: Key, price: HourPrice) -> Answer
+pub(crate) fn of_key(log: &[u8], rows: &[u32; CHANGES_MAX], n: usize, key: Key, price: HourPrice) -> Answer
     requires { ⌜ Log (now log) (now rows) n ⌝ ∗ ⌜ Wellformed key ⌝ }
     ensures { λ r. ⌜ ((l : List Change) → Logged (now (log .entry)) (now (rows .entry)) n l → isFailure (key .mark) ≡ true → (q : ℕ → HourPricing) → PriceIs (q (key .hour)) price → replyOf r ≡ chargeOf key (standing l) q) ⌝ }
 {
@@ -133,7 +134,7 @@ pub(crate) fn no_charges(number: u8) -> Charges
 // By the rows of n changes, for a mark and hour, at a price of the hour.
 pub(crate) fn of_hour(
     log: &[u8],
-    rows: &[u32; 512],
+    rows: &[u32; CHANGES_MAX],
     n: usize,
     mark: Mark,
     hour: u8,
@@ -160,7 +161,7 @@ impl Book {
     pub fn failure_charge(self, log: &[u8], mark: &[u8], hour: u8, name: &[u8]) -> Answer
         ensures { λ r. ⌜ Meets (ask (failureCharge (now (mark .entry)) hour (now (name .entry)))) self (now (log .entry)) self (replyOf r) (now (log .entry)) ⌝ }
     {
-        let mut rows = [0u32; 512];
+        let mut rows = [0u32; CHANGES_MAX];
         if self.check_rows(log, &mut rows) {
             let q = ask_failure(mark, hour, name);
             if q.number != 0 {
@@ -178,7 +179,7 @@ impl Book {
     pub fn charges(self, log: &[u8], mark: Mark, hour: u8) -> Charges
         ensures { λ r. ⌜ (chargesReply r ≡ hourCharges mark hour (load self (now (log .entry)))) × (r .charges .n ≤ maxCharges) × (r ≡ chargesFrom (chargesReply r)) ⌝ }
     {
-        let mut rows = [0u32; 512];
+        let mut rows = [0u32; CHANGES_MAX];
         if self.check_rows(log, &mut rows) {
             if !is_failure(mark) {
                 return no_charges(MARK_UNKNOWN);

@@ -22,6 +22,8 @@ use records::keys::hour_key;
 use records::keys::key_of;
 use records::layouts::HourPrices;
 use records::marks::Mark;
+use crate::book::CHANGES_MAX;
+use money::units::INTERVALS;
 ghost use mathlib.Core.Path.{_≡_};
 ghost use mathlib.Core.List.{List, [], map};
 ghost use lib.ListN.{take};
@@ -57,11 +59,11 @@ pub fn entries_at(log: &[u8], p: Places, prices: HourPrices) -> [Import; CREDITS
 }
 
 // The quantities of the exports at the places, summed for each interval.
-pub fn totals_at(log: &[u8], p: Places) -> [Quantity; 12]
+pub fn totals_at(log: &[u8], p: Places) -> [Quantity; INTERVALS]
     requires { ⌜ Inside (now log) p ⌝ }
     ensures { λ r. ⌜ r ≡ totalsIn (now (log .entry)) (take (p .n) (p .at)) ⌝ }
 {
-    let mut sums = [Quantity(0); 12];
+    let mut sums = [Quantity(0); INTERVALS];
     let mut i: usize = 0;
     while i < p.n {
         let x = p.at[i];
@@ -153,7 +155,7 @@ fn worked(log: &[u8], imports: Places, exports: Places, prices: HourPrices) -> G
 // By the rows of n changes, at a price of the hour.
 pub(crate) fn of_hour(
     log: &[u8],
-    rows: &[u32; 512],
+    rows: &[u32; CHANGES_MAX],
     n: usize,
     hour: u8,
     price: HourPrice,
@@ -178,7 +180,7 @@ impl Book {
     pub fn guarantees(self, log: &[u8], hour: u8) -> Guarantees
         ensures { λ r. ⌜ Meets (ask (hourGuarantees hour)) self (now (log .entry)) self (guaranteesReply r) (now (log .entry)) × (r .credits .n ≤ maxCredits) × (r ≡ guaranteesFrom (guaranteesReply r)) ⌝ }
     {
-        let mut rows = [0u32; 512];
+        let mut rows = [0u32; CHANGES_MAX];
         if self.check_rows(log, &mut rows) {
             let q = hour_key(Mark::Im, hour);
             if q.number != 0 {

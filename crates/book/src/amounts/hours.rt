@@ -4,6 +4,8 @@ use records::heads::record_head;
 use records::keys::Key;
 use records::marks::order;
 use records::scan::starts;
+use crate::book::CHANGES_MAX;
+use money::units::HOURS;
 ghost use mathlib.Core.Path.{_≡_};
 ghost use mathlib.Core.Bool.{true, _&&_};
 ghost use mathlib.Core.List.{List};
@@ -23,7 +25,7 @@ pub struct HourPlace {
 
 // The record of each hour, the first at 0.
 pub struct Day {
-    pub hours: [HourPlace; 24],
+    pub hours: [HourPlace; HOURS],
 }
 
 // The hour of a row whose record stands and is of the mark, by the mark's order; 0 of any other.
@@ -57,7 +59,7 @@ fn hour_for(log: &[u8], row: u32, mark: u32, name: &[u8]) -> usize
 }
 
 // By the rows of n changes, for a mark by its order and a name as it is written.
-fn day_named(log: &[u8], rows: &[u32; 512], n: usize, mark: u32, name: &[u8]) -> Day
+fn day_named(log: &[u8], rows: &[u32; CHANGES_MAX], n: usize, mark: u32, name: &[u8]) -> Day
     requires { ⌜ Log (now log) (now rows) n ⌝ }
     ensures { λ r. ⌜ ((k : Key) → Written k mark (now (name .entry)) → (l : List Change) → Logged (now (log .entry)) (now (rows .entry)) n l → DayIs k l r) ⌝ }
 {
@@ -65,7 +67,7 @@ fn day_named(log: &[u8], rows: &[u32; 512], n: usize, mark: u32, name: &[u8]) ->
         known: false,
         start: 0,
     };
-    let mut hours = [none; 24];
+    let mut hours = [none; HOURS];
     let mut i: usize = 0;
     while i < n {
         let row = rows[i];
@@ -81,7 +83,7 @@ fn day_named(log: &[u8], rows: &[u32; 512], n: usize, mark: u32, name: &[u8]) ->
 }
 
 // By the rows of n changes, for the key's mark and name. The name is spelled once, and no record is read.
-pub(crate) fn day_in(log: &[u8], rows: &[u32; 512], n: usize, key: Key) -> Day
+pub(crate) fn day_in(log: &[u8], rows: &[u32; CHANGES_MAX], n: usize, key: Key) -> Day
     requires { ⌜ Log (now log) (now rows) n ⌝ ∗ ⌜ Wellformed key ⌝ }
     ensures { λ r. ⌜ ((l : List Change) → Logged (now (log .entry)) (now (rows .entry)) n l → DayIs key l r) ⌝ }
 {
@@ -99,7 +101,7 @@ pub(crate) fn day_in(log: &[u8], rows: &[u32; 512], n: usize, key: Key) -> Day
             known: false,
             start: 0,
         };
-        return Day { hours: [none; 24] };
+        return Day { hours: [none; HOURS] };
     }
     day_named(log, rows, n, order(mark) as u32, &bytes[3..len])
 }

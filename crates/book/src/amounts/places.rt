@@ -7,6 +7,7 @@ use records::heads::head_key;
 use records::keys::Key;
 use records::names::comes_before;
 use records::names::no_name;
+use crate::book::CHANGES_MAX;
 ghost use mathlib.Core.Path.{_≡_};
 ghost use mathlib.Core.List.{List, _∷_, _++_, map};
 ghost use lib.ListN.{length, take, drop};
@@ -101,7 +102,7 @@ fn with_row(log: &[u8], p: Places, row: u32) -> Places
 }
 
 // By the rows of n changes, for the key's mark and hour.
-pub(crate) fn gather_rows(log: &[u8], rows: &[u32; 512], n: usize, key: Key) -> Places
+pub(crate) fn gather_rows(log: &[u8], rows: &[u32; CHANGES_MAX], n: usize, key: Key) -> Places
     requires { ⌜ Log (now log) (now rows) n ⌝ ∗ ⌜ key .hour < 32 ⌝ }
     ensures { λ r. ⌜ ((l : List Change) → Logged (now (log .entry)) (now (rows .entry)) n l → take (r .n) (r .at) ≡ map (spotOf l) (byName key (standing l))) × (r .n ≤ maxPlaces) ⌝ }
 {

@@ -6,6 +6,9 @@ use records::keys::key_of;
 use records::layouts::HourPrices;
 use records::marks::Mark;
 use records::views::prices_of;
+use crate::book::CHANGES_MAX;
+use money::units::HOURS;
+use money::units::INTERVALS;
 ghost use mathlib.Core.Path.{_≡_};
 ghost use mathlib.Core.Bool.{false};
 ghost use mathlib.Core.List.{List};
@@ -25,13 +28,13 @@ pub(crate) struct HourPrice {
 
 // The price of each hour, the first at 0.
 pub(crate) struct PriceTable {
-    pub(crate) hours: [HourPrice; 24],
+    pub(crate) hours: [HourPrice; HOURS],
 }
 
 fn no_price() -> HourPrice
     ensures { λ r. ⌜ r .known ≡ false ⌝ }
 {
-    let emp = [Price(0); 12];
+    let emp = [Price(0); INTERVALS];
     let prices = HourPrices { emp, pd: Price(0) };
     HourPrice {
         known: false,
@@ -60,7 +63,7 @@ fn price_at(log: &[u8], at: usize) -> HourPrice
 }
 
 // The price of an hour, by the rows of n changes.
-pub(crate) fn price_in(log: &[u8], rows: &[u32; 512], n: usize, hour: u8) -> HourPrice
+pub(crate) fn price_in(log: &[u8], rows: &[u32; CHANGES_MAX], n: usize, hour: u8) -> HourPrice
     requires { ⌜ Log (now log) (now rows) n ⌝ ∗ ⌜ hour < 32 ⌝ }
     ensures { λ r. ⌜ ((l : List Change) → Logged (now (log .entry)) (now (rows .entry)) n l → PriceIs (priceOf (standing l) hour) r) ⌝ }
 {
@@ -86,12 +89,12 @@ fn price_hour(row: u32) -> usize
 }
 
 // The price of each hour, by the rows of n changes.
-pub(crate) fn price_table(log: &[u8], rows: &[u32; 512], n: usize) -> PriceTable
+pub(crate) fn price_table(log: &[u8], rows: &[u32; CHANGES_MAX], n: usize) -> PriceTable
     requires { ⌜ Log (now log) (now rows) n ⌝ }
     ensures { λ r. ⌜ ((l : List Change) → Logged (now (log .entry)) (now (rows .entry)) n l → TableOf (priceOf (standing l)) r) ⌝ }
 {
     let none = no_price();
-    let mut hours = [none; 24];
+    let mut hours = [none; HOURS];
     let mut i: usize = 0;
     while i < n {
         let row = rows[i];

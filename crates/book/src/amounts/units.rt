@@ -10,6 +10,7 @@ use records::marks::Mark;
 use records::marks::order;
 use records::names::comes_before;
 use records::names::no_name;
+use crate::book::CHANGES_MAX;
 ghost use mathlib.Core.Path.{_≡_};
 ghost use mathlib.Core.Bool.{cond, _&&_};
 ghost use mathlib.Core.List.{List, [], _∷_, _++_};
@@ -27,7 +28,7 @@ ghost use Rattle.book.specs.Handed.{unitsOf, unitListFrom};
 // Decoded names in byte order, each once: the first n of `names`.
 pub struct Units {
     pub n: usize,
-    pub names: [Name; 512],
+    pub names: [Name; CHANGES_MAX],
 }
 
 // Units, or the number of a refusal.
@@ -107,12 +108,12 @@ fn no_names() -> Units
     let blank = no_name();
     Units {
         n: 0,
-        names: [blank; 512],
+        names: [blank; CHANGES_MAX],
     }
 }
 
 // By the rows of n changes, for the key's mark. Names are read where they are written.
-pub(crate) fn names_in(log: &[u8], rows: &[u32; 512], n: usize, key: Key) -> Units
+pub(crate) fn names_in(log: &[u8], rows: &[u32; CHANGES_MAX], n: usize, key: Key) -> Units
     requires { ⌜ Log (now log) (now rows) n ⌝ }
     ensures { λ r. ⌜ ((l : List Change) → Logged (now (log .entry)) (now (rows .entry)) n l → take (r .n) (r .names) ≡ namesOf key (standing l)) × (r .n ≤ 512) × (r ≡ unitsOf (namesIn r)) ⌝ }
 {
@@ -136,7 +137,7 @@ impl Book {
     pub fn units(self, log: &[u8]) -> UnitList
         ensures { λ r. ⌜ (unitListOf r ≡ unitNames (load self (now (log .entry)))) × (r .units .n ≤ 512) × (r ≡ unitListFrom (unitListOf r)) ⌝ }
     {
-        let mut rows = [0u32; 512];
+        let mut rows = [0u32; CHANGES_MAX];
         if self.check_rows(log, &mut rows) {
             let units = names_in(log, &rows, self.changes as usize, key_of(Mark::Gh, 1));
             return UnitList { number: 0, units };

@@ -20,6 +20,8 @@ use records::keys::Key;
 use records::keys::key_of;
 use records::marks::Mark;
 use records::names::no_name;
+use crate::book::CHANGES_MAX;
+use money::units::HOURS;
 ghost use mathlib.Core.Path.{_≡_};
 ghost use mathlib.Core.List.{List};
 ghost use Prim.Native.Nat.{ℕ, _<_};
@@ -49,7 +51,7 @@ fn no_hour() -> HourAmounts
 }
 
 // By the rows of n changes, at a price of the hour.
-fn hour_of(log: &[u8], rows: &[u32; 512], n: usize, hour: u8, price: HourPrice) -> HourAmounts
+fn hour_of(log: &[u8], rows: &[u32; CHANGES_MAX], n: usize, hour: u8, price: HourPrice) -> HourAmounts
     requires { ⌜ Log (now log) (now rows) n ⌝ ∗ ⌜ hour < 32 ⌝ }
     ensures { λ r. ⌜ ((l : List Change) → Logged (now (log .entry)) (now (rows .entry)) n l → (q : ℕ → HourPricing) → PriceIs (q hour) price → r ≡ hourFrom (hourReply (standing l) q hour)) ⌝ }
 {
@@ -64,12 +66,12 @@ fn hour_of(log: &[u8], rows: &[u32; 512], n: usize, hour: u8, price: HourPrice) 
 }
 
 // Hours 1 to 24, at the prices of a table.
-fn hours_of(log: &[u8], rows: &[u32; 512], n: usize, table: PriceTable) -> [HourAmounts; 24]
+fn hours_of(log: &[u8], rows: &[u32; CHANGES_MAX], n: usize, table: PriceTable) -> [HourAmounts; HOURS]
     requires { ⌜ Log (now log) (now rows) n ⌝ }
     ensures { λ r. ⌜ ((l : List Change) → Logged (now (log .entry)) (now (rows .entry)) n l → (q : ℕ → HourPricing) → TableOf q table → r ≡ dayFrom (wholeOf (standing l) q) .hours) ⌝ }
 {
     let none = no_hour();
-    let mut hours = [none; 24];
+    let mut hours = [none; HOURS];
     let mut i: u8 = 0;
     while i < 24 {
         let j = i as usize;
@@ -96,16 +98,16 @@ fn no_unit() -> UnitAmounts
 // The units of these names in their order, at the prices of a table.
 fn units_of(
     log: &[u8],
-    rows: &[u32; 512],
+    rows: &[u32; CHANGES_MAX],
     n: usize,
     u: Units,
     table: PriceTable,
-) -> [UnitAmounts; 512]
+) -> [UnitAmounts; CHANGES_MAX]
     requires { ⌜ Log (now log) (now rows) n ⌝ ∗ ⌜ Named u ⌝ }
     ensures { λ r. ⌜ ((l : List Change) → Logged (now (log .entry)) (now (rows .entry)) n l → namesIn u ≡ namesOf ghKey (standing l) → (q : ℕ → HourPricing) → TableOf q table → r ≡ dayFrom (wholeOf (standing l) q) .units) ⌝ }
 {
     let none = no_unit();
-    let mut units = [none; 512];
+    let mut units = [none; CHANGES_MAX];
     let mut i: usize = 0;
     while i < u.n {
         let name = u.names[i];
@@ -126,7 +128,7 @@ impl Book {
     pub fn day(self, log: &[u8]) -> DayAmounts
         ensures { λ r. ⌜ r ≡ dayFrom (dayAmounts (load self (now (log .entry)))) ⌝ }
     {
-        let mut rows = [0u32; 512];
+        let mut rows = [0u32; CHANGES_MAX];
         if self.check_rows(log, &mut rows) {
             let n = self.changes as usize;
             let table = price_table(log, &rows, n);

@@ -23,6 +23,7 @@ use records::marks::is_withdrawal;
 use records::scan::View;
 use records::scan::starts;
 use records::writing::put_viewed;
+use crate::book::CHANGES_MAX;
 ghost use mathlib.Core.Path.{_≡_};
 ghost use mathlib.Core.Bool.{not, _&&_};
 ghost use mathlib.Core.List.{List, _∷_};
@@ -45,7 +46,7 @@ fn wrote_in(row: u32, slot: usize) -> bool
 }
 
 // The newest change before the last one that wrote a record of the mark and hour which begins with the head.
-fn written_before(log: &[u8], rows: &[u32; 512], n: usize, slot: usize, head: &[u8]) -> usize
+fn written_before(log: &[u8], rows: &[u32; CHANGES_MAX], n: usize, slot: usize, head: &[u8]) -> usize
     requires { ⌜ Log (now log) (now rows) n ⌝ ∗ ⌜ 0 < n ⌝ }
     ensures { λ r. ⌜ ((c : Change) (l : List Change) → Undoing (now (log .entry)) (now (rows .entry)) n slot (now (head .entry)) c l → Wrote (length l) (keyOf c) r l) ⌝ }
 {
@@ -65,7 +66,7 @@ fn written_before(log: &[u8], rows: &[u32; 512], n: usize, slot: usize, head: &[
 }
 
 // The rows without the last of n changes: the record that it replaced or removed stands again. A filing did neither.
-fn restore(log: &[u8], rows: &mut [u32; 512], n: usize)
+fn restore(log: &[u8], rows: &mut [u32; CHANGES_MAX], n: usize)
     requires { ⌜ Log (now log) (now rows) n ⌝ ∗ ⌜ 0 < n ⌝ ∗ ⌜ length (now rows) ≡ 512 ⌝ }
     ensures { λ _. ⌜ ((c : Change) (l : List Change) → Logged (now (log .entry)) (now (rows .entry)) n (c ∷ l) → Rows (now (rows .exit)) l l) × (length (now (rows .exit)) ≡ 512) ⌝ }
 {
@@ -90,7 +91,7 @@ impl Book {
     pub(crate) fn held_enter(
         mut self,
         log: &mut [u8],
-        rows: &mut [u32; 512],
+        rows: &mut [u32; CHANGES_MAX],
         from: usize,
         view: View,
         rec: &[u8],
@@ -130,7 +131,7 @@ impl Book {
     }
 
     // The used part then ends where the last change begins.
-    pub(crate) fn held_take_back(mut self, log: &[u8], rows: &mut [u32; 512]) -> Done
+    pub(crate) fn held_take_back(mut self, log: &[u8], rows: &mut [u32; CHANGES_MAX]) -> Done
         requires { ⌜ Checked self (now log) (now rows) ⌝ }
         ensures { λ r. ⌜ ((k : Key) → Makes (takenBack 0) self (now (log .entry)) k r (now (log .entry)) (now (rows .exit))) ⌝ }
     {
@@ -177,7 +178,7 @@ impl Book {
     pub(crate) fn held_change(
         mut self,
         log: &mut [u8],
-        rows: &mut [u32; 512],
+        rows: &mut [u32; CHANGES_MAX],
         from: usize,
         view: View,
         rec: &[u8],

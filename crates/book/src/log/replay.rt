@@ -12,6 +12,7 @@ use records::scan::View;
 use records::scan::is_record;
 use records::scan::kind_of;
 use records::scan::peek;
+use crate::book::CHANGES_MAX;
 ghost use mathlib.Core.Path.{_≡_};
 ghost use mathlib.Core.Bool.{cond};
 ghost use mathlib.Core.List.{[]};
@@ -41,7 +42,7 @@ fn count_with(view: View, count: usize) -> usize
 
 // Whether the bytes are n written changes that can be played, with a row for each change. Each is read once. The search for its key
 // starts at the latest change with the key's number.
-pub(crate) fn replayed_rows(part: &[u8], n: u16, rows: &mut [u32; 512]) -> bool
+pub(crate) fn replayed_rows(part: &[u8], n: u16, rows: &mut [u32; CHANGES_MAX]) -> bool
     requires { ⌜ length (now rows) ≡ 512 ⌝ }
     ensures { λ r. ⌜ Rowed (replay n [] (now (part .entry))) r (now (rows .exit)) ⌝ }
 {

@@ -9,6 +9,7 @@ use records::scan::View;
 use records::scan::kind_of;
 use records::scan::peek;
 use records::scan::starts;
+use crate::book::CHANGES_MAX;
 ghost use mathlib.Core.Path.{_≡_};
 ghost use mathlib.Core.Bool.{true, false, cond, not, _&&_};
 ghost use mathlib.Core.List.{List};
@@ -82,7 +83,7 @@ fn counted(row: u32, bucket: usize, count: usize) -> usize
 }
 
 // How many records of the key's mark and hour stand.
-pub(crate) fn count_in(rows: &[u32; 512], n: usize, key: Key) -> usize
+pub(crate) fn count_in(rows: &[u32; CHANGES_MAX], n: usize, key: Key) -> usize
     requires { ⌜ Rules (now rows) n ⌝ }
     ensures { λ r. ⌜ ((l : List Change) → Ruled (now (rows .entry)) n l → key .hour < 32 → r ≡ count key (standing l)) ⌝ }
 {
@@ -123,7 +124,7 @@ fn not_found() -> Seek
 }
 
 // The newest of the first `from` changes whose record stands, is of the mark and hour, and begins with the head.
-fn find_head(log: &[u8], rows: &[u32; 512], n: usize, from: usize, bucket: usize, head: &[u8]) -> Seek
+fn find_head(log: &[u8], rows: &[u32; CHANGES_MAX], n: usize, from: usize, bucket: usize, head: &[u8]) -> Seek
     requires { ⌜ Log (now log) (now rows) n ⌝ ∗ ⌜ from ≤ n ⌝ }
     ensures { λ r. ⌜ ((k : Key) (l : List Change) → Search (now (log .entry)) (now (rows .entry)) n from bucket (now (head .entry)) k l → Sought (now (rows .entry)) n k r l) ⌝ }
 {
@@ -147,7 +148,7 @@ fn find_head(log: &[u8], rows: &[u32; 512], n: usize, from: usize, bucket: usize
 }
 
 // The record of a key by the first `from` changes: no later one has the key's number. The key is spelled once, and no record is read.
-pub(crate) fn find_in(log: &[u8], rows: &[u32; 512], n: usize, from: usize, key: Key) -> Seek
+pub(crate) fn find_in(log: &[u8], rows: &[u32; CHANGES_MAX], n: usize, from: usize, key: Key) -> Seek
     requires { ⌜ Log (now log) (now rows) n ⌝ ∗ ⌜ from ≤ n ⌝ }
     ensures { λ r. ⌜ ((l : List Change) → Logged (now (log .entry)) (now (rows .entry)) n l → key .hour < 32 → Padded (key .name) → latestOf (bucket key) l ≤ from → Sought (now (rows .entry)) n key r l) ⌝ }
 {
@@ -175,7 +176,7 @@ pub(crate) fn row_for(view: View, bucket: usize, q: usize) -> u32
 }
 
 // The record that was found stands no longer.
-pub(crate) fn clear_row(rows: &mut [u32; 512], r: Seek)
+pub(crate) fn clear_row(rows: &mut [u32; CHANGES_MAX], r: Seek)
     requires { ⌜ (r .found ≡ true → r .at < 512) ⌝ }
     ensures { λ _. ⌜ now (rows .exit) ≡ cleared (now (rows .entry)) r ⌝ }
 {
