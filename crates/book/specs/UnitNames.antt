@@ -1,12 +1,11 @@
 -- The names under which units stand, as `units` answers them.
-use Prim.Native.Nat.{ℕ, _≤_, _<_}
+use Prim.Native.Nat.{ℕ}
 use mathlib.Core.List.{List}
 use mathlib.Core.Bool.{cond}
-use lib.ListN.{take, getD}
+use lib.ListN.{take}
 use lib.Dec.{eqb}
 use Rattle.money.specs.Refusals.{notTogether}
 use Rattle.book.specs.Layer.{Key, Name, Gh, emptyName}
-use Rattle.book.specs.laws.LayerLaws.{Padded}
 use Rattle.book.specs.declared.amounts.units.Units.{Units}
 use Rattle.book.specs.declared.amounts.units.UnitList.{UnitList}
 use Rattle.book.specs.Register.{standing}

@@ -1,6 +1,6 @@
 -- What the exported functions answer and what they leave in the places that are lent to them. Assumes nothing.
 use mathlib.Core.Path.{_≡_}
-use mathlib.Core.Bool.{Bool, true, false, cond, not, _||_}
+use mathlib.Core.Bool.{Bool, false, cond, not, _||_}
 use mathlib.Core.List.{List, [], _∷_}
 use Prim.Native.Nat.{ℕ, _+_, _*_, _%_}
 use lib.Dec.{ltb, eqb}
@@ -18,7 +18,7 @@ use Rattle.records.specs.declared.marks.Mark.the-variants.{Im, Fi, Fe}
 use Rattle.records.specs.Marks.{markBytes}
 use Rattle.records.specs.Views.{pricesIn}
 use Rattle.records.specs.Amounts.{creditIn, unitAmountIn, chargeIn}
-use Rattle.records.specs.Changes.{begins, isRecord, parsedOf, parse, parseAny, entryOf, putNumber, putBytes, bare, takeBackBytes, closeBytes, viewOf, scan}
+use Rattle.records.specs.Changes.{begins, isRecord, parsedOf, parse, parseAny, entryOf, putNumber, putBytes, bare, takeBackBytes, closeBytes}
 use Rattle.records.specs.declared.marks.Kind.the-variants.{File, Correct, Withdraw}
 use Rattle.records.specs.declared.marks.Wanted.{Wanted}
 use Rattle.records.specs.declared.marks.Wanted.the-variants.{Any, Only}

@@ -11,7 +11,7 @@ use Rattle.records.specs.Names.{decodeName, spell}
 use Rattle.records.specs.Changes.{change as readChange}
 use Rattle.records.specs.Views.{failureOf}
 use Rattle.records.specs.Amounts.{chargeTicksFor}
-use Rattle.book.specs.Layer.{Key, Rec, Change, fine, parse, write, Scan, seen, scan, keyAsked, askHourOf, askUnit, askFailure, got, markBytes, Im, Ex, HourPrices, offset, offsetEntry, Wanted, Any}
+use Rattle.book.specs.Layer.{Key, Rec, Change, fine, parse, write, seen, scan, keyAsked, askHourOf, askUnit, askFailure, got, markBytes, Im, Ex, HourPrices, offset, offsetEntry, Wanted, Any}
 use Rattle.book.specs.Layer.{askBytes}
 use Rattle.book.specs.ByName.{byName}
 use Rattle.book.specs.declared.book.Book.{Book}

@@ -3,8 +3,6 @@
 -- Assumes nothing.
 use mathlib.Core.Path.{_≡_}
 use Prim.Native.Nat.{ℕ, _+_, _*_, _^_, _≤_, _<_}
-use native.Mathlib.Nat.{lt-of-le-of-lt}
-use lib.Dec.{lit<}
 use native.Mathlib.Omega.{arith}
 use lib.IntN.{ℤ, pos, negℤ, natAbs, _+ℤ_, _-ℤ_, _*ℤ_}
 use mir.Syntax.{w32, w64}

@@ -4,14 +4,14 @@
 use mathlib.Core.Path.{_≡_, refl, sym, ap, _∙_, subst}
 use mathlib.Core.Bool.{Bool}
 use Prim.Native.Nat as Nat
-use Prim.Native.Nat.{ℕ, _+_, _*_, _^_, _≤_, _<_, suc}
+use Prim.Native.Nat.{ℕ, _+_, _*_, _^_, _≤_, _<_}
 use native.Mathlib.Nat.{le-refl, le-trans, lt-of-le-of-lt}
 use native.Mathlib.Omega.{arith}
-use lib.Dec.{T, leb, lit≤}
+use lib.Dec.{T, leb}
 use lib.IntN.{ℤ, pos, negsuc, negℤ, natAbs, _+ℤ_, _-ℤ_, _*ℤ_, +ℤ-idl}
 use lib.Signed.{mag, ltZ, leZ, nonNeg, _≤ℤ_, yes-nonNeg, pos-natAbs}
 use mir.Syntax.{Width, w32, w64}
-use mir.Val.{Fits, SFits, toZ, ofZ, bits, hbits}
+use mir.Val.{Fits, SFits, toZ, ofZ, hbits}
 use mir.Facts.{toZ-ofZ, toZ-pos, sfits-widen, fits-natAbs}
 use Rattle.laws.specs.Ints.{minℤ, maxℤ}
 use Rattle.laws.specs.IntLaws.{add-within, sub-within, mul-within, min-within, max-within, abs-neg}

@@ -1,16 +1,14 @@
 -- Laws of the signed numbers ℤ, so that `omega` proves their linear arithmetic. `dif a b` is a − b for two naturals; every ℤ is one (`by₁` .. `by₄`),
 -- and the set `ints` takes a statement of ℤ over `dif`s to one of ℕ: `by₂ (λ a a′ b b′. simp ints (omega arith)) x y`. Assumes nothing.
-use mathlib.Core.Path.{_≡_, refl, sym, ap, _∙_, subst}
+use mathlib.Core.Path.{_≡_, refl, sym, ap, subst}
 use mathlib.Core.Logic.{_↔_, _⊎_, inl, inr}
 use mathlib.Core.Bool.{Bool, true, false, not, cond}
-use Prim.Native.Nat.{ℕ, zero, suc, pred, _+_, _*_, _-_, _^_, _≤_, _<_, min, max}
+use Prim.Native.Nat.{ℕ, zero, suc, _+_, _*_, _-_, _≤_, _<_, min, max}
 use native.Mathlib.Omega.{arith}
 use native.Mathlib.Nat.{mul-le-mul}
-use lib.Dec.{T, ltb, leb, ltb→lt, nltb→le, lt→ltb, le→leb, leb→le, nleb→lt}
+use lib.Dec.{T, ltb, ltb→lt, nltb→le, lt→ltb, le→leb, leb→le, nleb→lt}
 use lib.IntN.{ℤ, pos, negsuc, negℤ, natAbs, subℕ, _+ℤ_, _-ℤ_, _*ℤ_, +ℤ-assoc, +ℤ-comm, *ℤ-comm, negℤ-+ℤ, negℤ-negℤ, +ℤ-idl, +ℤ-idr, +ℤ-invr, +ℤ-invl}
-use lib.Signed.{mag, ltZ, leZ, nonNeg, _≤ℤ_, _<ℤ_, ltZ-no, clashℤ}
-use mir.Syntax.{Width, w64, w32}
-use mir.Val.{SFits, hbits}
+use lib.Signed.{ltZ, leZ, _≤ℤ_, _<ℤ_, ltZ-no, clashℤ}
 use Rattle.laws.specs.Ints.{minℤ, maxℤ}
 
 -- ---- the two parts of a number

@@ -1,9 +1,8 @@
 -- 01, "Intertie guarantee and wheel offset": the hour's imports in order, and the offset. Imports and intervals are counted from 0.
-use mathlib.Core.Path.{_≡_}
 use mathlib.Core.Bool.{Bool, true, false, cond, not, _&&_, _||_}
-use mathlib.Core.List.{List, [], _∷_}
-use Prim.Native.Nat.{ℕ, zero, suc, _+_, _-_, min}
-use lib.IntN.{ℤ, pos, _+ℤ_, _-ℤ_}
+use mathlib.Core.List.{List, []}
+use Prim.Native.Nat.{ℕ, _+_, _-_, min}
+use lib.IntN.{ℤ, pos, _-ℤ_}
 use lib.Signed.{ltZ}
 use lib.Dec.{leb}
 use lib.ListN.{getD}

@@ -1,8 +1,8 @@
 -- 01, "Production cost guarantee". The letters are 01's; hours and intervals are counted from 0.
 use mathlib.Core.Bool.{Bool, cond, _&&_}
 use mathlib.Core.List.{List}
-use Prim.Native.Nat.{ℕ, zero, suc, _+_, _-_, _*_, min, max}
-use lib.IntN.{ℤ, pos, negsuc, negℤ, _+ℤ_, _-ℤ_, _*ℤ_}
+use Prim.Native.Nat.{ℕ, _+_, _-_, _*_, min, max}
+use lib.IntN.{ℤ, pos, negℤ, _+ℤ_, _-ℤ_, _*ℤ_}
 use lib.Signed.{leZ}
 use lib.Dec.{leb, ltb}
 use lib.ListN.{getD}
@@ -10,7 +10,6 @@ use Rattle.laws.specs.Ints.{maxℤ}
 use Rattle.laws.specs.Sums.{Σℤ, every, orElse}
 use Rattle.money.specs.Refusals.{numberOutside, beyondList}
 use Rattle.money.specs.declared.units.Price.{Price}
-use Rattle.money.specs.declared.units.Quantity.{Quantity}
 use Rattle.money.specs.declared.units.Ticks.{Ticks}
 use Rattle.money.specs.declared.units.CentsPerStart.{CentsPerStart}
 use Rattle.money.specs.declared.units.Answer.{Answer}

@@ -1,5 +1,4 @@
 -- 01, "Units and offers": prices, quantities and money, and what a call answers.
-use mathlib.Core.Path.{_≡_}
 use mathlib.Core.Bool.{Bool, cond, _&&_}
 use mathlib.Core.List.{List, [], _∷_}
 use Prim.Native.Nat.{ℕ, zero, suc, _+_, _/_}
@@ -11,7 +10,6 @@ use Rattle.laws.specs.Sums.{every}
 use Rattle.money.specs.Refusals.{numberOutside}
 use Rattle.money.specs.declared.units.Price.{Price}
 use Rattle.money.specs.declared.units.Quantity.{Quantity}
-use Rattle.money.specs.declared.units.Ticks.{Ticks}
 use Rattle.money.specs.declared.units.Answer.{Answer}
 use Rattle.money.specs.declared.units.Answer.the-variants.{Amount, Refused}
 use Rattle.money.specs.declared.units.PriceRead.{PriceRead}

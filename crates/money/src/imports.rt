@@ -1,6 +1,6 @@
 // The imports of an hour as the offset takes them: their order and their faults.
 ghost use mathlib.Core.Path.{_≡_};
-ghost use Prim.Native.Nat.{ℕ, _<_, _≤_};
+ghost use Prim.Native.Nat.{_<_, _≤_};
 ghost use Rattle.money.specs.Offset.{maxImports, precedes, upTo, entryFault, freshName, faultAt, entriesFault};
 ghost use Rattle.money.specs.laws.UnitLaws.{Rates};
 use crate::guarantee::credit_of;

@@ -1,7 +1,6 @@
 // Decoded names: their rule and their order.
 ghost use mathlib.Core.Path.{_≡_};
 ghost use Prim.Native.Nat.{min};
-ghost use lib.Dec.{eqb};
 ghost use Rattle.money.specs.Names.{decodedBytes, nameBefore, sameName, nameByteOk, nameOk};
 
 // Bytes of a decoded name, at most.

@@ -2,7 +2,6 @@
 ghost use mathlib.Core.Path.{_≡_};
 ghost use Prim.Native.Nat.{ℕ, _<_, _+_, _-_, min};
 ghost use mathlib.Core.Bool.{_&&_};
-ghost use lib.Dec.{leb};
 ghost use lib.ListN.{length};
 ghost use Rattle.money.specs.Units.{intervals, priceOk, quantityAt};
 ghost use Rattle.money.specs.Offset.{maxTotal, mqsi, counted, reach, adj, offset, totalOk, totalsWith, ratesOk, offsetAnswer};

@@ -1,18 +1,17 @@
 -- 01, "Records": the fields of each record after its hour and name, in 01's order. Assumes nothing.
-use mathlib.Core.List.{List, [], _∷_}
-use mathlib.Core.Bool.{Bool, true, false, cond, _&&_}
+use mathlib.Core.List.{List}
+use mathlib.Core.Bool.{Bool, cond, _&&_}
 use Prim.Native.Nat.{ℕ, _-_}
 use lib.ListN.{length, take}
 use Rattle.money.specs.Refusals.{beyondList}
 use Rattle.money.specs.Units.{maxCents, withinOk, intervals}
 use Rattle.money.specs.Offers.{lastQ}
-use Rattle.money.specs.declared.units.Price.{Price}
 use Rattle.money.specs.declared.units.Quantity.{Quantity}
 use Rattle.money.specs.declared.offers.Offer.{Offer}
 use Rattle.money.specs.declared.production.Reserve.{Reserve}
 use Rattle.money.specs.declared.production.UnitHour.{UnitHour}
 use Rattle.money.specs.declared.failure.Failure.{Failure}
-use Rattle.records.specs.Reading.{Res, bad, got, Reader, _>>=_, check, many}
+use Rattle.records.specs.Reading.{got, Reader, _>>=_, check, many}
 use Rattle.records.specs.Numbers.{price, quantity, amount, listFrom}
 use Rattle.records.specs.declared.marks.Mark.{Mark}
 use Rattle.records.specs.declared.marks.Mark.the-variants.{Pr, Im, Ex, Gh, Fi, Fe}

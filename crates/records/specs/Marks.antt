@@ -13,7 +13,7 @@ use Prim.Native.Nat.{ℕ}
 use lib.Dec.{eqb}
 use Rattle.laws.specs.Text.{bytes}
 use Rattle.money.specs.Refusals.{endsEarly, markUnknown}
-use Rattle.records.specs.Reading.{Res, bad, got, Reader}
+use Rattle.records.specs.Reading.{bad, got, Reader}
 use Rattle.records.specs.declared.marks.Mark.{Mark}
 use Rattle.records.specs.declared.marks.Mark.the-variants.{Pr, Im, Ex, Gh, Fi, Fe}
 

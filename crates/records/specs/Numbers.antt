@@ -1,6 +1,6 @@
 -- 01, "Records": the numbers and the lists that records hold. Assumes nothing.
 use mathlib.Core.List.{List, [], _∷_, map}
-use mathlib.Core.Bool.{Bool, true, false, cond, _&&_, _||_}
+use mathlib.Core.Bool.{Bool, cond, _&&_, _||_}
 use Prim.Native.Nat.{ℕ, zero, suc, _+_, _*_, _-_}
 use lib.Dec.{ltb, leb, eqb}
 use lib.IntN.{ℤ, pos, negsuc}
@@ -11,7 +11,7 @@ use Rattle.money.specs.Offers.{offerFault, maxPairs}
 use Rattle.money.specs.declared.units.Price.{Price}
 use Rattle.money.specs.declared.units.Quantity.{Quantity}
 use Rattle.money.specs.declared.offers.Offer.{Offer}
-use Rattle.records.specs.Reading.{Res, bad, got, Reader, _>>=_, check, byte, many}
+use Rattle.records.specs.Reading.{bad, got, Reader, _>>=_, check, byte, many}
 
 abbrev pub between : ℕ → ℕ → ℕ → Bool
 between lo hi x = leb lo x && leb x hi

@@ -21,7 +21,7 @@ use money::names::NAME_MAX;
 ghost use mathlib.Core.Path.{_≡_};
 ghost use mathlib.Core.List.{List};
 ghost use Prim.Native.Nat.{ℕ};
-ghost use mathlib.Core.Bool.{Bool, true, false, _&&_};
+ghost use mathlib.Core.Bool.{false};
 ghost use Rattle.records.specs.Numbers.{between};
 ghost use Rattle.records.specs.Names.{decodeName, emptyName, storedName};
 ghost use Rattle.records.specs.Changes.{noKey};

@@ -21,7 +21,7 @@ use money::units::Price;
 use money::units::Quantity;
 use money::units::INTERVALS;
 ghost use mathlib.Core.Path.{_≡_};
-ghost use Prim.Native.Nat.{ℕ, _≤_};
+ghost use Prim.Native.Nat.{_≤_};
 ghost use Rattle.records.specs.Layouts.{hourPrices, import, export, failure, schedules, reserveRows, fewest, lists, within, allWithin, unitOf, unit, layout};
 ghost use Rattle.records.specs.tables.Inner.{shown, EndIn, ListsIs, then};
 

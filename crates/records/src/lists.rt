@@ -13,7 +13,7 @@ use money::units::Price;
 use money::units::Quantity;
 use money::offers::PAIRS_MAX;
 ghost use mathlib.Core.Path.{_≡_};
-ghost use Prim.Native.Nat.{ℕ, _≤_};
+ghost use Prim.Native.Nat.{_≤_};
 ghost use lib.ListN.{length};
 ghost use Rattle.money.specs.Offers.{lastQ};
 ghost use Rattle.records.specs.Reading.{from};

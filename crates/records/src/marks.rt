@@ -3,12 +3,12 @@ use crate::fields::End;
 use money::refusals::ENDS_EARLY;
 use money::refusals::MARK_UNKNOWN;
 ghost use mathlib.Core.Path.{_≡_};
-ghost use mathlib.Core.List.{List, [], _∷_};
+ghost use mathlib.Core.List.{[], _∷_};
 ghost use Prim.Native.Nat.{_<_};
 ghost use lib.ListN.{length, getD};
 ghost use Rattle.records.specs.Reading.{from};
 ghost use Rattle.records.specs.Marks.{markBytes, is, listing, mark, hasName, isFailure, order, sameMark, limit};
-ghost use Rattle.records.specs.Changes.{number, allowed, inside, head, isFiling, isCorrection, isWithdrawal, sameKind};
+ghost use Rattle.records.specs.Changes.{allowed, inside, head, isFiling, isCorrection, isWithdrawal, sameKind};
 ghost use Rattle.records.specs.tables.Inner.{shown, EndIn, headed};
 
 // How many marks the listing has.

@@ -9,7 +9,7 @@ use money::refusals::NAME_FAULT;
 use money::refusals::ENDS_EARLY;
 use money::names::NAME_MAX;
 ghost use mathlib.Core.Path.{_≡_};
-ghost use Prim.Native.Nat.{ℕ, _+_, _≤_, _<_};
+ghost use Prim.Native.Nat.{_+_, _≤_, _<_};
 ghost use lib.ListN.{length};
 ghost use Rattle.money.specs.Names.{decodedBytes, nameBefore};
 ghost use Rattle.records.specs.Reading.{from};

@@ -1,7 +1,6 @@
 // What the bytes of an argument are: a change, or any of the ten marks.
 use crate::changes::read_change;
 use crate::fields::End;
-use crate::keys::Key;
 use crate::marks::Act;
 use crate::marks::Wanted;
 use crate::marks::is;
@@ -12,7 +11,7 @@ use money::refusals::ENDS_EARLY;
 use money::refusals::BYTES_LEFT_OVER;
 use money::refusals::MARK_UNKNOWN;
 ghost use mathlib.Core.Path.{_≡_};
-ghost use mathlib.Core.List.{List, [], _∷_};
+ghost use mathlib.Core.List.{[], _∷_};
 ghost use Rattle.records.specs.Changes.{change, changeView, entry, entryRead, parse, parseAny, bare, takeBackBytes, closeBytes, unseen, viewOf, parsedOf, entryOf, frontOf};
 ghost use Rattle.records.specs.tables.Inner.{ViewIs};
 

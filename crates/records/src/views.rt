@@ -30,7 +30,6 @@ use money::units::Quantity;
 use money::offers::PAIRS_MAX;
 use money::units::INTERVALS;
 ghost use mathlib.Core.Path.{_≡_};
-ghost use mathlib.Core.Bool.{Bool, true, false};
 ghost use Rattle.records.specs.Layouts.{hourPrices, import, export, unit};
 ghost use Rattle.records.specs.Views.{ahead, noOffer, noImport, noReserve, noUnit, noFailure, viewed, viewedFailure, pricesAnswer, importAnswer, exportAnswer, unitAnswer, failureAnswer};
 ghost use Rattle.records.specs.tables.Inner.{shown, EndIn};

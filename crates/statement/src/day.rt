@@ -10,7 +10,7 @@ use book::book::Book;
 use money::refusals::NOT_TOGETHER;
 use book::book::CHANGES_MAX;
 use money::units::HOURS;
-ghost use Prim.Native.Nat.{_+_, _*_, _≤_};
+ghost use Prim.Native.Nat.{_+_, _≤_};
 ghost use lib.ListN.{length, take};
 ghost use Rattle.book.specs.Meaning.{load};
 ghost use Rattle.statement.specs.Statement.{Answers};

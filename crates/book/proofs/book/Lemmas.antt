@@ -6,10 +6,10 @@ use mathlib.Core.Bool.{Bool, true, false, cond}
 use native.Mathlib.Omega.{arith}
 use lib.ListN.{length, take}
 use lib.Seq.{take-length}
-use Rattle.book.specs.Layer.{Key, KeyAnswer, fault, Asked, got, bad, keyAsked, askHour, keyAnswer}
+use Rattle.book.specs.Layer.{Key, KeyAnswer, Asked, got, bad, keyAsked, askHour, keyAnswer}
 use Rattle.book.specs.laws.LayerLaws.{ask-fault, askHour-fault}
 use Rattle.book.specs.declared.book.Book.{Book}
-use Rattle.book.specs.Register.{Reg, ask, recordOf, countOf, freeBytes, Reply, refused, accepted, place, number, Step, answered, becomes, stepOf, unless-closed, keyed, answer, placeOf, writeAll, capped, stands, count, standing}
+use Rattle.book.specs.Register.{Reg, ask, recordOf, countOf, freeBytes, Reply, refused, accepted, place, number, Step, answered, becomes, stepOf, unless-closed, keyed, answer, placeOf, writeAll, capped, count, standing}
 use Rattle.book.specs.Meaning.{mismatched, load, After, bookOf, leaving, stepped, outcome, Leaves, Meets}
 use Rattle.book.specs.tables.Tables.{Survey, survey}
 use Rattle.book.specs.laws.LoadLaws.{Loaded}

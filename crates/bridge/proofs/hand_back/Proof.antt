@@ -29,9 +29,14 @@ same-length c = search needs
 
 returns : tie.Need-returns
 returns c =
-    let b = (c .before .before .before .before .before .before .before .before .before .before .before .before .before .before .args) .b in
-    (c .before .before .set3) .ensures ∙ ap (λ (s : List ℕ). stored s 2 ((c .before .before .before .flag) .result)) ((c .before .before .before .before .before .before .before .set2) .ensures ∙ ap (λ (s : List ℕ). stored s 1 (b .used)) ((c .before .before .before .before .before .before .before .before .before .before .before .set) .ensures))
-    ∙ ap (λ (k : ℕ). stored (stored (stored ((c .before .before .before .before .before .before .before .before .before .before .before .before .before .before .args) .state .now) 0 (b .changes)) 1 (b .used)) 2 k) ((c .before .before .before .flag) .ensures)
+    let c2 = c .before .before in
+    let c3 = c2 .before in
+    let c7 = c3 .before .before .before .before in
+    let c11 = c7 .before .before .before .before in
+    let c14 = c11 .before .before .before in
+    let b = (c14 .args) .b in
+    (c2 .set3) .ensures ∙ ap (λ (s : List ℕ). stored s 2 ((c3 .flag) .result)) ((c7 .set2) .ensures ∙ ap (λ (s : List ℕ). stored s 1 (b .used)) ((c11 .set) .ensures))
+    ∙ ap (λ (k : ℕ). stored (stored (stored ((c14 .args) .state .now) 0 (b .changes)) 1 (b .used)) 2 k) ((c3 .flag) .ensures)
 
 pub hand-back-spec : {M : Type 1} → statement M
 hand-back-spec =

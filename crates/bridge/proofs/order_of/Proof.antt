@@ -15,18 +15,32 @@ name-before-requires : tie.Need-name-before-requires
 name-before-requires c κs = search needs
 
 returns : tie.Need-returns
-returns c = order-before ((c .before .before .before .before .before .before .before .before .args) .a .now) ((c .before .before .before .before .before .before .before .before .args) .b .now) ((c .before .before .before .before .before .ask-name) .ensures) ((c .before .before .before .ask-name2) .ensures) ((c .before .name-before) .ensures) ((c .if1) .taken)
+returns c =
+    let c3 = c .before .before .before in
+    let c5 = c3 .before .before in
+    let c8 = c5 .before .before .before in
+    order-before ((c8 .args) .a .now) ((c8 .args) .b .now) ((c5 .ask-name) .ensures) ((c3 .ask-name2) .ensures) ((c .before .name-before) .ensures) ((c .if1) .taken)
 
 same-name-requires : tie.Need-same-name-requires
 same-name-requires c κs = search needs
 
 returns-2 : tie.Need-returns-2
 returns-2 c =
-    order-rest ((c .before .before .before .before .before .before .before .before .before .before .args) .a .now) ((c .before .before .before .before .before .before .before .before .before .before .args) .b .now) ((c .before .before .before .before .before .before .before .ask-name) .ensures) ((c .before .before .before .before .before .ask-name2) .ensures) 1 ((c .before .before .before .name-before) .ensures) ((c .before .before .if1) .left) ((c .before .same-name) .ensures) (sym (ap (λ (s : Bool). cond s 1 2) ((c .if2) .taken)))
+    let c2 = c .before .before in
+    let c3 = c2 .before in
+    let c5 = c3 .before .before in
+    let c7 = c5 .before .before in
+    let c10 = c7 .before .before .before in
+    order-rest ((c10 .args) .a .now) ((c10 .args) .b .now) ((c7 .ask-name) .ensures) ((c5 .ask-name2) .ensures) 1 ((c3 .name-before) .ensures) ((c2 .if1) .left) ((c .before .same-name) .ensures) (sym (ap (λ (s : Bool). cond s 1 2) ((c .if2) .taken)))
 
 returns-3 : tie.Need-returns-3
 returns-3 c =
-    order-rest ((c .before .before .before .before .before .before .before .before .before .before .args) .a .now) ((c .before .before .before .before .before .before .before .before .before .before .args) .b .now) ((c .before .before .before .before .before .before .before .ask-name) .ensures) ((c .before .before .before .before .before .ask-name2) .ensures) 2 ((c .before .before .before .name-before) .ensures) ((c .before .before .if1) .left) ((c .before .same-name) .ensures) (sym (ap (λ (s : Bool). cond s 1 2) ((c .if2) .left)))
+    let c2 = c .before .before in
+    let c3 = c2 .before in
+    let c5 = c3 .before .before in
+    let c7 = c5 .before .before in
+    let c10 = c7 .before .before .before in
+    order-rest ((c10 .args) .a .now) ((c10 .args) .b .now) ((c7 .ask-name) .ensures) ((c5 .ask-name2) .ensures) 2 ((c3 .name-before) .ensures) ((c2 .if1) .left) ((c .before .same-name) .ensures) (sym (ap (λ (s : Bool). cond s 1 2) ((c .if2) .left)))
 
 pub order-of-spec : {M : Type 1} → statement M
 order-of-spec =

@@ -19,8 +19,10 @@ filing-fault-requires c κs = search needs
 returns : tie.Need-returns
 unfolding amountNumber
 returns c =
-    let e = (c .before .filing-fault) .ensures ∙ ap (λ (b : Bool). filingNumber ((c .before .before .before .before .before .args) .prices .now) b) ((c .before .before .begins-with) .ensures) in
-    let k = kept (orElse (filingNumber ((c .before .before .before .before .before .args) .bytes .now) (hasAmount ((c .before .before .before .before .before .args) .bytes .now))) (answerNumber (amountIn ((c .before .before .before .before .before .args) .prices .now) ((c .before .before .before .before .before .args) .bytes .now)))) e ((c .if1) .taken) in
+    let c2 = c .before .before in
+    let c5 = c2 .before .before .before in
+    let e = (c .before .filing-fault) .ensures ∙ ap (λ (b : Bool). filingNumber ((c5 .args) .prices .now) b) ((c2 .begins-with) .ensures) in
+    let k = kept (orElse (filingNumber ((c5 .args) .bytes .now) (hasAmount ((c5 .args) .bytes .now))) (answerNumber (amountIn ((c5 .args) .prices .now) ((c5 .args) .bytes .now)))) e ((c .if1) .taken) in
     (k, if-no _ _ k ((c .if1) .taken))
 
 has-amount-requires : tie.Need-has-amount-requires
@@ -32,11 +34,16 @@ filing-fault-requires-2 c κs = search needs
 returns-2 : tie.Need-returns-2
 unfolding amountNumber
 returns-2 c =
-    let e = (c .before .before .before .before .filing-fault) .ensures ∙ ap (λ (b : Bool). filingNumber ((c .before .before .before .before .before .before .before .before .args) .prices .now) b) ((c .before .before .before .before .before .begins-with) .ensures) in
-    let f = (c .before .filing-fault2) .ensures ∙ ap (λ (b : Bool). filingNumber ((c .before .before .before .before .before .before .before .before .args) .bytes .now) b) ((c .before .before .has-amount) .ensures) in
+    let c2 = c .before .before in
+    let c3 = c2 .before in
+    let c4 = c3 .before in
+    let c5 = c4 .before in
+    let c8 = c5 .before .before .before in
+    let e = (c4 .filing-fault) .ensures ∙ ap (λ (b : Bool). filingNumber ((c8 .args) .prices .now) b) ((c5 .begins-with) .ensures) in
+    let f = (c .before .filing-fault2) .ensures ∙ ap (λ (b : Bool). filingNumber ((c8 .args) .bytes .now) b) ((c2 .has-amount) .ensures) in
     let k =
-    kept (answerNumber (amountIn ((c .before .before .before .before .before .before .before .before .args) .prices .now) ((c .before .before .before .before .before .before .before .before .args) .bytes .now))) f ((c .if2) .taken)
-    ∙ ap (λ (n : ℕ). orElse n (orElse (filingNumber ((c .before .before .before .before .before .before .before .before .args) .bytes .now) (hasAmount ((c .before .before .before .before .before .before .before .before .args) .bytes .now))) (answerNumber (amountIn ((c .before .before .before .before .before .before .before .before .args) .prices .now) ((c .before .before .before .before .before .before .before .before .args) .bytes .now))))) (sym ((c .before .before .before .if1) .left) ∙ e) in
+    kept (answerNumber (amountIn ((c8 .args) .prices .now) ((c8 .args) .bytes .now))) f ((c .if2) .taken)
+    ∙ ap (λ (n : ℕ). orElse n (orElse (filingNumber ((c8 .args) .bytes .now) (hasAmount ((c8 .args) .bytes .now))) (answerNumber (amountIn ((c8 .args) .prices .now) ((c8 .args) .bytes .now))))) (sym ((c3 .if1) .left) ∙ e) in
     (k, if-no _ _ k ((c .if2) .taken))
 
 amount-of-requires : tie.Need-amount-of-requires
@@ -51,16 +58,24 @@ same-length c = search needs
 returns-3 : tie.Need-returns-3
 unfolding amountNumber
 returns-3 c =
-    let e = (c .before .before .before .before .before .before .before .before .filing-fault) .ensures ∙ ap (λ (b : Bool). filingNumber ((c .before .before .before .before .before .before .before .before .before .before .before .before .args) .prices .now) b) ((c .before .before .before .before .before .before .before .before .before .begins-with) .ensures) in
-    let f = (c .before .before .before .before .before .filing-fault2) .ensures ∙ ap (λ (b : Bool). filingNumber ((c .before .before .before .before .before .before .before .before .before .before .before .before .args) .bytes .now) b) ((c .before .before .before .before .before .before .has-amount) .ensures) in
+    let c2 = c .before .before in
+    let c4 = c2 .before .before in
+    let c5 = c4 .before in
+    let c6 = c5 .before in
+    let c7 = c6 .before in
+    let c8 = c7 .before in
+    let c9 = c8 .before in
+    let c12 = c9 .before .before .before in
+    let e = (c8 .filing-fault) .ensures ∙ ap (λ (b : Bool). filingNumber ((c12 .args) .prices .now) b) ((c9 .begins-with) .ensures) in
+    let f = (c5 .filing-fault2) .ensures ∙ ap (λ (b : Bool). filingNumber ((c12 .args) .bytes .now) b) ((c6 .has-amount) .ensures) in
     let k =
-    (c .before .tell-amount) .ensures .0 ∙ ap (λ (a : Answer). answerNumber a) ((c .before .before .amount-of) .ensures)
-    ∙ ap (λ (n : ℕ). orElse n (answerNumber (amountIn ((c .before .before .before .before .before .before .before .before .before .before .before .before .args) .prices .now) ((c .before .before .before .before .before .before .before .before .before .before .before .before .args) .bytes .now)))) (sym ((c .before .before .before .before .if2) .left) ∙ f)
-    ∙ ap (λ (n : ℕ). orElse n (orElse (filingNumber ((c .before .before .before .before .before .before .before .before .before .before .before .before .args) .bytes .now) (hasAmount ((c .before .before .before .before .before .before .before .before .before .before .before .before .args) .bytes .now))) (answerNumber (amountIn ((c .before .before .before .before .before .before .before .before .before .before .before .before .args) .prices .now) ((c .before .before .before .before .before .before .before .before .before .before .before .before .args) .bytes .now))))) (sym ((c .before .before .before .before .before .before .before .if1) .left) ∙ e) in
-    let a = (c .before .before .amount-of) .ensures in (
+    (c .before .tell-amount) .ensures .0 ∙ ap (λ (a : Answer). answerNumber a) ((c2 .amount-of) .ensures)
+    ∙ ap (λ (n : ℕ). orElse n (answerNumber (amountIn ((c12 .args) .prices .now) ((c12 .args) .bytes .now)))) (sym ((c4 .if2) .left) ∙ f)
+    ∙ ap (λ (n : ℕ). orElse n (orElse (filingNumber ((c12 .args) .bytes .now) (hasAmount ((c12 .args) .bytes .now))) (answerNumber (amountIn ((c12 .args) .prices .now) ((c12 .args) .bytes .now))))) (sym ((c7 .if1) .left) ∙ e) in
+    let a = (c2 .amount-of) .ensures in (
       k,
-      (c .before .tell-amount) .ensures .1 ∙ ap (λ (x : Answer). ticksTold x ((c .before .before .before .before .before .before .before .before .before .before .before .before .args) .amounts .now)) a
-          ∙ ticks-if (amountIn ((c .before .before .before .before .before .before .before .before .before .before .before .before .args) .prices .now) ((c .before .before .before .before .before .before .before .before .before .before .before .before .args) .bytes .now)) ((c .before .before .before .before .before .before .before .before .before .before .before .before .args) .amounts .now) (sym k ∙ (c .before .tell-amount) .ensures .0 ∙ ap (λ (x : Answer). answerNumber x) a),
+      (c .before .tell-amount) .ensures .1 ∙ ap (λ (x : Answer). ticksTold x ((c12 .args) .amounts .now)) a
+          ∙ ticks-if (amountIn ((c12 .args) .prices .now) ((c12 .args) .bytes .now)) ((c12 .args) .amounts .now) (sym k ∙ (c .before .tell-amount) .ensures .0 ∙ ap (λ (x : Answer). answerNumber x) a),
     )
 
 pub pewatuno-amount-spec : {M : Type 1} → statement M

@@ -26,7 +26,11 @@ same-length-2 c = search needs
 
 returns : tie.Need-returns
 returns c =
-    change-refused ((c .before .before .before .before .before .before .before .before .before .before .before .before .args) .bytes .now) ((c .before .before .before .before .before .before .before .before .before .before .before .before .args) .state .now) ((c .before .before .before .before .before .before .before .before .before .before .before .before .args) .lent .now) _ ((c .before .before .before .before .before .before .before .before .before .before .before .before .args) .method) ((c .before .before .before .before .before .method-of) .ensures) ((c .before .before .before .before .before .before .before .book-in) .ensures) ((c .before .before .before .before .make-change) .ensures .meets) ((c .before .refusal-in) .ensures) ((c .if1) .taken)
+    let c4 = c .before .before .before .before in
+    let c5 = c4 .before in
+    let c7 = c5 .before .before in
+    let c12 = c7 .before .before .before .before .before in
+    change-refused ((c12 .args) .bytes .now) ((c12 .args) .state .now) ((c12 .args) .lent .now) _ ((c12 .args) .method) ((c5 .method-of) .ensures) ((c7 .book-in) .ensures) ((c4 .make-change) .ensures .meets) ((c .before .refusal-in) .ensures) ((c .if1) .taken)
 
 hand-back-requires : tie.Need-hand-back-requires
 hand-back-requires c κs = search needs
@@ -39,7 +43,14 @@ same-length-4 c = search needs
 
 returns-2 : tie.Need-returns-2
 returns-2 c =
-    change-accepted ((c .before .before .before .before .before .before .before .before .before .before .before .before .before .before .before .before .before .args) .bytes .now) ((c .before .before .before .before .before .before .before .before .before .before .before .before .before .before .before .before .before .args) .state .now) ((c .before .before .before .before .before .before .before .before .before .before .before .before .before .before .before .before .before .args) .lent .now) _ ((c .before .before .before .before .before .before .before .before .before .before .before .before .before .before .before .before .before .args) .method) ((c .before .before .before .before .before .before .before .before .before .before .method-of) .ensures) ((c .before .before .before .before .before .before .before .before .before .before .before .before .book-in) .ensures) ((c .before .before .before .before .before .before .before .before .before .make-change) .ensures .meets) ((c .before .before .before .before .before .before .refusal-in) .ensures) ((c .before .before .before .before .before .if1) .left) ((c .before .before .hand-back) .ensures)
+    let c2 = c .before .before in
+    let c5 = c2 .before .before .before in
+    let c6 = c5 .before in
+    let c9 = c6 .before .before .before in
+    let c10 = c9 .before in
+    let c12 = c10 .before .before in
+    let c17 = c12 .before .before .before .before .before in
+    change-accepted ((c17 .args) .bytes .now) ((c17 .args) .state .now) ((c17 .args) .lent .now) _ ((c17 .args) .method) ((c10 .method-of) .ensures) ((c12 .book-in) .ensures) ((c9 .make-change) .ensures .meets) ((c6 .refusal-in) .ensures) ((c5 .if1) .left) ((c2 .hand-back) .ensures)
 
 pub pewatuno-change-spec : {M : Type 1} → statement M
 pewatuno-change-spec =

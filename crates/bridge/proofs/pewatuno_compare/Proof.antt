@@ -15,7 +15,9 @@ cast-result : tie.Need-cast-result
 cast-result c = search needs
 
 returns : tie.Need-returns
-returns c = (kept (nameNumber ((c .before .before .before .before .before .args) .b .now)) (ap (λ (x : NameAnswer). x .number) ((c .before .ask-name) .ensures)) ((c .if1) .taken), told-no _ _ _ ((c .if1) .taken))
+returns c =
+    let c5 = c .before .before .before .before .before in
+    (kept (nameNumber ((c5 .args) .b .now)) (ap (λ (x : NameAnswer). x .number) ((c .before .ask-name) .ensures)) ((c .if1) .taken), told-no _ _ _ ((c .if1) .taken))
 
 ask-name-requires-2 : tie.Need-ask-name-requires-2
 ask-name-requires-2 c κs = search needs
@@ -25,7 +27,9 @@ cast-result-2 c = search needs
 
 returns-2 : tie.Need-returns-2
 returns-2 c =
-    rw (sym (ap (λ (x : NameAnswer). x .number) ((c .before .before .before .ask-name) .ensures)) ∙ (c .before .before .if1) .left) (ap (λ (x : NameAnswer). x .number) ((c .before .ask-name2) .ensures), told-no _ _ _ ((c .if2) .taken))
+    let c2 = c .before .before in
+    let c3 = c2 .before in
+    rw (sym (ap (λ (x : NameAnswer). x .number) ((c3 .ask-name) .ensures)) ∙ (c2 .if1) .left) (ap (λ (x : NameAnswer). x .number) ((c .before .ask-name2) .ensures), told-no _ _ _ ((c .if2) .taken))
 
 order-of-requires : tie.Need-order-of-requires
 order-of-requires c κs = search needs
@@ -38,8 +42,15 @@ same-length c = search needs
 
 returns-3 : tie.Need-returns-3
 returns-3 c =
-    rw (sym (ap (λ (x : NameAnswer). x .number) ((c .before .before .before .before .before .before .before .before .ask-name) .ensures)) ∙ (c .before .before .before .before .before .before .before .if1) .left, sym (ap (λ (x : NameAnswer). x .number) ((c .before .before .before .before .before .before .ask-name2) .ensures)) ∙ (c .before .before .before .before .before .if2) .left)
-    (refl, (c .before .before .set) .ensures ∙ ap (λ (n : ℕ). stored ((c .before .before .before .before .before .before .before .before .before .before .before .before .args) .sizes .now) 0 n) ((c .before .before .before .order-of) .ensures))
+    let c2 = c .before .before in
+    let c3 = c2 .before in
+    let c5 = c3 .before .before in
+    let c6 = c5 .before in
+    let c7 = c6 .before in
+    let c8 = c7 .before in
+    let c12 = c8 .before .before .before .before in
+    rw (sym (ap (λ (x : NameAnswer). x .number) ((c8 .ask-name) .ensures)) ∙ (c7 .if1) .left, sym (ap (λ (x : NameAnswer). x .number) ((c6 .ask-name2) .ensures)) ∙ (c5 .if2) .left)
+    (refl, (c2 .set) .ensures ∙ ap (λ (n : ℕ). stored ((c12 .args) .sizes .now) 0 n) ((c3 .order-of) .ensures))
 
 pub pewatuno-compare-spec : {M : Type 1} → statement M
 pewatuno-compare-spec =

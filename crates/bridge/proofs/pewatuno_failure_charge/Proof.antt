@@ -25,8 +25,12 @@ same-length c = search needs
 returns : tie.Need-returns
 unfolding asked
 returns c =
-    let p = (c .before .before .failure-charge) .ensures .answer ∙ (λ i. outcome (stepOf (ask (failureCharge ((c .before .before .before .before .before .before .before .before .before .before .args) .mark .now) ((c .before .before .before .hour-of) .ensures i) ((c .before .before .before .before .before .before .before .before .before .before .args) .name .now)))) ((c .before .before .before .before .before .book-in) .ensures i) ((c .before .before .before .before .before .before .before .before .before .before .args) .lent .now) .answer) in
-    ((c .before .tell-amounts) .ensures .0 ∙ ap (λ (r : Reply). replied r) p, (c .before .tell-amounts) .ensures .1 ∙ ap (λ (r : Reply). amountsTold r ((c .before .before .before .before .before .before .before .before .before .before .args) .amounts .now)) p)
+    let c2 = c .before .before in
+    let c3 = c2 .before in
+    let c5 = c3 .before .before in
+    let c10 = c5 .before .before .before .before .before in
+    let p = (c2 .failure-charge) .ensures .answer ∙ (λ i. outcome (stepOf (ask (failureCharge ((c10 .args) .mark .now) ((c3 .hour-of) .ensures i) ((c10 .args) .name .now)))) ((c5 .book-in) .ensures i) ((c10 .args) .lent .now) .answer) in
+    ((c .before .tell-amounts) .ensures .0 ∙ ap (λ (r : Reply). replied r) p, (c .before .tell-amounts) .ensures .1 ∙ ap (λ (r : Reply). amountsTold r ((c10 .args) .amounts .now)) p)
 
 pub pewatuno-failure-charge-spec : {M : Type 1} → statement M
 pewatuno-failure-charge-spec =

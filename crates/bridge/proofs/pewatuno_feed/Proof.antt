@@ -41,17 +41,23 @@ same-length-3 c = search needs
 returns : tie.Need-returns
 unfolding feedIn
 returns c =
-    let b = (c .before .before .before .before .before .before .before .before .before .before .before .before .before .before .before .before .before .book-in) .result in
-    let s = (c .before .before .before .before .before .before .before .before .before .before .before .before .before .before .before .before .before .before .before .before .before .before .before .args) .lent .now in
-    let input = (c .before .before .before .before .before .before .before .before .before .before .before .before .before .before .before .before .before .before .before .before .before .before .before .args) .input .now in
-    let state = (c .before .before .before .before .before .before .before .before .before .before .before .before .before .before .before .before .before .before .before .before .before .before .before .args) .state .now in
-    let e = fed-is b s input _ ((c .before .before .before .before .before .before .before .before .before .before .before .before .before .before .before .feed) .result) ((c .before .before .before .before .before .before .before .before .before .before .before .before .before .before .before .feed) .ensures) ∙ ap (λ (x : Book). feedOf (load x s) x (length s) input) ((c .before .before .before .before .before .before .before .before .before .before .before .before .before .before .before .before .before .book-in) .ensures) in (
+    let c3 = c .before .before .before in
+    let c7 = c3 .before .before .before .before in
+    let c11 = c7 .before .before .before .before in
+    let c15 = c11 .before .before .before .before in
+    let c17 = c15 .before .before in
+    let c23 = c17 .before .before .before .before .before .before in
+    let b = (c17 .book-in) .result in
+    let s = (c23 .args) .lent .now in
+    let input = (c23 .args) .input .now in
+    let state = (c23 .args) .state .now in
+    let e = fed-is b s input _ ((c15 .feed) .result) ((c15 .feed) .ensures) ∙ ap (λ (x : Book). feedOf (load x s) x (length s) input) ((c17 .book-in) .ensures) in (
       ap (λ (f : Fed). f .number) e,
       (
-        (c .before .before .before .hand-back-fed) .ensures ∙ ap (λ (f : Fed). feedState f state) e,
+        (c3 .hand-back-fed) .ensures ∙ ap (λ (f : Fed). feedState f state) e,
         (
-          fed-bytes-of b s input _ ((c .before .before .before .before .before .before .before .before .before .before .before .before .before .before .before .feed) .result) ((c .before .before .before .before .before .before .before .before .before .before .before .before .before .before .before .feed) .ensures) ((c .before .before .before .before .before .before .before .before .before .before .before .before .before .before .before .before .before .book-in) .ensures),
-          (c .before .before .before .before .before .before .before .set2) .ensures ∙ ap (λ (row : List ℕ). stored row 1 ((c .before .before .before .before .before .before .before .before .before .before .before .before .before .before .before .feed) .result .taken)) ((c .before .before .before .before .before .before .before .before .before .before .before .set) .ensures) ∙ ap (λ (f : Fed). feedSizes f ((c .before .before .before .before .before .before .before .before .before .before .before .before .before .before .before .before .before .before .before .before .before .before .before .args) .sizes .now)) e,
+          fed-bytes-of b s input _ ((c15 .feed) .result) ((c15 .feed) .ensures) ((c17 .book-in) .ensures),
+          (c7 .set2) .ensures ∙ ap (λ (row : List ℕ). stored row 1 ((c15 .feed) .result .taken)) ((c11 .set) .ensures) ∙ ap (λ (f : Fed). feedSizes f ((c23 .args) .sizes .now)) e,
         ),
       ),
     )

@@ -22,8 +22,12 @@ same-length c = search needs
 returns : tie.Need-returns
 unfolding asked
 returns c =
-    let p = (c .before .before .before .free-bytes) .ensures .answer ∙ (λ i. outcome (stepOf (ask freeBytes)) ((c .before .before .before .before .before .book-in) .ensures i) ((c .before .before .before .before .before .before .before .before .before .args) .lent .now) .answer) in
-    ((c .before .before .tell-said) .ensures .0 ∙ ap (λ (r : Reply). replied r) p, (c .before .before .tell-said) .ensures .1 ∙ ap (λ (r : Reply). sizesTold r ((c .before .before .before .before .before .before .before .before .before .args) .sizes .now)) p)
+    let c2 = c .before .before in
+    let c3 = c2 .before in
+    let c5 = c3 .before .before in
+    let c9 = c5 .before .before .before .before in
+    let p = (c3 .free-bytes) .ensures .answer ∙ (λ i. outcome (stepOf (ask freeBytes)) ((c5 .book-in) .ensures i) ((c9 .args) .lent .now) .answer) in
+    ((c2 .tell-said) .ensures .0 ∙ ap (λ (r : Reply). replied r) p, (c2 .tell-said) .ensures .1 ∙ ap (λ (r : Reply). sizesTold r ((c9 .args) .sizes .now)) p)
 
 pub pewatuno-free-spec : {M : Type 1} → statement M
 pewatuno-free-spec =

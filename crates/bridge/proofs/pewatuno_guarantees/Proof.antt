@@ -28,13 +28,18 @@ same-length-2 c = search needs
 returns : tie.Need-returns
 unfolding asked
 returns c =
-    let args = c .before .before .before .before .before .before .before .before .before .before .before .before .args in
+    let c3 = c .before .before .before in
+    let c6 = c3 .before .before .before in
+    let c7 = c6 .before in
+    let c8 = c7 .before in
+    let c12 = c8 .before .before .before .before in
+    let args = c12 .args in
     let lent = args .lent .now in
-    let g = (c .before .before .before .before .before .before .guarantees) .result in
-    let book = (c .before .before .before .before .before .before .before .before .book-in) .ensures in
-    let hour = (c .before .before .before .before .before .before .before .hour-of) .ensures in
-    let said = (c .before .before .before .tell-guarantees) .ensures in
-    let p = (c .before .before .before .before .before .before .guarantees) .ensures .0 .answer ∙ (λ i. outcome (stepOf (ask (hourGuarantees (hour i)))) (book i) lent .answer) in (
+    let g = (c6 .guarantees) .result in
+    let book = (c8 .book-in) .ensures in
+    let hour = (c7 .hour-of) .ensures in
+    let said = (c3 .tell-guarantees) .ensures in
+    let p = (c6 .guarantees) .ensures .0 .answer ∙ (λ i. outcome (stepOf (ask (hourGuarantees (hour i)))) (book i) lent .answer) in (
       said .0 ∙ ap (λ (r : Reply). replied r) p,
       (
         said .1 .0 ∙ (λ i. hourSizes (book i) lent (hour i) (guaranteesReply g) (args .sizes .now))

@@ -23,7 +23,11 @@ same-length c = search needs
 
 returns-2 : tie.Need-returns-2
 returns-2 c =
-    (sym ((c .before .before .before .before .if1) .left) ∙ ap (λ (f : Front). f .number) ((c .before .before .before .before .before .first-change) .ensures), (c .before .before .set) .ensures ∙ ap (λ (f : Front). stored ((c .before .before .before .before .before .before .before .before .args) .sizes .now) 0 (f .end)) ((c .before .before .before .before .before .first-change) .ensures))
+    let c2 = c .before .before in
+    let c4 = c2 .before .before in
+    let c5 = c4 .before in
+    let c8 = c5 .before .before .before in
+    (sym ((c4 .if1) .left) ∙ ap (λ (f : Front). f .number) ((c5 .first-change) .ensures), (c2 .set) .ensures ∙ ap (λ (f : Front). stored ((c8 .args) .sizes .now) 0 (f .end)) ((c5 .first-change) .ensures))
 
 pub pewatuno-next-spec : {M : Type 1} → statement M
 pewatuno-next-spec =

@@ -25,8 +25,13 @@ same-length c = search needs
 returns : tie.Need-returns
 unfolding asked
 returns c =
-    let p = (c .before .before .before .record-of) .ensures .answer ∙ (λ i. outcome (stepOf (ask (recordOf ((c .before .before .before .before .before .before .before .before .before .before .before .before .args) .mark .now) ((c .before .before .before .before .hour-of) .ensures i) ((c .before .before .before .before .before .before .before .before .before .before .before .before .args) .name .now)))) ((c .before .before .before .before .before .before .book-in) .ensures i) ((c .before .before .before .before .before .before .before .before .before .before .before .before .args) .lent .now) .answer) in
-    ((c .before .before .tell-said) .ensures .0 ∙ ap (λ (r : Reply). replied r) p, (c .before .before .tell-said) .ensures .1 ∙ ap (λ (r : Reply). sizesTold r ((c .before .before .before .before .before .before .before .before .before .before .before .before .args) .sizes .now)) p)
+    let c2 = c .before .before in
+    let c3 = c2 .before in
+    let c4 = c3 .before in
+    let c6 = c4 .before .before in
+    let c12 = c6 .before .before .before .before .before .before in
+    let p = (c3 .record-of) .ensures .answer ∙ (λ i. outcome (stepOf (ask (recordOf ((c12 .args) .mark .now) ((c4 .hour-of) .ensures i) ((c12 .args) .name .now)))) ((c6 .book-in) .ensures i) ((c12 .args) .lent .now) .answer) in
+    ((c2 .tell-said) .ensures .0 ∙ ap (λ (r : Reply). replied r) p, (c2 .tell-said) .ensures .1 ∙ ap (λ (r : Reply). sizesTold r ((c12 .args) .sizes .now)) p)
 
 pub pewatuno-record-spec : {M : Type 1} → statement M
 pewatuno-record-spec =

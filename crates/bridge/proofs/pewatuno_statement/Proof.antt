@@ -24,8 +24,11 @@ same-length c = search needs
 returns : tie.Need-returns
 unfolding statementIn
 returns c =
-    let e = ap (λ (b : Book). outcomeOf (load b ((c .before .before .before .before .before .before .before .before .before .before .args) .lent .now)) ((c .before .before .before .before .before .before .before .before .before .before .args) .out .now)) ((c .before .before .before .before .before .book-in) .ensures) in
-    ((c .before .before .before .statement) .ensures .number ∙ ap (λ (o : Outcome). o .number) e, ((c .before .before .before .statement) .ensures .bytes ∙ ap (λ (o : Outcome). o .bytes) e, told-no _ _ _ ((c .if1) .taken)))
+    let c3 = c .before .before .before in
+    let c5 = c3 .before .before in
+    let c10 = c5 .before .before .before .before .before in
+    let e = ap (λ (b : Book). outcomeOf (load b ((c10 .args) .lent .now)) ((c10 .args) .out .now)) ((c5 .book-in) .ensures) in
+    ((c3 .statement) .ensures .number ∙ ap (λ (o : Outcome). o .number) e, ((c3 .statement) .ensures .bytes ∙ ap (λ (o : Outcome). o .bytes) e, told-no _ _ _ ((c .if1) .taken)))
 
 set-requires : tie.Need-set-requires
 set-requires c κs = search needs
@@ -39,11 +42,16 @@ same-length-3 c = search needs
 returns-2 : tie.Need-returns-2
 unfolding statementIn
 returns-2 c =
-    let e = ap (λ (b : Book). outcomeOf (load b ((c .before .before .before .before .before .before .before .before .before .before .before .before .before .before .args) .lent .now)) ((c .before .before .before .before .before .before .before .before .before .before .before .before .before .before .args) .out .now)) ((c .before .before .before .before .before .before .before .before .before .book-in) .ensures) in (
-      sym ((c .before .before .before .before .if1) .left) ∙ (c .before .before .before .before .before .before .before .statement) .ensures .number ∙ ap (λ (o : Outcome). o .number) e,
+    let c2 = c .before .before in
+    let c4 = c2 .before .before in
+    let c7 = c4 .before .before .before in
+    let c9 = c7 .before .before in
+    let c14 = c9 .before .before .before .before .before in
+    let e = ap (λ (b : Book). outcomeOf (load b ((c14 .args) .lent .now)) ((c14 .args) .out .now)) ((c9 .book-in) .ensures) in (
+      sym ((c4 .if1) .left) ∙ (c7 .statement) .ensures .number ∙ ap (λ (o : Outcome). o .number) e,
       (
-        (c .before .before .before .before .before .before .before .statement) .ensures .bytes ∙ ap (λ (o : Outcome). o .bytes) e,
-        (c .before .before .set) .ensures ∙ ap (λ (n : ℕ). stored ((c .before .before .before .before .before .before .before .before .before .before .before .before .before .before .args) .sizes .now) 0 n) ((c .before .before .before .before .before .before .before .statement) .ensures .len ∙ ap (λ (o : Outcome). o .len) e),
+        (c7 .statement) .ensures .bytes ∙ ap (λ (o : Outcome). o .bytes) e,
+        (c2 .set) .ensures ∙ ap (λ (n : ℕ). stored ((c14 .args) .sizes .now) 0 n) ((c7 .statement) .ensures .len ∙ ap (λ (o : Outcome). o .len) e),
       ),
     )
 

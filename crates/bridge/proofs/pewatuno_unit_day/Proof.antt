@@ -22,8 +22,11 @@ same-length c = search needs
 returns : tie.Need-returns
 unfolding asked
 returns c =
-    let p = (c .before .before .unit-day) .ensures .0 .answer ∙ (λ i. outcome (stepOf (ask (dayOf ((c .before .before .before .before .before .before .before .before .args) .name .now)))) ((c .before .before .before .before .book-in) .ensures i) ((c .before .before .before .before .before .before .before .before .args) .lent .now) .answer) in
-    ((c .before .tell-day) .ensures .0 ∙ ap (λ (r : Reply). replied r) p, (c .before .tell-day) .ensures .1 ∙ ap (λ (r : Reply). amountsTold r ((c .before .before .before .before .before .before .before .before .args) .amounts .now)) p)
+    let c2 = c .before .before in
+    let c4 = c2 .before .before in
+    let c8 = c4 .before .before .before .before in
+    let p = (c2 .unit-day) .ensures .0 .answer ∙ (λ i. outcome (stepOf (ask (dayOf ((c8 .args) .name .now)))) ((c4 .book-in) .ensures i) ((c8 .args) .lent .now) .answer) in
+    ((c .before .tell-day) .ensures .0 ∙ ap (λ (r : Reply). replied r) p, (c .before .tell-day) .ensures .1 ∙ ap (λ (r : Reply). amountsTold r ((c8 .args) .amounts .now)) p)
 
 pub pewatuno-unit-day-spec : {M : Type 1} → statement M
 pewatuno-unit-day-spec =

@@ -14,7 +14,10 @@ same-length-2 : tie.Need-same-length-2
 same-length-2 c = search needs
 
 returns : tie.Need-returns
-returns c = rw (eq-eqb _ _ ((c .before .before .before .before .before .before .before .if1) .taken)) ((c .before .before .before .before .write-any) .ensures)
+returns c =
+    let c4 = c .before .before .before .before in
+    let c7 = c4 .before .before .before in
+    rw (eq-eqb _ _ ((c7 .if1) .taken)) ((c4 .write-any) .ensures)
 
 parse-take-back-requires : tie.Need-parse-take-back-requires
 parse-take-back-requires c κs = search needs
@@ -26,7 +29,12 @@ same-length-3 : tie.Need-same-length-3
 same-length-3 c = search needs
 
 returns-2 : tie.Need-returns-2
-returns-2 c = rw (ne-eqb _ _ ((c .before .before .before .before .before .before .if1) .left), eq-eqb _ _ ((c .before .before .before .before .before .if2) .taken)) ((c .before .before .mark-alone) .ensures .0 ∙ (c .before .before .before .before .parse-take-back) .ensures, (refl, (c .before .before .mark-alone) .ensures .1))
+returns-2 c =
+    let c2 = c .before .before in
+    let c4 = c2 .before .before in
+    let c5 = c4 .before in
+    let c6 = c5 .before in
+    rw (ne-eqb _ _ ((c6 .if1) .left), eq-eqb _ _ ((c5 .if2) .taken)) ((c2 .mark-alone) .ensures .0 ∙ (c4 .parse-take-back) .ensures, (refl, (c2 .mark-alone) .ensures .1))
 
 parse-close-requires : tie.Need-parse-close-requires
 parse-close-requires c κs = search needs
@@ -39,7 +47,12 @@ same-length-4 c = search needs
 
 returns-3 : tie.Need-returns-3
 returns-3 c =
-    rw (ne-eqb _ _ ((c .before .before .before .before .before .before .before .if1) .left), ne-eqb _ _ ((c .before .before .before .before .before .before .if2) .left), eq-eqb _ _ ((c .before .before .before .before .before .if3) .taken)) ((c .before .before .mark-alone2) .ensures .0 ∙ (c .before .before .before .before .parse-close) .ensures, (refl, (c .before .before .mark-alone2) .ensures .1))
+    let c2 = c .before .before in
+    let c4 = c2 .before .before in
+    let c5 = c4 .before in
+    let c6 = c5 .before in
+    let c7 = c6 .before in
+    rw (ne-eqb _ _ ((c7 .if1) .left), ne-eqb _ _ ((c6 .if2) .left), eq-eqb _ _ ((c5 .if3) .taken)) ((c2 .mark-alone2) .ensures .0 ∙ (c4 .parse-close) .ensures, (refl, (c2 .mark-alone2) .ensures .1))
 
 wanted-by-requires : tie.Need-wanted-by-requires
 wanted-by-requires c κs = search needs
@@ -55,7 +68,12 @@ same-length-6 c = search needs
 
 returns-4 : tie.Need-returns-4
 returns-4 c =
-    rw (ne-eqb _ _ ((c .before .before .before .before .before .before .before .before .before .before .if1) .left), ne-eqb _ _ ((c .before .before .before .before .before .before .before .before .before .if2) .left), ne-eqb _ _ ((c .before .before .before .before .before .before .before .before .if3) .left), ← ((c .before .before .before .before .before .before .before .wanted-by) .ensures)) ((c .before .before .before .before .write-change) .ensures)
+    let c4 = c .before .before .before .before in
+    let c7 = c4 .before .before .before in
+    let c8 = c7 .before in
+    let c9 = c8 .before in
+    let c10 = c9 .before in
+    rw (ne-eqb _ _ ((c10 .if1) .left), ne-eqb _ _ ((c9 .if2) .left), ne-eqb _ _ ((c8 .if3) .left), ← ((c7 .wanted-by) .ensures)) ((c4 .write-change) .ensures)
 
 pub pewatuno-write-spec : {M : Type 1} → statement M
 pewatuno-write-spec =

@@ -25,9 +25,12 @@ same-length-2 c = search needs
 
 returns : tie.Need-returns
 returns c =
-    let args = c .before .before .before .before .before .before .before .before .before .before .args in
-    let place = (c .before .before .before .before .before .before .before .place-of) .ensures in (
-      (c .before .before .before .before .before .tell-place) .ensures ∙ ap (λ (r : Reply). placeTold (args .i) r (args .sizes .now)) place,
+    let c5 = c .before .before .before .before .before in
+    let c7 = c5 .before .before in
+    let c10 = c7 .before .before .before in
+    let args = c10 .args in
+    let place = (c7 .place-of) .ensures in (
+      (c5 .tell-place) .ensures ∙ ap (λ (r : Reply). placeTold (args .i) r (args .sizes .now)) place,
       (c .before .set-amount) .ensures,
     )
 

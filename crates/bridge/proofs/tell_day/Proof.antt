@@ -3,13 +3,9 @@ use mathlib.Core.List.{List}
 use lib.IntN.{ℤ}
 use borrow.Author.Tests.{eq-eqb, ne-eqb}
 use Rattle.bridge.specs.Bridge.{stored}
-use native.Mathlib.Omega.{arith}
 use borrow.Author.Needs.{needs}
 use Rattle.bridge.proofs.tell_day.Statement.{statement}
 use Rattle.bridge.proofs.tell_day.Tie as tie
-use Rattle.bridge.proofs.tell_day.Reads as reads
-use Rattle.bridge.proofs.tell_day.Lts as lts
-use Rattle.bridge.proofs.set_amount.Reads as set-amount-reads
 
 cast-result : tie.Need-cast-result
 cast-result c = search needs
@@ -27,7 +23,11 @@ same-length : tie.Need-same-length
 same-length c = search needs
 
 returns-2 : tie.Need-returns-2
-returns-2 c = rw (eq-eqb _ _ ((c .before .before .before .before .before .before .if1) .left)) (refl, (c .before .set-amount2) .ensures ∙ ap (λ (s : List ℤ). stored s 1 ((c .before .before .before .before .before .before .before .args) .d .reversal .0)) ((c .before .before .before .before .set-amount) .ensures))
+returns-2 c =
+    let c4 = c .before .before .before .before in
+    let c6 = c4 .before .before in
+    let c7 = c6 .before in
+    rw (eq-eqb _ _ ((c6 .if1) .left)) (refl, (c .before .set-amount2) .ensures ∙ ap (λ (s : List ℤ). stored s 1 ((c7 .args) .d .reversal .0)) ((c4 .set-amount) .ensures))
 
 pub tell-day-spec : {M : Type 1} → statement M
 tell-day-spec =

@@ -50,9 +50,13 @@ same-length c = search needs
 
 returns-3 : tie.Need-returns-3
 returns-3 c =
-    let i = (c .before .before .before .before .before .before .before .before .before .before .before .before .args) .i in
-    let a = c .before .before .before .before .before .before .before .before .before .a2 in
-    rw (a .given .1) ((c .before .before .set2) .ensures ∙ ap (λ (s : List ℕ). stored s (2 * i + 2) (a .given .0 .1 .0)) ((c .before .before .before .before .before .before .set) .ensures))
+    let c2 = c .before .before in
+    let c6 = c2 .before .before .before .before in
+    let c9 = c6 .before .before .before in
+    let c12 = c9 .before .before .before in
+    let i = (c12 .args) .i in
+    let a = c9 .a2 in
+    rw (a .given .1) ((c2 .set2) .ensures ∙ ap (λ (s : List ℕ). stored s (2 * i + 2) (a .given .0 .1 .0)) ((c6 .set) .ensures))
 
 returns-4 : tie.Need-returns-4
 returns-4 c = search needs

@@ -1,6 +1,4 @@
 use borrow.Author.Tests.{eq-eqb, ne-eqb}
-use borrow.Author.Needs.{needs}
-use native.Mathlib.Omega.{arith}
 use Rattle.bridge.specs.Bridge.{wantedBy}
 use Rattle.bridge.proofs.wanted_by.Statement.{statement}
 use Rattle.bridge.proofs.wanted_by.Tie as tie

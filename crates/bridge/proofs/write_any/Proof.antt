@@ -17,9 +17,10 @@ cast-result c = search needs
 
 returns : tie.Need-returns
 returns c =
-    let s = (c .before .before .before .before .before .args) .bytes .now in
+    let c5 = c .before .before .before .before .before in
+    let s = (c5 .args) .bytes .now in
     let e = ap (λ (x : Parsed). x .number) ((c .before .parse-any) .ensures) in
-    (kept (cond (not (isRecord (entryOf (parseAny s) .view .act))) 0 (putNumber (parse Any s) 0 ((c .before .before .before .before .before .args) .out .now))) e ((c .if1) .taken), (if-no _ _ e ((c .if1) .taken), told-no _ _ _ ((c .if1) .taken)))
+    (kept (cond (not (isRecord (entryOf (parseAny s) .view .act))) 0 (putNumber (parse Any s) 0 ((c5 .args) .out .now))) e ((c .if1) .taken), (if-no _ _ e ((c .if1) .taken), told-no _ _ _ ((c .if1) .taken)))
 
 is-record-requires : tie.Need-is-record-requires
 is-record-requires c κs = search needs
@@ -32,9 +33,14 @@ same-length c = search needs
 
 returns-2 : tie.Need-returns-2
 returns-2 c =
-    let z = sym (ap (λ (x : Parsed). x .number) ((c .before .before .before .before .before .before .before .before .parse-any) .ensures)) ∙ (c .before .before .before .before .before .before .before .if1) .left in
-    let k = sym (ap (λ (x : Parsed). not (isRecord (x .view .act))) ((c .before .before .before .before .before .before .before .before .parse-any) .ensures)) ∙ sym (ap not ((c .before .before .before .before .before .is-record) .ensures)) ∙ (c .before .before .before .before .if2) .taken in
-    rw (z, k) ((c .before .before .mark-alone) .ensures .0, (refl, (c .before .before .mark-alone) .ensures .1))
+    let c2 = c .before .before in
+    let c4 = c2 .before .before in
+    let c5 = c4 .before in
+    let c7 = c5 .before .before in
+    let c8 = c7 .before in
+    let z = sym (ap (λ (x : Parsed). x .number) ((c8 .parse-any) .ensures)) ∙ (c7 .if1) .left in
+    let k = sym (ap (λ (x : Parsed). not (isRecord (x .view .act))) ((c8 .parse-any) .ensures)) ∙ sym (ap not ((c5 .is-record) .ensures)) ∙ (c4 .if2) .taken in
+    rw (z, k) ((c2 .mark-alone) .ensures .0, (refl, (c2 .mark-alone) .ensures .1))
 
 write-change-requires : tie.Need-write-change-requires
 write-change-requires c κs = search needs
@@ -47,9 +53,14 @@ same-length-3 c = search needs
 
 returns-3 : tie.Need-returns-3
 returns-3 c =
-    let z = sym (ap (λ (x : Parsed). x .number) ((c .before .before .before .before .before .before .before .before .before .before .before .parse-any) .ensures)) ∙ (c .before .before .before .before .before .before .before .before .before .before .if1) .left in
-    let k = sym (ap (λ (x : Parsed). not (isRecord (x .view .act))) ((c .before .before .before .before .before .before .before .before .before .before .before .parse-any) .ensures)) ∙ sym (ap not ((c .before .before .before .before .before .before .before .before .is-record) .ensures)) ∙ (c .before .before .before .before .before .before .before .if2) .left in
-    rw (z, k) ((c .before .before .before .before .write-change) .ensures)
+    let c4 = c .before .before .before .before in
+    let c7 = c4 .before .before .before in
+    let c8 = c7 .before in
+    let c10 = c8 .before .before in
+    let c11 = c10 .before in
+    let z = sym (ap (λ (x : Parsed). x .number) ((c11 .parse-any) .ensures)) ∙ (c10 .if1) .left in
+    let k = sym (ap (λ (x : Parsed). not (isRecord (x .view .act))) ((c11 .parse-any) .ensures)) ∙ sym (ap not ((c8 .is-record) .ensures)) ∙ (c7 .if2) .left in
+    rw (z, k) ((c4 .write-change) .ensures)
 
 pub write-any-spec : {M : Type 1} → statement M
 write-any-spec =

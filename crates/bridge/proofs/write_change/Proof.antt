@@ -32,7 +32,12 @@ same-length-3 c = search needs
 
 returns-2 : tie.Need-returns-2
 returns-2 c =
-    (sym ((c .before .before .before .before .if1) .left) ∙ (c .before .before .before .before .before .before .before .put) .ensures .0, ((c .before .before .before .before .before .before .before .put) .ensures .1, (c .before .before .set) .ensures ∙ ap (λ (p : Parsed). stored ((c .before .before .before .before .before .before .before .before .before .before .before .before .before .before .args) .sizes .now) 0 (p .view .len)) ((c .before .before .before .before .before .before .before .before .before .before .parse-change) .ensures)))
+    let c2 = c .before .before in
+    let c4 = c2 .before .before in
+    let c7 = c4 .before .before .before in
+    let c10 = c7 .before .before .before in
+    let c14 = c10 .before .before .before .before in
+    (sym ((c4 .if1) .left) ∙ (c7 .put) .ensures .0, ((c7 .put) .ensures .1, (c2 .set) .ensures ∙ ap (λ (p : Parsed). stored ((c14 .args) .sizes .now) 0 (p .view .len)) ((c10 .parse-change) .ensures)))
 
 pub write-change-spec : {M : Type 1} → statement M
 write-change-spec =

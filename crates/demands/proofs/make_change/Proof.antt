@@ -3,14 +3,6 @@ use borrow.Author.Tests.{eq-eqb, ne-eqb}
 use borrow.Author.Needs.{needs}
 use Rattle.demands.proofs.make_change.Statement.{statement}
 use Rattle.demands.proofs.make_change.Tie as tie
-use Rattle.demands.proofs.make_change.Reads as reads
-use Rattle.demands.proofs.make_change.Lts as lts
-use Rattle.book.proofs.journal.Book.change.Reads as change-reads
-use Rattle.book.proofs.journal.Book.close.Reads as close-reads
-use Rattle.book.proofs.journal.Book.correct.Reads as correct-reads
-use Rattle.book.proofs.journal.Book.file.Reads as file-reads
-use Rattle.book.proofs.journal.Book.take_back.Reads as take-back-reads
-use Rattle.book.proofs.journal.Book.withdraw.Reads as withdraw-reads
 
 file-requires : tie.Need-file-requires
 file-requires c κs = search needs
@@ -28,7 +20,11 @@ same-length-2 : tie.Need-same-length-2
 same-length-2 c = search needs
 
 returns-2 : tie.Need-returns-2
-returns-2 c = rw (ne-eqb _ _ ((c .before .before .before .before .before .if1) .left), eq-eqb _ _ ((c .before .before .before .before .if2) .taken)) (demanded _ _ _ _ _ _ ((c .before .before .correct) .ensures))
+returns-2 c =
+    let c2 = c .before .before in
+    let c4 = c2 .before .before in
+    let c5 = c4 .before in
+    rw (ne-eqb _ _ ((c5 .if1) .left), eq-eqb _ _ ((c4 .if2) .taken)) (demanded _ _ _ _ _ _ ((c2 .correct) .ensures))
 
 withdraw-requires : tie.Need-withdraw-requires
 withdraw-requires c κs = search needs
@@ -37,7 +33,12 @@ same-length-3 : tie.Need-same-length-3
 same-length-3 c = search needs
 
 returns-3 : tie.Need-returns-3
-returns-3 c = rw (ne-eqb _ _ ((c .before .before .before .before .before .before .if1) .left), ne-eqb _ _ ((c .before .before .before .before .before .if2) .left), eq-eqb _ _ ((c .before .before .before .before .if3) .taken)) (demanded _ _ _ _ _ _ ((c .before .before .withdraw) .ensures))
+returns-3 c =
+    let c2 = c .before .before in
+    let c4 = c2 .before .before in
+    let c5 = c4 .before in
+    let c6 = c5 .before in
+    rw (ne-eqb _ _ ((c6 .if1) .left), ne-eqb _ _ ((c5 .if2) .left), eq-eqb _ _ ((c4 .if3) .taken)) (demanded _ _ _ _ _ _ ((c2 .withdraw) .ensures))
 
 take-back-requires : tie.Need-take-back-requires
 take-back-requires c κs = search needs
@@ -46,7 +47,12 @@ same-length-4 : tie.Need-same-length-4
 same-length-4 c = search needs
 
 returns-4 : tie.Need-returns-4
-returns-4 c = rw (ne-eqb _ _ ((c .before .before .before .before .before .if1) .left), ne-eqb _ _ ((c .before .before .before .before .if2) .left), ne-eqb _ _ ((c .before .before .before .if3) .left), eq-eqb _ _ ((c .before .before .if4) .taken)) (demanded _ _ _ _ _ _ ((c .take-back) .ensures))
+returns-4 c =
+    let c2 = c .before .before in
+    let c3 = c2 .before in
+    let c4 = c3 .before in
+    let c5 = c4 .before in
+    rw (ne-eqb _ _ ((c5 .if1) .left), ne-eqb _ _ ((c4 .if2) .left), ne-eqb _ _ ((c3 .if3) .left), eq-eqb _ _ ((c2 .if4) .taken)) (demanded _ _ _ _ _ _ ((c .take-back) .ensures))
 
 close-requires : tie.Need-close-requires
 close-requires c κs = search needs
@@ -55,7 +61,13 @@ same-length-5 : tie.Need-same-length-5
 same-length-5 c = search needs
 
 returns-5 : tie.Need-returns-5
-returns-5 c = rw (ne-eqb _ _ ((c .before .before .before .before .before .before .if1) .left), ne-eqb _ _ ((c .before .before .before .before .before .if2) .left), ne-eqb _ _ ((c .before .before .before .before .if3) .left), ne-eqb _ _ ((c .before .before .before .if4) .left), eq-eqb _ _ ((c .before .before .if5) .taken)) (demanded _ _ _ _ _ _ ((c .close) .ensures))
+returns-5 c =
+    let c2 = c .before .before in
+    let c3 = c2 .before in
+    let c4 = c3 .before in
+    let c5 = c4 .before in
+    let c6 = c5 .before in
+    rw (ne-eqb _ _ ((c6 .if1) .left), ne-eqb _ _ ((c5 .if2) .left), ne-eqb _ _ ((c4 .if3) .left), ne-eqb _ _ ((c3 .if4) .left), eq-eqb _ _ ((c2 .if5) .taken)) (demanded _ _ _ _ _ _ ((c .close) .ensures))
 
 change-requires : tie.Need-change-requires
 change-requires c κs = search needs
@@ -64,7 +76,14 @@ same-length-6 : tie.Need-same-length-6
 same-length-6 c = search needs
 
 returns-6 : tie.Need-returns-6
-returns-6 c = rw (ne-eqb _ _ ((c .before .before .before .before .before .before .before .before .if1) .left), ne-eqb _ _ ((c .before .before .before .before .before .before .before .if2) .left), ne-eqb _ _ ((c .before .before .before .before .before .before .if3) .left), ne-eqb _ _ ((c .before .before .before .before .before .if4) .left), ne-eqb _ _ ((c .before .before .before .before .if5) .left)) (demanded _ _ _ _ _ _ ((c .before .before .change) .ensures))
+returns-6 c =
+    let c2 = c .before .before in
+    let c4 = c2 .before .before in
+    let c5 = c4 .before in
+    let c6 = c5 .before in
+    let c7 = c6 .before in
+    let c8 = c7 .before in
+    rw (ne-eqb _ _ ((c8 .if1) .left), ne-eqb _ _ ((c7 .if2) .left), ne-eqb _ _ ((c6 .if3) .left), ne-eqb _ _ ((c5 .if4) .left), ne-eqb _ _ ((c4 .if5) .left)) (demanded _ _ _ _ _ _ ((c2 .change) .ensures))
 
 pub make-change-spec : {M : Type 1} → statement M
 make-change-spec =

@@ -1,15 +1,8 @@
 use Rattle.demands.specs.laws.DemandLaws.{demanded}
 use borrow.Author.Tests.{eq-eqb, ne-eqb}
-use native.Mathlib.Omega.{arith}
 use borrow.Author.Needs.{needs}
 use Rattle.demands.proofs.put_question.Statement.{statement}
 use Rattle.demands.proofs.put_question.Tie as tie
-use Rattle.demands.proofs.put_question.Reads as reads
-use Rattle.demands.proofs.put_question.Lts as lts
-use Rattle.book.proofs.journal.Book.count_of.Reads as count-of-reads
-use Rattle.book.proofs.journal.Book.failure_charge.Reads as failure-charge-reads
-use Rattle.book.proofs.journal.Book.free_bytes.Reads as free-bytes-reads
-use Rattle.book.proofs.journal.Book.record_of.Reads as record-of-reads
 
 record-of-requires : tie.Need-record-of-requires
 record-of-requires c κs = search needs
@@ -27,13 +20,19 @@ free-bytes-requires : tie.Need-free-bytes-requires
 free-bytes-requires c κs = search needs
 
 returns-3 : tie.Need-returns-3
-returns-3 c = rw (ne-eqb _ _ ((c .before .before .before .if1) .left), ne-eqb _ _ ((c .before .before .if2) .left), eq-eqb _ _ ((c .before .if3) .taken)) (demanded _ _ _ _ _ _ ((c .free-bytes) .ensures))
+returns-3 c =
+    let c2 = c .before .before in
+    let c3 = c2 .before in
+    rw (ne-eqb _ _ ((c3 .if1) .left), ne-eqb _ _ ((c2 .if2) .left), eq-eqb _ _ ((c .before .if3) .taken)) (demanded _ _ _ _ _ _ ((c .free-bytes) .ensures))
 
 failure-charge-requires : tie.Need-failure-charge-requires
 failure-charge-requires c κs = search needs
 
 returns-4 : tie.Need-returns-4
-returns-4 c = rw (ne-eqb _ _ ((c .before .before .before .if1) .left), ne-eqb _ _ ((c .before .before .if2) .left), ne-eqb _ _ ((c .before .if3) .left)) (demanded _ _ _ _ _ _ ((c .failure-charge) .ensures))
+returns-4 c =
+    let c2 = c .before .before in
+    let c3 = c2 .before in
+    rw (ne-eqb _ _ ((c3 .if1) .left), ne-eqb _ _ ((c2 .if2) .left), ne-eqb _ _ ((c .before .if3) .left)) (demanded _ _ _ _ _ _ ((c .failure-charge) .ensures))
 
 pub put-question-spec : {M : Type 1} → statement M
 put-question-spec =

@@ -1,29 +1,28 @@
 -- `feed` is a list of calls for a change, and `charges` are the failure charges of an hour's keys.
 use Prim.Native.Nat.{ℕ, zero, suc, _+_, _<_}
-use mathlib.Core.Path.{_≡_, refl, sym, ap, ap₂, _∙_, subst}
+use mathlib.Core.Path.{_≡_, refl, sym, ap, _∙_, subst}
 use mathlib.Core.List.{List, [], _∷_, _++_, map, append-assoc}
 use mathlib.Core.Bool.{Bool, true, cond}
 use native.Mathlib.Omega.{arith}
 use lib.ListN.{length, take, drop, replicate}
-use Rattle.book.specs.Layer.{Change, HourPrices, Mark, Rec, Asked, got, askHourOf, isFailure, sameHour}
+use Rattle.book.specs.Layer.{Change, HourPrices, Mark, Rec, askHourOf, sameHour}
 use Rattle.book.specs.laws.LayerLaws.{hour-parts}
 use Rattle.book.specs.ByName.{byName}
 use Rattle.book.specs.declared.book.Book.{Book}
 use Rattle.book.specs.declared.feed.Fed.{Fed as Result}
 use Rattle.book.specs.Amounts.{Pick, is, pick, HourPricing, ChargesReply, charged, no, chargeLine, chargesAt, chargesOf, chargeAt, chargeOf, hourKey, priceOf, priced}
 use Rattle.book.specs.Register.{Reg, standing, writeAll, change, Reply, refused, accepted, Step, answered, becomes, called, after, reply, Turn, run, repliesOf}
-use Rattle.book.specs.Meaning.{Load, belongs, load, bookOf, chargesKeyed, hourCharges, Valid}
+use Rattle.book.specs.Meaning.{belongs, load, bookOf, chargesKeyed, hourCharges}
 use Rattle.book.specs.Replies.{replied}
-use Rattle.book.specs.Feed.{firstRecord, FeedReply, stopped, later, feedOn, fed, feeding}
+use Rattle.book.specs.Feed.{firstRecord, FeedReply, later, feedOn, fed, feeding}
 use Rattle.book.specs.FeedPromise.{Feeds}
-use Rattle.book.specs.laws.CallLaws.{Refusal, Decided, decided-change}
+use Rattle.book.specs.laws.CallLaws.{Decided, decided-change}
 use Rattle.book.specs.laws.LoadLaws.{load-whole, loaded-valid}
 use Rattle.book.specs.laws.RegisterLaws.{New, valid-new, once-standing}
 use Rattle.book.specs.laws.StandLaws.{all-map, all-by-name, own-pick}
 use Rattle.laws.specs.Lists.{All}
-use Rattle.book.specs.Session.{Session, Agrees}
 use Rattle.demands.specs.laws.ListLaws.{agreed}
-use Rattle.demands.specs.Beside.{changing, thenOthers, recordTurns, ending, afterInput, CallsMade, ReadAsCalls, AsAsked, ChargesByKey}
+use Rattle.demands.specs.Beside.{changing, thenOthers, recordTurns, ending, afterInput, ReadAsCalls, AsAsked, ChargesByKey}
 
 -- ---- `feed`
 

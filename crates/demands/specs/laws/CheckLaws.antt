@@ -24,7 +24,7 @@ use Rattle.book.specs.laws.CallLaws.{unmoved, called-long}
 use Rattle.book.specs.laws.LoadLaws.{loaded-from, loaded-valid, load-whole}
 use Rattle.book.specs.laws.ReplayLaws.{called-valid}
 use Rattle.demands.specs.Checks.{Check, _gives_, first, read, recordChecks, none, backChecks, closeChecks, keyFirst}
-use Rattle.demands.specs.Checks.{missing, keyChecks, hourChecks, dayChecks, chargeChecks, questionChecks, callChecks, checksOver, checks}
+use Rattle.demands.specs.Checks.{missing, hourChecks, dayChecks, chargeChecks, questionChecks, callChecks, checksOver, checks}
 use Rattle.demands.specs.Demands.{Taken, IsAnswer, Done, Demand1}
 
 -- a change: it becomes another list where no check fails

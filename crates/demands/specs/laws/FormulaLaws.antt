@@ -1,12 +1,10 @@
 -- Demand 2: the definitions of the amounts are the formulas of 01.
 use Prim.Native.Nat.{ℕ, _+_, _-_, min}
-use mathlib.Core.Path.{_≡_, refl, sym, ap, _∙_, subst⁻¹}
-use mathlib.Core.Bool.{cond}
+use mathlib.Core.Path.{_≡_, refl, sym, ap, _∙_}
 use lib.IntN.{ℤ, pos, negsuc, _-ℤ_}
 use native.Mathlib.Omega.{arith}
 use Rattle.laws.specs.Ints.{minℤ}
 use Rattle.laws.specs.IntLaws.{P as above, dif, ints, pos-dif, dif-is, one-none}
-use Rattle.laws.specs.Sums.{Σℕ}
 use Rattle.money.specs.Offers.{cost, fullPairs}
 use Rattle.money.specs.Guarantee.{profits}
 use Rattle.money.specs.Offset.{precedes, upTo, counted, offset}

@@ -5,7 +5,6 @@ use mathlib.Core.Bool.{Bool, true, _&&_}
 use mathlib.Core.List.{List, [], _∷_, _++_, map}
 use Prim.Native.Nat.{ℕ}
 use Prim.Native.String.{String}
-use lib.Dec.{eqb}
 use lib.ListN.{length, take}
 use Rattle.laws.specs.Ints.{minℤ, maxℤ}
 use Rattle.laws.specs.Sums.{Σℤ, Σℕ, every, firstOf}

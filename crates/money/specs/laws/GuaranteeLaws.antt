@@ -1,10 +1,10 @@
 -- Sums of profits, credits and their sizes. Assumes nothing.
-use mathlib.Core.Path.{_≡_, refl, sym, ap, _∙_, subst}
+use mathlib.Core.Path.{_≡_, sym, ap, _∙_}
 use mathlib.Core.Bool.{Bool, true}
 use mathlib.Core.List.{List}
-use Prim.Native.Nat.{ℕ, _+_, _-_, _*_, _≤_, _<_}
+use Prim.Native.Nat.{ℕ, _-_, _*_, _≤_, _<_}
 use native.Mathlib.Omega.{arith}
-use lib.IntN.{ℤ, pos, negℤ, natAbs, _+ℤ_, _-ℤ_, _*ℤ_}
+use lib.IntN.{ℤ, pos, negℤ, natAbs, _-ℤ_, _*ℤ_}
 use Rattle.laws.specs.Ints.{minℤ}
 use Rattle.laws.specs.IntLaws.{ints, by₁, sub-within}
 use Rattle.laws.specs.Sums.{Σℤ, orElse}

@@ -1,13 +1,13 @@
 -- A lent list that is taken entry by entry into the places of an hour has the answer of the list. Assumes nothing.
-use mathlib.Core.Path.{_≡_, refl, sym, ap, _∙_, subst}
-use mathlib.Core.Bool.{Bool, true, false, cond, not}
+use mathlib.Core.Path.{_≡_, refl, ap, _∙_, subst}
+use mathlib.Core.Bool.{Bool, cond, not}
 use mathlib.Core.List.{List, [], _∷_}
 use Prim.Native.Nat.{ℕ, zero, suc, _+_, _-_, _≤_, _<_, min}
 use native.Mathlib.Omega.{arith}
 use borrow.Author.Tests.{lt-ltb, le-ltb, lt-leb}
 use lib.Dec.{ltb, leb}
-use lib.IntN.{ℤ, pos, _-ℤ_}
-use lib.ListN.{getD, set, length, length-set, replicate}
+use lib.IntN.{pos, _-ℤ_}
+use lib.ListN.{set, length, length-set, replicate}
 use lib.Seq.{getD-set-same, getD-set-other}
 use Rattle.laws.specs.Sums.{orElse}
 use Rattle.laws.specs.SumLaws.{Σℤ-ext, Σℕ-ext, every-ext, firstOf-ext, below-or}

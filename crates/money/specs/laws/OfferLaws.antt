@@ -15,10 +15,9 @@ use lib.Seq.{getD-set-same, getD-set-other}
 use Rattle.laws.specs.IntLaws.{ints, by₁, add-within, mul-within}
 use Rattle.laws.specs.Sums.{Σℤ, Σℕ, every}
 use Rattle.laws.specs.SumLaws.{Σℤ-ext, Σℤ-cut, Σℤ-more, Σℕ-cut, Σℕ-ones, Σℤ-within, last-or, below-step, every-at, and-true}
-use Rattle.money.specs.declared.units.Price.{Price}
 use Rattle.money.specs.declared.units.Ticks.{Ticks}
 use Rattle.money.specs.declared.offers.Offer.{Offer}
-use Rattle.money.specs.Units.{noPrice, noQuantity, priceOk}
+use Rattle.money.specs.Units.{noPrice, priceOk}
 use Rattle.money.specs.Offers.{maxPairs, P, Q, before, lastQ, countOk, numberOk, numbersOk, risesAt, orderOk, offerFault, piece, partPair, fullPairs, cost}
 use Rattle.money.specs.laws.UnitLaws.{Moderate, price-in, passes}
 

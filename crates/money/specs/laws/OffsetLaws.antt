@@ -1,14 +1,14 @@
 -- Lists of imports, what their checks tell, and the loops over them. Assumes nothing.
-use mathlib.Core.Path.{_≡_, refl, sym, ap, _∙_, subst}
-use mathlib.Core.Bool.{Bool, true, false, cond, not, _&&_}
+use mathlib.Core.Path.{_≡_, refl, ap, _∙_}
+use mathlib.Core.Bool.{Bool, true, false, cond, not}
 use mathlib.Core.List.{List}
-use Prim.Native.Nat.{ℕ, zero, suc, _+_, _-_, _*_, _≤_, _<_, zero-le, min}
+use Prim.Native.Nat.{ℕ, _+_, _-_, _≤_, _<_, zero-le, min}
 use native.Mathlib.Omega.{arith}
 use borrow.Author.Tests.{le-leb}
-use lib.IntN.{ℤ, pos, negℤ, natAbs, _+ℤ_, _-ℤ_}
-use lib.ListN.{getD, length}
+use lib.IntN.{ℤ, natAbs, _-ℤ_}
+use lib.ListN.{getD}
 use Rattle.laws.specs.IntLaws.{sub-within}
-use Rattle.laws.specs.Sums.{Σℤ, Σℕ, orElse}
+use Rattle.laws.specs.Sums.{Σℕ, orElse}
 use Rattle.laws.specs.SumLaws.{Summed, summed-all, Σℕ-more, Σℤ-sub, Σℤ-within, Σℕ-within, every-at, every-yes, and-true, firstOf-zero, firstOf-none}
 use Rattle.money.specs.declared.units.Price.{Price}
 use Rattle.money.specs.declared.units.Quantity.{Quantity}

@@ -2,7 +2,7 @@
 -- lifetime that is made for the call, and come back when that is over. All that the proof knows of `offset` is that it meets its contract.
 -- Assumes nothing.
 use mathlib.Core.Path.{_≡_, refl, sym, ap, subst, _∙_}
-use Prim.Native.Nat.{ℕ, zero, suc, _+_, _*_, _≤_}
+use Prim.Native.Nat.{ℕ, zero, suc, _+_, _≤_}
 use native.Mathlib.Nat.{lt-of-le-of-lt, mul-le-mul-right}
 use mathlib.Core.List.{List, [], _∷_}
 use lib.Dec.{lit<}

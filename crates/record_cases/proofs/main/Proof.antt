@@ -1,10 +1,6 @@
 use borrow.Author.Needs.{needs}
-use native.Mathlib.Omega.{arith}
 use Rattle.record_cases.proofs.main.Statement.{statement}
 use Rattle.record_cases.proofs.main.Tie as tie
-use Rattle.record_cases.proofs.main.Reads as reads
-use Rattle.record_cases.proofs.main.Lts as lts
-use Rattle.record_cases.proofs.next_case.Reads as next-case-reads
 
 abbrev Inv-loop : tie.InvT-loop
 Inv-loop left₀ left = Unit {0}

@@ -1,16 +1,10 @@
-use mathlib.Core.Path.{_≡_, sym}
-use Prim.Native.Nat.{ℕ, _≤_}
-use lib.ListN.{length, replicate, length-replicate}
+use mathlib.Core.Path.{sym}
+use Prim.Native.Nat.{ℕ}
+use lib.ListN.{replicate, length-replicate}
 use lib.Seq.{length-take-le}
-use native.Mathlib.Omega.{arith}
 use borrow.Author.Needs.{needs}
 use Rattle.record_cases.proofs.next_case.Statement.{statement}
 use Rattle.record_cases.proofs.next_case.Tie as tie
-use Rattle.record_cases.proofs.next_case.Reads as reads
-use Rattle.record_cases.proofs.next_case.Lts as lts
-use Rattle.io.proofs.read_full.Reads as read-full-reads
-use Rattle.record_cases.proofs.case_in.Reads as case-in-reads
-use Rattle.record_cases.proofs.joined.Reads as joined-reads
 
 slice-aggregate-read-full : tie.Need-slice-aggregate-read-full
 slice-aggregate-read-full c = search needs

@@ -1,12 +1,8 @@
-use Prim.Native.Nat.{_-_, _≤_}
+use Prim.Native.Nat.{_-_}
 use lib.ListN.{length}
 use borrow.Author.Needs.{needs}
-use native.Mathlib.Omega.{arith}
 use Rattle.record_cases.proofs.print_bytes.Statement.{statement}
 use Rattle.record_cases.proofs.print_bytes.Tie as tie
-use Rattle.record_cases.proofs.print_bytes.Reads as reads
-use Rattle.record_cases.proofs.print_bytes.Lts as lts
-use Rattle.record_cases.proofs.print_byte.Reads as print-byte-reads
 
 abbrev Inv-loop : tie.InvT-loop
 Inv-loop s i₀ i = Unit {0}

@@ -1,13 +1,8 @@
 use mathlib.Core.Path.{sym}
 use lib.Seq.{length-take-le}
-use native.Mathlib.Omega.{arith}
 use borrow.Author.Needs.{needs}
 use Rattle.record_cases.proofs.print_written.Statement.{statement}
 use Rattle.record_cases.proofs.print_written.Tie as tie
-use Rattle.record_cases.proofs.print_written.Reads as reads
-use Rattle.record_cases.proofs.print_written.Lts as lts
-use Rattle.io.proofs.write_all.Reads as write-all-reads
-use Rattle.record_cases.proofs.print_bytes.Reads as print-bytes-reads
 
 slice-aggregate-write-all : tie.Need-slice-aggregate-write-all
 slice-aggregate-write-all c = search needs

@@ -1,14 +1,14 @@
 -- The fields of a change at a place of some bytes.
 use mathlib.Core.Path.{_≡_, refl, sym, ap, _∙_}
-use mathlib.Core.List.{List, [], _∷_, _++_}
-use Prim.Native.Nat.{ℕ, zero, suc, _+_, _-_, _≤_, _<_}
+use mathlib.Core.List.{List, []}
+use Prim.Native.Nat.{ℕ, _+_, _-_, _≤_}
 use native.Mathlib.Omega.{arith}
 use native.Mathlib.Nat.{sub-self}
-use lib.ListN.{length, take, drop, length-append, length-drop}
-use Rattle.records.specs.Reading.{Res, bad, got, Reader, _>>=_, check, from}
+use lib.ListN.{length, take, length-append, length-drop}
+use Rattle.records.specs.Reading.{Res, bad, got, Reader, _>>=_, from}
 use Rattle.records.specs.Numbers.{hour}
-use Rattle.records.specs.Layouts.{layout, taken, skip}
-use Rattle.records.specs.Changes.{Change, made, bodyOf, bodyFor, head, nameFor, rest, change}
+use Rattle.records.specs.Layouts.{taken, skip}
+use Rattle.records.specs.Changes.{made, bodyOf, bodyFor, head, nameFor, rest, change}
 use Rattle.records.specs.tables.Inner.{shown, EndIn, then, layoutFor, placeOf, changeShown, Placed, headed, Named, ReadIs}
 use Rattle.records.specs.declared.fields.End.{End}
 use Rattle.records.specs.declared.fields.End.the-variants.{At, No}
@@ -17,7 +17,7 @@ use Rattle.records.specs.declared.marks.Mark.{Mark}
 use Rattle.records.specs.declared.marks.Kind.{Kind}
 use Rattle.records.specs.declared.marks.Kind.the-variants.{File, Correct, Withdraw}
 use Rattle.records.specs.declared.keys.Key.{Key}
-use Rattle.records.specs.laws.ReaderLaws.{bad-got, Part, Lawful, lawful-got, lawful-layout}
+use Rattle.records.specs.laws.ReaderLaws.{bad-got, Lawful, lawful-got, lawful-layout}
 use Rattle.records.specs.declared.names.NameRead.{NameRead}
 use Rattle.records.specs.declared.marks.HeadRead.{HeadRead}
 use Rattle.records.specs.declared.marks.Wanted.{Wanted}

@@ -1,24 +1,22 @@
 -- Readers at a place of a list.
 use mathlib.Core.Path.{_≡_, refl, sym, ap, _∙_}
 use mathlib.Core.List.{List, [], _∷_, _++_}
-use Prim.Native.Nat.{ℕ, zero, suc, _+_, _-_, _≤_, _<_}
+use Prim.Native.Nat.{ℕ, suc, _+_, _-_, _≤_, _<_}
 use native.Mathlib.Omega.{arith}
 use native.Mathlib.Numerals.{add-one, towards-suc}
 use lib.ListN.{length, take, drop, getD, length-drop}
-use lib.Seq.{drop-cons, take-suc-set, take-all, take-set-le, take-length, length-take-le}
-use lib.ListN.{drop-of-length-le, set, length-set}
+use lib.Seq.{drop-cons, take-suc-set, take-all}
+use lib.ListN.{drop-of-length-le, set}
 use Rattle.money.specs.Units.{priceOk, quantityOk, priceRead, quantityRead}
 use Rattle.money.specs.declared.units.Price.{Price}
 use Rattle.money.specs.declared.units.Quantity.{Quantity}
 use Rattle.money.specs.declared.units.PriceRead.the-variants as price-variants
 use Rattle.money.specs.declared.units.QuantityRead.the-variants as quantity-variants
-use Rattle.records.specs.Reading.{Res, Reader, bad, got, _>>=_, check, byte, from, many}
+use Rattle.records.specs.Reading.{Res, Reader, bad, got, _>>=_, byte, from, many}
 use Rattle.records.specs.Numbers.{word, le32, signed, price, quantity}
 use mathlib.Core.Bool.{Bool, true, false}
-use lib.Dec.{ltb}
-use borrow.Author.Tests.{lt-ltb, le-ltb, lt-leb, le-leb}
 use mathlib.Core.List.{append-assoc, append-nil}
-use native.Mathlib.Nat.{zero-add, sub-zero}
+use native.Mathlib.Nat.{sub-zero}
 
 word-short : (l : List ℕ) → length l < 4 → word l ≡ bad 1
 unfolding word

@@ -1,21 +1,20 @@
 -- The key of a question, by the tests that the code makes.
 use mathlib.Core.Path.{_≡_, refl, sym, ap, _∙_}
 use mathlib.Core.List.{List, [], _∷_}
-use mathlib.Core.Bool.{Bool, true, false, cond, _&&_}
-use Prim.Native.Nat.{ℕ, zero, suc, _≤_, _<_}
+use mathlib.Core.Bool.{true, false, cond}
+use Prim.Native.Nat.{ℕ}
 use native.Mathlib.Omega.{arith}
-use lib.Dec.{leb, eqb}
+use lib.Dec.{eqb}
 use lib.ListN.{length}
-use borrow.Author.Tests.{eq-eqb, ne-eqb, le-leb, lt-leb}
+use borrow.Author.Tests.{eq-eqb, ne-eqb}
 use Rattle.money.specs.declared.names.Name.{Name}
-use Rattle.records.specs.Reading.{Res, bad, got, _>>=_, check, from}
+use Rattle.records.specs.Reading.{bad, got, check, from}
 use Rattle.records.specs.Numbers.{between}
 use Rattle.records.specs.Names.{decodeName, emptyName, storedName}
 use Rattle.records.specs.Marks.{mark, hasName}
 use Rattle.records.specs.Keys.{askMark, askName, askFrom, askHourOf, askHour, askUnit}
 use Rattle.records.specs.declared.marks.Mark.{Mark}
 use Rattle.records.specs.declared.marks.Mark.the-variants.{Gh}
-use Rattle.records.specs.declared.keys.Key.{Key}
 
 pub mark-two : (s : List ℕ) → length s ≡ 2 → mark (from s 0) ≡ askMark s
 unfolding askMark from

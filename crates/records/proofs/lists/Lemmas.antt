@@ -1,17 +1,17 @@
 -- Arrays that are filled from the front, and two of them as one list of pairs.
-use mathlib.Core.Path.{_≡_, refl, sym, ap, ap₂, _∙_}
+use mathlib.Core.Path.{_≡_, refl, sym, ap, _∙_}
 use mathlib.Core.List.{List, [], _∷_, _++_, map}
 use Prim.Native.Nat.{ℕ, zero, suc, _+_, _-_, _≤_, _<_}
 use native.Mathlib.Omega.{arith}
 use native.Mathlib.Nat.{not-suc-le-zero, le-of-suc-le-suc}
 use native.Mathlib.Numerals.{add-one}
-use lib.ListN.{length, take, drop, getD, set, length-set, length-take}
+use lib.ListN.{length, take, set, length-set}
 use lib.Seq.{take-suc-set, length-take-le}
 use Rattle.money.specs.Units.{noPrice, noQuantity}
 use Rattle.money.specs.declared.units.Price.{Price}
 use Rattle.money.specs.declared.units.Quantity.{Quantity}
 use Rattle.money.specs.declared.offers.Offer.{Offer}
-use Rattle.records.specs.Reading.{Res, bad, got, Reader, _>>=_, from, many}
+use Rattle.records.specs.Reading.{bad, got, _>>=_, from}
 use Rattle.records.specs.Numbers.{pad, offerOf, pair, pairs}
 use Rattle.records.proofs.fields.Lemmas.{Filled, filled-bad, filled-first}
 

@@ -1,26 +1,23 @@
 -- Mark, hour and name at a place of some bytes, by the tests that the code makes.
 use mathlib.Core.Path.{_≡_, refl, sym, ap, ap₂, _∙_}
-use mathlib.Core.List.{List, [], _∷_, _++_}
-use mathlib.Core.Bool.{Bool, true, false, cond, _&&_, _||_}
-use Prim.Native.Nat.{ℕ, zero, suc, _+_, _-_, _≤_, _<_}
+use mathlib.Core.List.{List, [], _∷_}
+use mathlib.Core.Bool.{Bool, true, false, cond, _&&_}
+use Prim.Native.Nat.{ℕ, suc, _+_, _-_, _≤_, _<_}
 use native.Mathlib.Omega.{arith}
-use native.Mathlib.Nat.{le-of-suc-le-suc, not-suc-le-zero}
 use native.Mathlib.Numerals.{add-one}
-use lib.Dec.{ltb, leb, eqb}
-use lib.ListN.{length, take, drop, getD, set, drop-of-length-le}
-use lib.Seq.{take-suc, length-take-le, take-all, drop-cons}
+use lib.Dec.{eqb}
+use lib.ListN.{length, drop, getD, drop-of-length-le}
+use lib.Seq.{drop-cons}
 use borrow.Author.Tests.{le-leb, lt-leb, ne-eqb, eq-eqb, eqb-true, eqb-false}
-use Rattle.records.specs.Reading.{Res, bad, got, Reader, _>>=_, check, byte, from}
-use Rattle.records.specs.Numbers.{pad, hour}
-use Rattle.records.specs.Names.{storedName, bytesOf, nameField, nameFrom, emptyName}
+use Rattle.records.specs.Reading.{Res, bad, got, _>>=_, check, byte, from}
+use Rattle.records.specs.Numbers.{hour}
+use Rattle.records.specs.Names.{storedName, nameField, emptyName}
 use Rattle.records.specs.Marks.{markBytes, is, listing, markAmong, mark, hasName}
-use Rattle.records.specs.Changes.{Head, allowed, number, inside, head, nameless, nameFor, bare}
+use Rattle.records.specs.Changes.{Head, allowed, inside, head, nameless, nameFor, bare}
 use Rattle.records.specs.laws.MarkLaws.{bytes-are}
 use Rattle.records.specs.tables.Inner.{shown, then}
 use Rattle.records.specs.declared.fields.End.{End}
-use Rattle.records.specs.declared.fields.End.the-variants.{At, No}
-use Rattle.records.proofs.fields.Step.{first, next, last}
-use Rattle.money.specs.declared.names.Name.{Name}
+use Rattle.records.proofs.fields.Step.{first, last}
 use Rattle.records.proofs.names.Lemmas.{at-end, at-next, at-two, at-last}
 use Rattle.records.specs.declared.marks.Mark.{Mark}
 use Rattle.records.specs.declared.marks.Mark.the-variants.{Pr}

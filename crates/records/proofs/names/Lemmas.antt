@@ -1,16 +1,14 @@
 -- One byte of a name at a place of a list.
 use mathlib.Core.Path.{_≡_, refl, sym, ap, _∙_}
-use mathlib.Core.List.{List, [], _∷_, _++_}
-use mathlib.Core.Bool.{Bool, true, false, cond}
-use Prim.Native.Nat.{ℕ, zero, suc, _+_, _*_, _-_, _≤_, _<_}
+use mathlib.Core.List.{List, [], _∷_}
+use Prim.Native.Nat.{ℕ, zero, suc, _+_, _-_, _≤_, _<_}
 use native.Mathlib.Omega.{arith}
 use native.Mathlib.Numerals.{add-one, towards-suc}
-use lib.Dec.{eqb, ltb}
-use lib.ListN.{length, take, drop, getD, length-drop, drop-of-length-le}
+use lib.ListN.{length, take, getD, drop-of-length-le}
 use lib.Seq.{drop-cons}
-use Rattle.records.specs.Reading.{Res, bad, got, Reader, _>>=_, check, from}
+use Rattle.records.specs.Reading.{Res, bad, got, _>>=_, from}
 use Rattle.money.specs.declared.names.Name.{Name}
-use Rattle.records.specs.Names.{visible, hexVal, escaped, one, upTo, nameFrom, storedName}
+use Rattle.records.specs.Names.{one, upTo, nameFrom, storedName}
 use Rattle.records.specs.laws.ReaderLaws.{bad-got}
 use Rattle.records.proofs.lists.Lemmas.{Padded}
 use lib.ListN.{set}

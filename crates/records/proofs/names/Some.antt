@@ -1,13 +1,12 @@
 -- The next n bytes at a place.
-use mathlib.Core.Path.{_≡_, refl, sym, ap, _∙_}
-use mathlib.Core.List.{List, [], _∷_, _++_}
+use mathlib.Core.Path.{_≡_}
+use mathlib.Core.List.{List}
 use Prim.Native.Nat.{ℕ, _+_, _-_, _≤_, _<_}
-use native.Mathlib.Omega.{arith}
 use native.Mathlib.Nat.{add-sub-cancel-left}
 use borrow.Author.Tests.{le-leb, lt-leb}
 use lib.ListN.{length, take, drop, length-drop}
 use lib.Seq.{drop-drop}
-use Rattle.records.specs.Reading.{Res, bad, got, from, some}
+use Rattle.records.specs.Reading.{bad, got, from, some}
 
 pub some-short : (s : List ℕ) (at n : ℕ) → length s - at < n → some n (from s at) ≡ bad 1
 unfolding some from

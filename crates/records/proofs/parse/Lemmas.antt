@@ -2,10 +2,10 @@
 use mathlib.Core.Path.{_≡_, refl, sym, ap, ap₂, _∙_}
 use mathlib.Core.List.{List, [], _∷_}
 use mathlib.Core.Bool.{Bool, true, false, cond}
-use Prim.Native.Nat.{ℕ, zero, suc, _+_, _-_, _≤_, _<_}
+use Prim.Native.Nat.{ℕ, suc, _-_, _≤_, _<_}
 use native.Mathlib.Omega.{arith}
 use lib.ListN.{length, getD}
-use Rattle.records.specs.Reading.{Res, bad, got, Reader, _>>=_, from}
+use Rattle.records.specs.Reading.{Res, bad, got, _>>=_, from}
 use Rattle.records.specs.Marks.{is}
 use Rattle.records.specs.Changes.{Change, Entry, changed, takingBack, closing, change, entry, takeBackBytes, closeBytes, Input, fine, fault, whole, parse, parseAny, seen, unseen, viewOf, write, changeView, entryView, entryRead, parsedOf, entryOf, frontOf}
 use Rattle.records.specs.laws.ReaderLaws.{bad-got}
@@ -14,7 +14,6 @@ use Rattle.records.specs.declared.parse.Parsed.{Parsed}
 use Rattle.records.specs.declared.parse.Front.{Front}
 use Rattle.records.specs.declared.marks.Wanted.{Wanted}
 use Rattle.records.specs.declared.marks.Wanted.the-variants.{Any}
-use Rattle.records.proofs.names.Lemmas.{at-end, at-next}
 use Rattle.records.proofs.changes.Lemmas.{length-from}
 
 bad-is : {A : Type 0} {j k : ℕ} → _≡_ {A = Res A} (bad j) (bad k) → j ≡ k

@@ -1,24 +1,23 @@
 -- Writing a head and a body; what an argument and the bytes of a book are, by the tests that the code makes.
 use mathlib.Core.Path.{_≡_, refl, sym, ap, ap₂, _∙_, subst}
-use mathlib.Core.List.{List, [], _∷_, _++_, append-assoc, append-nil}
+use mathlib.Core.List.{List, [], _∷_, _++_, append-assoc}
 use mathlib.Core.Bool.{Bool, true, false, cond, _&&_, and-false}
-use Prim.Native.Nat.{ℕ, zero, suc, _+_, _*_, _-_, _≤_, _<_}
+use Prim.Native.Nat.{ℕ, _+_, _-_, _≤_, _<_}
 use native.Mathlib.Omega.{arith}
-use native.Mathlib.Nat.{le-of-suc-le-suc, not-suc-le-zero, zero-add, add-assoc}
+use native.Mathlib.Nat.{le-of-suc-le-suc, not-suc-le-zero, zero-add}
 use native.Mathlib.Numerals.{add-one}
-use lib.Dec.{ltb, leb, eqb}
-use lib.ListN.{length, take, drop, getD, set, length-append, length-take, length-set, drop-of-length-le}
-use lib.Seq.{take-suc, drop-cons, take-all, length-take-le, take-at, drop-drop}
-use borrow.Author.Tests.{le-leb, lt-leb, ne-eqb, eq-eqb, eqb-true}
-use Rattle.records.specs.Reading.{Res, bad, got, Reader, _>>=_, from}
+use lib.Dec.{eqb}
+use lib.ListN.{length, take, drop, getD, set, length-append, length-take, drop-of-length-le}
+use lib.Seq.{take-suc, drop-cons, take-all, length-take-le, take-at}
+use borrow.Author.Tests.{le-leb, lt-leb, ne-eqb, eq-eqb}
+use Rattle.records.specs.Reading.{bad, got, _>>=_, from}
 use Rattle.records.specs.Names.{spell, bytesOf}
-use Rattle.records.specs.Marks.{hasName, order, markBytes}
+use Rattle.records.specs.Marks.{hasName, order}
 use Rattle.records.specs.laws.MarkLaws.{mark-two}
-use Rattle.records.specs.Changes.{changeView, put, putNumber, putBytes, Change, kind, keyOf, kindOf, bodyOf, number, made, leadBytes, noName, nameBytes, headBytes, bodyFor, change, write, Input, fine, fault, whole, parse, Scan, seen, unseen, begins, written, scan, viewOf, parsedOf}
+use Rattle.records.specs.Changes.{changeView, put, putNumber, putBytes, Change, kind, keyOf, bodyOf, number, made, leadBytes, noName, nameBytes, headBytes, bodyFor, change, write, Input, fine, fault, whole, parse, seen, unseen, begins, written, scan, viewOf, parsedOf}
 use Rattle.money.specs.Names.{sameName}
 use Rattle.records.specs.Keys.{same, sameHour}
 use Rattle.records.specs.tables.Inner.{Wrote, HeadIs, changeShown, Placed, Stands, ReadIs}
-use Rattle.records.specs.declared.fields.End.{End}
 use Rattle.records.specs.declared.fields.End.the-variants.{At, No}
 use Rattle.records.proofs.writing.Putting.{wrote-one, wrote-then, wrote-length}
 use Rattle.records.specs.laws.PutLaws.{put-whole}
@@ -37,7 +36,7 @@ use Rattle.records.specs.declared.parse.Parsed.{Parsed}
 use Rattle.records.specs.declared.changes.Read.{Read}
 use Rattle.records.specs.declared.writing.HeadOut.{HeadOut}
 use Rattle.records.specs.laws.ReaderLaws.{bind-got}
-use Rattle.records.specs.laws.ChangeLaws.{Kept, change-kept, head-read, body-rest, begins-append, begins-true, and-left}
+use Rattle.records.specs.laws.ChangeLaws.{change-kept, head-read, body-rest, begins-append, begins-true}
 use Rattle.records.proofs.changes.Lemmas.{body-own, length-from}
 
 -- ---- copying

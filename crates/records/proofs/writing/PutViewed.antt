@@ -1,14 +1,14 @@
 -- Writing a change of which the view is known: what a view is, by the tests that the code makes, and the parts that are written.
-use mathlib.Core.Path.{_≡_, refl, sym, ap, _∙_}
+use mathlib.Core.Path.{_≡_, refl, ap, _∙_}
 use mathlib.Core.List.{List, _++_}
-use mathlib.Core.Bool.{Bool, true, false, cond, _&&_}
+use mathlib.Core.Bool.{true, false}
 use Prim.Native.Nat.{ℕ, _+_, _-_, _≤_, _<_}
 use native.Mathlib.Omega.{arith}
 use lib.Dec.{leb}
 use lib.ListN.{length, take, drop, length-drop}
 use lib.Seq.{take-all}
 use borrow.Author.Tests.{le-leb, lt-leb, leb-true}
-use Rattle.records.specs.Changes.{isRecord, headBytes, put}
+use Rattle.records.specs.Changes.{isRecord, put}
 use Rattle.records.specs.tables.Viewed.{viewHead, viewRest, isView, viewWritten, viewedNumber, viewedBytes}
 use Rattle.records.specs.tables.Inner.{Wrote}
 use Rattle.records.specs.laws.ChangeLaws.{and-left, and-right}

@@ -1,6 +1,6 @@
 -- Changes of any mark, one after the other: how they relate to those of one kind, and that each takes some bytes.
 use mathlib.Core.Path.{_≡_, refl, sym, ap, _∙_}
-use mathlib.Core.List.{List, [], _∷_, _++_}
+use mathlib.Core.List.{List, [], _∷_}
 use mathlib.Core.Bool.{Bool, true, false, cond}
 use Prim.Native.Nat.{ℕ, zero, suc, _+_, _-_, _≤_, _<_}
 use native.Mathlib.Omega.{arith}
@@ -8,19 +8,18 @@ use lib.Dec.{leb, eqb}
 use lib.ListN.{length, take, drop, length-append, length-drop}
 use borrow.Author.Tests.{ne-eqb}
 use Rattle.money.specs.declared.names.Name.{Name}
-use Rattle.records.specs.Reading.{Res, bad, got, Reader, _>>=_, check, byte, some}
+use Rattle.records.specs.Reading.{Res, bad, got, _>>=_, check, byte, some}
 use Rattle.records.specs.Numbers.{between, hour}
 use Rattle.records.specs.Names.{decodeName, nameField, nameFrom, emptyName, storedName}
 use Rattle.records.specs.Marks.{is, listing, markAmong, mark, markBytes, hasName}
 use Rattle.records.specs.Changes.{Change, Head, made, allowed, inside, head, leadBytes, nameless, nameFor, bodyFor, rest, change, Entry, changed, takingBack, closing, entry, takeBackBytes, closeBytes, Input, fine, fault, whole, parse, parseAny, bare, Good}
-use Rattle.records.specs.laws.ReaderLaws.{bad-got, check-got, bind-got, Local, Lawful, Counted, lawful-byte}
+use Rattle.records.specs.laws.ReaderLaws.{bad-got, check-got, bind-got, lawful-byte}
 use Rattle.records.specs.laws.ChangeLaws.{body-rest, change-good, counted-change}
 use Rattle.records.specs.declared.marks.Mark.{Mark}
 use Rattle.records.specs.declared.marks.Kind.{Kind}
 use Rattle.records.specs.declared.marks.Kind.the-variants.{File, Correct, Withdraw}
 use Rattle.records.specs.declared.marks.Wanted.{Wanted}
 use Rattle.records.specs.declared.marks.Wanted.the-variants.{Any}
-use Rattle.records.specs.declared.keys.Key.{Key}
 
 -- ---- what is left is never longer
 

@@ -4,7 +4,6 @@ use mathlib.Core.List.{List, [], _∷_, _++_}
 use mathlib.Core.Bool.{Bool, true, false, _&&_}
 use Prim.Native.Nat.{ℕ, zero, suc, _/_, _%_}
 use lib.Dec.{eqb}
-use lib.ListN.{length}
 use Rattle.laws.specs.Text.{char, bytes}
 use Rattle.laws.specs.Sums.{every}
 use Rattle.money.specs.Units.{withinOk}
@@ -15,7 +14,7 @@ use Rattle.records.specs.Numbers.{pad, word, price, quantity, amount, ho
 use Rattle.records.specs.Names.{visible, hexVal, escaped, one, upTo, decodeName, nameField, unreserved, digit, spellByte, spell}
 use Rattle.records.specs.Marks.{markAmong, mark}
 use Rattle.records.specs.Layouts.{hourPrices, import, export, schedules, reserveRows, lists, unit, failure, layout, taken}
-use Rattle.records.specs.Changes.{Change, Entry, Input, fine, fault, parse, parseAny, change, entry, head, rest, nameFor, bodyFor, write, headBytes, nameBytes, putNumber}
+use Rattle.records.specs.Changes.{Input, fine, fault, parse, parseAny, change, entry, head, rest, nameFor, bodyFor, write, headBytes, nameBytes, putNumber}
 use Rattle.records.specs.declared.marks.Kind.the-variants.{File, Correct, Withdraw}
 use Rattle.records.specs.declared.marks.Wanted.{Wanted}
 use Rattle.records.specs.declared.marks.Wanted.the-variants.{Only}

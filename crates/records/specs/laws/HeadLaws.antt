@@ -17,7 +17,7 @@ use Rattle.records.specs.Numbers.{between, hour}
 use Rattle.records.specs.Names.{visible, spell, nameField, nameFrom, emptyName, bytesOf}
 use Rattle.records.specs.Marks.{markBytes, hasName}
 use Rattle.records.specs.laws.MarkLaws.{two-bytes, mark-first}
-use Rattle.records.specs.Changes.{Rec, Change, filed, keyOf, kind, bodyOf, head, nameFor, nameBytes, headBytes, write, begins, Good}
+use Rattle.records.specs.Changes.{Rec, Change, filed, keyOf, kind, bodyOf, nameFor, nameBytes, headBytes, write, begins, Good}
 use Rattle.records.specs.Keys.{same}
 use Rattle.records.specs.tables.Heads.{headKey, keyOk, recordHead}
 use Rattle.records.specs.laws.NameLaws.{Visible, Valid, spelled-back, field-again}

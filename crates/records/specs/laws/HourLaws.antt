@@ -1,21 +1,20 @@
 -- An hour's limit, the hour of a change, and keys of one name.
 use mathlib.Core.Path.{_≡_, refl, sym, ap, _∙_}
-use mathlib.Core.List.{List, []}
+use mathlib.Core.List.{[]}
 use mathlib.Core.Bool.{Bool, true, false, _&&_}
 use Prim.Native.Nat.{ℕ, _≤_}
 use native.Mathlib.Omega.{arith}
 use lib.Dec.{leb, eqb}
 use borrow.Author.Tests.{eq-eqb, leb-true}
 use Rattle.money.specs.Names as names
-use Rattle.records.specs.Reading.{Res, got, _>>=_}
-use Rattle.records.specs.Numbers.{between}
+use Rattle.records.specs.Reading.{got, _>>=_}
 use Rattle.records.specs.Names.{spell, bytesOf}
 use Rattle.records.specs.Marks.{hasName, order, hourLimit, limit}
 use Rattle.records.specs.laws.MarkLaws.{every-mark}
 use Rattle.records.specs.Changes.{Rec, Change, filed, keyOf, Good}
 use Rattle.records.specs.Keys.{sameHour, same, askUnit}
 use Rattle.records.specs.Hours.{limitOf, atHour, sameName}
-use Rattle.records.specs.laws.ChangeLaws.{and-left, and-right, Kept, good-kept, hour-range}
+use Rattle.records.specs.laws.ChangeLaws.{and-left, and-right, good-kept, hour-range}
 use Rattle.records.specs.laws.KeyLaws.{hour-parts, own-name}
 use Rattle.records.specs.declared.marks.Mark.{Mark}
 use Rattle.records.specs.declared.marks.Mark.the-variants.{Gh}

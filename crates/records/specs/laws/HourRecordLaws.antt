@@ -12,7 +12,7 @@ use Rattle.records.specs.Numbers.{hour}
 use Rattle.records.specs.Names.{emptyName}
 use Rattle.records.specs.Marks.{hourLimit, limit}
 use Rattle.records.specs.laws.MarkLaws.{every-such}
-use Rattle.records.specs.Changes.{Rec, Change, filed, corrected, withdrawn, kindOf, Head, head, rest, change, nameFor, nameBytes, fine, parse, write, Good, kind, isFiling}
+use Rattle.records.specs.Changes.{Rec, Change, filed, corrected, withdrawn, Head, head, rest, change, nameFor, nameBytes, fine, parse, write, Good, kind, isFiling}
 use Rattle.records.specs.Hours.{limitOf}
 use Rattle.records.specs.HourRecord.{ofHour, sameAs, hourRecord}
 use Rattle.records.specs.laws.ReaderLaws.{bind-got, check-got, Counted, counted-bind, counted-check}

@@ -1,6 +1,6 @@
 -- A `PR` record as an example: it takes 55 bytes.
 use mathlib.Core.Path.{_≡_, refl}
-use mathlib.Core.List.{List, [], _∷_, _++_}
+use mathlib.Core.List.{List, _∷_}
 use Prim.Native.Nat.{ℕ}
 use lib.ListN.{length, replicate}
 use Rattle.laws.specs.Text.{char}
@@ -9,7 +9,7 @@ use Rattle.records.specs.Numbers.{word, price, hour}
 use Rattle.records.specs.Names.{emptyName}
 use Rattle.records.specs.Marks.{markAmong, mark, hourLimit}
 use Rattle.records.specs.Layouts.{hourPrices, layout, taken}
-use Rattle.records.specs.Changes.{Rec, filed, Input, fine, parse, change, head, rest, nameFor, bodyFor, write, headBytes, nameBytes}
+use Rattle.records.specs.Changes.{Rec, filed, fine, parse, change, head, rest, nameFor, bodyFor, write, headBytes, nameBytes}
 use Rattle.records.specs.Hours.{limitOf}
 use Rattle.records.specs.declared.marks.Mark.the-variants.{Pr}
 use Rattle.records.specs.declared.marks.Kind.the-variants.{File}

@@ -1,10 +1,10 @@
 -- Bytes written at a place of lent bytes.
-use mathlib.Core.Path.{_≡_, refl, sym, ap, _∙_}
-use mathlib.Core.List.{List, [], _∷_, _++_}
+use mathlib.Core.Path.{_≡_, ap, _∙_}
+use mathlib.Core.List.{List, _++_}
 use Prim.Native.Nat.{ℕ, _+_, _≤_}
 use native.Mathlib.Omega.{arith}
 use lib.ListN.{length, take, drop, length-append}
-use lib.Seq.{sets, sets-eq, length-sets, take-at, length-take-le}
+use lib.Seq.{sets-eq, length-sets, take-at, length-take-le}
 use Rattle.records.specs.Changes.{put}
 
 pub put-length : (d : List ℕ) (at : ℕ) (xs : List ℕ) → length (put d at xs) ≡ length d

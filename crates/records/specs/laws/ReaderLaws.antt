@@ -2,13 +2,12 @@
 -- Assumes nothing.
 use mathlib.Core.Path.{_≡_, refl, sym, ap, _∙_}
 use mathlib.Core.List.{List, [], _∷_, _++_, append-assoc}
-use mathlib.Core.Bool.{Bool, true, false, cond, _&&_}
-use Prim.Native.Nat.{ℕ, zero, suc, _+_, _-_, _≤_, _<_}
+use mathlib.Core.Bool.{Bool, true, false, cond}
+use Prim.Native.Nat.{ℕ, zero, suc, _+_, _-_, _<_}
 use native.Mathlib.Omega.{arith}
-use lib.Dec.{ltb, leb}
-use lib.IntN.{ℤ}
-use lib.ListN.{length, take, drop, length-append}
-use lib.Seq.{take-append-seam, take-at}
+use lib.Dec.{leb}
+use lib.ListN.{length, take, length-append}
+use lib.Seq.{take-append-seam}
 use Rattle.money.specs.Units.{priceOk, quantityOk, maxCents}
 use Rattle.money.specs.declared.units.Quantity.{Quantity}
 use Rattle.records.specs.Reading.{Res, bad, got, Reader, _>>=_, check, byte, many}

@@ -12,8 +12,7 @@ use Rattle.money.specs.Refusals.{markUnknown, noSpace}
 use Rattle.records.specs.Reading.{Res, bad, got, _>>=_}
 use Rattle.records.specs.Marks.{is}
 use Rattle.records.specs.Changes.{Change, kind, keyOf, bodyOf, headBytes, change, write, put, putNumber, putBytes, Entry, changed, takingBack, closing, entry, takeBackBytes, closeBytes, Input, fine, fault, whole, parse, parseAny, begins, viewOf, seen, entryView, parsedOf, frontOf}
-use Rattle.records.specs.Changes.{filed, corrected, withdrawn}
-use Rattle.records.specs.tables.Viewed.{viewHead, viewRest, isView, viewWritten, viewedNumber, viewedBytes}
+use Rattle.records.specs.tables.Viewed.{isView, viewWritten, viewedNumber, viewedBytes}
 use Rattle.records.specs.laws.ChangeLaws.{and-left, and-right, change-good, parse-fault}
 use Rattle.records.specs.laws.KeyLaws.{good-few}
 use Rattle.records.specs.laws.EntryLaws.{entry-got, entry-fault}

@@ -1,5 +1,4 @@
 use Rattle.settle.proofs.PrintInput.{shows-none, shows-output}
-use native.Mathlib.Omega.{arith}
 use borrow.Author.Needs.{needs}
 use Rattle.settle.proofs.print_input.Statement.{statement}
 use Rattle.settle.proofs.print_input.Tie as tie
@@ -17,7 +16,11 @@ same-length : tie.Need-same-length
 same-length c = search needs
 
 returns-2 : tie.Need-returns-2
-returns-2 c = shows-output ((c .before .before .before .before .before .before .failed) .ensures) ((c .before .before .before .before .before .if1) .left) ((c .before .before .output) .ensures)
+returns-2 c =
+    let c2 = c .before .before in
+    let c5 = c2 .before .before .before in
+    let c6 = c5 .before in
+    shows-output ((c6 .failed) .ensures) ((c5 .if1) .left) ((c2 .output) .ensures)
 
 pub print-input-spec : {M : Type 1} → statement M
 print-input-spec =

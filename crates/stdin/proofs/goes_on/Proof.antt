@@ -1,6 +1,4 @@
 use borrow.Author.Tests.{eq-eqb, ne-eqb}
-use borrow.Author.Needs.{needs}
-use native.Mathlib.Omega.{arith}
 use Rattle.stdin.proofs.goes_on.Statement.{statement}
 use Rattle.stdin.proofs.goes_on.Tie as tie
 

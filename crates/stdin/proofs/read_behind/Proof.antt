@@ -1,7 +1,6 @@
 use Prim.Native.Nat.{_-_}
 use lib.ListN.{length}
 use borrow.Rule.Slice.PartMut.{take-put}
-use native.Mathlib.Omega.{arith}
 use borrow.Author.Needs.{needs}
 use Rattle.stdin.proofs.read_behind.Statement.{statement}
 use Rattle.stdin.proofs.read_behind.Tie as tie

@@ -1,5 +1,4 @@
 use mathlib.Core.Path.{_≡_, refl, sym, _∙_}
-use mathlib.Core.Bool.{true}
 use native.Mathlib.Omega.{arith}
 use lib.ListN.{length}
 use borrow.Author.Needs.{needs}
@@ -34,8 +33,11 @@ slice-aggregate-take-in c = search needs
 
 take-in-requires : tie.Need-take-in-requires Inv-loop μ-loop
 take-in-requires c κs =
-    let l = (c .before .before .before .before .before .before .before .before .loop) .inv in
-    omega (arith, room (l .0 .rounds) ((c .before .before .before .before .before .before .if1) .taken), l .1, (c .before .before .before .read-behind) .ensures .0)
+    let c3 = c .before .before .before in
+    let c6 = c3 .before .before .before in
+    let c8 = c6 .before .before in
+    let l = (c8 .loop) .inv in
+    omega (arith, room (l .0 .rounds) ((c6 .if1) .taken), l .1, (c3 .read-behind) .ensures .0)
 
 sub-left : tie.Need-sub-left Inv-loop μ-loop
 sub-left c = search needs

@@ -1,8 +1,8 @@
 -- What holds of every list of rounds.
 use mathlib.Core.Path.{_≡_, refl, sym, ap, _∙_, subst}
 use mathlib.Core.Bool.{Bool, true, false, not, _&&_}
-use mathlib.Core.List.{List, [], _∷_, _++_}
-use Prim.Native.Nat.{ℕ, suc, _+_, _-_, _*_, _≤_, _<_}
+use mathlib.Core.List.{List, _++_}
+use Prim.Native.Nat.{ℕ, _+_, _-_, _*_, _≤_, _<_}
 use native.Mathlib.Omega.{arith}
 use lib.Dec.{eqb}
 use lib.IntN.{ℤ, pos, negsuc}
@@ -13,7 +13,7 @@ use Rattle.filter.specs.Reading.{isOver, ReadsOn}
 use Rattle.filter.specs.Program.{inputOf, Run, start, next}
 use Rattle.filter.specs.laws.OutputLaws.{held-short}
 use Rattle.filter.specs.declared.reading.Reading.{Reading}
-use Rattle.stdin.specs.Rounds.{brought, TakesIn, Rounds, none, round, ReadAll, mostReads}
+use Rattle.stdin.specs.Rounds.{brought, Rounds, none, round, ReadAll}
 use Rattle.stdin.specs.declared.Input.{Input}
 
 pub apart : {A : Type 0} {b : Bool} → b ≡ true → b ≡ false → A

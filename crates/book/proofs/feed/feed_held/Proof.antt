@@ -35,13 +35,26 @@ same-length : tie.Need-same-length Inv-loop μ-loop
 same-length c = search needs
 
 returns : tie.Need-returns Inv-loop μ-loop
-returns c = λ l e. ends-by ((c .fed-so) .ensures) (unread ((c .before .before .before .before .before .before .loop) .inv) ((c .before .before .before .before .before .loop-test) .taken) ((c .before .before .before .first-change) .ensures) ((c .before .if1) .taken) l e)
+returns c =
+    let c3 = c .before .before .before in
+    let c5 = c3 .before .before in
+    let c6 = c5 .before in
+    λ l e. ends-by ((c .fed-so) .ensures) (unread ((c6 .loop) .inv) ((c5 .loop-test) .taken) ((c3 .first-change) .ensures) ((c .before .if1) .taken) l e)
 
 add-ordinal : tie.Need-add-ordinal Inv-loop μ-loop
-add-ordinal c = omega (arith, (c .before .before .before .before .before .loop) .inv .few, (c .before .before .before .before .before .loop) .inv .within, (c .before .before .before .before .loop-test) .taken, (c .before .before .before .before .before .before .before .before .good))
+add-ordinal c =
+    let c4 = c .before .before .before .before in
+    let c5 = c4 .before in
+    let c8 = c5 .before .before .before in
+    omega (arith, (c5 .loop) .inv .few, (c5 .loop) .inv .within, (c4 .loop-test) .taken, (c8 .good))
 
 add-end : tie.Need-add-end Inv-loop μ-loop
-add-end c = omega (arith, end-within ((c .before .before .before .before .before .before .loop) .inv) ((c .before .before .before .before .before .loop-test) .taken) ((c .before .before .before .first-change) .ensures) ((c .before .if1) .left), (c .before .before .before .before .before .before .before .before .before .good))
+add-end c =
+    let c3 = c .before .before .before in
+    let c5 = c3 .before .before in
+    let c6 = c5 .before in
+    let c9 = c6 .before .before .before in
+    omega (arith, end-within ((c6 .loop) .inv) ((c5 .loop-test) .taken) ((c3 .first-change) .ensures) ((c .before .if1) .left), (c9 .good))
 
 bucket-of-requires : tie.Need-bucket-of-requires Inv-loop μ-loop
 bucket-of-requires c κs = search needs
@@ -62,7 +75,12 @@ part-held-change-start : tie.Need-part-held-change-start Inv-loop μ-loop
 part-held-change-start c = omega arith
 
 part-held-change-end : tie.Need-part-held-change-end Inv-loop μ-loop
-part-held-change-end c = end-within ((c .before .before .before .before .before .before .before .before .before .before .before .loop) .inv) ((c .before .before .before .before .before .before .before .before .before .before .loop-test) .taken) ((c .before .before .before .before .before .before .before .before .first-change) .ensures) ((c .before .before .before .before .before .before .if1) .left)
+part-held-change-end c =
+    let c6 = c .before .before .before .before .before .before in
+    let c8 = c6 .before .before in
+    let c10 = c8 .before .before in
+    let c11 = c10 .before in
+    end-within ((c11 .loop) .inv) ((c10 .loop-test) .taken) ((c8 .first-change) .ensures) ((c6 .if1) .left)
 
 held-change-requires : tie.Need-held-change-requires Inv-loop μ-loop
 held-change-requires c κs = ((c .before .before .before .before .before .before .before .before .before .before .before .before .loop) .inv .held, (since ((c .before .before .before .before .before .before .before .before .before .before .before .before .loop) .inv) ((c .before .before .before .before .bucket-of) .ensures .0) ((c .before .before .before .before .bucket-of) .ensures .1) ((c .before .before .before .search-from) .ensures), read-there ((c .before .before .before .before .before .before .before .before .before .before .before .before .loop) .inv) ((c .before .before .before .before .before .before .before .before .before .before .before .loop-test) .taken) ((c .before .before .before .before .before .before .before .before .before .first-change) .ensures) ((c .before .before .before .before .before .before .before .if1) .left)))
@@ -74,22 +92,49 @@ fed-so-requires-2 : tie.Need-fed-so-requires-2 Inv-loop μ-loop
 fed-so-requires-2 c κs = search needs
 
 same-length-2 : tie.Need-same-length-2 Inv-loop μ-loop
-same-length-2 c = (c .before .before .before .before .before .before .held-change) .ensures .leaves .size ∙ (c .before .before .before .before .before .before .before .before .before .before .before .before .before .before .before .before .before .before .before .loop) .inv .size
+same-length-2 c =
+    let c6 = c .before .before .before .before .before .before in
+    let c19 = c6 .before .before .before .before .before .before .before .before .before .before .before .before .before in
+    (c6 .held-change) .ensures .leaves .size ∙ (c19 .loop) .inv .size
 
 returns-2 : tie.Need-returns-2 Inv-loop μ-loop
-returns-2 c = λ l e. ends-by ((c .fed-so2) .ensures) (stops ((c .before .before .before .before .before .before .before .before .before .before .before .before .before .before .before .before .before .before .before .loop) .inv) ((c .before .before .before .before .before .before .before .before .before .before .before .before .before .before .before .before .before .before .loop-test) .taken) ((c .before .before .before .before .before .before .before .before .before .before .before .before .before .before .before .before .first-change) .ensures) ((c .before .before .before .before .before .before .before .before .before .before .before .before .before .before .if1) .left) ((c .before .before .before .before .before .before .held-change) .ensures) ((c .before .before .before .refusal-in) .ensures) ((c .before .if2) .taken) l e)
+returns-2 c =
+    let c3 = c .before .before .before in
+    let c6 = c3 .before .before .before in
+    let c14 = c6 .before .before .before .before .before .before .before .before in
+    let c16 = c14 .before .before in
+    let c18 = c16 .before .before in
+    let c19 = c18 .before in
+    λ l e. ends-by ((c .fed-so2) .ensures) (stops ((c19 .loop) .inv) ((c18 .loop-test) .taken) ((c16 .first-change) .ensures) ((c14 .if1) .left) ((c6 .held-change) .ensures) ((c3 .refusal-in) .ensures) ((c .before .if2) .taken) l e)
 
 mul-latest : tie.Need-mul-latest Inv-loop μ-loop
-mul-latest c = omega (arith, (c .before .before .before .before .before .before .before .before .before .before .bucket-of) .ensures .1)
+mul-latest c =
+    let c10 = c .before .before .before .before .before .before .before .before .before .before in
+    omega (arith, (c10 .bucket-of) .ensures .1)
 
 array-write-latest : tie.Need-array-write-latest Inv-loop μ-loop
-array-write-latest c = (c .before .before .before .before .before .before .before .before .before .before .bucket-of) .ensures .1
+array-write-latest c =
+    let c10 = c .before .before .before .before .before .before .before .before .before .before in
+    (c10 .bucket-of) .ensures .1
 
 loop-less : tie.Need-loop-less Inv-loop μ-loop
-loop-less c = omega (arith, end-after ((c .before .before .before .before .before .before .before .before .before .before .before .before .before .before .before .before .before .before .loop) .inv) ((c .before .before .before .before .before .before .before .before .before .before .before .before .before .before .before .before .before .loop-test) .taken) ((c .before .before .before .before .before .before .before .before .before .before .before .before .before .before .before .first-change) .ensures) ((c .before .before .before .before .before .before .before .before .before .before .before .before .before .if1) .left), end-within ((c .before .before .before .before .before .before .before .before .before .before .before .before .before .before .before .before .before .before .loop) .inv) ((c .before .before .before .before .before .before .before .before .before .before .before .before .before .before .before .before .before .loop-test) .taken) ((c .before .before .before .before .before .before .before .before .before .before .before .before .before .before .before .first-change) .ensures) ((c .before .before .before .before .before .before .before .before .before .before .before .before .before .if1) .left))
+loop-less c =
+    let c13 = c .before .before .before .before .before .before .before .before .before .before .before .before .before in
+    let c15 = c13 .before .before in
+    let c17 = c15 .before .before in
+    let c18 = c17 .before in
+    omega (arith, end-after ((c18 .loop) .inv) ((c17 .loop-test) .taken) ((c15 .first-change) .ensures) ((c13 .if1) .left), end-within ((c18 .loop) .inv) ((c17 .loop-test) .taken) ((c15 .first-change) .ensures) ((c13 .if1) .left))
 
 loop-again : tie.Need-loop-again Inv-loop μ-loop
-loop-again c = continues ((c .before .before .before .before .before .before .before .before .before .before .before .before .before .before .before .before .before .before .loop) .inv) ((c .before .before .before .before .before .before .before .before .before .before .before .before .before .before .before .before .before .loop-test) .taken) ((c .before .before .before .before .before .before .before .before .before .before .before .before .before .before .before .first-change) .ensures) ((c .before .before .before .before .before .before .before .before .before .before .before .before .before .if1) .left) ((c .before .before .before .before .before .held-change) .ensures) ((c .before .before .refusal-in) .ensures) ((c .if2) .left) ((c .before .before .before .before .before .before .before .before .before .before .bucket-of) .ensures .0) ((c .before .before .before .before .before .before .before .before .before .before .bucket-of) .ensures .1)
+loop-again c =
+    let c2 = c .before .before in
+    let c5 = c2 .before .before .before in
+    let c10 = c5 .before .before .before .before .before in
+    let c13 = c10 .before .before .before in
+    let c15 = c13 .before .before in
+    let c17 = c15 .before .before in
+    let c18 = c17 .before in
+    continues ((c18 .loop) .inv) ((c17 .loop-test) .taken) ((c15 .first-change) .ensures) ((c13 .if1) .left) ((c5 .held-change) .ensures) ((c2 .refusal-in) .ensures) ((c .if2) .left) ((c10 .bucket-of) .ensures .0) ((c10 .bucket-of) .ensures .1)
 
 fed-so-requires-3 : tie.Need-fed-so-requires-3 Inv-loop μ-loop
 fed-so-requires-3 c κs = search needs

@@ -10,7 +10,7 @@ use lib.ListN.{length, drop, getD, set, drop-of-length-le}
 use lib.Seq.{drop-cons, getD-set-same, getD-set-other}
 use lib.Dec.{leb, eqb}
 use borrow.Author.Tests.{eq-eqb, eqb-true, leb-true}
-use Rattle.book.specs.Layer.{Key, Change, Good, keyOf, kindOf, same, sameHour, Mark, order, Pr, Im, Ex, Gh, Fi, Fe, isFiling, isWithdrawal}
+use Rattle.book.specs.Layer.{Key, Change, Good, keyOf, kindOf, same, sameHour, Mark, order, isFiling, isWithdrawal}
 use Rattle.book.specs.laws.LayerLaws.{every-mark, Padded, good-padded, same-true, hour-parts, parts-hour}
 use Rattle.book.specs.tables.Tables.{survey}
 use Rattle.book.specs.tables.Index.{hourSlot, weighed, bucket, latestOf}

@@ -7,7 +7,7 @@ use native.Mathlib.Omega.{arith}
 use lib.ListN.{length, take, drop, getD, drop-of-length-le}
 use lib.Dec.{eqb, leb}
 use borrow.Author.Tests.{eq-eqb, ne-eqb, eqb-true, le-leb, lt-leb, leb-true, leb-false}
-use Rattle.book.specs.Layer.{Key, View, Rec, Change, filed, corrected, withdrawn, kindOf, keyOf, write, begins, Good, keyAnswer, Res, same, sameHour, order, Kind, File, Correct, Withdraw, isFiling, isCorrection, isWithdrawal}
+use Rattle.book.specs.Layer.{Key, Rec, Change, filed, kindOf, keyOf, write, begins, Good, keyAnswer, Res, same, sameHour, order, Kind, File, Correct, Withdraw, isFiling, isCorrection, isWithdrawal}
 use Rattle.book.specs.tables.LayerTables.{headKey, recordHead}
 use Rattle.book.specs.laws.LayerLaws.{head-written, head-same, same-left, same-alike, same-true, Padded, good-padded, sameHour-same, good-hour, hour-parts, parts-hour, order-few}
 use Rattle.book.specs.Register.{writeAll, standing, stands, count}

@@ -4,12 +4,11 @@ use lib.Seq.{length-take-le}
 use borrow.Author.Needs.{needs}
 use Rattle.filter.proofs.reading.feed_front.Statement.{statement}
 use Rattle.filter.proofs.reading.feed_front.Tie as tie
-use Rattle.filter.proofs.reading.feed_front.Reads as reads
-use Rattle.filter.proofs.reading.feed_front.Lts as lts
-use Rattle.book.proofs.feed.feed.Reads as feed-reads
 
 slice-aggregate-feed : tie.Need-slice-aggregate-feed
-slice-aggregate-feed c = sym (length-take-le {A = ℕ} ((c .before .before .before .before .args) .end) ((c .before .before .before .before .args) .input .now) ((c .before .before .before .before .pre)))
+slice-aggregate-feed c =
+    let c4 = c .before .before .before .before in
+    sym (length-take-le {A = ℕ} ((c4 .args) .end) ((c4 .args) .input .now) ((c4 .pre)))
 
 feed-requires : tie.Need-feed-requires
 feed-requires c κs = search needs

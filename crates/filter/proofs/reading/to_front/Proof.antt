@@ -6,9 +6,6 @@ use Rattle.filter.proofs.reading.ToFront.{Moving, moving-none, moving-n
 use borrow.Author.Needs.{needs}
 use Rattle.filter.proofs.reading.to_front.Statement.{statement}
 use Rattle.filter.proofs.reading.to_front.Tie as tie
-use Rattle.filter.proofs.reading.to_front.Reads as reads
-use Rattle.filter.proofs.reading.to_front.Lts as lts
-use Rattle.filter.proofs.reading.least.Reads as least-reads
 
 abbrev Inv-loop : tie.InvT-loop
 Inv-loop bytes₀ from end stop n i₀ bytes i = (i ≤ n) × (n ≡ stop - from) × (from < stop) × (stop ≡ min end (length bytes₀)) × Moving bytes₀ bytes from stop i
@@ -20,7 +17,9 @@ least-requires : tie.Need-least-requires Inv-loop μ-loop
 least-requires c κs = search needs
 
 returns : tie.Need-returns Inv-loop μ-loop
-returns c = moved-none ((c .before .before .before .args) .bytes .now) ((c .before .before .before .args) .from) ((c .before .before .before .args) .end) ((c .before .least) .result) ((c .before .least) .ensures) ((c .if1) .taken)
+returns c =
+    let c3 = c .before .before .before in
+    moved-none ((c3 .args) .bytes .now) ((c3 .args) .from) ((c3 .args) .end) ((c .before .least) .result) ((c .before .least) .ensures) ((c .if1) .taken)
 
 sub-n : tie.Need-sub-n Inv-loop μ-loop
 sub-n c = search needs
@@ -50,7 +49,10 @@ same-length : tie.Need-same-length Inv-loop μ-loop
 same-length c = (c .before .loop) .inv .4 .size
 
 returns-2 : tie.Need-returns-2 Inv-loop μ-loop
-returns-2 c = moved-all ((c .before .before .before .before .before .args) .bytes .now) ((c .before .loop) .bytes) ((c .before .before .before .before .before .args) .from) ((c .before .before .before .before .before .args) .end) ((c .before .before .before .least) .result) ((c .before .loop) .i) ((c .before .loop) .inv .4) ((c .before .before .before .least) .ensures) (omega arith) (omega arith) (omega arith)
+returns-2 c =
+    let c3 = c .before .before .before in
+    let c5 = c3 .before .before in
+    moved-all ((c5 .args) .bytes .now) ((c .before .loop) .bytes) ((c5 .args) .from) ((c5 .args) .end) ((c3 .least) .result) ((c .before .loop) .i) ((c .before .loop) .inv .4) ((c3 .least) .ensures) (omega arith) (omega arith) (omega arith)
 
 pub to-front-spec : {M : Type 1} → statement M
 to-front-spec =

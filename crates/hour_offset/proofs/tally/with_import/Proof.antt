@@ -6,7 +6,10 @@ with-place-requires : tie.Need-with-place-requires
 with-place-requires c κs = (c .before .pre) .imports
 
 returns : tie.Need-returns
-returns c = adds-import ((c .before .before .before .before .args) .t) ((c .before .before .before .before .args) .s) _ (c .before .before .before .before .pre) ((c .before .before .with-place) .ensures)
+returns c =
+    let c2 = c .before .before in
+    let c4 = c2 .before .before in
+    adds-import ((c4 .args) .t) ((c4 .args) .s) _ (c4 .pre) ((c2 .with-place) .ensures)
 
 pub with-import-spec : {M : Type 1} → statement M
 with-import-spec = tie.close (tie.spec with-place-requires returns)

@@ -10,10 +10,15 @@ refused-requires : tie.Need-refused-requires
 refused-requires c κs = search needs
 
 returns : tie.Need-returns
-returns c = adds-no _ _ ((c .before .before .args) .t) _ 10 ((c .before .before .pre)) ((c .refused) .ensures) (sym (ap (λ (b : Bool). cond b 10 0) ((c .before .if1) .taken))) (λ q. omega arith)
+returns c =
+    let c2 = c .before .before in
+    adds-no _ _ ((c2 .args) .t) _ 10 ((c2 .pre)) ((c .refused) .ensures) (sym (ap (λ (b : Bool). cond b 10 0) ((c .before .if1) .taken))) (λ q. omega arith)
 
 returns-2 : tie.Need-returns-2
-returns-2 c = adds-price ((c .before .before .before .args) .t) ((c .before .before .before .args) .at) ((c .before .before .before .pre)) ((c .before .before .if1) .left)
+returns-2 c =
+    let c2 = c .before .before in
+    let c3 = c2 .before in
+    adds-price ((c3 .args) .t) ((c3 .args) .at) ((c3 .pre)) ((c2 .if1) .left)
 
 pub with-price-spec : {M : Type 1} → statement M
 with-price-spec = tie.close (tie.spec refused-requires returns returns-2)

@@ -51,13 +51,19 @@ returns-3 : tie.Need-returns-3
 returns-3 c = rw ((c .before .enum-told3) .given .1) ((c .with-export) .ensures)
 
 returns-4 : tie.Need-returns-4
-returns-4 c = rw ((c .before .enum-told4) .given .1) (adds-no 2 _ ((c .before .before .before .before .args) .t) _ 2 (c .before .before .before .before .pre) ((c .refused) .ensures) refl (λ q. omega arith))
+returns-4 c =
+    let c4 = c .before .before .before .before in
+    rw ((c .before .enum-told4) .given .1) (adds-no 2 _ ((c4 .args) .t) _ 2 (c4 .pre) ((c .refused) .ensures) refl (λ q. omega arith))
 
 returns-5 : tie.Need-returns-5
-returns-5 c = rw ((c .before .enum-told5) .given .1) (adds-no 2 _ ((c .before .before .before .before .args) .t) _ 2 (c .before .before .before .before .pre) ((c .refused2) .ensures) refl (λ q. omega arith))
+returns-5 c =
+    let c4 = c .before .before .before .before in
+    rw ((c .before .enum-told5) .given .1) (adds-no 2 _ ((c4 .args) .t) _ 2 (c4 .pre) ((c .refused2) .ensures) refl (λ q. omega arith))
 
 returns-6 : tie.Need-returns-6
-returns-6 c = rw ((c .before .enum-told6) .given .1) (adds-no 2 _ ((c .before .before .before .before .args) .t) _ 2 (c .before .before .before .before .pre) ((c .refused3) .ensures) refl (λ q. omega arith))
+returns-6 c =
+    let c4 = c .before .before .before .before in
+    rw ((c .before .enum-told6) .given .1) (adds-no 2 _ ((c4 .args) .t) _ 2 (c4 .pre) ((c .refused3) .ensures) refl (λ q. omega arith))
 
 pub with-record-spec : {M : Type 1} → statement M
 with-record-spec =

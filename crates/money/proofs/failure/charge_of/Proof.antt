@@ -1,14 +1,9 @@
 use mathlib.Core.Path.{ap, _∙_}
 use lib.IntN.{ℤ, pos, _*ℤ_}
 use Rattle.money.specs.laws.FailureLaws.{lesser-size}
-use native.Mathlib.Omega.{arith}
 use borrow.Author.Needs.{needs}
 use Rattle.money.proofs.failure.charge_of.Statement.{statement}
 use Rattle.money.proofs.failure.charge_of.Tie as tie
-use Rattle.money.proofs.failure.charge_of.Reads as reads
-use Rattle.money.proofs.failure.charge_of.Lts as lts
-use Rattle.money.proofs.units.PriceGap.for_an_hour.Reads as for-an-hour-reads
-use Rattle.money.proofs.units.PriceGap.lesser.Reads as lesser-reads
 
 lesser-requires : tie.Need-lesser-requires
 lesser-requires c κs = search needs

@@ -4,10 +4,6 @@ use Rattle.money.specs.Failure.{failureOk}
 use borrow.Author.Needs.{needs}
 use Rattle.money.proofs.failure.failure_ok.Statement.{statement}
 use Rattle.money.proofs.failure.failure_ok.Tie as tie
-use Rattle.money.proofs.failure.failure_ok.Reads as reads
-use Rattle.money.proofs.failure.failure_ok.Lts as lts
-use Rattle.money.proofs.units.Price.in_range.Reads as units-Price-in-range-reads
-use Rattle.money.proofs.units.Quantity.in_range.Reads as units-Quantity-in-range-reads
 
 in-range-requires : tie.Need-in-range-requires
 in-range-requires c κs = search needs
@@ -21,28 +17,51 @@ in-range-requires-2 c κs = search needs
 
 returns-2 : tie.Need-returns-2
 unfolding failureOk
-returns-2 c = rw (sym ((c .before .before .before .in-range) .ensures) ∙ not-false _ ((c .before .before .if1) .left), sym ((c .before .in-range2) .ensures) ∙ not-true _ ((c .if2) .taken))
+returns-2 c =
+    let c2 = c .before .before in
+    let c3 = c2 .before in
+    rw (sym ((c3 .in-range) .ensures) ∙ not-false _ ((c2 .if1) .left), sym ((c .before .in-range2) .ensures) ∙ not-true _ ((c .if2) .taken))
 
 in-range-requires-3 : tie.Need-in-range-requires-3
 in-range-requires-3 c κs = search needs
 
 returns-3 : tie.Need-returns-3
 unfolding failureOk
-returns-3 c = rw (sym ((c .before .before .before .before .before .in-range) .ensures) ∙ not-false _ ((c .before .before .before .before .if1) .left), sym ((c .before .before .before .in-range2) .ensures) ∙ not-false _ ((c .before .before .if2) .left), sym ((c .before .in-range3) .ensures) ∙ not-true _ ((c .if3) .taken))
+returns-3 c =
+    let c2 = c .before .before in
+    let c3 = c2 .before in
+    let c4 = c3 .before in
+    let c5 = c4 .before in
+    rw (sym ((c5 .in-range) .ensures) ∙ not-false _ ((c4 .if1) .left), sym ((c3 .in-range2) .ensures) ∙ not-false _ ((c2 .if2) .left), sym ((c .before .in-range3) .ensures) ∙ not-true _ ((c .if3) .taken))
 
 in-range-requires-4 : tie.Need-in-range-requires-4
 in-range-requires-4 c κs = search needs
 
 returns-4 : tie.Need-returns-4
 unfolding failureOk
-returns-4 c = rw (sym ((c .before .before .before .before .before .before .before .in-range) .ensures) ∙ not-false _ ((c .before .before .before .before .before .before .if1) .left), sym ((c .before .before .before .before .before .in-range2) .ensures) ∙ not-false _ ((c .before .before .before .before .if2) .left), sym ((c .before .before .before .in-range3) .ensures) ∙ not-false _ ((c .before .before .if3) .left), sym ((c .before .in-range4) .ensures) ∙ not-true _ ((c .if4) .taken))
+returns-4 c =
+    let c2 = c .before .before in
+    let c3 = c2 .before in
+    let c4 = c3 .before in
+    let c5 = c4 .before in
+    let c6 = c5 .before in
+    let c7 = c6 .before in
+    rw (sym ((c7 .in-range) .ensures) ∙ not-false _ ((c6 .if1) .left), sym ((c5 .in-range2) .ensures) ∙ not-false _ ((c4 .if2) .left), sym ((c3 .in-range3) .ensures) ∙ not-false _ ((c2 .if3) .left), sym ((c .before .in-range4) .ensures) ∙ not-true _ ((c .if4) .taken))
 
 in-range-requires-5 : tie.Need-in-range-requires-5
 in-range-requires-5 c κs = search needs
 
 returns-5 : tie.Need-returns-5
 unfolding failureOk
-returns-5 c = rw (sym ((c .before .before .before .before .before .before .before .before .in-range) .ensures) ∙ not-false _ ((c .before .before .before .before .before .before .before .if1) .left), sym ((c .before .before .before .before .before .before .in-range2) .ensures) ∙ not-false _ ((c .before .before .before .before .before .if2) .left), sym ((c .before .before .before .before .in-range3) .ensures) ∙ not-false _ ((c .before .before .before .if3) .left), sym ((c .before .before .in-range4) .ensures) ∙ not-false _ ((c .before .if4) .left)) ((c .in-range5) .ensures)
+returns-5 c =
+    let c2 = c .before .before in
+    let c3 = c2 .before in
+    let c4 = c3 .before in
+    let c5 = c4 .before in
+    let c6 = c5 .before in
+    let c7 = c6 .before in
+    let c8 = c7 .before in
+    rw (sym ((c8 .in-range) .ensures) ∙ not-false _ ((c7 .if1) .left), sym ((c6 .in-range2) .ensures) ∙ not-false _ ((c5 .if2) .left), sym ((c4 .in-range3) .ensures) ∙ not-false _ ((c3 .if3) .left), sym ((c2 .in-range4) .ensures) ∙ not-false _ ((c .before .if4) .left)) ((c .in-range5) .ensures)
 
 pub failure-ok-spec : {M : Type 1} → statement M
 failure-ok-spec =

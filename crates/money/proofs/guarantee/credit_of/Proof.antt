@@ -1,4 +1,4 @@
-use mathlib.Core.Path.{_≡_, ap, _∙_}
+use mathlib.Core.Path.{ap, _∙_}
 use lib.IntN.{ℤ, pos, negℤ}
 use Rattle.laws.specs.Ints.{minℤ}
 use Rattle.money.specs.laws.GuaranteeLaws.{profits-size}
@@ -6,10 +6,6 @@ use native.Mathlib.Omega.{arith}
 use borrow.Author.Needs.{needs}
 use Rattle.money.proofs.guarantee.credit_of.Statement.{statement}
 use Rattle.money.proofs.guarantee.credit_of.Tie as tie
-use Rattle.money.proofs.guarantee.credit_of.Reads as reads
-use Rattle.money.proofs.guarantee.credit_of.Lts as lts
-use Rattle.money.proofs.units.Ticks.deficit.Reads as deficit-reads
-use Rattle.money.proofs.guarantee.profit_sum.Reads as profit-sum-reads
 
 profit-sum-requires : tie.Need-profit-sum-requires
 profit-sum-requires c κs = search needs

@@ -2,13 +2,9 @@ use mir.Syntax.{w64}
 use mir.Val.{SFits}
 use Rattle.laws.specs.Held as h
 use Rattle.money.specs.Offset.{precedes}
-use native.Mathlib.Omega.{arith}
 use borrow.Author.Needs.{needs}
 use Rattle.money.proofs.imports.comes_before.Statement.{statement}
 use Rattle.money.proofs.imports.comes_before.Tie as tie
-use Rattle.money.proofs.imports.comes_before.Reads as reads
-use Rattle.money.proofs.imports.comes_before.Lts as lts
-use Rattle.money.proofs.names.name_before.Reads as name-before-reads
 
 returns : tie.Need-returns
 unfolding precedes

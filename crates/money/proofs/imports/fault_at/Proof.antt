@@ -3,14 +3,9 @@ use borrow.Author.Tests.{not-true, not-false}
 use Rattle.money.specs.Offset.{faultAt, freshName}
 use Rattle.money.specs.Units.{unless}
 use Rattle.money.specs.laws.UnitLaws.{kept}
-use native.Mathlib.Omega.{arith}
 use borrow.Author.Needs.{needs}
 use Rattle.money.proofs.imports.fault_at.Statement.{statement}
 use Rattle.money.proofs.imports.fault_at.Tie as tie
-use Rattle.money.proofs.imports.fault_at.Reads as reads
-use Rattle.money.proofs.imports.fault_at.Lts as lts
-use Rattle.money.proofs.imports.entry_fault.Reads as entry-fault-reads
-use Rattle.money.proofs.imports.fresh.Reads as fresh-reads
 
 mul-e : tie.Need-mul-e
 mul-e c = search needs
@@ -23,18 +18,26 @@ entry-fault-requires c κs = search needs
 
 returns : tie.Need-returns
 unfolding faultAt
-returns c = kept (unless (freshName ((c .before .before .before .args) .t1) ((c .before .before .before .args) .i)) 10 0) ((c .before .entry-fault) .ensures) ((c .if1) .taken)
+returns c =
+    let c3 = c .before .before .before in
+    kept (unless (freshName ((c3 .args) .t1) ((c3 .args) .i)) 10 0) ((c .before .entry-fault) .ensures) ((c .if1) .taken)
 
 fresh-requires : tie.Need-fresh-requires
 fresh-requires c κs = (c .before .before .before .pre) .1
 
 returns-2 : tie.Need-returns-2
 unfolding faultAt
-returns-2 c = rw (sym ((c .before .before .before .entry-fault) .ensures) ∙ (c .before .before .if1) .left, sym ((c .before .fresh) .ensures) ∙ not-true _ ((c .if2) .taken))
+returns-2 c =
+    let c2 = c .before .before in
+    let c3 = c2 .before in
+    rw (sym ((c3 .entry-fault) .ensures) ∙ (c2 .if1) .left, sym ((c .before .fresh) .ensures) ∙ not-true _ ((c .if2) .taken))
 
 returns-3 : tie.Need-returns-3
 unfolding faultAt
-returns-3 c = rw (sym ((c .before .before .before .entry-fault) .ensures) ∙ (c .before .before .if1) .left, sym ((c .before .fresh) .ensures) ∙ not-false _ ((c .if2) .left))
+returns-3 c =
+    let c2 = c .before .before in
+    let c3 = c2 .before in
+    rw (sym ((c3 .entry-fault) .ensures) ∙ (c2 .if1) .left, sym ((c .before .fresh) .ensures) ∙ not-false _ ((c .if2) .left))
 
 pub fault-at-spec : {M : Type 1} → statement M
 fault-at-spec =

@@ -5,12 +5,8 @@ use Rattle.laws.specs.SumLaws.{Passed, passed-none, passed-more, passed-all, ev
 use Rattle.money.specs.Names.{sameName}
 use Rattle.money.specs.Offset.{entry, freshName}
 use borrow.Author.Needs.{needs}
-use native.Mathlib.Omega.{arith}
 use Rattle.money.proofs.imports.fresh.Statement.{statement}
 use Rattle.money.proofs.imports.fresh.Tie as tie
-use Rattle.money.proofs.imports.fresh.Reads as reads
-use Rattle.money.proofs.imports.fresh.Lts as lts
-use Rattle.money.proofs.names.same_name.Reads as same-name-reads
 
 abbrev Inv-loop : tie.InvT-loop
 Inv-loop i entries name j₀ j = Passed i (λ a. not (sameName (entry entries i .name) (entry entries a .name))) j
@@ -38,7 +34,10 @@ same-name-requires c κs = search needs
 
 returns : tie.Need-returns Inv-loop μ-loop
 unfolding freshName
-returns c = sym (every-no _ _ (λ a. not (sameName (entry ((c .before .before .before .before .before .before .before .before .args) .t1) ((c .before .before .before .before .before .before .before .before .args) .i) .name) (entry ((c .before .before .before .before .before .before .before .before .args) .t1) a .name))) ((c .before .before .before .before .loop-test) .taken) (ap (λ (b : Bool). not b) (sym ((c .before .same-name) .ensures) ∙ (c .if1) .taken)))
+returns c =
+    let c4 = c .before .before .before .before in
+    let c8 = c4 .before .before .before .before in
+    sym (every-no _ _ (λ a. not (sameName (entry ((c8 .args) .t1) ((c8 .args) .i) .name) (entry ((c8 .args) .t1) a .name))) ((c4 .loop-test) .taken) (ap (λ (b : Bool). not b) (sym ((c .before .same-name) .ensures) ∙ (c .if1) .taken)))
 
 add-j : tie.Need-add-j Inv-loop μ-loop
 add-j c = search needs
@@ -47,7 +46,10 @@ loop-less : tie.Need-loop-less Inv-loop μ-loop
 loop-less c = search needs
 
 loop-again : tie.Need-loop-again Inv-loop μ-loop
-loop-again c = passed-more ((c .before .before .before .before .before .loop) .inv) ((c .before .before .before .before .loop-test) .taken) (ap (λ (b : Bool). not b) (sym ((c .before .same-name) .ensures) ∙ (c .if1) .left))
+loop-again c =
+    let c4 = c .before .before .before .before in
+    let c5 = c4 .before in
+    passed-more ((c5 .loop) .inv) ((c4 .loop-test) .taken) (ap (λ (b : Bool). not b) (sym ((c .before .same-name) .ensures) ∙ (c .if1) .left))
 
 returns-2 : tie.Need-returns-2 Inv-loop μ-loop
 unfolding freshName

@@ -6,9 +6,6 @@ use borrow.Author.Needs.{needs}
 use native.Mathlib.Omega.{arith}
 use Rattle.money.proofs.imports.list_fault.Statement.{statement}
 use Rattle.money.proofs.imports.list_fault.Tie as tie
-use Rattle.money.proofs.imports.list_fault.Reads as reads
-use Rattle.money.proofs.imports.list_fault.Lts as lts
-use Rattle.money.proofs.imports.fault_at.Reads as fault-at-reads
 
 abbrev Inv-loop : tie.InvT-loop
 Inv-loop n entries prices i₀ i = Clean n (faultAt prices entries) i
@@ -33,7 +30,10 @@ loop-less : tie.Need-loop-less Inv-loop μ-loop
 loop-less c = search needs
 
 loop-again : tie.Need-loop-again Inv-loop μ-loop
-loop-again c = clean-more ((c .before .before .before .loop) .inv) ((c .before .before .loop-test) .taken) (sym ((c .before .fault-at) .ensures) ∙ (c .if1) .left)
+loop-again c =
+    let c2 = c .before .before in
+    let c3 = c2 .before in
+    clean-more ((c3 .loop) .inv) ((c2 .loop-test) .taken) (sym ((c .before .fault-at) .ensures) ∙ (c .if1) .left)
 
 returns-2 : tie.Need-returns-2 Inv-loop μ-loop
 unfolding entriesFault

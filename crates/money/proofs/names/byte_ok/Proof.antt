@@ -1,10 +1,6 @@
 use borrow.Author.Tests.{le-leb, lt-leb}
-use borrow.Author.Needs.{needs}
-use native.Mathlib.Omega.{arith}
 use Rattle.money.proofs.names.byte_ok.Statement.{statement}
 use Rattle.money.proofs.names.byte_ok.Tie as tie
-use Rattle.money.proofs.names.byte_ok.Reads as reads
-use Rattle.money.proofs.names.byte_ok.Lts as lts
 
 returns : tie.Need-returns
 returns c = rw (le-leb _ _ ((c .if1) .taken))

@@ -1,4 +1,4 @@
-use Prim.Native.Nat.{_-_, _≤_, min}
+use Prim.Native.Nat.{_-_}
 use lib.ListN.{length}
 use mathlib.Core.Path.{_≡_}
 use Rattle.money.specs.laws.NameLaws.{Alike, alike-none, alike-short, alike-less, alike-more, alike-on, alike-end, before-used}
@@ -6,9 +6,6 @@ use borrow.Author.Needs.{needs}
 use native.Mathlib.Omega.{arith}
 use Rattle.money.proofs.names.name_before.Statement.{statement}
 use Rattle.money.proofs.names.name_before.Tie as tie
-use Rattle.money.proofs.names.name_before.Reads as reads
-use Rattle.money.proofs.names.name_before.Lts as lts
-use Rattle.money.proofs.names.used.Reads as used-reads
 
 abbrev Inv-loop : tie.InvT-loop
 Inv-loop a b m n i₀ i = Alike (a .bytes) (b .bytes) m n i

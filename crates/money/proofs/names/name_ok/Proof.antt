@@ -5,12 +5,8 @@ use borrow.Author.Tests.{not-true, not-false, le-leb, lt-leb}
 use Rattle.money.specs.Names.{nameOk, nameByteOk}
 use Rattle.laws.specs.SumLaws.{Passed, passed-none, passed-more, passed-all, every-no}
 use borrow.Author.Needs.{needs}
-use native.Mathlib.Omega.{arith}
 use Rattle.money.proofs.names.name_ok.Statement.{statement}
 use Rattle.money.proofs.names.name_ok.Tie as tie
-use Rattle.money.proofs.names.name_ok.Reads as reads
-use Rattle.money.proofs.names.name_ok.Lts as lts
-use Rattle.money.proofs.names.byte_ok.Reads as byte-ok-reads
 
 abbrev Inv-loop : tie.InvT-loop
 Inv-loop a n i₀ i = Passed (a .len) (λ j. nameByteOk (getD (a .bytes) j 0)) i
@@ -40,7 +36,12 @@ byte-ok-requires c κs = search needs
 
 returns-3 : tie.Need-returns-3 Inv-loop μ-loop
 unfolding nameOk
-returns-3 c = rw (le-leb _ _ ((c .before .before .before .before .before .before .if1) .left), le-leb _ _ ((c .before .before .before .before .before .if2) .left), every-no _ _ (λ j. nameByteOk (getD ((c .before .before .before .before .before .before .before .args) .t1 .bytes) j 0)) ((c .before .before .before .loop-test) .taken) (sym ((c .before .byte-ok) .ensures) ∙ not-true _ ((c .if3) .taken)))
+returns-3 c =
+    let c3 = c .before .before .before in
+    let c5 = c3 .before .before in
+    let c6 = c5 .before in
+    let c7 = c6 .before in
+    rw (le-leb _ _ ((c6 .if1) .left), le-leb _ _ ((c5 .if2) .left), every-no _ _ (λ j. nameByteOk (getD ((c7 .args) .t1 .bytes) j 0)) ((c3 .loop-test) .taken) (sym ((c .before .byte-ok) .ensures) ∙ not-true _ ((c .if3) .taken)))
 
 add-i : tie.Need-add-i Inv-loop μ-loop
 add-i c = search needs
@@ -49,11 +50,17 @@ loop-less : tie.Need-loop-less Inv-loop μ-loop
 loop-less c = search needs
 
 loop-again : tie.Need-loop-again Inv-loop μ-loop
-loop-again c = passed-more ((c .before .before .before .before .loop) .inv) ((c .before .before .before .loop-test) .taken) (sym ((c .before .byte-ok) .ensures) ∙ not-false _ ((c .if3) .left))
+loop-again c =
+    let c3 = c .before .before .before in
+    let c4 = c3 .before in
+    passed-more ((c4 .loop) .inv) ((c3 .loop-test) .taken) (sym ((c .before .byte-ok) .ensures) ∙ not-false _ ((c .if3) .left))
 
 returns-4 : tie.Need-returns-4 Inv-loop μ-loop
 unfolding nameOk
-returns-4 c = rw (le-leb _ _ ((c .before .before .before .if1) .left), le-leb _ _ ((c .before .before .if2) .left), passed-all ((c .before .loop) .inv) ((c .loop-test) .left))
+returns-4 c =
+    let c2 = c .before .before in
+    let c3 = c2 .before in
+    rw (le-leb _ _ ((c3 .if1) .left), le-leb _ _ ((c2 .if2) .left), passed-all ((c .before .loop) .inv) ((c .loop-test) .left))
 
 pub name-ok-spec : {M : Type 1} → statement M
 name-ok-spec =

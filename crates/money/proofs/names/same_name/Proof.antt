@@ -1,4 +1,4 @@
-use Prim.Native.Nat.{_-_, _≤_, min}
+use Prim.Native.Nat.{_-_}
 use lib.ListN.{length}
 use mathlib.Core.Path.{_≡_}
 use Rattle.money.specs.laws.NameLaws.{Equal, equal-none, equal-no, equal-on, equal-all, same-used, differ-used}
@@ -6,9 +6,6 @@ use borrow.Author.Needs.{needs}
 use native.Mathlib.Omega.{arith}
 use Rattle.money.proofs.names.same_name.Statement.{statement}
 use Rattle.money.proofs.names.same_name.Tie as tie
-use Rattle.money.proofs.names.same_name.Reads as reads
-use Rattle.money.proofs.names.same_name.Lts as lts
-use Rattle.money.proofs.names.used.Reads as used-reads
 
 abbrev Inv-loop : tie.InvT-loop
 Inv-loop a b m n i₀ i = Equal (a .bytes) (b .bytes) m i

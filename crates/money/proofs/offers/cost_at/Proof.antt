@@ -1,21 +1,15 @@
-use mathlib.Core.Path.{sym, _∙_, ap}
+use mathlib.Core.Path.{sym, _∙_}
 use Prim.Native.Nat.{_≤_, _<_}
 use lib.Dec.{leb}
 use borrow.Author.Tests.{le-leb, lt-leb, not-true, not-false}
 use Rattle.money.specs.Offers.{costAnswer, cost, lastQ}
 use Rattle.money.specs.Units.{unless}
 use Rattle.money.specs.laws.OfferLaws.{good-of}
-use Rattle.money.specs.laws.UnitLaws.{kept, answer-fault, answer-amount}
+use Rattle.money.specs.laws.UnitLaws.{kept, answer-fault}
 use native.Mathlib.Omega.{arith}
 use borrow.Author.Needs.{needs}
 use Rattle.money.proofs.offers.cost_at.Statement.{statement}
 use Rattle.money.proofs.offers.cost_at.Tie as tie
-use Rattle.money.proofs.offers.cost_at.Reads as reads
-use Rattle.money.proofs.offers.cost_at.Lts as lts
-use Rattle.money.proofs.offers.cost_of.Reads as cost-of-reads
-use Rattle.money.proofs.offers.last_of.Reads as last-of-reads
-use Rattle.money.proofs.offers.offer_fault.Reads as offer-fault-reads
-use Rattle.money.proofs.units.Quantity.in_range.Reads as in-range-reads
 
 in-range-requires : tie.Need-in-range-requires
 in-range-requires c κs = search needs
@@ -29,7 +23,11 @@ offer-fault-requires c κs = search needs
 
 returns-2 : tie.Need-returns-2
 unfolding costAnswer
-returns-2 c = rw (sym ((c .before .before .before .in-range) .ensures) ∙ not-false _ ((c .before .before .if1) .left)) (answer-fault (cost ((c .before .before .before .before .args) .o) ((c .before .before .before .before .args) .q .0)) (kept (unless (leb ((c .before .before .before .before .args) .q .0) (lastQ ((c .before .before .before .before .args) .o))) 7 0) ((c .before .offer-fault) .ensures) ((c .if2) .taken)) ((c .if2) .taken))
+returns-2 c =
+    let c2 = c .before .before in
+    let c3 = c2 .before in
+    let c4 = c3 .before in
+    rw (sym ((c3 .in-range) .ensures) ∙ not-false _ ((c2 .if1) .left)) (answer-fault (cost ((c4 .args) .o) ((c4 .args) .q .0)) (kept (unless (leb ((c4 .args) .q .0) (lastQ ((c4 .args) .o))) 7 0) ((c .before .offer-fault) .ensures) ((c .if2) .taken)) ((c .if2) .taken))
 
 last-of-requires : tie.Need-last-of-requires
 last-of-requires c κs =
@@ -39,17 +37,34 @@ last-of-requires c κs =
 returns-3 : tie.Need-returns-3
 unfolding costAnswer
 returns-3 c =
-    let m : lastQ ((c .before .before .before .before .before .before .before .before .args) .o) < (c .before .before .before .before .before .before .before .before .args) .q .0 = omega (arith, (c .before .before .before .last-of) .ensures, (c .if3) .taken) in
-    rw (sym ((c .before .before .before .before .before .before .before .in-range) .ensures) ∙ not-false _ ((c .before .before .before .before .before .before .if1) .left), sym ((c .before .before .before .before .before .offer-fault) .ensures) ∙ (c .before .before .before .before .if2) .left, lt-leb _ _ m)
+    let c3 = c .before .before .before in
+    let c4 = c3 .before in
+    let c5 = c4 .before in
+    let c6 = c5 .before in
+    let c7 = c6 .before in
+    let c8 = c7 .before in
+    let m : lastQ ((c8 .args) .o) < (c8 .args) .q .0 = omega (arith, (c3 .last-of) .ensures, (c .if3) .taken) in
+    rw (sym ((c7 .in-range) .ensures) ∙ not-false _ ((c6 .if1) .left), sym ((c5 .offer-fault) .ensures) ∙ (c4 .if2) .left, lt-leb _ _ m)
 
 cost-of-requires : tie.Need-cost-of-requires
-cost-of-requires c κs = (good-of ((c .before .before .before .before .before .before .before .before .args) .o) (sym ((c .before .before .before .before .before .offer-fault) .ensures) ∙ (c .before .before .before .before .if2) .left), omega (arith, (c .before .before .before .last-of) .ensures, (c .if3) .left))
+cost-of-requires c κs =
+    let c3 = c .before .before .before in
+    let c4 = c3 .before in
+    let c5 = c4 .before in
+    let c8 = c5 .before .before .before in
+    (good-of ((c8 .args) .o) (sym ((c5 .offer-fault) .ensures) ∙ (c4 .if2) .left), omega (arith, (c3 .last-of) .ensures, (c .if3) .left))
 
 returns-4 : tie.Need-returns-4
 unfolding costAnswer
 returns-4 c =
-    let m : (c .before .before .before .before .before .before .before .before .before .args) .q .0 ≤ lastQ ((c .before .before .before .before .before .before .before .before .before .args) .o) = omega (arith, (c .before .before .before .before .last-of) .ensures, (c .before .if3) .left) in
-    rw (sym ((c .before .before .before .before .before .before .before .before .in-range) .ensures) ∙ not-false _ ((c .before .before .before .before .before .before .before .if1) .left), sym ((c .before .before .before .before .before .before .offer-fault) .ensures) ∙ (c .before .before .before .before .before .if2) .left, le-leb _ _ m, (c .cost-of) .ensures)
+    let c4 = c .before .before .before .before in
+    let c5 = c4 .before in
+    let c6 = c5 .before in
+    let c7 = c6 .before in
+    let c8 = c7 .before in
+    let c9 = c8 .before in
+    let m : (c9 .args) .q .0 ≤ lastQ ((c9 .args) .o) = omega (arith, (c4 .last-of) .ensures, (c .before .if3) .left) in
+    rw (sym ((c8 .in-range) .ensures) ∙ not-false _ ((c7 .if1) .left), sym ((c6 .offer-fault) .ensures) ∙ (c5 .if2) .left, le-leb _ _ m, (c .cost-of) .ensures)
 
 pub cost-at-spec : {M : Type 1} → statement M
 cost-at-spec =

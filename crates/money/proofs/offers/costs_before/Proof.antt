@@ -5,10 +5,6 @@ use borrow.Author.Needs.{needs}
 use native.Mathlib.Omega.{arith}
 use Rattle.money.proofs.offers.costs_before.Statement.{statement}
 use Rattle.money.proofs.offers.costs_before.Tie as tie
-use Rattle.money.proofs.offers.costs_before.Reads as reads
-use Rattle.money.proofs.offers.costs_before.Lts as lts
-use Rattle.money.proofs.units.Price.between.Reads as between-reads
-use Rattle.money.proofs.units.Ticks.plus.Reads as plus-reads
 
 abbrev Inv-loop : tie.InvT-loop
 Inv-loop o n costs₀ acc₀ last₀ i₀ costs acc last i = (n ≡ o .count) × Costed o costs (acc .0) (last .0) i
@@ -42,14 +38,21 @@ element-copy-out-w c = search needs
 
 between-requires : tie.Need-between-requires Inv-loop μ-loop
 between-requires c κs =
-    let good = c .before .before .before .before .pre in
-    let u = (c .before .before .before .loop) .inv .0 in
-    let t = (c .before .before .loop-test) .taken in
-    let from = (c .before .before .before .loop) .inv .1 .from in
+    let c2 = c .before .before in
+    let c3 = c2 .before in
+    let c4 = c3 .before in
+    let good = c4 .pre in
+    let u = (c3 .loop) .inv .0 in
+    let t = (c2 .loop-test) .taken in
+    let from = (c3 .loop) .inv .1 .from in
     (good .prices-in _ (omega (arith, u, t)), (reach _ good _ (omega (arith, u, t)) from, good .quantities-in _ (omega (arith, u, t))))
 
 plus-requires : tie.Need-plus-requires Inv-loop μ-loop
-plus-requires c κs = (pieces-room _ (c .before .before .before .before .before .pre) _ (omega (arith, (c .before .before .before .before .loop) .inv .0, (c .before .before .before .loop-test) .taken)) ((c .before .before .before .before .loop) .inv .1 .sum), omega (arith, (c .between) .ensures .1))
+plus-requires c κs =
+    let c3 = c .before .before .before in
+    let c4 = c3 .before in
+    let c5 = c4 .before in
+    (pieces-room _ (c5 .pre) _ (omega (arith, (c4 .loop) .inv .0, (c3 .loop-test) .taken)) ((c4 .loop) .inv .1 .sum), omega (arith, (c .between) .ensures .1))
 
 add-i : tie.Need-add-i Inv-loop μ-loop
 add-i c = search needs
@@ -58,7 +61,11 @@ loop-less : tie.Need-loop-less Inv-loop μ-loop
 loop-less c = search needs
 
 loop-again : tie.Need-loop-again Inv-loop μ-loop
-loop-again c = ((c .before .before .before .before .before .loop) .inv .0, costed-more ((c .before .before .before .before .before .before .pre)) ((c .before .before .before .before .before .loop) .inv .1) (omega (arith, (c .before .before .before .before .before .loop) .inv .0, (c .before .before .before .before .loop-test) .taken)) refl ((c .before .between) .ensures .0) ((c .plus) .ensures))
+loop-again c =
+    let c4 = c .before .before .before .before in
+    let c5 = c4 .before in
+    let c6 = c5 .before in
+    ((c5 .loop) .inv .0, costed-more ((c6 .pre)) ((c5 .loop) .inv .1) (omega (arith, (c5 .loop) .inv .0, (c4 .loop-test) .taken)) refl ((c .before .between) .ensures .0) ((c .plus) .ensures))
 
 returns : tie.Need-returns Inv-loop μ-loop
 returns c = λ j l. (c .before .loop) .inv .1 .so-far j (omega (arith, (c .before .loop) .inv .0, (c .loop-test) .left))

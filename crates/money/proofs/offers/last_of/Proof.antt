@@ -1,10 +1,7 @@
 use Rattle.money.specs.laws.OfferLaws.{last-is}
-use native.Mathlib.Omega.{arith}
 use borrow.Author.Needs.{needs}
 use Rattle.money.proofs.offers.last_of.Statement.{statement}
 use Rattle.money.proofs.offers.last_of.Tie as tie
-use Rattle.money.proofs.offers.last_of.Reads as reads
-use Rattle.money.proofs.offers.last_of.Lts as lts
 
 cast-n : tie.Need-cast-n
 cast-n c = search needs

@@ -4,12 +4,8 @@ use borrow.Author.Tests.{not-true, not-false}
 use Rattle.money.specs.Offers.{numberOk, numbersOk}
 use Rattle.laws.specs.SumLaws.{Passed, passed-none, passed-more, passed-all, every-no}
 use borrow.Author.Needs.{needs}
-use native.Mathlib.Omega.{arith}
 use Rattle.money.proofs.offers.numbers_ok.Statement.{statement}
 use Rattle.money.proofs.offers.numbers_ok.Tie as tie
-use Rattle.money.proofs.offers.numbers_ok.Reads as reads
-use Rattle.money.proofs.offers.numbers_ok.Lts as lts
-use Rattle.money.proofs.offers.pair_ok.Reads as pair-ok-reads
 
 abbrev Inv-loop : tie.InvT-loop
 Inv-loop o n i₀ i = Passed (o .count) (numberOk o) i
@@ -40,7 +36,10 @@ pair-ok-requires c κs = search needs
 
 returns : tie.Need-returns Inv-loop μ-loop
 unfolding numbersOk
-returns c = sym (every-no _ _ (numberOk ((c .before .before .before .before .before .before .args) .t1)) ((c .before .before .before .before .loop-test) .taken) (sym ((c .before .pair-ok) .ensures) ∙ not-true _ ((c .if1) .taken)))
+returns c =
+    let c4 = c .before .before .before .before in
+    let c6 = c4 .before .before in
+    sym (every-no _ _ (numberOk ((c6 .args) .t1)) ((c4 .loop-test) .taken) (sym ((c .before .pair-ok) .ensures) ∙ not-true _ ((c .if1) .taken)))
 
 add-i : tie.Need-add-i Inv-loop μ-loop
 add-i c = search needs
@@ -49,7 +48,10 @@ loop-less : tie.Need-loop-less Inv-loop μ-loop
 loop-less c = search needs
 
 loop-again : tie.Need-loop-again Inv-loop μ-loop
-loop-again c = passed-more ((c .before .before .before .before .before .loop) .inv) ((c .before .before .before .before .loop-test) .taken) (sym ((c .before .pair-ok) .ensures) ∙ not-false _ ((c .if1) .left))
+loop-again c =
+    let c4 = c .before .before .before .before in
+    let c5 = c4 .before in
+    passed-more ((c5 .loop) .inv) ((c4 .loop-test) .taken) (sym ((c .before .pair-ok) .ensures) ∙ not-false _ ((c .if1) .left))
 
 returns-2 : tie.Need-returns-2 Inv-loop μ-loop
 unfolding numbersOk

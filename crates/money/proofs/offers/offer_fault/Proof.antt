@@ -1,14 +1,9 @@
 use mathlib.Core.Path.{sym, _∙_}
 use borrow.Author.Tests.{not-true, not-false, le-leb, lt-leb}
 use Rattle.money.specs.Offers.{offerFault}
-use native.Mathlib.Omega.{arith}
 use borrow.Author.Needs.{needs}
 use Rattle.money.proofs.offers.offer_fault.Statement.{statement}
 use Rattle.money.proofs.offers.offer_fault.Tie as tie
-use Rattle.money.proofs.offers.offer_fault.Reads as reads
-use Rattle.money.proofs.offers.offer_fault.Lts as lts
-use Rattle.money.proofs.offers.numbers_ok.Reads as numbers-ok-reads
-use Rattle.money.proofs.offers.order_ok.Reads as order-ok-reads
 
 cast-n : tie.Need-cast-n
 cast-n c = search needs
@@ -36,16 +31,24 @@ order-ok-requires c κs = search needs
 returns-4 : tie.Need-returns-4
 unfolding offerFault
 returns-4 c =
-    let numbers = sym ((c .before .before .before .numbers-ok) .ensures) ∙ not-false _ ((c .before .before .if3) .left) in
+    let c2 = c .before .before in
+    let c3 = c2 .before in
+    let c4 = c3 .before in
+    let c5 = c4 .before in
+    let numbers = sym ((c3 .numbers-ok) .ensures) ∙ not-false _ ((c2 .if3) .left) in
     let order = sym ((c .before .order-ok) .ensures) ∙ not-true _ ((c .if4) .taken) in
-    rw (le-leb _ _ ((c .before .before .before .before .before .if1) .left), le-leb _ _ ((c .before .before .before .before .if2) .left), numbers, order)
+    rw (le-leb _ _ ((c5 .if1) .left), le-leb _ _ ((c4 .if2) .left), numbers, order)
 
 returns-5 : tie.Need-returns-5
 unfolding offerFault
 returns-5 c =
-    let numbers = sym ((c .before .before .before .numbers-ok) .ensures) ∙ not-false _ ((c .before .before .if3) .left) in
+    let c2 = c .before .before in
+    let c3 = c2 .before in
+    let c4 = c3 .before in
+    let c5 = c4 .before in
+    let numbers = sym ((c3 .numbers-ok) .ensures) ∙ not-false _ ((c2 .if3) .left) in
     let order = sym ((c .before .order-ok) .ensures) ∙ not-false _ ((c .if4) .left) in
-    rw (le-leb _ _ ((c .before .before .before .before .before .if1) .left), le-leb _ _ ((c .before .before .before .before .if2) .left), numbers, order)
+    rw (le-leb _ _ ((c5 .if1) .left), le-leb _ _ ((c4 .if2) .left), numbers, order)
 
 pub offer-fault-spec : {M : Type 1} → statement M
 offer-fault-spec =

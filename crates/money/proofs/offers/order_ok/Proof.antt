@@ -4,12 +4,8 @@ use borrow.Author.Tests.{not-true, not-false, le-leb, lt-leb}
 use Rattle.money.specs.Offers.{risesAt, orderOk}
 use Rattle.laws.specs.SumLaws.{Passed, passed-none, passed-more, passed-all, every-no}
 use borrow.Author.Needs.{needs}
-use native.Mathlib.Omega.{arith}
 use Rattle.money.proofs.offers.order_ok.Statement.{statement}
 use Rattle.money.proofs.offers.order_ok.Tie as tie
-use Rattle.money.proofs.offers.order_ok.Reads as reads
-use Rattle.money.proofs.offers.order_ok.Lts as lts
-use Rattle.money.proofs.offers.pair_rises.Reads as pair-rises-reads
 
 abbrev Inv-loop : tie.InvT-loop
 Inv-loop o n i₀ i = Passed (o .count - 1) (risesAt o) i
@@ -68,7 +64,11 @@ pair-rises-requires c κs = search needs
 
 returns-2 : tie.Need-returns-2 Inv-loop μ-loop
 unfolding orderOk
-returns-2 c = rw (le-leb _ _ ((c .before .before .before .before .before .before .before .before .if1) .left), every-no _ _ (risesAt ((c .before .before .before .before .before .before .before .before .before .before .before .args) .t1)) ((c .before .before .before .before .before .before .loop-test) .taken) (sym ((c .before .pair-rises) .ensures) ∙ not-true _ ((c .if2) .taken)))
+returns-2 c =
+    let c6 = c .before .before .before .before .before .before in
+    let c8 = c6 .before .before in
+    let c11 = c8 .before .before .before in
+    rw (le-leb _ _ ((c8 .if1) .left), every-no _ _ (risesAt ((c11 .args) .t1)) ((c6 .loop-test) .taken) (sym ((c .before .pair-rises) .ensures) ∙ not-true _ ((c .if2) .taken)))
 
 add-i : tie.Need-add-i Inv-loop μ-loop
 add-i c = search needs
@@ -77,7 +77,10 @@ loop-less : tie.Need-loop-less Inv-loop μ-loop
 loop-less c = search needs
 
 loop-again : tie.Need-loop-again Inv-loop μ-loop
-loop-again c = passed-more ((c .before .before .before .before .before .before .before .loop) .inv) ((c .before .before .before .before .before .before .loop-test) .taken) (sym ((c .before .pair-rises) .ensures) ∙ not-false _ ((c .if2) .left))
+loop-again c =
+    let c6 = c .before .before .before .before .before .before in
+    let c7 = c6 .before in
+    passed-more ((c7 .loop) .inv) ((c6 .loop-test) .taken) (sym ((c .before .pair-rises) .ensures) ∙ not-false _ ((c .if2) .left))
 
 returns-3 : tie.Need-returns-3 Inv-loop μ-loop
 unfolding orderOk

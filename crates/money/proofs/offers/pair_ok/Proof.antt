@@ -1,11 +1,6 @@
-use native.Mathlib.Omega.{arith}
 use borrow.Author.Needs.{needs}
 use Rattle.money.proofs.offers.pair_ok.Statement.{statement}
 use Rattle.money.proofs.offers.pair_ok.Tie as tie
-use Rattle.money.proofs.offers.pair_ok.Reads as reads
-use Rattle.money.proofs.offers.pair_ok.Lts as lts
-use Rattle.money.proofs.units.Price.in_range.Reads as units-Price-in-range-reads
-use Rattle.money.proofs.units.Quantity.in_range.Reads as units-Quantity-in-range-reads
 
 in-range-requires : tie.Need-in-range-requires
 in-range-requires c κs = search needs

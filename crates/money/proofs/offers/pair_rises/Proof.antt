@@ -2,11 +2,8 @@ use mir.Syntax.{w32}
 use mir.Val.{SFits}
 use Rattle.laws.specs.Held as h
 use borrow.Author.Needs.{needs}
-use native.Mathlib.Omega.{arith}
 use Rattle.money.proofs.offers.pair_rises.Statement.{statement}
 use Rattle.money.proofs.offers.pair_rises.Tie as tie
-use Rattle.money.proofs.offers.pair_rises.Reads as reads
-use Rattle.money.proofs.offers.pair_rises.Lts as lts
 
 returns : tie.Need-returns
 returns c =

@@ -2,8 +2,6 @@ use borrow.Author.Tests.{lt-ltb, le-ltb}
 use borrow.Author.Needs.{needs}
 use Rattle.money.proofs.offset.add.Statement.{statement}
 use Rattle.money.proofs.offset.add.Tie as tie
-use Rattle.money.proofs.offset.add.Reads as reads
-use Rattle.money.proofs.offset.add.Lts as lts
 
 cast-n : tie.Need-cast-n
 cast-n c = search needs

@@ -7,11 +7,6 @@ use borrow.Author.Needs.{needs}
 use native.Mathlib.Omega.{arith}
 use Rattle.money.proofs.offset.adj_row.Statement.{statement}
 use Rattle.money.proofs.offset.adj_row.Tie as tie
-use Rattle.money.proofs.offset.adj_row.Reads as reads
-use Rattle.money.proofs.offset.adj_row.Lts as lts
-use Rattle.money.proofs.offset.reach_row.Reads as reach-row-reads
-use Rattle.money.proofs.units.Quantity.above.Reads as above-reads
-use Rattle.money.proofs.units.Quantity.lesser.Reads as lesser-reads
 
 abbrev Inv-loop : tie.InvT-loop
 Inv-loop n i totals e reached row₀ k₀ row k = Filled row (λ j. min (mqsi e j) (quantityAt reached j - quantityAt totals j)) k
@@ -68,10 +63,16 @@ loop-less : tie.Need-loop-less Inv-loop μ-loop
 loop-less c = search needs
 
 loop-again : tie.Need-loop-again Inv-loop μ-loop
-loop-again c = filled-more ((c .before .before .before .before .before .before .loop) .inv) ((c .before .before .before .before .before .loop-test) .taken) (rw ((c .lesser) .ensures, (c .before .above) .ensures))
+loop-again c =
+    let c5 = c .before .before .before .before .before in
+    let c6 = c5 .before in
+    filled-more ((c6 .loop) .inv) ((c5 .loop-test) .taken) (rw ((c .lesser) .ensures, (c .before .above) .ensures))
 
 returns : tie.Need-returns Inv-loop μ-loop
-returns c = λ k h. (c .before .loop) .inv .so-far k (omega (arith, (c .loop-test) .left)) ∙ ap (λ (x : ℕ). min (mqsi (entry ((c .before .before .before .before .args) .t2) ((c .before .before .before .before .args) .i)) k) (x - quantityAt ((c .before .before .before .before .args) .t3) k)) ((c .before .before .reach-row) .ensures k h)
+returns c =
+    let c2 = c .before .before in
+    let c4 = c2 .before .before in
+    λ k h. (c .before .loop) .inv .so-far k (omega (arith, (c .loop-test) .left)) ∙ ap (λ (x : ℕ). min (mqsi (entry ((c4 .args) .t2) ((c4 .args) .i)) k) (x - quantityAt ((c4 .args) .t3) k)) ((c2 .reach-row) .ensures k h)
 
 pub adj-row-spec : {M : Type 1} → statement M
 adj-row-spec =

@@ -4,10 +4,6 @@ use native.Mathlib.Omega.{arith}
 use borrow.Author.Needs.{needs}
 use Rattle.money.proofs.offset.counted_in.Statement.{statement}
 use Rattle.money.proofs.offset.counted_in.Tie as tie
-use Rattle.money.proofs.offset.counted_in.Reads as reads
-use Rattle.money.proofs.offset.counted_in.Lts as lts
-use Rattle.money.proofs.imports.up_to.Reads as up-to-reads
-use Rattle.money.proofs.offset.row_sum.Reads as row-sum-reads
 
 up-to-requires : tie.Need-up-to-requires
 up-to-requires c κs = search needs
@@ -17,13 +13,18 @@ row-sum-requires c κs = c .before .before .before .pre
 
 returns : tie.Need-returns
 returns c =
-    let a = (c .before .before .before .before .args) .a in
-    let e = (c .before .before .before .before .args) .e in
-    let yes = sym ((c .before .before .before .up-to) .ensures) ∙ (c .before .before .if1) .taken in
+    let c2 = c .before .before in
+    let c3 = c2 .before in
+    let c4 = c3 .before in
+    let a = (c4 .args) .a in
+    let e = (c4 .args) .e in
+    let yes = sym ((c3 .up-to) .ensures) ∙ (c2 .if1) .taken in
     λ k l. omega (arith, (c .row-sum) .ensures k l, counted-yes a e k yes)
 
 returns-2 : tie.Need-returns-2
-returns-2 c = λ k l. omega (arith, counted-no ((c .before .before .args) .a) ((c .before .before .args) .e) k (sym ((c .before .up-to) .ensures) ∙ (c .if1) .left))
+returns-2 c =
+    let c2 = c .before .before in
+    λ k l. omega (arith, counted-no ((c2 .args) .a) ((c2 .args) .e) k (sym ((c .before .up-to) .ensures) ∙ (c .if1) .left))
 
 pub counted-in-spec : {M : Type 1} → statement M
 counted-in-spec = tie.close (tie.spec up-to-requires row-sum-requires returns returns-2)

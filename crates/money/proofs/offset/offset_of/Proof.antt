@@ -3,17 +3,10 @@ use Rattle.money.specs.laws.OffsetLaws.{gives, adj-ready, offsets-room, 
 use Rattle.laws.specs.SumLaws.{Summed, summed-none, summed-more}
 use Rattle.money.specs.laws.GuaranteeLaws.{credit-room}
 use Rattle.money.specs.Units.{quantityAt}
-use Rattle.money.specs.Offset.{adj}
 use borrow.Author.Needs.{needs}
 use native.Mathlib.Omega.{arith}
 use Rattle.money.proofs.offset.offset_of.Statement.{statement}
 use Rattle.money.proofs.offset.offset_of.Tie as tie
-use Rattle.money.proofs.offset.offset_of.Reads as reads
-use Rattle.money.proofs.offset.offset_of.Lts as lts
-use Rattle.money.proofs.guarantee.credit_of.Reads as credit-of-reads
-use Rattle.money.proofs.offset.adj_row.Reads as adj-row-reads
-use Rattle.money.proofs.units.Ticks.minus.Reads as minus-reads
-use Rattle.money.proofs.units.Ticks.plus.Reads as plus-reads
 
 abbrev Inv-loop : tie.InvT-loop
 Inv-loop n prices totals entries sum₀ i₀ sum i = Summed n (gives n entries prices totals) (sum .0) i
@@ -34,15 +27,29 @@ adj-row-requires : tie.Need-adj-row-requires Inv-loop μ-loop
 adj-row-requires c κs = ((c .before .before .before .pre) .0, (c .before .loop-test) .taken)
 
 credit-of-requires : tie.Need-credit-of-requires Inv-loop μ-loop
-credit-of-requires c κs = adj-ready ((c .before .before .before .before .before .before .args) .prices) ((c .before .before .before .before .before .before .args) .totals) ((c .before .before .before .before .before .before .pre) .0) ((c .before .before .before .before .before .before .pre) .1) {q = quantityAt ((c .before .before .adj-row) .result)} {i = (c .before .before .before .before .before .loop) .i} ((c .before .before .before .before .loop-test) .taken) ((c .before .before .adj-row) .ensures)
+credit-of-requires c κs =
+    let c2 = c .before .before in
+    let c4 = c2 .before .before in
+    let c5 = c4 .before in
+    let c6 = c5 .before in
+    adj-ready ((c6 .args) .prices) ((c6 .args) .totals) ((c6 .pre) .0) ((c6 .pre) .1) {q = quantityAt ((c2 .adj-row) .result)} {i = (c5 .loop) .i} ((c4 .loop-test) .taken) ((c2 .adj-row) .ensures)
 
 minus-requires : tie.Need-minus-requires Inv-loop μ-loop
 minus-requires c κs =
-    let r = adj-ready ((c .before .before .before .before .before .before .before .args) .prices) ((c .before .before .before .before .before .before .before .args) .totals) ((c .before .before .before .before .before .before .before .pre) .0) ((c .before .before .before .before .before .before .before .pre) .1) {q = quantityAt ((c .before .before .before .adj-row) .result)} {i = (c .before .before .before .before .before .before .loop) .i} ((c .before .before .before .before .before .loop-test) .taken) ((c .before .before .before .adj-row) .ensures) in
-    (omega (arith, (c .before .before .before .before .before .before .before .pre) .0 .each ((c .before .before .before .before .before .before .loop) .i) ((c .before .before .before .before .before .loop-test) .taken) .small), credit-room r ((c .credit-of) .ensures))
+    let c3 = c .before .before .before in
+    let c5 = c3 .before .before in
+    let c6 = c5 .before in
+    let c7 = c6 .before in
+    let r = adj-ready ((c7 .args) .prices) ((c7 .args) .totals) ((c7 .pre) .0) ((c7 .pre) .1) {q = quantityAt ((c3 .adj-row) .result)} {i = (c6 .loop) .i} ((c5 .loop-test) .taken) ((c3 .adj-row) .ensures) in
+    (omega (arith, (c7 .pre) .0 .each ((c6 .loop) .i) ((c5 .loop-test) .taken) .small), credit-room r ((c .credit-of) .ensures))
 
 plus-requires : tie.Need-plus-requires Inv-loop μ-loop
-plus-requires c κs = (offsets-room ((c .before .before .before .before .before .before .before .before .args) .prices) ((c .before .before .before .before .before .before .before .before .args) .totals) ((c .before .before .before .before .before .before .before .before .pre) .0) ((c .before .before .before .before .before .before .before .before .pre) .1) ((c .before .before .before .before .before .before .before .loop) .inv), gives-room ((c .before .before .before .before .before .before .before .before .args) .prices) ((c .before .before .before .before .before .before .before .before .args) .totals) ((c .before .before .before .before .before .before .before .before .pre) .0) ((c .before .before .before .before .before .before .before .before .pre) .1) ((c .before .before .before .before .before .before .before .loop) .inv) ((c .before .before .before .before .before .before .loop-test) .taken) ((c .before .before .before .before .adj-row) .ensures) ((c .before .credit-of) .ensures) ((c .minus) .ensures))
+plus-requires c κs =
+    let c4 = c .before .before .before .before in
+    let c6 = c4 .before .before in
+    let c7 = c6 .before in
+    let c8 = c7 .before in
+    (offsets-room ((c8 .args) .prices) ((c8 .args) .totals) ((c8 .pre) .0) ((c8 .pre) .1) ((c7 .loop) .inv), gives-room ((c8 .args) .prices) ((c8 .args) .totals) ((c8 .pre) .0) ((c8 .pre) .1) ((c7 .loop) .inv) ((c6 .loop-test) .taken) ((c4 .adj-row) .ensures) ((c .before .credit-of) .ensures) ((c .minus) .ensures))
 
 add-i : tie.Need-add-i Inv-loop μ-loop
 add-i c = search needs
@@ -51,7 +58,13 @@ loop-less : tie.Need-loop-less Inv-loop μ-loop
 loop-less c = search needs
 
 loop-again : tie.Need-loop-again Inv-loop μ-loop
-loop-again c = summed-more ((c .before .before .before .before .before .before .before .before .loop) .inv) ((c .before .before .before .before .before .before .before .loop-test) .taken) ((c .plus) .ensures) (gives-is ((c .before .before .before .before .before .before .before .before .before .args) .prices) ((c .before .before .before .before .before .before .before .before .before .args) .totals) ((c .before .before .before .before .before .before .before .before .before .pre) .0) ((c .before .before .before .before .before .before .before .before .before .pre) .1) ((c .before .before .before .before .before .before .before .before .loop) .inv) ((c .before .before .before .before .before .before .before .loop-test) .taken) ((c .before .before .before .before .before .adj-row) .ensures) ((c .before .before .credit-of) .ensures) ((c .before .minus) .ensures))
+loop-again c =
+    let c2 = c .before .before in
+    let c5 = c2 .before .before .before in
+    let c7 = c5 .before .before in
+    let c8 = c7 .before in
+    let c9 = c8 .before in
+    summed-more ((c8 .loop) .inv) ((c7 .loop-test) .taken) ((c .plus) .ensures) (gives-is ((c9 .args) .prices) ((c9 .args) .totals) ((c9 .pre) .0) ((c9 .pre) .1) ((c8 .loop) .inv) ((c7 .loop-test) .taken) ((c5 .adj-row) .ensures) ((c2 .credit-of) .ensures) ((c .before .minus) .ensures))
 
 returns : tie.Need-returns Inv-loop μ-loop
 returns c = offsets-all _ _ _ _ ((c .before .loop) .inv) ((c .loop-test) .left)

@@ -1,11 +1,7 @@
 use mathlib.Core.Path.{sym, _∙_}
-use native.Mathlib.Omega.{arith}
 use borrow.Author.Needs.{needs}
 use Rattle.money.proofs.offset.rate_ok.Statement.{statement}
 use Rattle.money.proofs.offset.rate_ok.Tie as tie
-use Rattle.money.proofs.offset.rate_ok.Reads as reads
-use Rattle.money.proofs.offset.rate_ok.Lts as lts
-use Rattle.money.proofs.units.Price.in_range.Reads as in-range-reads
 
 in-range-requires : tie.Need-in-range-requires
 in-range-requires c κs = search needs

@@ -5,12 +5,8 @@ use Rattle.laws.specs.SumLaws.{Passed, passed-none, passed-more, passed-all, ev
 use Rattle.money.specs.Offset.{rateOk, ratesOk}
 use Rattle.money.specs.Units.{intervals}
 use borrow.Author.Needs.{needs}
-use native.Mathlib.Omega.{arith}
 use Rattle.money.proofs.offset.rates_ok.Statement.{statement}
 use Rattle.money.proofs.offset.rates_ok.Tie as tie
-use Rattle.money.proofs.offset.rates_ok.Reads as reads
-use Rattle.money.proofs.offset.rates_ok.Lts as lts
-use Rattle.money.proofs.offset.rate_ok.Reads as rate-ok-reads
 
 abbrev Inv-loop : tie.InvT-loop
 Inv-loop prices totals k₀ k = Passed intervals (rateOk prices totals) k
@@ -38,7 +34,10 @@ rate-ok-requires c κs = search needs
 
 returns : tie.Need-returns Inv-loop μ-loop
 unfolding ratesOk
-returns c = sym (every-no _ _ (rateOk ((c .before .before .before .before .before .before .args) .t1) ((c .before .before .before .before .before .before .args) .t2)) ((c .before .before .before .before .loop-test) .taken) (sym ((c .before .rate-ok) .ensures) ∙ not-true _ ((c .if1) .taken)))
+returns c =
+    let c4 = c .before .before .before .before in
+    let c6 = c4 .before .before in
+    sym (every-no _ _ (rateOk ((c6 .args) .t1) ((c6 .args) .t2)) ((c4 .loop-test) .taken) (sym ((c .before .rate-ok) .ensures) ∙ not-true _ ((c .if1) .taken)))
 
 add-k : tie.Need-add-k Inv-loop μ-loop
 add-k c = search needs
@@ -47,7 +46,10 @@ loop-less : tie.Need-loop-less Inv-loop μ-loop
 loop-less c = search needs
 
 loop-again : tie.Need-loop-again Inv-loop μ-loop
-loop-again c = passed-more ((c .before .before .before .before .before .loop) .inv) ((c .before .before .before .before .loop-test) .taken) (sym ((c .before .rate-ok) .ensures) ∙ not-false _ ((c .if1) .left))
+loop-again c =
+    let c4 = c .before .before .before .before in
+    let c5 = c4 .before in
+    passed-more ((c5 .loop) .inv) ((c4 .loop-test) .taken) (sym ((c .before .rate-ok) .ensures) ∙ not-false _ ((c .if1) .left))
 
 returns-2 : tie.Need-returns-2 Inv-loop μ-loop
 unfolding ratesOk

@@ -1,15 +1,10 @@
 use Prim.Native.Nat.{_-_}
-use mathlib.Core.Path.{refl}
 use Rattle.money.specs.laws.UnitLaws.{zeros}
 use Rattle.money.specs.laws.OffsetLaws.{Reached, reached-none, reached-room, reached-more, reached-all}
 use Rattle.money.specs.Units.{intervals}
 use borrow.Author.Needs.{needs}
-use native.Mathlib.Omega.{arith}
 use Rattle.money.proofs.offset.reach_row.Statement.{statement}
 use Rattle.money.proofs.offset.reach_row.Tie as tie
-use Rattle.money.proofs.offset.reach_row.Reads as reads
-use Rattle.money.proofs.offset.reach_row.Lts as lts
-use Rattle.money.proofs.offset.counted_in.Reads as counted-in-reads
 
 abbrev Inv-loop : tie.InvT-loop
 Inv-loop n i entries e sums₀ j₀ sums j = Reached n entries i sums j

@@ -6,8 +6,6 @@ use native.Mathlib.Omega.{arith}
 use borrow.Author.Needs.{needs}
 use Rattle.money.proofs.offset.row_sum.Statement.{statement}
 use Rattle.money.proofs.offset.row_sum.Tie as tie
-use Rattle.money.proofs.offset.row_sum.Reads as reads
-use Rattle.money.proofs.offset.row_sum.Lts as lts
 
 abbrev Inv-loop : tie.InvT-loop
 Inv-loop a b row₀ k₀ row k = Filled row (λ (j : ℕ). quantityAt a j + quantityAt b j) k
@@ -31,7 +29,11 @@ array-copy-out-y : tie.Need-array-copy-out-y Inv-loop μ-loop
 array-copy-out-y c = search needs
 
 add-sum : tie.Need-add-sum Inv-loop μ-loop
-add-sum c = omega (arith, (c .before .before .before .before .before .before .pre) ((c .before .before .before .before .before .loop) .k) ((c .before .before .before .before .loop-test) .taken))
+add-sum c =
+    let c4 = c .before .before .before .before in
+    let c5 = c4 .before in
+    let c6 = c5 .before in
+    omega (arith, (c6 .pre) ((c5 .loop) .k) ((c4 .loop-test) .taken))
 
 mul-row : tie.Need-mul-row Inv-loop μ-loop
 mul-row c = search needs
@@ -46,7 +48,10 @@ loop-less : tie.Need-loop-less Inv-loop μ-loop
 loop-less c = search needs
 
 loop-again : tie.Need-loop-again Inv-loop μ-loop
-loop-again c = filled-more ((c .before .before .before .before .before .loop) .inv) ((c .before .before .before .before .loop-test) .taken) refl
+loop-again c =
+    let c4 = c .before .before .before .before in
+    let c5 = c4 .before in
+    filled-more ((c5 .loop) .inv) ((c4 .loop-test) .taken) refl
 
 returns : tie.Need-returns Inv-loop μ-loop
 returns c = λ j l. (c .before .loop) .inv .so-far j (omega (arith, (c .loop-test) .left))

@@ -4,12 +4,8 @@ use Rattle.money.specs.Units.{intervals, quantityAt}
 use Rattle.money.specs.laws.UnitLaws.{Filled, filled-none, filled-more, filled-all}
 use Rattle.money.specs.Offset.{maxTotal, totalsWith}
 use borrow.Author.Needs.{needs}
-use native.Mathlib.Omega.{arith}
 use Rattle.money.proofs.offset.totals_with.Statement.{statement}
 use Rattle.money.proofs.offset.totals_with.Tie as tie
-use Rattle.money.proofs.offset.totals_with.Reads as reads
-use Rattle.money.proofs.offset.totals_with.Lts as lts
-use Rattle.money.proofs.offset.total_with.Reads as total-with-reads
 
 abbrev Inv-loop : tie.InvT-loop
 Inv-loop totals more row₀ k₀ row k = Filled row (λ (j : ℕ). min (quantityAt totals j + quantityAt more j) (maxTotal + 1)) k

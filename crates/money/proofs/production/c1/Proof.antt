@@ -2,9 +2,6 @@ use Rattle.money.specs.Production.{C1}
 use borrow.Author.Needs.{needs}
 use Rattle.money.proofs.production.c1.Statement.{statement}
 use Rattle.money.proofs.production.c1.Tie as tie
-use Rattle.money.proofs.production.c1.Reads as reads
-use Rattle.money.proofs.production.c1.Lts as lts
-use Rattle.money.proofs.production.component_1_of.Reads as component-1-of-reads
 
 mul-emp : tie.Need-mul-emp
 mul-emp c = search needs
@@ -31,7 +28,9 @@ element-copy-out-a : tie.Need-element-copy-out-a
 element-copy-out-a c = search needs
 
 component-1-of-requires : tie.Need-component-1-of-requires
-component-1-of-requires c κs = ((c .before .before .before .before .before .before .pre) .0 .ahead, ((c .before .before .before .before .before .before .pre) .0 .ahead-within ((c .before .before .before .before .before .before .args) .k) ((c .before .before .before .before .before .before .pre) .1), ((c .before .before .before .before .before .before .pre) .0 .rates ((c .before .before .before .before .before .before .args) .k) ((c .before .before .before .before .before .before .pre) .1), (c .before .before .before .before .before .before .pre) .0 .noload)))
+component-1-of-requires c κs =
+    let c6 = c .before .before .before .before .before .before in
+    ((c6 .pre) .0 .ahead, ((c6 .pre) .0 .ahead-within ((c6 .args) .k) ((c6 .pre) .1), ((c6 .pre) .0 .rates ((c6 .args) .k) ((c6 .pre) .1), (c6 .pre) .0 .noload)))
 
 returns : tie.Need-returns
 unfolding C1

@@ -2,9 +2,6 @@ use Rattle.money.specs.Production.{C2}
 use borrow.Author.Needs.{needs}
 use Rattle.money.proofs.production.c2.Statement.{statement}
 use Rattle.money.proofs.production.c2.Tie as tie
-use Rattle.money.proofs.production.c2.Reads as reads
-use Rattle.money.proofs.production.c2.Lts as lts
-use Rattle.money.proofs.production.component_2_of.Reads as component-2-of-reads
 
 mul-d : tie.Need-mul-d
 mul-d c = search needs
@@ -31,7 +28,9 @@ element-copy-out-cap : tie.Need-element-copy-out-cap
 element-copy-out-cap c = search needs
 
 component-2-of-requires : tie.Need-component-2-of-requires
-component-2-of-requires c κs = ((c .before .before .before .before .before .before .pre) .0 .ahead, ((c .before .before .before .before .before .before .pre) .0 .real, ((c .before .before .before .before .before .before .pre) .0 .ahead-within ((c .before .before .before .before .before .before .args) .k) ((c .before .before .before .before .before .before .pre) .1), (c .before .before .before .before .before .before .pre) .0 .real-within ((c .before .before .before .before .before .before .args) .k) ((c .before .before .before .before .before .before .pre) .1))))
+component-2-of-requires c κs =
+    let c6 = c .before .before .before .before .before .before in
+    ((c6 .pre) .0 .ahead, ((c6 .pre) .0 .real, ((c6 .pre) .0 .ahead-within ((c6 .args) .k) ((c6 .pre) .1), (c6 .pre) .0 .real-within ((c6 .args) .k) ((c6 .pre) .1))))
 
 returns : tie.Need-returns
 unfolding C2

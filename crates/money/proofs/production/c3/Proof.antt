@@ -2,9 +2,6 @@ use Rattle.money.specs.Production.{C3}
 use borrow.Author.Needs.{needs}
 use Rattle.money.proofs.production.c3.Statement.{statement}
 use Rattle.money.proofs.production.c3.Tie as tie
-use Rattle.money.proofs.production.c3.Reads as reads
-use Rattle.money.proofs.production.c3.Lts as lts
-use Rattle.money.proofs.production.component_3_of.Reads as component-3-of-reads
 
 mul-emp : tie.Need-mul-emp
 mul-emp c = search needs
@@ -31,7 +28,9 @@ element-copy-out-u : tie.Need-element-copy-out-u
 element-copy-out-u c = search needs
 
 component-3-of-requires : tie.Need-component-3-of-requires
-component-3-of-requires c κs = ((c .before .before .before .before .before .pre) .0 .real, ((c .before .before .before .before .before .pre) .0 .real-within ((c .before .before .before .before .before .args) .k) ((c .before .before .before .before .before .pre) .1), (c .before .before .before .before .before .pre) .0 .rates ((c .before .before .before .before .before .args) .k) ((c .before .before .before .before .before .pre) .1)))
+component-3-of-requires c κs =
+    let c5 = c .before .before .before .before .before in
+    ((c5 .pre) .0 .real, ((c5 .pre) .0 .real-within ((c5 .args) .k) ((c5 .pre) .1), (c5 .pre) .0 .rates ((c5 .args) .k) ((c5 .pre) .1)))
 
 returns : tie.Need-returns
 unfolding C3

@@ -2,9 +2,6 @@ use Rattle.money.specs.Production.{C4}
 use borrow.Author.Needs.{needs}
 use Rattle.money.proofs.production.c4.Statement.{statement}
 use Rattle.money.proofs.production.c4.Tie as tie
-use Rattle.money.proofs.production.c4.Reads as reads
-use Rattle.money.proofs.production.c4.Lts as lts
-use Rattle.money.proofs.production.component_4_of.Reads as component-4-of-reads
 
 mul-d : tie.Need-mul-d
 mul-d c = search needs
@@ -19,7 +16,9 @@ element-copy-out-u : tie.Need-element-copy-out-u
 element-copy-out-u c = search needs
 
 component-4-of-requires : tie.Need-component-4-of-requires
-component-4-of-requires c κs = ((c .before .before .before .before .before .pre) .0 .spinning, ((c .before .before .before .before .before .pre) .0 .nonspinning, ((c .before .before .before .before .before .pre) .0 .thirty, (c .before .before .before .before .before .pre) .1)))
+component-4-of-requires c κs =
+    let c5 = c .before .before .before .before .before in
+    ((c5 .pre) .0 .spinning, ((c5 .pre) .0 .nonspinning, ((c5 .pre) .0 .thirty, (c5 .pre) .1)))
 
 returns : tie.Need-returns
 unfolding C4

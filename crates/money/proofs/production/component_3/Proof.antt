@@ -5,19 +5,19 @@ use Rattle.money.specs.laws.UnitLaws.{answer-fault, answer-amount}
 use borrow.Author.Needs.{needs}
 use Rattle.money.proofs.production.component_3.Statement.{statement}
 use Rattle.money.proofs.production.component_3.Tie as tie
-use Rattle.money.proofs.production.component_3.Reads as reads
-use Rattle.money.proofs.production.component_3.Lts as lts
-use Rattle.money.proofs.production.c3.Reads as c3-reads
-use Rattle.money.proofs.production.interval_fault.Reads as interval-fault-reads
 
 interval-fault-requires : tie.Need-interval-fault-requires
 interval-fault-requires c κs = search needs
 
 returns : tie.Need-returns
-returns c = answer-fault (C3 ((c .before .before .args) .h) ((c .before .before .args) .prices) ((c .before .before .args) .k)) ((c .before .interval-fault) .ensures) ((c .if1) .taken)
+returns c =
+    let c2 = c .before .before in
+    answer-fault (C3 ((c2 .args) .h) ((c2 .args) .prices) ((c2 .args) .k)) ((c .before .interval-fault) .ensures) ((c .if1) .taken)
 
 c3-requires : tie.Need-c3-requires
-c3-requires c κs = interval-of ((c .before .before .args) .h) ((c .before .before .args) .prices) ((c .before .before .args) .k) (sym ((c .before .interval-fault) .ensures) ∙ (c .if1) .left)
+c3-requires c κs =
+    let c2 = c .before .before in
+    interval-of ((c2 .args) .h) ((c2 .args) .prices) ((c2 .args) .k) (sym ((c .before .interval-fault) .ensures) ∙ (c .if1) .left)
 
 returns-2 : tie.Need-returns-2
 returns-2 c = answer-amount (sym ((c .before .before .interval-fault) .ensures) ∙ (c .before .if1) .left) ((c .c3) .ensures)

@@ -1,18 +1,12 @@
 use Rattle.laws.specs.SumLaws.{Summed, summed-none, summed-more, summed-all}
 use Prim.Native.Nat.{_-_}
-use lib.IntN.{pos}
-use lib.ListN.{getD}
-use Rattle.money.specs.Production.{noStart, hourPart, daySum}
+use Rattle.money.specs.Production.{hourPart, daySum}
 use Rattle.money.specs.laws.ProductionLaws.{day-room, part-is, part-room, start-room}
 use Rattle.money.specs.Units.{dayHours}
 use borrow.Author.Needs.{needs}
 use native.Mathlib.Omega.{arith}
 use Rattle.money.proofs.production.day_sum.Statement.{statement}
 use Rattle.money.proofs.production.day_sum.Tie as tie
-use Rattle.money.proofs.production.day_sum.Reads as reads
-use Rattle.money.proofs.production.day_sum.Lts as lts
-use Rattle.money.proofs.units.CentsPerStart.ticks.Reads as ticks-reads
-use Rattle.money.proofs.units.Ticks.plus.Reads as plus-reads
 
 abbrev Inv-loop : tie.InvT-loop
 Inv-loop amounts starts sum₀ i₀ sum i = Summed dayHours (hourPart amounts starts) (sum .0) i
@@ -40,11 +34,17 @@ ticks-requires c κs = search needs
 
 plus-requires : tie.Need-plus-requires Inv-loop μ-loop
 plus-requires c κs =
-    (omega (arith, (c .before .before .before .before .before .pre) .amounts ((c .before .before .before .before .loop) .i) ((c .before .before .before .loop-test) .taken)), start-room ((c .before .before .before .before .before .pre)) ((c .before .before .before .before .loop) .i) ((c .before .before .before .loop-test) .taken) ((c .ticks) .ensures))
+    let c3 = c .before .before .before in
+    let c4 = c3 .before in
+    let c5 = c4 .before in
+    (omega (arith, (c5 .pre) .amounts ((c4 .loop) .i) ((c3 .loop-test) .taken)), start-room ((c5 .pre)) ((c4 .loop) .i) ((c3 .loop-test) .taken) ((c .ticks) .ensures))
 
 plus-requires-2 : tie.Need-plus-requires-2 Inv-loop μ-loop
 plus-requires-2 c κs =
-    (day-room ((c .before .before .before .before .before .before .pre)) ((c .before .before .before .before .before .loop) .inv), part-room ((c .before .before .before .before .before .before .pre)) ((c .before .before .before .before .before .loop) .i) ((c .before .before .before .before .loop-test) .taken) ((c .before .ticks) .ensures) ((c .plus) .ensures))
+    let c4 = c .before .before .before .before in
+    let c5 = c4 .before in
+    let c6 = c5 .before in
+    (day-room ((c6 .pre)) ((c5 .loop) .inv), part-room ((c6 .pre)) ((c5 .loop) .i) ((c4 .loop-test) .taken) ((c .before .ticks) .ensures) ((c .plus) .ensures))
 
 add-i : tie.Need-add-i Inv-loop μ-loop
 add-i c = search needs
@@ -54,7 +54,11 @@ loop-less c = search needs
 
 loop-again : tie.Need-loop-again Inv-loop μ-loop
 loop-again c =
-    summed-more ((c .before .before .before .before .before .before .loop) .inv) ((c .before .before .before .before .before .loop-test) .taken) ((c .plus2) .ensures) (part-is ((c .before .before .before .before .before .before .before .pre)) ((c .before .before .before .before .before .before .loop) .i) ((c .before .before .before .before .before .loop-test) .taken) ((c .before .before .ticks) .ensures) ((c .before .plus) .ensures))
+    let c2 = c .before .before in
+    let c5 = c2 .before .before .before in
+    let c6 = c5 .before in
+    let c7 = c6 .before in
+    summed-more ((c6 .loop) .inv) ((c5 .loop-test) .taken) ((c .plus2) .ensures) (part-is ((c7 .pre)) ((c6 .loop) .i) ((c5 .loop-test) .taken) ((c2 .ticks) .ensures) ((c .before .plus) .ensures))
 
 returns : tie.Need-returns Inv-loop μ-loop
 unfolding daySum

@@ -7,8 +7,6 @@ use Rattle.laws.specs.IntLaws.{le-lt}
 use borrow.Author.Needs.{needs}
 use Rattle.money.proofs.production.hour_ok.Statement.{statement}
 use Rattle.money.proofs.production.hour_ok.Tie as tie
-use Rattle.money.proofs.production.hour_ok.Reads as reads
-use Rattle.money.proofs.production.hour_ok.Lts as lts
 
 sub-if1 : tie.Need-sub-if1
 sub-if1 c = search needs

@@ -8,9 +8,6 @@ use Rattle.money.specs.Units.{dayHours}
 use borrow.Author.Needs.{needs}
 use Rattle.money.proofs.production.hours_ok.Statement.{statement}
 use Rattle.money.proofs.production.hours_ok.Tie as tie
-use Rattle.money.proofs.production.hours_ok.Reads as reads
-use Rattle.money.proofs.production.hours_ok.Lts as lts
-use Rattle.money.proofs.production.hour_ok.Reads as hour-ok-reads
 
 abbrev Inv-loop : tie.InvT-loop
 Inv-loop amounts starts i₀ i = Passed dayHours (λ j. amountOk (getD amounts j noTicks) (getD starts j noStart)) i
@@ -38,7 +35,10 @@ hour-ok-requires c κs = search needs
 
 returns : tie.Need-returns Inv-loop μ-loop
 unfolding hoursOk
-returns c = sym (every-no _ _ (λ j. amountOk (getD ((c .before .before .before .before .before .before .args) .t1) j noTicks) (getD ((c .before .before .before .before .before .before .args) .t2) j noStart)) ((c .before .before .before .before .loop-test) .taken) (sym ((c .before .hour-ok) .ensures) ∙ not-true _ ((c .if1) .taken)))
+returns c =
+    let c4 = c .before .before .before .before in
+    let c6 = c4 .before .before in
+    sym (every-no _ _ (λ j. amountOk (getD ((c6 .args) .t1) j noTicks) (getD ((c6 .args) .t2) j noStart)) ((c4 .loop-test) .taken) (sym ((c .before .hour-ok) .ensures) ∙ not-true _ ((c .if1) .taken)))
 
 add-i : tie.Need-add-i Inv-loop μ-loop
 add-i c = search needs
@@ -47,7 +47,10 @@ loop-less : tie.Need-loop-less Inv-loop μ-loop
 loop-less c = search needs
 
 loop-again : tie.Need-loop-again Inv-loop μ-loop
-loop-again c = passed-more ((c .before .before .before .before .before .loop) .inv) ((c .before .before .before .before .loop-test) .taken) (sym ((c .before .hour-ok) .ensures) ∙ not-false _ ((c .if1) .left))
+loop-again c =
+    let c4 = c .before .before .before .before in
+    let c5 = c4 .before in
+    passed-more ((c5 .loop) .inv) ((c4 .loop-test) .taken) (sym ((c .before .hour-ok) .ensures) ∙ not-false _ ((c .if1) .left))
 
 returns-2 : tie.Need-returns-2 Inv-loop μ-loop
 unfolding hoursOk

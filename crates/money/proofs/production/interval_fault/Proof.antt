@@ -7,9 +7,6 @@ use Rattle.money.specs.laws.UnitLaws.{kept}
 use borrow.Author.Needs.{needs}
 use Rattle.money.proofs.production.interval_fault.Statement.{statement}
 use Rattle.money.proofs.production.interval_fault.Tie as tie
-use Rattle.money.proofs.production.interval_fault.Reads as reads
-use Rattle.money.proofs.production.interval_fault.Lts as lts
-use Rattle.money.proofs.production.unit_fault.Reads as unit-fault-reads
 
 unit-fault-requires : tie.Need-unit-fault-requires
 unit-fault-requires c κs = search needs

@@ -3,13 +3,8 @@ use Rattle.laws.specs.SumLaws.{Summed, summed-none, summed-more, summed-all}
 use Rattle.money.specs.Units.{intervals, quantityAt}
 use Rattle.money.specs.laws.ProductionLaws.{running, running-room, runs-room}
 use borrow.Author.Needs.{needs}
-use native.Mathlib.Omega.{arith}
 use Rattle.money.proofs.production.noload_sum.Statement.{statement}
 use Rattle.money.proofs.production.noload_sum.Tie as tie
-use Rattle.money.proofs.production.noload_sum.Reads as reads
-use Rattle.money.proofs.production.noload_sum.Lts as lts
-use Rattle.money.proofs.production.running_at.Reads as running-at-reads
-use Rattle.money.proofs.units.Ticks.plus.Reads as plus-reads
 
 abbrev Inv-loop : tie.InvT-loop
 Inv-loop noload m sum₀ k₀ sum k = Summed intervals (λ (j : ℕ). running (noload .0) (quantityAt m j)) (sum .0) k
@@ -30,7 +25,10 @@ running-at-requires : tie.Need-running-at-requires Inv-loop μ-loop
 running-at-requires c κs = search needs
 
 plus-requires : tie.Need-plus-requires Inv-loop μ-loop
-plus-requires c κs = (runs-room ((c .before .before .before .before .args) .noload .0) (quantityAt ((c .before .before .before .before .args) .t2)) ((c .before .before .before .before .pre)) ((c .before .before .before .loop) .inv), running-room ((c .before .before .before .before .args) .noload .0) (quantityAt ((c .before .before .before .before .args) .t2) ((c .before .before .before .loop) .k)) ((c .before .before .before .before .pre)) ((c .running-at) .ensures))
+plus-requires c κs =
+    let c3 = c .before .before .before in
+    let c4 = c3 .before in
+    (runs-room ((c4 .args) .noload .0) (quantityAt ((c4 .args) .t2)) ((c4 .pre)) ((c3 .loop) .inv), running-room ((c4 .args) .noload .0) (quantityAt ((c4 .args) .t2) ((c3 .loop) .k)) ((c4 .pre)) ((c .running-at) .ensures))
 
 add-k : tie.Need-add-k Inv-loop μ-loop
 add-k c = search needs
@@ -39,7 +37,10 @@ loop-less : tie.Need-loop-less Inv-loop μ-loop
 loop-less c = search needs
 
 loop-again : tie.Need-loop-again Inv-loop μ-loop
-loop-again c = summed-more ((c .before .before .before .before .loop) .inv) ((c .before .before .before .loop-test) .taken) ((c .plus) .ensures) ((c .before .running-at) .ensures)
+loop-again c =
+    let c3 = c .before .before .before in
+    let c4 = c3 .before in
+    summed-more ((c4 .loop) .inv) ((c3 .loop-test) .taken) ((c .plus) .ensures) ((c .before .running-at) .ensures)
 
 returns : tie.Need-returns Inv-loop μ-loop
 returns c = summed-all ((c .before .loop) .inv) ((c .loop-test) .left)

@@ -1,12 +1,6 @@
-use native.Mathlib.Omega.{arith}
 use borrow.Author.Needs.{needs}
 use Rattle.money.proofs.production.picked.Statement.{statement}
 use Rattle.money.proofs.production.picked.Tie as tie
-use Rattle.money.proofs.production.picked.Reads as reads
-use Rattle.money.proofs.production.picked.Lts as lts
-use Rattle.money.proofs.units.Quantity.above.Reads as above-reads
-use Rattle.money.proofs.units.Quantity.greater.Reads as greater-reads
-use Rattle.money.proofs.units.Quantity.lesser.Reads as lesser-reads
 
 enum-told : tie.Need-enum-told
 enum-told c = search needs

@@ -7,10 +7,6 @@ use native.Mathlib.Omega.{arith}
 use borrow.Author.Needs.{needs}
 use Rattle.money.proofs.production.reserve_fault.Statement.{statement}
 use Rattle.money.proofs.production.reserve_fault.Tie as tie
-use Rattle.money.proofs.production.reserve_fault.Reads as reads
-use Rattle.money.proofs.production.reserve_fault.Lts as lts
-use Rattle.money.proofs.offers.offer_fault.Reads as offer-fault-reads
-use Rattle.money.proofs.units.within_ok.Reads as within-ok-reads
 
 within-ok-requires : tie.Need-within-ok-requires
 within-ok-requires c κs = search needs
@@ -27,7 +23,8 @@ offer-fault-requires c κs = search needs
 returns-2 : tie.Need-returns-2
 unfolding reserveFault
 returns-2 c =
-    ⊎-elim (λ x. let z : (c .before .before .before .before .args) .s .offer .count ≤ 0 = omega arith in rw (le-leb _ _ z, sym (x .2 .ensures) ∙ x .3 .left) ((c .offer-fault) .ensures))
+    let c4 = c .before .before .before .before in
+    ⊎-elim (λ x. let z : (c4 .args) .s .offer .count ≤ 0 = omega arith in rw (le-leb _ _ z, sym (x .2 .ensures) ∙ x .3 .left) ((c .offer-fault) .ensures))
     (λ x. rw (lt-leb _ _ (x .left)) ((c .offer-fault) .ensures)) ((c .before .if1) .came)
 
 pub reserve-fault-spec : {M : Type 1} → statement M

@@ -2,10 +2,6 @@ use mathlib.Core.Path.{sym, _∙_}
 use borrow.Author.Needs.{needs}
 use Rattle.money.proofs.production.reserve_numbers_ok.Statement.{statement}
 use Rattle.money.proofs.production.reserve_numbers_ok.Tie as tie
-use Rattle.money.proofs.production.reserve_numbers_ok.Reads as reads
-use Rattle.money.proofs.production.reserve_numbers_ok.Lts as lts
-use Rattle.money.proofs.units.prices_ok.Reads as prices-ok-reads
-use Rattle.money.proofs.units.quantities_ok.Reads as quantities-ok-reads
 
 prices-ok-requires : tie.Need-prices-ok-requires
 prices-ok-requires c κs = search needs

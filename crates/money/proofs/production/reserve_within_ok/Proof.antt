@@ -5,16 +5,14 @@ use Rattle.money.specs.laws.ProductionLaws.{last-none}
 use borrow.Author.Needs.{needs}
 use Rattle.money.proofs.production.reserve_within_ok.Statement.{statement}
 use Rattle.money.proofs.production.reserve_within_ok.Tie as tie
-use Rattle.money.proofs.production.reserve_within_ok.Reads as reads
-use Rattle.money.proofs.production.reserve_within_ok.Lts as lts
-use Rattle.money.proofs.offers.last_of.Reads as last-of-reads
-use Rattle.money.proofs.units.within_ok.Reads as within-ok-reads
 
 within-ok-requires : tie.Need-within-ok-requires
 within-ok-requires c κs = search needs
 
 returns : tie.Need-returns
-returns c = (c .within-ok) .ensures ∙ ap (λ (n : ℕ). withinOk ((c .before .before .before .before .before .args) .s .schedules) n) (sym (last-none ((c .before .before .before .before .before .args) .s .offer) ((c .before .if1) .taken)))
+returns c =
+    let c5 = c .before .before .before .before .before in
+    (c .within-ok) .ensures ∙ ap (λ (n : ℕ). withinOk ((c5 .args) .s .schedules) n) (sym (last-none ((c5 .args) .s .offer) ((c .before .if1) .taken)))
 
 last-of-requires : tie.Need-last-of-requires
 last-of-requires c κs = search needs
@@ -23,7 +21,9 @@ within-ok-requires-2 : tie.Need-within-ok-requires-2
 within-ok-requires-2 c κs = search needs
 
 returns-2 : tie.Need-returns-2
-returns-2 c = (c .within-ok2) .ensures ∙ ap (λ (n : ℕ). withinOk ((c .before .before .before .before .before .before .args) .s .schedules) n) ((c .before .last-of) .ensures)
+returns-2 c =
+    let c6 = c .before .before .before .before .before .before in
+    (c .within-ok2) .ensures ∙ ap (λ (n : ℕ). withinOk ((c6 .args) .s .schedules) n) ((c .before .last-of) .ensures)
 
 pub reserve-within-ok-spec : {M : Type 1} → statement M
 reserve-within-ok-spec =

@@ -7,9 +7,6 @@ use borrow.Author.Needs.{needs}
 use native.Mathlib.Omega.{arith}
 use Rattle.money.proofs.production.row_by.Statement.{statement}
 use Rattle.money.proofs.production.row_by.Tie as tie
-use Rattle.money.proofs.production.row_by.Reads as reads
-use Rattle.money.proofs.production.row_by.Lts as lts
-use Rattle.money.proofs.production.picked.Reads as picked-reads
 
 abbrev Inv-loop : tie.InvT-loop
 Inv-loop by a b row₀ k₀ row k = Filled row (λ (j : ℕ). pickOf by (quantityAt a j) (quantityAt b j)) k

@@ -3,9 +3,6 @@ use native.Mathlib.Omega.{arith}
 use borrow.Author.Needs.{needs}
 use Rattle.money.proofs.production.running_at.Statement.{statement}
 use Rattle.money.proofs.production.running_at.Tie as tie
-use Rattle.money.proofs.production.running_at.Reads as reads
-use Rattle.money.proofs.production.running_at.Lts as lts
-use Rattle.money.proofs.units.CentsPerHour.an_interval.Reads as an-interval-reads
 
 returns : tie.Need-returns
 returns c = running-none ((c .before .before .args) .noload .0) ((c .before .before .args) .m .0) ((c .if1) .taken)
@@ -14,7 +11,9 @@ an-interval-requires : tie.Need-an-interval-requires
 an-interval-requires c κs = search needs
 
 returns-2 : tie.Need-returns-2
-returns-2 c = running-some ((c .before .before .before .args) .noload .0) ((c .before .before .before .args) .m .0) (omega (arith, (c .before .if1) .left)) ((c .an-interval) .ensures)
+returns-2 c =
+    let c3 = c .before .before .before in
+    running-some ((c3 .args) .noload .0) ((c3 .args) .m .0) (omega (arith, (c .before .if1) .left)) ((c .an-interval) .ensures)
 
 pub running-at-spec : {M : Type 1} → statement M
 running-at-spec = tie.close (tie.spec returns an-interval-requires returns-2)

@@ -5,10 +5,6 @@ use Rattle.money.specs.laws.UnitLaws.{answer-fault, answer-amount}
 use borrow.Author.Needs.{needs}
 use Rattle.money.proofs.production.unit_hour.Statement.{statement}
 use Rattle.money.proofs.production.unit_hour.Tie as tie
-use Rattle.money.proofs.production.unit_hour.Reads as reads
-use Rattle.money.proofs.production.unit_hour.Lts as lts
-use Rattle.money.proofs.production.hour_sum.Reads as hour-sum-reads
-use Rattle.money.proofs.production.unit_fault.Reads as unit-fault-reads
 
 unit-fault-requires : tie.Need-unit-fault-requires
 unit-fault-requires c κs = search needs

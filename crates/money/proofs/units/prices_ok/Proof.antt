@@ -5,12 +5,8 @@ use borrow.Author.Tests.{not-true, not-false}
 use Rattle.money.specs.Units.{intervals, pricesOk, priceOk, noPrice}
 use Rattle.laws.specs.SumLaws.{Passed, passed-none, passed-more, passed-all, every-no}
 use borrow.Author.Needs.{needs}
-use native.Mathlib.Omega.{arith}
 use Rattle.money.proofs.units.prices_ok.Statement.{statement}
 use Rattle.money.proofs.units.prices_ok.Tie as tie
-use Rattle.money.proofs.units.prices_ok.Reads as reads
-use Rattle.money.proofs.units.prices_ok.Lts as lts
-use Rattle.money.proofs.units.Price.in_range.Reads as in-range-reads
 
 abbrev Inv-loop : tie.InvT-loop
 Inv-loop prices k₀ k = Passed intervals (λ j. priceOk (getD prices j noPrice)) k
@@ -32,7 +28,10 @@ in-range-requires c κs = search needs
 
 returns : tie.Need-returns Inv-loop μ-loop
 unfolding pricesOk
-returns c = sym (every-no _ _ (λ j. priceOk (getD ((c .before .before .before .before .before .args) .t1) j noPrice)) ((c .before .before .before .loop-test) .taken) (sym ((c .before .in-range) .ensures) ∙ not-true _ ((c .if1) .taken)))
+returns c =
+    let c3 = c .before .before .before in
+    let c5 = c3 .before .before in
+    sym (every-no _ _ (λ j. priceOk (getD ((c5 .args) .t1) j noPrice)) ((c3 .loop-test) .taken) (sym ((c .before .in-range) .ensures) ∙ not-true _ ((c .if1) .taken)))
 
 add-k : tie.Need-add-k Inv-loop μ-loop
 add-k c = search needs
@@ -41,7 +40,10 @@ loop-less : tie.Need-loop-less Inv-loop μ-loop
 loop-less c = search needs
 
 loop-again : tie.Need-loop-again Inv-loop μ-loop
-loop-again c = passed-more ((c .before .before .before .before .loop) .inv) ((c .before .before .before .loop-test) .taken) (sym ((c .before .in-range) .ensures) ∙ not-false _ ((c .if1) .left))
+loop-again c =
+    let c3 = c .before .before .before in
+    let c4 = c3 .before in
+    passed-more ((c4 .loop) .inv) ((c3 .loop-test) .taken) (sym ((c .before .in-range) .ensures) ∙ not-false _ ((c .if1) .left))
 
 returns-2 : tie.Need-returns-2 Inv-loop μ-loop
 unfolding pricesOk

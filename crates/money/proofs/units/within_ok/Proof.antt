@@ -1,15 +1,12 @@
-use mathlib.Core.Path.{sym, _∙_}
+use mathlib.Core.Path.{sym}
 use Prim.Native.Nat.{_-_}
 use lib.Dec.{leb}
 use borrow.Author.Tests.{le-leb, lt-leb}
 use Rattle.money.specs.Units.{intervals, withinOk, quantityAt}
 use Rattle.laws.specs.SumLaws.{Passed, passed-none, passed-more, passed-all, every-no}
 use borrow.Author.Needs.{needs}
-use native.Mathlib.Omega.{arith}
 use Rattle.money.proofs.units.within_ok.Statement.{statement}
 use Rattle.money.proofs.units.within_ok.Tie as tie
-use Rattle.money.proofs.units.within_ok.Reads as reads
-use Rattle.money.proofs.units.within_ok.Lts as lts
 
 abbrev Inv-loop : tie.InvT-loop
 Inv-loop last qs k₀ k = Passed intervals (λ j. leb (quantityAt qs j) (last .0)) k
@@ -28,7 +25,10 @@ array-copy-out-q c = search needs
 
 returns : tie.Need-returns Inv-loop μ-loop
 unfolding withinOk
-returns c = sym (every-no _ _ (λ j. leb (quantityAt ((c .before .before .before .before .before .before .args) .t1) j) ((c .before .before .before .before .before .before .args) .last .0)) ((c .before .before .before .before .loop-test) .taken) (lt-leb _ _ ((c .if1) .taken)))
+returns c =
+    let c4 = c .before .before .before .before in
+    let c6 = c4 .before .before in
+    sym (every-no _ _ (λ j. leb (quantityAt ((c6 .args) .t1) j) ((c6 .args) .last .0)) ((c4 .loop-test) .taken) (lt-leb _ _ ((c .if1) .taken)))
 
 add-k : tie.Need-add-k Inv-loop μ-loop
 add-k c = search needs
@@ -37,7 +37,10 @@ loop-less : tie.Need-loop-less Inv-loop μ-loop
 loop-less c = search needs
 
 loop-again : tie.Need-loop-again Inv-loop μ-loop
-loop-again c = passed-more ((c .before .before .before .before .before .loop) .inv) ((c .before .before .before .before .loop-test) .taken) (le-leb _ _ ((c .if1) .left))
+loop-again c =
+    let c4 = c .before .before .before .before in
+    let c5 = c4 .before in
+    passed-more ((c5 .loop) .inv) ((c4 .loop-test) .taken) (le-leb _ _ ((c .if1) .left))
 
 returns-2 : tie.Need-returns-2 Inv-loop μ-loop
 unfolding withinOk

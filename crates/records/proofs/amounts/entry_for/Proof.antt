@@ -19,10 +19,17 @@ no-entry-requires : tie.Need-no-entry-requires
 no-entry-requires c κs = search needs
 
 returns : tie.Need-returns
-returns c = ap (λ (a : Answer). entryAnswer (given a (entryFrom ((c .before .before .before .before .before .before .args) .name) ((c .before .before .before .before .before .before .args) .i)) [])) (sym ((c .before .a) .given .1) ∙ (c .before .before .before .credit-for) .ensures)
+returns c =
+    let c3 = c .before .before .before in
+    let c6 = c3 .before .before .before in
+    ap (λ (a : Answer). entryAnswer (given a (entryFrom ((c6 .args) .name) ((c6 .args) .i)) [])) (sym ((c .before .a) .given .1) ∙ (c3 .credit-for) .ensures)
 
 returns-2 : tie.Need-returns-2
-returns-2 c = (c .no-entry) .ensures ∙ ap (λ (a : Answer). entryAnswer (given a (entryFrom ((c .before .before .before .before .before .before .before .args) .name) ((c .before .before .before .before .before .before .before .args) .i)) [])) (sym ((c .before .before .a2) .given .1) ∙ (c .before .before .before .before .credit-for) .ensures)
+returns-2 c =
+    let c2 = c .before .before in
+    let c4 = c2 .before .before in
+    let c7 = c4 .before .before .before in
+    (c .no-entry) .ensures ∙ ap (λ (a : Answer). entryAnswer (given a (entryFrom ((c7 .args) .name) ((c7 .args) .i)) [])) (sym ((c2 .a2) .given .1) ∙ (c4 .credit-for) .ensures)
 
 pub entry-for-spec : {M : Type 1} → statement M
 entry-for-spec =

@@ -14,17 +14,22 @@ failure-of-requires : tie.Need-failure-of-requires
 failure-of-requires c κs = search needs
 
 returns : tie.Need-returns
-returns c = sym (ap (λ (r : Res Failure). amountFrom r (λ f. chargeFor ((c .before .before .before .args) .mark) f ((c .before .before .before .args) .prices))) (faulty (viewedFailure ((c .before .before .before .args) .mark) ((c .before .before .before .args) .s .now)) _ (ap (λ (a : FailureAnswer). a .number) ((c .before .failure-of) .ensures)) ((c .if1) .taken)))
+returns c =
+    let c3 = c .before .before .before in
+    sym (ap (λ (r : Res Failure). amountFrom r (λ f. chargeFor ((c3 .args) .mark) f ((c3 .args) .prices))) (faulty (viewedFailure ((c3 .args) .mark) ((c3 .args) .s .now)) _ (ap (λ (a : FailureAnswer). a .number) ((c .before .failure-of) .ensures)) ((c .if1) .taken)))
 
 charge-for-requires : tie.Need-charge-for-requires
 charge-for-requires c κs = search needs
 
 returns-2 : tie.Need-returns-2
 returns-2 c =
-    let s = (c .before .before .before .before .before .args) .s .now in
-    let m = (c .before .before .before .before .before .args) .mark in
-    let h = had (viewedFailure m s) noFailure ((c .before .before .before .failure-of) .result .failure) _ (counted-failure m .above s) (ap (λ (a : FailureAnswer). a .number) ((c .before .before .before .failure-of) .ensures)) (ap (λ (a : FailureAnswer). a .failure) ((c .before .before .before .failure-of) .ensures)) ((c .before .before .if1) .left) in
-    (c .charge-for) .ensures ∙ sym (ap (λ (r : Res Failure). amountFrom r (λ f. chargeFor m f ((c .before .before .before .before .before .args) .prices))) (h .is))
+    let c2 = c .before .before in
+    let c3 = c2 .before in
+    let c5 = c3 .before .before in
+    let s = (c5 .args) .s .now in
+    let m = (c5 .args) .mark in
+    let h = had (viewedFailure m s) noFailure ((c3 .failure-of) .result .failure) _ (counted-failure m .above s) (ap (λ (a : FailureAnswer). a .number) ((c3 .failure-of) .ensures)) (ap (λ (a : FailureAnswer). a .failure) ((c3 .failure-of) .ensures)) ((c2 .if1) .left) in
+    (c .charge-for) .ensures ∙ sym (ap (λ (r : Res Failure). amountFrom r (λ f. chargeFor m f ((c5 .args) .prices))) (h .is))
 
 pub failure-charge-spec : {M : Type 1} → statement M
 failure-charge-spec =

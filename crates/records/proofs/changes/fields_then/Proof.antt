@@ -1,13 +1,9 @@
 use Rattle.records.specs.tables.Inner.{layoutFor}
 use Rattle.records.proofs.fields.Step.{last}
-use mathlib.Core.Path.{_≡_, sym, _∙_}
-use native.Mathlib.Omega.{arith}
+use mathlib.Core.Path.{sym}
 use borrow.Author.Needs.{needs}
 use Rattle.records.proofs.changes.fields_then.Statement.{statement}
 use Rattle.records.proofs.changes.fields_then.Tie as tie
-use Rattle.records.proofs.changes.fields_then.Reads as reads
-use Rattle.records.proofs.changes.fields_then.Lts as lts
-use Rattle.records.proofs.layouts.layout_then.Reads as layout-then-reads
 
 enum-told : tie.Need-enum-told
 enum-told c = search needs
@@ -34,7 +30,9 @@ returns-2 c = (rw ((c .before .enum-told2) .given .1) ((c .layout-then2) .ensure
 
 returns-3 : tie.Need-returns-3
 unfolding layoutFor
-returns-3 c = (rw ((c .enum-told3) .given .1) (sym (last ((c .before .before .before .args) .s .now) ((c .before .before .before .args) .e) tt)), (c .before .before .before .pre))
+returns-3 c =
+    let c3 = c .before .before .before in
+    (rw ((c .enum-told3) .given .1) (sym (last ((c3 .args) .s .now) ((c3 .args) .e) tt)), (c3 .pre))
 
 pub fields-then-spec : {M : Type 1} → statement M
 fields-then-spec =

@@ -1,10 +1,7 @@
-use mathlib.Core.Path.{_≡_}
 use borrow.Author.Needs.{needs}
 use Rattle.records.proofs.fields.Step.{guard-yes}
 use Rattle.records.proofs.fields.guard_end.Statement.{statement}
 use Rattle.records.proofs.fields.guard_end.Tie as tie
-use Rattle.records.proofs.fields.guard_end.Reads as reads
-use Rattle.records.proofs.fields.guard_end.Lts as lts
 
 returns : tie.Need-returns
 returns c = rw (c .if1 .taken) (guard-yes (c .before .args .e) (c .before .args .k))

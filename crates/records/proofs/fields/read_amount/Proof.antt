@@ -1,12 +1,8 @@
 use Rattle.records.specs.Numbers.{amount}
 use borrow.Author.Tests.{le-leb, lt-leb}
-use native.Mathlib.Omega.{arith}
 use borrow.Author.Needs.{needs}
 use Rattle.records.proofs.fields.read_amount.Statement.{statement}
 use Rattle.records.proofs.fields.read_amount.Tie as tie
-use Rattle.records.proofs.fields.read_amount.Reads as reads
-use Rattle.records.proofs.fields.read_amount.Lts as lts
-use Rattle.records.proofs.fields.read_word.Reads as read-word-reads
 
 read-word-requires : tie.Need-read-word-requires
 read-word-requires c κs = search needs
@@ -20,8 +16,10 @@ enum-known-w-2 c = search needs
 returns : tie.Need-returns
 unfolding amount
 returns c =
-    let h = (c .before .before .before .before .read-word) .ensures .1 in
-    (rw (← (c .before .before .before .before .read-word) .ensures .0, (c .before .before .w) .given .1, le-leb _ _ ((c .if1) .taken)), rw ((c .before .before .w) .given .1) at h)
+    let c2 = c .before .before in
+    let c4 = c2 .before .before in
+    let h = (c4 .read-word) .ensures .1 in
+    (rw (← (c4 .read-word) .ensures .0, (c2 .w) .given .1, le-leb _ _ ((c .if1) .taken)), rw ((c2 .w) .given .1) at h)
 
 returns-2 : tie.Need-returns-2
 unfolding amount

@@ -4,8 +4,6 @@ use mathlib.Core.Path.{sym}
 use Rattle.records.proofs.fields.Lemmas.{byte-past, byte-at}
 use Rattle.records.proofs.fields.read_byte.Statement.{statement}
 use Rattle.records.proofs.fields.read_byte.Tie as tie
-use Rattle.records.proofs.fields.read_byte.Reads as reads
-use Rattle.records.proofs.fields.read_byte.Lts as lts
 
 returns : tie.Need-returns
 returns c = (sym (byte-past _ _ (c .if1 .taken)), tt)

@@ -1,18 +1,12 @@
-use mathlib.Core.Path.{_≡_, sym, ap, _∙_}
+use mathlib.Core.Path.{sym, ap, _∙_}
 use mir.ValLaws.{toZ-ofZ}
 use mir.Syntax.{w32}
 use Rattle.money.specs.Units.{priceRead}
 use Rattle.records.specs.tables.Inner.{num}
 use Rattle.records.proofs.fields.Lemmas.{price-good, price-refused, price-bad}
-use native.Mathlib.Omega.{arith}
 use borrow.Author.Needs.{needs}
 use Rattle.records.proofs.fields.read_price.Statement.{statement}
 use Rattle.records.proofs.fields.read_price.Tie as tie
-use Rattle.records.proofs.fields.read_price.Reads as reads
-use Rattle.records.proofs.fields.read_price.Lts as lts
-use Rattle.money.proofs.units.Price.new.Reads as new-reads
-use Rattle.records.proofs.fields.read_word.Reads as read-word-reads
-use Rattle.records.proofs.fields.signed_of.Reads as signed-of-reads
 
 read-word-requires : tie.Need-read-word-requires
 read-word-requires c κs = search needs
@@ -44,7 +38,10 @@ returns-2 : tie.Need-returns-2
 returns-2 c = (price-refused ((c .before .before .before .before .before .before .before .before .before .before .args) .s .now) ((c .before .before .before .before .before .before .before .before .before .before .args) .at) ((c .before .before .before .before .before .before .w) .given .0 .0) ((c .before .before .before .before .before .before .w) .given .0 .1 .0) (sym ((c .before .before .before .before .before .before .before .before .read-word) .ensures .0) ∙ ap (num _) ((c .before .before .before .before .before .before .w) .given .1)) _ (ap priceRead (sym ((c .before .before .before .before .signed-of) .ensures)) ∙ ap priceRead (sym (toZ-ofZ w32 ((c .before .before .before .before .signed-of) .result) (search needs))) ∙ sym ((c .before .before .before .new) .ensures) ∙ (c .before .p2) .given .1), tt)
 
 returns-3 : tie.Need-returns-3
-returns-3 c = (price-bad ((c .before .before .before .before .before .args) .s .now) ((c .before .before .before .before .before .args) .at) _ (sym ((c .before .before .before .read-word) .ensures .0) ∙ ap (num _) ((c .before .w2) .given .1)), tt)
+returns-3 c =
+    let c3 = c .before .before .before in
+    let c5 = c3 .before .before in
+    (price-bad ((c5 .args) .s .now) ((c5 .args) .at) _ (sym ((c3 .read-word) .ensures .0) ∙ ap (num _) ((c .before .w2) .given .1)), tt)
 
 pub read-price-spec : {M : Type 1} → statement M
 read-price-spec =

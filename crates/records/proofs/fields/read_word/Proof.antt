@@ -1,13 +1,9 @@
 use borrow.Author.Needs.{needs}
 use native.Mathlib.Omega.{arith}
-use mathlib.Core.Path.{_≡_, sym, ap, _∙_}
+use mathlib.Core.Path.{sym}
 use Rattle.records.proofs.fields.Lemmas.{word-past, word-ends, word-at}
-use Rattle.records.specs.Numbers.{word}
 use Rattle.records.proofs.fields.read_word.Statement.{statement}
 use Rattle.records.proofs.fields.read_word.Tie as tie
-use Rattle.records.proofs.fields.read_word.Reads as reads
-use Rattle.records.proofs.fields.read_word.Lts as lts
-use Rattle.records.proofs.fields.join.Reads as join-reads
 
 sub-if2 : tie.Need-sub-if2
 sub-if2 c = search needs

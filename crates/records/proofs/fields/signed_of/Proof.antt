@@ -6,8 +6,6 @@ use native.Mathlib.Omega.{arith}
 use borrow.Author.Needs.{needs}
 use Rattle.records.proofs.fields.signed_of.Statement.{statement}
 use Rattle.records.proofs.fields.signed_of.Tie as tie
-use Rattle.records.proofs.fields.signed_of.Reads as reads
-use Rattle.records.proofs.fields.signed_of.Lts as lts
 
 cast-result : tie.Need-cast-result
 cast-result c = search needs

@@ -14,10 +14,20 @@ name-ok-requires : tie.Need-name-ok-requires
 name-ok-requires c κs = search needs
 
 returns : tie.Need-returns
-returns c = (c .name-ok) .ensures ∙ ok-named ((c .before .before .before .before .before .before .args) .key) (sym ((c .before .before .before .before .hour-ok) .ensures) ∙ (c .before .before .before .if1) .taken) (sym ((c .before .before .has-name) .ensures) ∙ (c .before .if2) .taken)
+returns c =
+    let c2 = c .before .before in
+    let c3 = c2 .before in
+    let c4 = c3 .before in
+    let c6 = c4 .before .before in
+    (c .name-ok) .ensures ∙ ok-named ((c6 .args) .key) (sym ((c4 .hour-ok) .ensures) ∙ (c3 .if1) .taken) (sym ((c2 .has-name) .ensures) ∙ (c .before .if2) .taken)
 
 returns-2 : tie.Need-returns-2
-returns-2 c = ok-unnamed ((c .before .before .before .before .before .before .args) .key) (sym ((c .before .before .before .before .hour-ok) .ensures) ∙ (c .before .before .before .if1) .taken) (sym ((c .before .before .has-name) .ensures) ∙ (c .before .if2) .left)
+returns-2 c =
+    let c2 = c .before .before in
+    let c3 = c2 .before in
+    let c4 = c3 .before in
+    let c6 = c4 .before .before in
+    ok-unnamed ((c6 .args) .key) (sym ((c4 .hour-ok) .ensures) ∙ (c3 .if1) .taken) (sym ((c2 .has-name) .ensures) ∙ (c .before .if2) .left)
 
 returns-3 : tie.Need-returns-3
 returns-3 c = ok-not ((c .before .before .before .args) .key) (sym ((c .before .hour-ok) .ensures) ∙ (c .if1) .left)

@@ -11,7 +11,10 @@ head-of-requires : tie.Need-head-of-requires
 head-of-requires c κs = ok-short ((c .before .before .args) .key) (sym ((c .before .key-ok) .ensures) ∙ (c .if1) .taken)
 
 returns : tie.Need-returns
-returns c = head-full ((c .before .before .before .args) .key) (sym ((c .before .before .key-ok) .ensures) ∙ (c .before .if1) .taken) ((c .head-of) .result) ((c .head-of) .ensures)
+returns c =
+    let c2 = c .before .before in
+    let c3 = c2 .before in
+    head-full ((c3 .args) .key) (sym ((c2 .key-ok) .ensures) ∙ (c .before .if1) .taken) ((c .head-of) .result) ((c .head-of) .ensures)
 
 returns-2 : tie.Need-returns-2
 returns-2 c = (head-none ((c .before .before .args) .key) (sym ((c .before .key-ok) .ensures) ∙ (c .if1) .left), search needs)

@@ -3,10 +3,6 @@ use Rattle.records.proofs.hour_records.Lemmas.{filed-at, filed-no}
 use borrow.Author.Needs.{needs}
 use Rattle.records.proofs.hour_records.filed_front.Statement.{statement}
 use Rattle.records.proofs.hour_records.filed_front.Tie as tie
-use Rattle.records.proofs.hour_records.filed_front.Reads as reads
-use Rattle.records.proofs.hour_records.filed_front.Lts as lts
-use Rattle.records.proofs.changes.read_change.Reads as read-change-reads
-use Rattle.records.proofs.hour_records.no_record.Reads as no-record-reads
 
 read-change-requires : tie.Need-read-change-requires
 read-change-requires c κs = search needs
@@ -21,10 +17,18 @@ no-record-requires : tie.Need-no-record-requires
 no-record-requires c κs = search needs
 
 returns : tie.Need-returns
-returns c = filed-at ((c .before .before .before .before .before .before .args) .s .now) ((c .before .before .before .before .read-change) .result) ((c .before .before .before .before .read-change) .ensures) ((c .before .before .e) .given .0 .0) ((c .before .before .e) .given .1)
+returns c =
+    let c2 = c .before .before in
+    let c4 = c2 .before .before in
+    let c6 = c4 .before .before in
+    filed-at ((c6 .args) .s .now) ((c4 .read-change) .result) ((c4 .read-change) .ensures) ((c2 .e) .given .0 .0) ((c2 .e) .given .1)
 
 returns-2 : tie.Need-returns-2
-returns-2 c = (c .no-record) .ensures ∙ filed-no ((c .before .before .before .before .before .before .args) .s .now) ((c .before .before .before .before .read-change) .result) ((c .before .before .before .before .read-change) .ensures) ((c .before .before .e2) .given .0 .0) ((c .before .before .e2) .given .1)
+returns-2 c =
+    let c2 = c .before .before in
+    let c4 = c2 .before .before in
+    let c6 = c4 .before .before in
+    (c .no-record) .ensures ∙ filed-no ((c6 .args) .s .now) ((c4 .read-change) .result) ((c4 .read-change) .ensures) ((c2 .e2) .given .0 .0) ((c2 .e2) .given .1)
 
 pub filed-front-spec : {M : Type 1} → statement M
 filed-front-spec =

@@ -3,11 +3,6 @@ use Rattle.records.proofs.hour_records.Lemmas.{front-filed, front-not}
 use borrow.Author.Needs.{needs}
 use Rattle.records.proofs.hour_records.first_of_hour.Statement.{statement}
 use Rattle.records.proofs.hour_records.first_of_hour.Tie as tie
-use Rattle.records.proofs.hour_records.first_of_hour.Reads as reads
-use Rattle.records.proofs.hour_records.first_of_hour.Lts as lts
-use Rattle.records.proofs.hour_records.filed_front.Reads as filed-front-reads
-use Rattle.records.proofs.hour_records.no_record.Reads as no-record-reads
-use Rattle.records.proofs.hour_records.start_of.Reads as start-of-reads
 
 start-of-requires : tie.Need-start-of-requires
 start-of-requires c κs = search needs
@@ -25,10 +20,18 @@ no-record-requires : tie.Need-no-record-requires
 no-record-requires c κs = search needs
 
 returns : tie.Need-returns
-returns c = (c .filed-front) .ensures ∙ front-filed ((c .before .before .before .before .before .before .args) .s .now) ((c .before .before .before .before .before .before .args) .first) ((c .before .before .before .before .start-of) .result) ((c .before .before .before .before .start-of) .ensures .0) ((c .before .before .e) .given .0 .0) ((c .before .before .e) .given .1)
+returns c =
+    let c2 = c .before .before in
+    let c4 = c2 .before .before in
+    let c6 = c4 .before .before in
+    (c .filed-front) .ensures ∙ front-filed ((c6 .args) .s .now) ((c6 .args) .first) ((c4 .start-of) .result) ((c4 .start-of) .ensures .0) ((c2 .e) .given .0 .0) ((c2 .e) .given .1)
 
 returns-2 : tie.Need-returns-2
-returns-2 c = (c .no-record) .ensures ∙ front-not ((c .before .before .before .before .before .before .args) .s .now) ((c .before .before .before .before .before .before .args) .first) ((c .before .before .before .before .start-of) .result) ((c .before .before .before .before .start-of) .ensures .0) ((c .before .before .e2) .given .0 .0) ((c .before .before .e2) .given .1)
+returns-2 c =
+    let c2 = c .before .before in
+    let c4 = c2 .before .before in
+    let c6 = c4 .before .before in
+    (c .no-record) .ensures ∙ front-not ((c6 .args) .s .now) ((c6 .args) .first) ((c4 .start-of) .result) ((c4 .start-of) .ensures .0) ((c2 .e2) .given .0 .0) ((c2 .e2) .given .1)
 
 pub first-of-hour-spec : {M : Type 1} → statement M
 first-of-hour-spec =

@@ -1,8 +1,6 @@
 use Rattle.records.proofs.hour_records.Lemmas.{any-hour, one-hour}
 use Rattle.records.proofs.hour_records.same_as.Statement.{statement}
 use Rattle.records.proofs.hour_records.same_as.Tie as tie
-use Rattle.records.proofs.hour_records.same_as.Reads as reads
-use Rattle.records.proofs.hour_records.same_as.Lts as lts
 
 returns : tie.Need-returns
 returns c = any-hour _ _ ((c .if1) .taken)

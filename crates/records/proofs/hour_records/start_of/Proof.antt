@@ -10,13 +10,6 @@ use Rattle.records.proofs.fields.Step.{guarded-in}
 use borrow.Author.Needs.{needs}
 use Rattle.records.proofs.hour_records.start_of.Statement.{statement}
 use Rattle.records.proofs.hour_records.start_of.Tie as tie
-use Rattle.records.proofs.hour_records.start_of.Reads as reads
-use Rattle.records.proofs.hour_records.start_of.Lts as lts
-use Rattle.records.proofs.fields.guard_end.Reads as guard-end-reads
-use Rattle.records.proofs.fields.hour_then.Reads as hour-then-reads
-use Rattle.records.proofs.hour_records.of_hour.Reads as of-hour-reads
-use Rattle.records.proofs.hour_records.same_as.Reads as same-as-reads
-use Rattle.records.proofs.marks.head_at.Reads as head-at-reads
 
 head-at-requires : tie.Need-head-at-requires
 head-at-requires c κs = search needs
@@ -37,10 +30,16 @@ guard-end-requires-2 : tie.Need-guard-end-requires-2
 guard-end-requires-2 c κs = search needs
 
 returns : tie.Need-returns
-returns c = (
-  start-is ((c .before .before .before .before .before .before .before .args) .s .now) ((c .before .before .before .before .before .before .before .args) .first) ((c .before .before .before .before .before .head-at) .result) ((c .before .before .hour-then) .result) ((c .before .before .before .guard-end) .result) ((c .before .before .before .before .before .head-at) .ensures .0) ((c .before .before .before .guard-end) .ensures ∙ ap (λ (b : Bool). guarded ((c .before .before .before .before .before .head-at) .result .end) b 2) ((c .before .before .before .before .of-hour) .ensures)) ((c .before .before .hour-then) .ensures .0)
-      ∙ sym (ap (λ (d : End). then ((c .before .before .before .before .before .before .before .args) .s .now) d (λ t. change (Only File) ((c .before .before .before .before .before .before .before .args) .s .now))) ((c .guard-end2) .ensures ∙ ap (λ (b : Bool). guarded ((c .before .before .hour-then) .result .end) b 3) ((c .before .same-as) .ensures))),
-  rw ((c .guard-end2) .ensures) (guarded-in ((c .before .before .before .before .before .before .before .args) .s .now) ((c .before .before .hour-then) .result .end) _ 3 ((c .before .before .hour-then) .ensures .1)),
+returns c =
+    let c2 = c .before .before in
+    let c3 = c2 .before in
+    let c4 = c3 .before in
+    let c5 = c4 .before in
+    let c7 = c5 .before .before in
+    (
+  start-is ((c7 .args) .s .now) ((c7 .args) .first) ((c5 .head-at) .result) ((c2 .hour-then) .result) ((c3 .guard-end) .result) ((c5 .head-at) .ensures .0) ((c3 .guard-end) .ensures ∙ ap (λ (b : Bool). guarded ((c5 .head-at) .result .end) b 2) ((c4 .of-hour) .ensures)) ((c2 .hour-then) .ensures .0)
+      ∙ sym (ap (λ (d : End). then ((c7 .args) .s .now) d (λ t. change (Only File) ((c7 .args) .s .now))) ((c .guard-end2) .ensures ∙ ap (λ (b : Bool). guarded ((c2 .hour-then) .result .end) b 3) ((c .before .same-as) .ensures))),
+  rw ((c .guard-end2) .ensures) (guarded-in ((c7 .args) .s .now) ((c2 .hour-then) .result .end) _ 3 ((c2 .hour-then) .ensures .1)),
 )
 
 pub start-of-spec : {M : Type 1} → statement M

@@ -1,11 +1,7 @@
 use Rattle.records.specs.Hours.{limitOf}
-use native.Mathlib.Omega.{arith}
 use borrow.Author.Needs.{needs}
 use Rattle.records.proofs.hours.limit_of.Statement.{statement}
 use Rattle.records.proofs.hours.limit_of.Tie as tie
-use Rattle.records.proofs.hours.limit_of.Reads as reads
-use Rattle.records.proofs.hours.limit_of.Lts as lts
-use Rattle.records.proofs.marks.limit.Reads as limit-reads
 
 limit-requires : tie.Need-limit-requires
 limit-requires c κs = search needs

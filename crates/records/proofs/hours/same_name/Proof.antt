@@ -1,11 +1,7 @@
 use Rattle.records.specs.Hours.{sameName, atHour}
-use native.Mathlib.Omega.{arith}
 use borrow.Author.Needs.{needs}
 use Rattle.records.proofs.hours.same_name.Statement.{statement}
 use Rattle.records.proofs.hours.same_name.Tie as tie
-use Rattle.records.proofs.hours.same_name.Reads as reads
-use Rattle.records.proofs.hours.same_name.Lts as lts
-use Rattle.records.proofs.keys.same_key.Reads as same-key-reads
 
 same-key-requires : tie.Need-same-key-requires
 same-key-requires c κs = search needs

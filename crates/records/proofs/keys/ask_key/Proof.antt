@@ -1,13 +1,8 @@
-use mathlib.Core.Path.{_≡_, ap, _∙_}
+use mathlib.Core.Path.{ap, _∙_}
 use Rattle.records.specs.Keys.{keyAnswer, askFrom}
-use native.Mathlib.Omega.{arith}
 use borrow.Author.Needs.{needs}
 use Rattle.records.proofs.keys.ask_key.Statement.{statement}
 use Rattle.records.proofs.keys.ask_key.Tie as tie
-use Rattle.records.proofs.keys.ask_key.Reads as reads
-use Rattle.records.proofs.keys.ask_key.Lts as lts
-use Rattle.records.proofs.keys.asked_mark.Reads as asked-mark-reads
-use Rattle.records.proofs.keys.key_from.Reads as key-from-reads
 
 asked-mark-requires : tie.Need-asked-mark-requires
 asked-mark-requires c κs = search needs
@@ -16,7 +11,9 @@ key-from-requires : tie.Need-key-from-requires
 key-from-requires c κs = search needs
 
 returns : tie.Need-returns
-returns c = (c .key-from) .ensures ((c .before .before .before .before .args) .mark .now) ∙ ap (λ x. keyAnswer (askFrom x ((c .before .before .before .before .args) .hour) ((c .before .before .before .before .args) .name .now))) ((c .before .asked-mark) .ensures .0)
+returns c =
+    let c4 = c .before .before .before .before in
+    (c .key-from) .ensures ((c4 .args) .mark .now) ∙ ap (λ x. keyAnswer (askFrom x ((c4 .args) .hour) ((c4 .args) .name .now))) ((c .before .asked-mark) .ensures .0)
 
 pub ask-key-spec : {M : Type 1} → statement M
 ask-key-spec = tie.close (tie.spec asked-mark-requires key-from-requires returns)

@@ -1,17 +1,11 @@
-use mathlib.Core.Path.{_≡_, sym, ap, _∙_}
+use mathlib.Core.Path.{sym, _∙_}
 use Rattle.records.specs.Marks.{isFailure}
 use Rattle.records.specs.Keys.{askMark, askFailureMark}
 use Rattle.records.specs.tables.Inner.{guarded}
 use Rattle.records.proofs.fields.Step.{first, test, last, guarded-in}
-use native.Mathlib.Omega.{arith}
 use borrow.Author.Needs.{needs}
 use Rattle.records.proofs.keys.asked_failure_mark.Statement.{statement}
 use Rattle.records.proofs.keys.asked_failure_mark.Tie as tie
-use Rattle.records.proofs.keys.asked_failure_mark.Reads as reads
-use Rattle.records.proofs.keys.asked_failure_mark.Lts as lts
-use Rattle.records.proofs.fields.guard_end.Reads as guard-end-reads
-use Rattle.records.proofs.keys.asked_mark.Reads as asked-mark-reads
-use Rattle.records.proofs.marks.is_failure.Reads as is-failure-reads
 
 asked-mark-requires : tie.Need-asked-mark-requires
 asked-mark-requires c κs = search needs
@@ -25,12 +19,14 @@ guard-end-requires c κs = search needs
 returns : tie.Need-returns
 unfolding askFailureMark
 returns c =
-    let s = (c .before .before .before .before .args) .mark .now in
-    let r = (c .before .before .asked-mark) .result in
+    let c2 = c .before .before in
+    let c4 = c2 .before .before in
+    let s = (c4 .args) .mark .now in
+    let r = (c2 .asked-mark) .result in
     let ok = isFailure (r .mark) in (
       rw ((c .guard-end) .ensures, (c .before .is-failure) .ensures)
-          (sym (first s (r .end) (r .mark) (askMark s) _ ((c .before .before .asked-mark) .ensures .0) ∙ test s (r .end) ok 2 _ ∙ last s (guarded (r .end) ok 2) (r .mark))),
-      rw ((c .guard-end) .ensures) (guarded-in s (r .end) _ 2 ((c .before .before .asked-mark) .ensures .1)),
+          (sym (first s (r .end) (r .mark) (askMark s) _ ((c2 .asked-mark) .ensures .0) ∙ test s (r .end) ok 2 _ ∙ last s (guarded (r .end) ok 2) (r .mark))),
+      rw ((c .guard-end) .ensures) (guarded-in s (r .end) _ 2 ((c2 .asked-mark) .ensures .1)),
     )
 
 pub asked-failure-mark-spec : {M : Type 1} → statement M

@@ -1,13 +1,8 @@
-use mathlib.Core.Path.{_≡_, sym, _∙_}
+use mathlib.Core.Path.{_∙_}
 use Rattle.records.proofs.keys.Lemmas.{mark-two, mark-other}
-use native.Mathlib.Omega.{arith}
 use borrow.Author.Needs.{needs}
 use Rattle.records.proofs.keys.asked_mark.Statement.{statement}
 use Rattle.records.proofs.keys.asked_mark.Tie as tie
-use Rattle.records.proofs.keys.asked_mark.Reads as reads
-use Rattle.records.proofs.keys.asked_mark.Lts as lts
-use Rattle.records.proofs.marks.mark_at.Reads as mark-at-reads
-use Rattle.records.proofs.marks.mark_no.Reads as mark-no-reads
 
 mark-at-requires : tie.Need-mark-at-requires
 mark-at-requires c κs = search needs

@@ -1,10 +1,6 @@
 use borrow.Author.Tests.{le-leb, lt-leb}
-use borrow.Author.Needs.{needs}
-use native.Mathlib.Omega.{arith}
 use Rattle.records.proofs.keys.hour_ok.Statement.{statement}
 use Rattle.records.proofs.keys.hour_ok.Tie as tie
-use Rattle.records.proofs.keys.hour_ok.Reads as reads
-use Rattle.records.proofs.keys.hour_ok.Lts as lts
 
 returns : tie.Need-returns
 returns c = simp (lt-leb 1 _ ((c .if1) .taken))

@@ -1,17 +1,11 @@
-use mathlib.Core.Path.{_≡_, sym, ap, _∙_}
+use mathlib.Core.Path.{sym, ap, _∙_}
 use Rattle.records.specs.Reading.{from}
 use Rattle.records.specs.Keys.{keyAnswer, askFrom}
 use Rattle.records.specs.tables.Inner.{shown}
 use Rattle.records.proofs.keys.Lemmas.{ask-mark, ask-hour, ask-name, ask-got}
-use native.Mathlib.Omega.{arith}
 use borrow.Author.Needs.{needs}
 use Rattle.records.proofs.keys.key_from.Statement.{statement}
 use Rattle.records.proofs.keys.key_from.Tie as tie
-use Rattle.records.proofs.keys.key_from.Reads as reads
-use Rattle.records.proofs.keys.key_from.Lts as lts
-use Rattle.records.proofs.keys.asked_name.Reads as asked-name-reads
-use Rattle.records.proofs.keys.hour_ok.Reads as hour-ok-reads
-use Rattle.records.proofs.keys.key_no.Reads as key-no-reads
 
 enum-known-e : tie.Need-enum-known-e
 enum-known-e c = search needs
@@ -42,29 +36,45 @@ key-no-requires-3 c κs = search needs
 
 returns : tie.Need-returns
 returns c =
-    let ns = (c .before .before .before .before .before .before .before .before .before .before .before .args) .name .now in
-    let m = (c .before .before .before .before .before .before .before .before .before .before .before .args) .m .mark in
-    let n = (c .before .before .before .before .asked-name) .result .name in
-    λ s. sym (ap (λ d. keyAnswer (askFrom (shown s d m) ((c .before .before .before .before .before .before .before .before .before .before .before .args) .hour) ns)) ((c .before .before .before .before .before .before .before .before .e) .given .1) ∙ ap keyAnswer (ask-got ((c .before .before .before .before .before .before .before .before .before .before .before .args) .hour) ns m (from s ((c .before .before .before .before .before .before .before .before .e) .given .0 .0)) n (from ns ((c .before .f) .given .0 .0)) (sym ((c .before .before .before .before .before .before .hour-ok) .ensures) ∙ (c .before .before .before .before .before .if1) .taken) (sym ((c .before .before .before .before .asked-name) .ensures .value) ∙ ap (λ d. shown ns d n) ((c .before .f) .given .1))))
+    let c4 = c .before .before .before .before in
+    let c5 = c4 .before in
+    let c6 = c5 .before in
+    let c8 = c6 .before .before in
+    let c11 = c8 .before .before .before in
+    let ns = (c11 .args) .name .now in
+    let m = (c11 .args) .m .mark in
+    let n = (c4 .asked-name) .result .name in
+    λ s. sym (ap (λ d. keyAnswer (askFrom (shown s d m) ((c11 .args) .hour) ns)) ((c8 .e) .given .1) ∙ ap keyAnswer (ask-got ((c11 .args) .hour) ns m (from s ((c8 .e) .given .0 .0)) n (from ns ((c .before .f) .given .0 .0)) (sym ((c6 .hour-ok) .ensures) ∙ (c5 .if1) .taken) (sym ((c4 .asked-name) .ensures .value) ∙ ap (λ d. shown ns d n) ((c .before .f) .given .1))))
 
 returns-2 : tie.Need-returns-2
 returns-2 c =
-    let ns = (c .before .before .before .before .before .before .before .before .before .before .before .before .args) .name .now in
-    let m = (c .before .before .before .before .before .before .before .before .before .before .before .before .args) .m .mark in
-    let n = (c .before .before .before .before .before .asked-name) .result .name in
-    λ s. (c .key-no) .ensures ∙ sym (ap (λ d. keyAnswer (askFrom (shown s d m) ((c .before .before .before .before .before .before .before .before .before .before .before .before .args) .hour) ns)) ((c .before .before .before .before .before .before .before .before .before .e) .given .1) ∙ ap keyAnswer (ask-name ((c .before .before .before .before .before .before .before .before .before .before .before .before .args) .hour) ns m (from s ((c .before .before .before .before .before .before .before .before .before .e) .given .0 .0)) ((c .before .before .f2) .given .0 .0) (sym ((c .before .before .before .before .before .before .before .hour-ok) .ensures) ∙ (c .before .before .before .before .before .before .if1) .taken) (sym ((c .before .before .before .before .before .asked-name) .ensures .value) ∙ ap (λ d. shown ns d n) ((c .before .before .f2) .given .1))))
+    let c2 = c .before .before in
+    let c5 = c2 .before .before .before in
+    let c6 = c5 .before in
+    let c7 = c6 .before in
+    let c9 = c7 .before .before in
+    let c12 = c9 .before .before .before in
+    let ns = (c12 .args) .name .now in
+    let m = (c12 .args) .m .mark in
+    let n = (c5 .asked-name) .result .name in
+    λ s. (c .key-no) .ensures ∙ sym (ap (λ d. keyAnswer (askFrom (shown s d m) ((c12 .args) .hour) ns)) ((c9 .e) .given .1) ∙ ap keyAnswer (ask-name ((c12 .args) .hour) ns m (from s ((c9 .e) .given .0 .0)) ((c2 .f2) .given .0 .0) (sym ((c7 .hour-ok) .ensures) ∙ (c6 .if1) .taken) (sym ((c5 .asked-name) .ensures .value) ∙ ap (λ d. shown ns d n) ((c2 .f2) .given .1))))
 
 returns-3 : tie.Need-returns-3
 returns-3 c =
-    let ns = (c .before .before .before .before .before .before .before .args) .name .now in
-    let m = (c .before .before .before .before .before .before .before .args) .m .mark in
-    λ s. (c .key-no2) .ensures ∙ sym (ap (λ d. keyAnswer (askFrom (shown s d m) ((c .before .before .before .before .before .before .before .args) .hour) ns)) ((c .before .before .before .before .e) .given .1) ∙ ap keyAnswer (ask-hour ((c .before .before .before .before .before .before .before .args) .hour) ns m (from s ((c .before .before .before .before .e) .given .0 .0)) (sym ((c .before .before .hour-ok) .ensures) ∙ (c .before .if1) .left)))
+    let c2 = c .before .before in
+    let c4 = c2 .before .before in
+    let c7 = c4 .before .before .before in
+    let ns = (c7 .args) .name .now in
+    let m = (c7 .args) .m .mark in
+    λ s. (c .key-no2) .ensures ∙ sym (ap (λ d. keyAnswer (askFrom (shown s d m) ((c7 .args) .hour) ns)) ((c4 .e) .given .1) ∙ ap keyAnswer (ask-hour ((c7 .args) .hour) ns m (from s ((c4 .e) .given .0 .0)) (sym ((c2 .hour-ok) .ensures) ∙ (c .before .if1) .left)))
 
 returns-4 : tie.Need-returns-4
 returns-4 c =
-    let ns = (c .before .before .before .before .before .args) .name .now in
-    let m = (c .before .before .before .before .before .args) .m .mark in
-    λ s. (c .key-no3) .ensures ∙ sym (ap (λ d. keyAnswer (askFrom (shown s d m) ((c .before .before .before .before .before .args) .hour) ns)) ((c .before .before .e2) .given .1) ∙ ap keyAnswer (ask-mark ((c .before .before .before .before .before .args) .hour) ns ((c .before .before .e2) .given .0 .0)))
+    let c2 = c .before .before in
+    let c5 = c2 .before .before .before in
+    let ns = (c5 .args) .name .now in
+    let m = (c5 .args) .m .mark in
+    λ s. (c .key-no3) .ensures ∙ sym (ap (λ d. keyAnswer (askFrom (shown s d m) ((c5 .args) .hour) ns)) ((c2 .e2) .given .1) ∙ ap keyAnswer (ask-mark ((c5 .args) .hour) ns ((c2 .e2) .given .0 .0)))
 
 pub key-from-spec : {M : Type 1} → statement M
 key-from-spec =

@@ -1,12 +1,8 @@
-use mathlib.Core.Path.{_≡_, sym, _∙_}
+use mathlib.Core.Path.{sym, _∙_}
 use Rattle.records.proofs.writing.Lemmas.{other-hour, by-name}
 use borrow.Author.Needs.{needs}
 use Rattle.records.proofs.keys.same_key.Statement.{statement}
 use Rattle.records.proofs.keys.same_key.Tie as tie
-use Rattle.records.proofs.keys.same_key.Reads as reads
-use Rattle.records.proofs.keys.same_key.Lts as lts
-use Rattle.money.proofs.names.same_name.Reads as same-name-reads
-use Rattle.records.proofs.keys.same_hour.Reads as same-hour-reads
 
 same-hour-requires : tie.Need-same-hour-requires
 same-hour-requires c κs = search needs
@@ -16,8 +12,11 @@ same-name-requires c κs = search needs
 
 returns : tie.Need-returns
 returns c =
-    let args = c .before .before .before .before .before .args in
-    (c .same-name) .ensures ∙ by-name (args .a) (args .b) (sym ((c .before .before .before .before .same-hour) .ensures) ∙ (c .before .before .before .if1) .taken)
+    let c3 = c .before .before .before in
+    let c4 = c3 .before in
+    let c5 = c4 .before in
+    let args = c5 .args in
+    (c .same-name) .ensures ∙ by-name (args .a) (args .b) (sym ((c4 .same-hour) .ensures) ∙ (c3 .if1) .taken)
 
 returns-2 : tie.Need-returns-2
 returns-2 c = other-hour ((c .before .before .args) .a) ((c .before .before .args) .b) (sym ((c .before .same-hour) .ensures) ∙ (c .if1) .left)

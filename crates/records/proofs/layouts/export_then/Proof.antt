@@ -1,15 +1,11 @@
-use mathlib.Core.Path.{_≡_, sym, _∙_}
+use mathlib.Core.Path.{sym, _∙_}
 use Rattle.records.specs.Reading.{many}
 use Rattle.records.specs.Numbers.{quantity}
 use Rattle.records.specs.Layouts.{export}
 use Rattle.records.proofs.fields.Step.{next, last}
-use native.Mathlib.Omega.{arith}
 use borrow.Author.Needs.{needs}
 use Rattle.records.proofs.layouts.export_then.Statement.{statement}
 use Rattle.records.proofs.layouts.export_then.Tie as tie
-use Rattle.records.proofs.layouts.export_then.Reads as reads
-use Rattle.records.proofs.layouts.export_then.Lts as lts
-use Rattle.records.proofs.rows.quantities_then.Reads as quantities-then-reads
 
 quantities-then-requires : tie.Need-quantities-then-requires
 quantities-then-requires c κs = search needs
@@ -17,9 +13,10 @@ quantities-then-requires c κs = search needs
 returns : tie.Need-returns
 unfolding export
 returns c =
-    let s = (c .before .before .before .args) .s .now in
+    let c3 = c .before .before .before in
+    let s = (c3 .args) .s .now in
     let v = (c .before .quantities-then) .result in (
-      sym (next s ((c .before .before .before .args) .e) (v .end) (v .values) (many 12 quantity) _ ((c .before .quantities-then) .ensures .0)
+      sym (next s ((c3 .args) .e) (v .end) (v .values) (many 12 quantity) _ ((c .before .quantities-then) .ensures .0)
           ∙ last s (v .end) _),
       (c .before .quantities-then) .ensures .1,
     )

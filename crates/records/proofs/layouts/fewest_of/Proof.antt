@@ -1,12 +1,8 @@
-use mathlib.Core.Path.{_≡_, sym, _∙_}
+use mathlib.Core.Path.{sym, _∙_}
 use Rattle.records.proofs.marks.Lemmas.{least-yes, least-no}
-use native.Mathlib.Omega.{arith}
 use borrow.Author.Needs.{needs}
 use Rattle.records.proofs.layouts.fewest_of.Statement.{statement}
 use Rattle.records.proofs.layouts.fewest_of.Tie as tie
-use Rattle.records.proofs.layouts.fewest_of.Reads as reads
-use Rattle.records.proofs.layouts.fewest_of.Lts as lts
-use Rattle.records.proofs.rows.within.Reads as within-reads
 
 within-requires : tie.Need-within-requires
 within-requires c κs = search needs

@@ -1,20 +1,12 @@
-use mathlib.Core.Path.{_≡_, sym, _∙_}
+use mathlib.Core.Path.{sym, _∙_}
 use Rattle.records.specs.Reading.{many}
 use Rattle.records.specs.Numbers.{quantity, listFrom}
 use Rattle.records.specs.Layouts.{import, within}
 use Rattle.records.specs.tables.Inner.{guarded}
 use Rattle.records.proofs.fields.Step.{next, test, last, guarded-in}
-use native.Mathlib.Omega.{arith}
 use borrow.Author.Needs.{needs}
 use Rattle.records.proofs.layouts.import_then.Statement.{statement}
 use Rattle.records.proofs.layouts.import_then.Tie as tie
-use Rattle.records.proofs.layouts.import_then.Reads as reads
-use Rattle.records.proofs.layouts.import_then.Lts as lts
-use Rattle.records.proofs.fields.guard_end.Reads as guard-end-reads
-use Rattle.records.proofs.lists.last_quantity.Reads as last-quantity-reads
-use Rattle.records.proofs.lists.list_then.Reads as list-then-reads
-use Rattle.records.proofs.rows.quantities_then.Reads as quantities-then-reads
-use Rattle.records.proofs.rows.within.Reads as within-reads
 
 quantities-then-requires : tie.Need-quantities-then-requires
 quantities-then-requires c κs = search needs
@@ -34,16 +26,20 @@ guard-end-requires c κs = search needs
 returns : tie.Need-returns
 unfolding import
 returns c =
-    let s = (c .before .before .before .before .before .before .before .before .args) .s .now in
-    let v = (c .before .before .before .before .before .before .quantities-then) .result in
-    let o = (c .before .before .before .before .before .list-then) .result in
+    let c2 = c .before .before in
+    let c5 = c2 .before .before .before in
+    let c6 = c5 .before in
+    let c8 = c6 .before .before in
+    let s = (c8 .args) .s .now in
+    let v = (c6 .quantities-then) .result in
+    let o = (c5 .list-then) .result in
     let ok = within (o .offer) (v .values) in (
-      rw ((c .guard-end) .ensures, (c .before .within) .ensures, (c .before .before .last-quantity) .ensures)
-          (sym (next s ((c .before .before .before .before .before .before .before .before .args) .e) (v .end) (v .values) (many 12 quantity) _ ((c .before .before .before .before .before .before .quantities-then) .ensures .0)
-          ∙ next s (v .end) (o .end) (o .offer) (listFrom 1) _ ((c .before .before .before .before .before .list-then) .ensures .value)
+      rw ((c .guard-end) .ensures, (c .before .within) .ensures, (c2 .last-quantity) .ensures)
+          (sym (next s ((c8 .args) .e) (v .end) (v .values) (many 12 quantity) _ ((c6 .quantities-then) .ensures .0)
+          ∙ next s (v .end) (o .end) (o .offer) (listFrom 1) _ ((c5 .list-then) .ensures .value)
           ∙ test s (o .end) ok 7 _
           ∙ last s (guarded (o .end) ok 7) _)),
-      rw ((c .guard-end) .ensures) (guarded-in s (o .end) _ 7 ((c .before .before .before .before .before .list-then) .ensures .placed)),
+      rw ((c .guard-end) .ensures) (guarded-in s (o .end) _ 7 ((c5 .list-then) .ensures .placed)),
     )
 
 pub import-then-spec : {M : Type 1} → statement M

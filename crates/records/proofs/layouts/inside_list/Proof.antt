@@ -1,13 +1,8 @@
-use mathlib.Core.Path.{_≡_, ap, _∙_}
+use mathlib.Core.Path.{ap, _∙_}
 use Rattle.money.specs.Units.{withinOk}
-use native.Mathlib.Omega.{arith}
 use borrow.Author.Needs.{needs}
 use Rattle.records.proofs.layouts.inside_list.Statement.{statement}
 use Rattle.records.proofs.layouts.inside_list.Tie as tie
-use Rattle.records.proofs.layouts.inside_list.Reads as reads
-use Rattle.records.proofs.layouts.inside_list.Lts as lts
-use Rattle.records.proofs.lists.last_quantity.Reads as last-quantity-reads
-use Rattle.records.proofs.rows.within.Reads as within-reads
 
 last-quantity-requires : tie.Need-last-quantity-requires
 last-quantity-requires c κs = search needs

@@ -1,20 +1,10 @@
-use mathlib.Core.Path.{_≡_, sym, _∙_}
+use mathlib.Core.Path.{sym, _∙_}
 use Rattle.records.specs.Layouts.{unit, schedules, reserveRows, lists, allWithin}
 use Rattle.records.specs.tables.Inner.{guarded}
 use Rattle.records.proofs.fields.Step.{next, test, last, guarded-in}
-use native.Mathlib.Omega.{arith}
 use borrow.Author.Needs.{needs}
 use Rattle.records.proofs.layouts.unit_then.Statement.{statement}
 use Rattle.records.proofs.layouts.unit_then.Tie as tie
-use Rattle.records.proofs.layouts.unit_then.Reads as reads
-use Rattle.records.proofs.layouts.unit_then.Lts as lts
-use Rattle.records.proofs.fields.guard_end.Reads as guard-end-reads
-use Rattle.records.proofs.layouts.all_inside.Reads as all-inside-reads
-use Rattle.records.proofs.layouts.lists_then.Reads as lists-then-reads
-use Rattle.records.proofs.layouts.reserve.Reads as reserve-reads
-use Rattle.records.proofs.layouts.reserve_rows_then.Reads as reserve-rows-then-reads
-use Rattle.records.proofs.layouts.schedules_then.Reads as schedules-then-reads
-use Rattle.records.proofs.layouts.unit_of.Reads as unit-of-reads
 
 schedules-then-requires : tie.Need-schedules-then-requires
 schedules-then-requires c κs = search needs
@@ -52,25 +42,35 @@ unit-of-requires c κs = search needs
 returns : tie.Need-returns
 unfolding unit
 returns c =
-    let s = (c .before .before .before .before .before .before .before .before .before .before .before .before .before .before .before .before .before .before .before .before .before .before .before .before .before .before .args) .s .now in
-    let h = (c .before .before .before .before .before .before .before .before .before .before .before .before .before .before .before .before .before .before .before .before .before .before .before .before .schedules-then) .result in
-    let v1 = (c .before .before .before .before .before .before .before .before .before .before .before .before .before .before .before .before .before .before .before .before .before .before .before .reserve-rows-then) .result in
-    let v2 = (c .before .before .before .before .before .before .before .before .before .before .before .before .before .before .before .before .before .before .before .before .before .before .reserve-rows-then2) .result in
-    let v3 = (c .before .before .before .before .before .before .before .before .before .before .before .before .before .before .before .before .before .before .before .before .before .reserve-rows-then3) .result in
-    let k = (c .before .before .before .before .before .before .before .before .before .before .before .before .lists-then) .result in
+    let c2 = c .before .before in
+    let c3 = c2 .before in
+    let c9 = c3 .before .before .before .before .before .before in
+    let c10 = c9 .before in
+    let c12 = c10 .before .before in
+    let c21 = c12 .before .before .before .before .before .before .before .before .before in
+    let c22 = c21 .before in
+    let c23 = c22 .before in
+    let c24 = c23 .before in
+    let c26 = c24 .before .before in
+    let s = (c26 .args) .s .now in
+    let h = (c24 .schedules-then) .result in
+    let v1 = (c23 .reserve-rows-then) .result in
+    let v2 = (c22 .reserve-rows-then2) .result in
+    let v3 = (c21 .reserve-rows-then3) .result in
+    let k = (c12 .lists-then) .result in
     let s1 = v1 .rows .schedules in
     let s2 = v2 .rows .schedules in
     let s3 = v3 .rows .schedules in
     let ok = allWithin (k .lists) (h .schedules .ahead) s1 s2 s3 in (
-      rw ((c .unit-of) .ensures, (c .before .before .before .reserve) .ensures, (c .before .before .reserve2) .ensures, (c .before .reserve3) .ensures, (c .before .before .before .before .before .before .before .before .before .guard-end) .ensures, (c .before .before .before .before .before .before .before .before .before .before .all-inside) .ensures)
-          (sym (next s ((c .before .before .before .before .before .before .before .before .before .before .before .before .before .before .before .before .before .before .before .before .before .before .before .before .before .before .args) .e) (h .end) (h .schedules) schedules _ ((c .before .before .before .before .before .before .before .before .before .before .before .before .before .before .before .before .before .before .before .before .before .before .before .before .schedules-then) .ensures .0)
-          ∙ next s (h .end) (v1 .end) (v1 .rows) reserveRows _ ((c .before .before .before .before .before .before .before .before .before .before .before .before .before .before .before .before .before .before .before .before .before .before .before .reserve-rows-then) .ensures .0)
-          ∙ next s (v1 .end) (v2 .end) (v2 .rows) reserveRows _ ((c .before .before .before .before .before .before .before .before .before .before .before .before .before .before .before .before .before .before .before .before .before .before .reserve-rows-then2) .ensures .0)
-          ∙ next s (v2 .end) (v3 .end) (v3 .rows) reserveRows _ ((c .before .before .before .before .before .before .before .before .before .before .before .before .before .before .before .before .before .before .before .before .before .reserve-rows-then3) .ensures .0)
-          ∙ next s (v3 .end) (k .end) (k .lists) (lists s1 s2 s3) _ ((c .before .before .before .before .before .before .before .before .before .before .before .before .lists-then) .ensures .value)
+      rw ((c .unit-of) .ensures, (c3 .reserve) .ensures, (c2 .reserve2) .ensures, (c .before .reserve3) .ensures, (c9 .guard-end) .ensures, (c10 .all-inside) .ensures)
+          (sym (next s ((c26 .args) .e) (h .end) (h .schedules) schedules _ ((c24 .schedules-then) .ensures .0)
+          ∙ next s (h .end) (v1 .end) (v1 .rows) reserveRows _ ((c23 .reserve-rows-then) .ensures .0)
+          ∙ next s (v1 .end) (v2 .end) (v2 .rows) reserveRows _ ((c22 .reserve-rows-then2) .ensures .0)
+          ∙ next s (v2 .end) (v3 .end) (v3 .rows) reserveRows _ ((c21 .reserve-rows-then3) .ensures .0)
+          ∙ next s (v3 .end) (k .end) (k .lists) (lists s1 s2 s3) _ ((c12 .lists-then) .ensures .value)
           ∙ test s (k .end) ok 7 _
           ∙ last s (guarded (k .end) ok 7) _)),
-      rw ((c .before .before .before .before .before .before .before .before .before .guard-end) .ensures) (guarded-in s (k .end) ((c .before .before .before .before .before .before .before .before .before .before .all-inside) .result) 7 ((c .before .before .before .before .before .before .before .before .before .before .before .before .lists-then) .ensures .placed)),
+      rw ((c9 .guard-end) .ensures) (guarded-in s (k .end) ((c10 .all-inside) .result) 7 ((c12 .lists-then) .ensures .placed)),
     )
 
 pub unit-then-spec : {M : Type 1} → statement M

@@ -1,12 +1,8 @@
 use mathlib.Core.Path.{_∙_}
 use Rattle.records.proofs.leads.Lemmas.{bears-short, bears-is}
-use native.Mathlib.Omega.{arith}
 use borrow.Author.Needs.{needs}
 use Rattle.records.proofs.leads.begins_with.Statement.{statement}
 use Rattle.records.proofs.leads.begins_with.Tie as tie
-use Rattle.records.proofs.leads.begins_with.Reads as reads
-use Rattle.records.proofs.leads.begins_with.Lts as lts
-use Rattle.records.proofs.marks.is.Reads as is-reads
 
 returns : tie.Need-returns
 returns c = bears-short ((c .before .before .args) .x) ((c .before .before .args) .y) ((c .before .before .args) .s .now) ((c .if1) .taken)
@@ -21,7 +17,10 @@ is-requires : tie.Need-is-requires
 is-requires c κs = search needs
 
 returns-2 : tie.Need-returns-2
-returns-2 c = (c .is) .ensures ∙ bears-is ((c .before .before .before .before .before .args) .x) ((c .before .before .before .before .before .args) .y) ((c .before .before .before .before .before .args) .s .now) ((c .before .before .before .if1) .left)
+returns-2 c =
+    let c3 = c .before .before .before in
+    let c5 = c3 .before .before in
+    (c .is) .ensures ∙ bears-is ((c5 .args) .x) ((c5 .args) .y) ((c5 .args) .s .now) ((c3 .if1) .left)
 
 pub begins-with-spec : {M : Type 1} → statement M
 begins-with-spec =

@@ -3,8 +3,6 @@ use native.Mathlib.Omega.{arith}
 use borrow.Author.Needs.{needs}
 use Rattle.records.proofs.lists.last_quantity.Statement.{statement}
 use Rattle.records.proofs.lists.last_quantity.Tie as tie
-use Rattle.records.proofs.lists.last_quantity.Reads as reads
-use Rattle.records.proofs.lists.last_quantity.Lts as lts
 
 cast-n : tie.Need-cast-n
 cast-n c = search needs

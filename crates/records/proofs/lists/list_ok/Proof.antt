@@ -1,11 +1,7 @@
 use borrow.Author.Tests.{eq-eqb, ne-eqb}
-use native.Mathlib.Omega.{arith}
 use borrow.Author.Needs.{needs}
 use Rattle.records.proofs.lists.list_ok.Statement.{statement}
 use Rattle.records.proofs.lists.list_ok.Tie as tie
-use Rattle.records.proofs.lists.list_ok.Reads as reads
-use Rattle.records.proofs.lists.list_ok.Lts as lts
-use Rattle.money.proofs.offers.offer_fault.Reads as offer-fault-reads
 
 returns : tie.Need-returns
 returns c = simp (eq-eqb _ 0 ((c .if1) .taken))

@@ -2,10 +2,6 @@ use native.Mathlib.Omega.{arith}
 use borrow.Author.Needs.{needs}
 use Rattle.records.proofs.lists.list_then.Statement.{statement}
 use Rattle.records.proofs.lists.list_then.Tie as tie
-use Rattle.records.proofs.lists.list_then.Reads as reads
-use Rattle.records.proofs.lists.list_then.Lts as lts
-use Rattle.records.proofs.lists.offer_no.Reads as offer-no-reads
-use Rattle.records.proofs.lists.read_list.Reads as read-list-reads
 
 enum-known-e : tie.Need-enum-known-e
 enum-known-e c = search needs
@@ -20,10 +16,14 @@ offer-no-requires : tie.Need-offer-no-requires
 offer-no-requires c κs = search needs
 
 returns : tie.Need-returns
-returns c = record { value = rw ((c .before .before .e) .given .1) ((c .read-list) .ensures .value); placed = (c .read-list) .ensures .placed; few = (c .read-list) .ensures .few }
+returns c =
+    let c2 = c .before .before in
+    record { value = rw ((c2 .e) .given .1) ((c .read-list) .ensures .value); placed = (c .read-list) .ensures .placed; few = (c .read-list) .ensures .few }
 
 returns-2 : tie.Need-returns-2
-returns-2 c = record { value = rw ((c .offer-no) .ensures .0, (c .before .before .e2) .given .1); placed = rw ((c .offer-no) .ensures .0) tt; few = omega (arith, (c .offer-no) .ensures .1) }
+returns-2 c =
+    let c2 = c .before .before in
+    record { value = rw ((c .offer-no) .ensures .0, (c2 .e2) .given .1); placed = rw ((c .offer-no) .ensures .0) tt; few = omega (arith, (c .offer-no) .ensures .1) }
 
 pub list-then-spec : {M : Type 1} → statement M
 list-then-spec =

@@ -1,12 +1,7 @@
 use Rattle.records.specs.Numbers.{pair}
-use native.Mathlib.Omega.{arith}
 use borrow.Author.Needs.{needs}
 use Rattle.records.proofs.lists.read_pair.Statement.{statement}
 use Rattle.records.proofs.lists.read_pair.Tie as tie
-use Rattle.records.proofs.lists.read_pair.Reads as reads
-use Rattle.records.proofs.lists.read_pair.Lts as lts
-use Rattle.records.proofs.fields.read_price.Reads as read-price-reads
-use Rattle.records.proofs.fields.read_quantity.Reads as read-quantity-reads
 
 read-price-requires : tie.Need-read-price-requires
 read-price-requires c κs = search needs
@@ -29,12 +24,19 @@ enum-known-p-2 c = search needs
 returns : tie.Need-returns
 unfolding pair
 returns c =
-    let h = (c .before .before .before .read-quantity) .ensures .1 in
-    (rw (← (c .before .before .before .before .before .before .before .read-price) .ensures .0, (c .before .before .before .before .before .p) .given .1, ← (c .before .before .before .read-quantity) .ensures .0, (c .before .q) .given .1), rw ((c .before .q) .given .1) at h)
+    let c3 = c .before .before .before in
+    let c5 = c3 .before .before in
+    let c7 = c5 .before .before in
+    let h = (c3 .read-quantity) .ensures .1 in
+    (rw (← (c7 .read-price) .ensures .0, (c5 .p) .given .1, ← (c3 .read-quantity) .ensures .0, (c .before .q) .given .1), rw ((c .before .q) .given .1) at h)
 
 returns-2 : tie.Need-returns-2
 unfolding pair
-returns-2 c = (rw (← (c .before .before .before .before .before .before .before .read-price) .ensures .0, (c .before .before .before .before .before .p) .given .1, ← (c .before .before .before .read-quantity) .ensures .0, (c .before .q2) .given .1), tt)
+returns-2 c =
+    let c3 = c .before .before .before in
+    let c5 = c3 .before .before in
+    let c7 = c5 .before .before in
+    (rw (← (c7 .read-price) .ensures .0, (c5 .p) .given .1, ← (c3 .read-quantity) .ensures .0, (c .before .q2) .given .1), tt)
 
 returns-3 : tie.Need-returns-3
 unfolding pair

@@ -10,10 +10,6 @@ use borrow.Author.Needs.{needs}
 use native.Mathlib.Omega.{arith}
 use Rattle.records.proofs.lists.read_pairs.Statement.{statement}
 use Rattle.records.proofs.lists.read_pairs.Tie as tie
-use Rattle.records.proofs.lists.read_pairs.Reads as reads
-use Rattle.records.proofs.lists.read_pairs.Lts as lts
-use Rattle.records.proofs.lists.offer_no.Reads as offer-no-reads
-use Rattle.records.proofs.lists.read_pair.Reads as read-pair-reads
 
 abbrev Inv-loop : tie.InvT-loop
 Inv-loop s at n prices₀ quantities₀ next₀ i₀ prices quantities next i = (i ≤ n) × (length prices ≡ 20) × (length quantities ≡ 20) × (n ≤ 20) × (next ≤ length s) × Padded noPrice 20 prices i × Padded noQuantity 20 quantities i × Filled pair s n at (zip prices quantities) i next

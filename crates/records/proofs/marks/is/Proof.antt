@@ -1,10 +1,6 @@
 use Rattle.records.proofs.marks.Lemmas.{is-no, is-yes}
-use borrow.Author.Needs.{needs}
-use native.Mathlib.Omega.{arith}
 use Rattle.records.proofs.marks.is.Statement.{statement}
 use Rattle.records.proofs.marks.is.Tie as tie
-use Rattle.records.proofs.marks.is.Reads as reads
-use Rattle.records.proofs.marks.is.Lts as lts
 
 returns : tie.Need-returns
 returns c = is-no ((c .before .args) .a) ((c .before .args) .b) ((c .before .args) .x) ((c .before .args) .y) ((c .if1) .taken)

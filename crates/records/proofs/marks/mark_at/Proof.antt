@@ -9,13 +9,6 @@ use Rattle.records.specs.Marks.{listing, markAmong, mark}
 use Rattle.records.proofs.marks.Lemmas.{mark-past, mark-short, mark-here, among-test, among-none}
 use Rattle.records.proofs.marks.mark_at.Statement.{statement}
 use Rattle.records.proofs.marks.mark_at.Tie as tie
-use Rattle.records.proofs.marks.mark_at.Reads as reads
-use Rattle.records.proofs.marks.mark_at.Lts as lts
-use Rattle.records.proofs.marks.bytes_of.Reads as bytes-of-reads
-use Rattle.records.proofs.marks.is.Reads as is-reads
-use Rattle.records.proofs.marks.listed.Reads as listed-reads
-use Rattle.records.proofs.marks.mark_no.Reads as mark-no-reads
-use Rattle.records.proofs.marks.marked.Reads as marked-reads
 
 abbrev Inv-loop : tie.InvT-loop
 Inv-loop s at a b i₀ i = mark (from s at) ≡ markAmong (drop i listing) a b (from s (at + 2))
@@ -55,8 +48,11 @@ shared-slice-read-b c = search needs
 
 loop-holds : tie.Need-loop-holds Inv-loop μ-loop
 loop-holds c =
-    let a = c .before .before .before .before .before .args in
-    mark-here (a .s .now) (a .at) (c .before .before .before .if1 .left) (c .before .before .if2 .left)
+    let c2 = c .before .before in
+    let c3 = c2 .before in
+    let c5 = c3 .before .before in
+    let a = c5 .args in
+    mark-here (a .s .now) (a .at) (c3 .if1 .left) (c2 .if2 .left)
 
 listed-requires : tie.Need-listed-requires Inv-loop μ-loop
 listed-requires c κs = search needs
@@ -75,11 +71,16 @@ marked-requires c κs = search needs
 
 returns-3 : tie.Need-returns-3 Inv-loop μ-loop
 returns-3 c =
-    let l = c .before .before .before .before .before .before .loop in
-    let h = c .before .before .before .before .before .loop-test .taken in
-    let m = c .before .before .before .before .listed in
-    let x = c .before .before .before .bytes-of in
-    let t = c .before .before .is in
+    let c2 = c .before .before in
+    let c3 = c2 .before in
+    let c4 = c3 .before in
+    let c5 = c4 .before in
+    let c6 = c5 .before in
+    let l = c6 .loop in
+    let h = c5 .loop-test .taken in
+    let m = c4 .listed in
+    let x = c3 .bytes-of in
+    let t = c2 .is in
     let e = c .marked .ensures in (
       rw e (sym (l .inv ∙ among-test listing _ _ _ (l .i) h (m .result) (m .ensures) _ _ (x .ensures) (t .result) (t .ensures) true (c .before .if3 .taken))),
       rw e (omega arith),
@@ -93,10 +94,14 @@ loop-less c = search needs
 
 loop-again : tie.Need-loop-again Inv-loop μ-loop
 loop-again c =
-    let l = c .before .before .before .before .before .loop in
-    let h = c .before .before .before .before .loop-test .taken in
-    let m = c .before .before .before .listed in
-    let x = c .before .before .bytes-of in
+    let c2 = c .before .before in
+    let c3 = c2 .before in
+    let c4 = c3 .before in
+    let c5 = c4 .before in
+    let l = c5 .loop in
+    let h = c4 .loop-test .taken in
+    let m = c3 .listed in
+    let x = c2 .bytes-of in
     let t = c .before .is in
     l .inv ∙ among-test listing _ _ _ (l .i) h (m .result) (m .ensures) _ _ (x .ensures) (t .result) (t .ensures) false (c .if3 .left)
 

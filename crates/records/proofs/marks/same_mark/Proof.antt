@@ -1,10 +1,6 @@
-use native.Mathlib.Omega.{arith}
 use borrow.Author.Needs.{needs}
 use Rattle.records.proofs.marks.same_mark.Statement.{statement}
 use Rattle.records.proofs.marks.same_mark.Tie as tie
-use Rattle.records.proofs.marks.same_mark.Reads as reads
-use Rattle.records.proofs.marks.same_mark.Lts as lts
-use Rattle.records.proofs.marks.order.Reads as order-reads
 
 order-requires : tie.Need-order-requires
 order-requires c κs = search needs

@@ -1,12 +1,7 @@
-use mathlib.Core.Path.{_≡_, refl}
 use Rattle.records.specs.Names.{spellByte}
-use native.Mathlib.Omega.{arith}
 use borrow.Author.Needs.{needs}
 use Rattle.records.proofs.names.byte_len.Statement.{statement}
 use Rattle.records.proofs.names.byte_len.Tie as tie
-use Rattle.records.proofs.names.byte_len.Reads as reads
-use Rattle.records.proofs.names.byte_len.Lts as lts
-use Rattle.records.proofs.names.unreserved.Reads as unreserved-reads
 
 unreserved-requires : tie.Need-unreserved-requires
 unreserved-requires c κs = search needs

@@ -11,10 +11,6 @@ use borrow.Author.Needs.{needs}
 use native.Mathlib.Omega.{arith}
 use Rattle.records.proofs.names.decode.Statement.{statement}
 use Rattle.records.proofs.names.decode.Tie as tie
-use Rattle.records.proofs.names.decode.Reads as reads
-use Rattle.records.proofs.names.decode.Lts as lts
-use Rattle.records.proofs.names.name_no.Reads as name-no-reads
-use Rattle.records.proofs.names.one_at.Reads as one-at-reads
 
 abbrev Inv-loop : tie.InvT-loop
 Inv-loop spelled bytes₀ n₀ at₀ bytes n at = (n ≤ 12) × (length bytes ≡ 12) × (at ≤ length spelled) × Spelled spelled 12 0 bytes n at × Padded 0 12 bytes n
@@ -34,7 +30,9 @@ name-no-requires-2 c κs = search needs
 
 returns-2 : tie.Need-returns-2 Inv-loop μ-loop
 unfolding decodeName
-returns-2 c = record { value = rw ((c .name-no2) .ensures .0, le-leb _ _ ((c .before .before .if1) .left), lt-leb _ _ ((c .before .if2) .taken)); placed = rw ((c .name-no2) .ensures .0) tt; few = omega (arith, (c .name-no2) .ensures .1) }
+returns-2 c =
+    let c2 = c .before .before in
+    record { value = rw ((c .name-no2) .ensures .0, le-leb _ _ ((c2 .if1) .left), lt-leb _ _ ((c .before .if2) .taken)); placed = rw ((c .name-no2) .ensures .0) tt; few = omega (arith, (c .name-no2) .ensures .1) }
 
 loop-holds : tie.Need-loop-holds Inv-loop μ-loop
 loop-holds c = (search needs, refl, search needs, spelled-none, record { long = refl; behind = refl })
@@ -44,7 +42,12 @@ name-no-requires-3 c κs = search needs
 
 returns-3 : tie.Need-returns-3 Inv-loop μ-loop
 unfolding decodeName from
-returns-3 c = record { value = rw ((c .name-no3) .ensures .0, le-leb _ _ ((c .before .before .before .before .before .if1) .left), le-leb _ _ ((c .before .before .before .before .if2) .left)) (ap storedName (spelled-full ((c .before .before .before .loop) .inv .3) ((c .before .before .loop-test) .taken) ((c .before .if3) .taken))); placed = rw ((c .name-no3) .ensures .0) tt; few = omega (arith, (c .name-no3) .ensures .1) }
+returns-3 c =
+    let c2 = c .before .before in
+    let c3 = c2 .before in
+    let c4 = c3 .before in
+    let c5 = c4 .before in
+    record { value = rw ((c .name-no3) .ensures .0, le-leb _ _ ((c5 .if1) .left), le-leb _ _ ((c4 .if2) .left)) (ap storedName (spelled-full ((c3 .loop) .inv .3) ((c2 .loop-test) .taken) ((c .before .if3) .taken))); placed = rw ((c .name-no3) .ensures .0) tt; few = omega (arith, (c .name-no3) .ensures .1) }
 
 one-at-requires : tie.Need-one-at-requires Inv-loop μ-loop
 one-at-requires c κs = search needs
@@ -74,14 +77,25 @@ name-no-requires-4 c κs = search needs
 
 returns-4 : tie.Need-returns-4 Inv-loop μ-loop
 unfolding decodeName from
-returns-4 c = record { value = rw ((c .name-no4) .ensures .0, le-leb _ _ ((c .before .before .before .before .before .before .before .before .before .if1) .left), le-leb _ _ ((c .before .before .before .before .before .before .before .before .if2) .left)) (ap storedName (spelled-bad ((c .before .before .before .before .before .before .before .loop) .inv .3) ((c .before .before .before .before .before .before .loop-test) .taken) ((c .before .before .before .before .before .if3) .left) (sym ((c .before .before .before .before .one-at) .ensures .0) ∙ ap (chr _) ((c .before .before .b2) .given .1)))); placed = rw ((c .name-no4) .ensures .0) tt; few = omega (arith, (c .name-no4) .ensures .1) }
+returns-4 c =
+    let c2 = c .before .before in
+    let c4 = c2 .before .before in
+    let c5 = c4 .before in
+    let c6 = c5 .before in
+    let c7 = c6 .before in
+    let c8 = c7 .before in
+    let c9 = c8 .before in
+    record { value = rw ((c .name-no4) .ensures .0, le-leb _ _ ((c9 .if1) .left), le-leb _ _ ((c8 .if2) .left)) (ap storedName (spelled-bad ((c7 .loop) .inv .3) ((c6 .loop-test) .taken) ((c5 .if3) .left) (sym ((c4 .one-at) .ensures .0) ∙ ap (chr _) ((c2 .b2) .given .1)))); placed = rw ((c .name-no4) .ensures .0) tt; few = omega (arith, (c .name-no4) .ensures .1) }
 
 cast-t16 : tie.Need-cast-t16 Inv-loop μ-loop
 cast-t16 c = search needs
 
 returns-5 : tie.Need-returns-5 Inv-loop μ-loop
 unfolding decodeName from
-returns-5 c = record { value = rw (le-leb _ _ ((c .before .before .before .if1) .left), le-leb _ _ ((c .before .before .if2) .left)) (name-all ((c .before .loop) .inv .3) ((c .before .loop) .inv .0) ((c .before .loop) .inv .4) ((c .loop-test) .left)); placed = (c .before .loop) .inv .2; few = (c .before .loop) .inv .0 }
+returns-5 c =
+    let c2 = c .before .before in
+    let c3 = c2 .before in
+    record { value = rw (le-leb _ _ ((c3 .if1) .left), le-leb _ _ ((c2 .if2) .left)) (name-all ((c .before .loop) .inv .3) ((c .before .loop) .inv .0) ((c .before .loop) .inv .4) ((c .loop-test) .left)); placed = (c .before .loop) .inv .2; few = (c .before .loop) .inv .0 }
 
 pub decode-spec : {M : Type 1} → statement M
 decode-spec =

@@ -1,11 +1,8 @@
 use borrow.Author.Tests.{lt-ltb, le-ltb}
 use Rattle.records.specs.Names.{digit}
-use native.Mathlib.Omega.{arith}
 use borrow.Author.Needs.{needs}
 use Rattle.records.proofs.names.digit.Statement.{statement}
 use Rattle.records.proofs.names.digit.Tie as tie
-use Rattle.records.proofs.names.digit.Reads as reads
-use Rattle.records.proofs.names.digit.Lts as lts
 
 add-result : tie.Need-add-result
 add-result c = search needs

@@ -1,4 +1,4 @@
-use mathlib.Core.Path.{_≡_, sym, ap, _∙_}
+use mathlib.Core.Path.{sym, ap, _∙_}
 use Prim.Native.Nat.{_+_, _-_}
 use lib.ListN.{take, drop}
 use borrow.Author.Tests.{le-leb, lt-leb}
@@ -11,11 +11,6 @@ use native.Mathlib.Omega.{arith}
 use borrow.Author.Needs.{needs}
 use Rattle.records.proofs.names.read_name.Statement.{statement}
 use Rattle.records.proofs.names.read_name.Tie as tie
-use Rattle.records.proofs.names.read_name.Reads as reads
-use Rattle.records.proofs.names.read_name.Lts as lts
-use Rattle.records.proofs.fields.read_byte.Reads as read-byte-reads
-use Rattle.records.proofs.names.decode.Reads as decode-reads
-use Rattle.records.proofs.names.name_no.Reads as name-no-reads
 
 read-byte-requires : tie.Need-read-byte-requires
 read-byte-requires c κs = search needs
@@ -28,14 +23,21 @@ name-no-requires c κs = search needs
 
 returns : tie.Need-returns
 unfolding nameField
-returns c = record { value = rw ((c .name-no) .ensures .0, ← (c .before .before .before .before .before .read-byte) .ensures .0, (c .before .before .before .c) .given .1, lt-leb _ _ ((c .before .if1) .taken)); placed = rw ((c .name-no) .ensures .0) tt; few = omega (arith, (c .name-no) .ensures .1) }
+returns c =
+    let c3 = c .before .before .before in
+    let c5 = c3 .before .before in
+    record { value = rw ((c .name-no) .ensures .0, ← (c5 .read-byte) .ensures .0, (c3 .c) .given .1, lt-leb _ _ ((c .before .if1) .taken)); placed = rw ((c .name-no) .ensures .0) tt; few = omega (arith, (c .name-no) .ensures .1) }
 
 name-no-requires-2 : tie.Need-name-no-requires-2
 name-no-requires-2 c κs = search needs
 
 returns-2 : tie.Need-returns-2
 unfolding nameField
-returns-2 c = record { value = rw ((c .name-no2) .ensures .0, ← (c .before .before .before .before .before .before .read-byte) .ensures .0, (c .before .before .before .before .c) .given .1, le-leb _ _ ((c .before .before .if1) .left), lt-leb _ _ ((c .before .if2) .taken)); placed = rw ((c .name-no2) .ensures .0) tt; few = omega (arith, (c .name-no2) .ensures .1) }
+returns-2 c =
+    let c2 = c .before .before in
+    let c4 = c2 .before .before in
+    let c6 = c4 .before .before in
+    record { value = rw ((c .name-no2) .ensures .0, ← (c6 .read-byte) .ensures .0, (c4 .c) .given .1, le-leb _ _ ((c2 .if1) .left), lt-leb _ _ ((c .before .if2) .taken)); placed = rw ((c .name-no2) .ensures .0) tt; few = omega (arith, (c .name-no2) .ensures .1) }
 
 cast-k : tie.Need-cast-k
 cast-k c = search needs
@@ -48,7 +50,13 @@ name-no-requires-3 c κs = search needs
 
 returns-3 : tie.Need-returns-3
 unfolding nameField
-returns-3 c = record { value = rw ((c .name-no3) .ensures .0, ← (c .before .before .before .before .before .before .before .read-byte) .ensures .0, (c .before .before .before .before .before .c) .given .1, le-leb _ _ ((c .before .before .before .if1) .left), le-leb _ _ ((c .before .before .if2) .left), some-short ((c .before .before .before .before .before .before .before .before .before .args) .s .now) ((c .before .before .before .before .before .c) .given .0 .1 .0) ((c .before .before .before .before .before .c) .given .0 .0) ((c .before .if3) .taken)); placed = rw ((c .name-no3) .ensures .0) tt; few = omega (arith, (c .name-no3) .ensures .1) }
+returns-3 c =
+    let c2 = c .before .before in
+    let c3 = c2 .before in
+    let c5 = c3 .before .before in
+    let c7 = c5 .before .before in
+    let c9 = c7 .before .before in
+    record { value = rw ((c .name-no3) .ensures .0, ← (c7 .read-byte) .ensures .0, (c5 .c) .given .1, le-leb _ _ ((c3 .if1) .left), le-leb _ _ ((c2 .if2) .left), some-short ((c9 .args) .s .now) ((c5 .c) .given .0 .1 .0) ((c5 .c) .given .0 .0) ((c .before .if3) .taken)); placed = rw ((c .name-no3) .ensures .0) tt; few = omega (arith, (c .name-no3) .ensures .1) }
 
 add-decode : tie.Need-add-decode
 add-decode c = search needs
@@ -101,21 +109,32 @@ returns-4 c =
 returns-5 : tie.Need-returns-5
 unfolding nameField
 returns-5 c =
-    let s = (c .before .before .before .before .before .before .before .before .before .before .before .before .before .before .before .args) .s .now in
-    let first = (c .before .before .before .before .before .before .before .before .before .before .before .c) .given .0 .1 .0 in
-    let k = (c .before .before .before .before .before .before .before .before .before .before .before .c) .given .0 .0 in
+    let c2 = c .before .before in
+    let c5 = c2 .before .before .before in
+    let c7 = c5 .before .before in
+    let c8 = c7 .before in
+    let c9 = c8 .before in
+    let c11 = c9 .before .before in
+    let c13 = c11 .before .before in
+    let c15 = c13 .before .before in
+    let s = (c15 .args) .s .now in
+    let first = (c11 .c) .given .0 .1 .0 in
+    let k = (c11 .c) .given .0 .0 in
     let part = take (first + k - first) (drop first s) in
     record {
       value =
-          rw ((c .name-no4) .ensures .0, ← (c .before .before .before .before .before .before .before .before .before .before .before .before .before .read-byte) .ensures .0, (c .before .before .before .before .before .before .before .before .before .before .before .c) .given .1, le-leb _ _ ((c .before .before .before .before .before .before .before .before .before .if1) .left), le-leb _ _ ((c .before .before .before .before .before .before .before .before .if2) .left), some-at s first k ((c .before .before .before .before .before .before .before .if3) .left))
-          (held-bad (decodeName part) ((c .before .before .e2) .given .0 .0) _ (sym (ap (λ d. shown part d ((c .before .before .before .before .before .decode) .result .name)) ((c .before .before .e2) .given .1)) ∙ (c .before .before .before .before .before .decode) .ensures .value));
+          rw ((c .name-no4) .ensures .0, ← (c13 .read-byte) .ensures .0, (c11 .c) .given .1, le-leb _ _ ((c9 .if1) .left), le-leb _ _ ((c8 .if2) .left), some-at s first k ((c7 .if3) .left))
+          (held-bad (decodeName part) ((c2 .e2) .given .0 .0) _ (sym (ap (λ d. shown part d ((c5 .decode) .result .name)) ((c2 .e2) .given .1)) ∙ (c5 .decode) .ensures .value));
       placed = rw ((c .name-no4) .ensures .0) tt;
       few = omega (arith, (c .name-no4) .ensures .1);
     }
 
 returns-6 : tie.Need-returns-6
 unfolding nameField
-returns-6 c = record { value = rw ((c .name-no5) .ensures .0, ← (c .before .before .before .before .read-byte) .ensures .0, (c .before .before .c2) .given .1); placed = rw ((c .name-no5) .ensures .0) tt; few = omega (arith, (c .name-no5) .ensures .1) }
+returns-6 c =
+    let c2 = c .before .before in
+    let c4 = c2 .before .before in
+    record { value = rw ((c .name-no5) .ensures .0, ← (c4 .read-byte) .ensures .0, (c2 .c2) .given .1); placed = rw ((c .name-no5) .ensures .0) tt; few = omega (arith, (c .name-no5) .ensures .1) }
 
 pub read-name-spec : {M : Type 1} → statement M
 read-name-spec =

@@ -7,9 +7,6 @@ use borrow.Author.Needs.{needs}
 use native.Mathlib.Omega.{arith}
 use Rattle.records.proofs.names.spelled_len.Statement.{statement}
 use Rattle.records.proofs.names.spelled_len.Tie as tie
-use Rattle.records.proofs.names.spelled_len.Reads as reads
-use Rattle.records.proofs.names.spelled_len.Lts as lts
-use Rattle.records.proofs.names.byte_len.Reads as byte-len-reads
 
 abbrev Inv-loop : tie.InvT-loop
 Inv-loop name n sum₀ i₀ sum i = (i ≤ n) × (n ≡ name .len) × (n ≤ 12) × (length (name .bytes) ≡ 12) × (sum ≤ 3 * i) × (sum ≡ length (spell (take i (name .bytes))))

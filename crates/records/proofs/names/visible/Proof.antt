@@ -1,11 +1,7 @@
 use borrow.Author.Tests.{le-leb, lt-leb}
 use Rattle.records.specs.Names.{visible}
-use borrow.Author.Needs.{needs}
-use native.Mathlib.Omega.{arith}
 use Rattle.records.proofs.names.visible.Statement.{statement}
 use Rattle.records.proofs.names.visible.Tie as tie
-use Rattle.records.proofs.names.visible.Reads as reads
-use Rattle.records.proofs.names.visible.Lts as lts
 
 returns : tie.Need-returns
 unfolding visible

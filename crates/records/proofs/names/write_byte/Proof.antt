@@ -1,15 +1,10 @@
 use lib.ListN.{length-set}
-use mathlib.Core.Path.{_≡_, sym, _∙_}
 use Rattle.records.specs.Names.{spellByte}
 use Rattle.records.proofs.writing.Putting.{wrote-one, wrote-three}
 use native.Mathlib.Omega.{arith}
 use borrow.Author.Needs.{needs}
 use Rattle.records.proofs.names.write_byte.Statement.{statement}
 use Rattle.records.proofs.names.write_byte.Tie as tie
-use Rattle.records.proofs.names.write_byte.Reads as reads
-use Rattle.records.proofs.names.write_byte.Lts as lts
-use Rattle.records.proofs.names.digit.Reads as digit-reads
-use Rattle.records.proofs.names.unreserved.Reads as unreserved-reads
 
 unreserved-requires : tie.Need-unreserved-requires
 unreserved-requires c κs = search needs
@@ -56,7 +51,10 @@ same-length-2 c = simp length-set
 
 returns-2 : tie.Need-returns-2
 unfolding spellByte
-returns-2 c = rw (← c .before .before .before .unreserved .ensures, c .before .before .if1 .left, ← c .before .digit .ensures, ← c .digit2 .ensures) (wrote-three _ _ _ _ _)
+returns-2 c =
+    let c2 = c .before .before in
+    let c3 = c2 .before in
+    rw (← c3 .unreserved .ensures, c2 .if1 .left, ← c .before .digit .ensures, ← c .digit2 .ensures) (wrote-three _ _ _ _ _)
 
 pub write-byte-spec : {M : Type 1} → statement M
 write-byte-spec =

@@ -9,9 +9,6 @@ use borrow.Author.Needs.{needs}
 use native.Mathlib.Omega.{arith}
 use Rattle.records.proofs.names.write_name.Statement.{statement}
 use Rattle.records.proofs.names.write_name.Tie as tie
-use Rattle.records.proofs.names.write_name.Reads as reads
-use Rattle.records.proofs.names.write_name.Lts as lts
-use Rattle.records.proofs.names.write_byte.Reads as write-byte-reads
 
 abbrev Inv-loop : tie.InvT-loop
 Inv-loop out₀ at name n next₀ i₀ out next i = (i ≤ n) × (n ≡ name .len) × (n ≤ 12) × (length (name .bytes) ≡ 12) × (length out ≡ length out₀) × (next ≤ at + 3 * i) × (at + 36 ≤ length out₀) × Wrote out₀ out at next (spell (take i (name .bytes)))

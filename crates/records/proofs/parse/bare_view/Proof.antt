@@ -1,10 +1,6 @@
-use native.Mathlib.Omega.{arith}
 use borrow.Author.Needs.{needs}
 use Rattle.records.proofs.parse.bare_view.Statement.{statement}
 use Rattle.records.proofs.parse.bare_view.Tie as tie
-use Rattle.records.proofs.parse.bare_view.Reads as reads
-use Rattle.records.proofs.parse.bare_view.Lts as lts
-use Rattle.records.proofs.scan.nothing.Reads as nothing-reads
 
 nothing-requires : tie.Need-nothing-requires
 nothing-requires c κs = search needs

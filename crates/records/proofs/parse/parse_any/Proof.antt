@@ -1,14 +1,9 @@
-use mathlib.Core.Path.{_≡_, sym, ap, _∙_}
+use mathlib.Core.Path.{sym, ap, _∙_}
 use Rattle.records.specs.tables.Inner.{shown}
 use Rattle.records.proofs.parse.Lemmas.{any-faulted, any-bad, any-8, any-fine}
 use borrow.Author.Needs.{needs}
-use native.Mathlib.Omega.{arith}
 use Rattle.records.proofs.parse.parse_any.Statement.{statement}
 use Rattle.records.proofs.parse.parse_any.Tie as tie
-use Rattle.records.proofs.parse.parse_any.Reads as reads
-use Rattle.records.proofs.parse.parse_any.Lts as lts
-use Rattle.records.proofs.parse.entry_at.Reads as entry-at-reads
-use Rattle.records.proofs.parse.fault.Reads as fault-reads
 
 entry-at-requires : tie.Need-entry-at-requires
 entry-at-requires c κs = search needs
@@ -21,9 +16,12 @@ fault-requires c κs = search needs
 
 returns : tie.Need-returns
 returns c =
-    let s = (c .before .before .before .before .before .before .before .args) .s .now in
-    let v = (c .before .before .before .before .before .entry-at) .result .view in
-    any-faulted _ _ _ ((c .fault) .ensures) (any-8 s v ((c .before .before .before .e) .given .0 .0) (sym (ap (λ d. shown s d v) ((c .before .before .before .e) .given .1)) ∙ (c .before .before .before .before .before .entry-at) .ensures .value) ((c .before .if1) .taken))
+    let c3 = c .before .before .before in
+    let c5 = c3 .before .before in
+    let c7 = c5 .before .before in
+    let s = (c7 .args) .s .now in
+    let v = (c5 .entry-at) .result .view in
+    any-faulted _ _ _ ((c .fault) .ensures) (any-8 s v ((c3 .e) .given .0 .0) (sym (ap (λ d. shown s d v) ((c3 .e) .given .1)) ∙ (c5 .entry-at) .ensures .value) ((c .before .if1) .taken))
 
 enum-known-e-2 : tie.Need-enum-known-e-2
 enum-known-e-2 c = search needs
@@ -33,15 +31,21 @@ fault-requires-2 c κs = search needs
 
 returns-2 : tie.Need-returns-2
 returns-2 c =
-    let s = (c .before .before .before .before .before .before .before .args) .s .now in
-    let v = (c .before .before .before .before .before .entry-at) .result .view in
-    any-fine s v ((c .before .before .before .e) .given .0 .0) (sym (ap (λ d. shown s d v) ((c .before .before .before .e) .given .1)) ∙ (c .before .before .before .before .before .entry-at) .ensures .value) ((c .before .if1) .left)
+    let c3 = c .before .before .before in
+    let c5 = c3 .before .before in
+    let c7 = c5 .before .before in
+    let s = (c7 .args) .s .now in
+    let v = (c5 .entry-at) .result .view in
+    any-fine s v ((c3 .e) .given .0 .0) (sym (ap (λ d. shown s d v) ((c3 .e) .given .1)) ∙ (c5 .entry-at) .ensures .value) ((c .before .if1) .left)
 
 returns-3 : tie.Need-returns-3
 returns-3 c =
-    let s = (c .before .before .before .before .before .before .args) .s .now in
-    let v = (c .before .before .before .before .entry-at) .result .view in
-    any-faulted _ _ _ ((c .fault2) .ensures) (any-bad s ((c .before .before .e2) .given .0 .0) (sym (ap (λ d. shown s d v) ((c .before .before .e2) .given .1)) ∙ (c .before .before .before .before .entry-at) .ensures .value))
+    let c2 = c .before .before in
+    let c4 = c2 .before .before in
+    let c6 = c4 .before .before in
+    let s = (c6 .args) .s .now in
+    let v = (c4 .entry-at) .result .view in
+    any-faulted _ _ _ ((c .fault2) .ensures) (any-bad s ((c2 .e2) .given .0 .0) (sym (ap (λ d. shown s d v) ((c2 .e2) .given .1)) ∙ (c4 .entry-at) .ensures .value))
 
 pub parse-any-spec : {M : Type 1} → statement M
 parse-any-spec =

@@ -1,10 +1,6 @@
-use native.Mathlib.Omega.{arith}
 use borrow.Author.Needs.{needs}
 use Rattle.records.proofs.rows.quantities_then.Statement.{statement}
 use Rattle.records.proofs.rows.quantities_then.Tie as tie
-use Rattle.records.proofs.rows.quantities_then.Reads as reads
-use Rattle.records.proofs.rows.quantities_then.Lts as lts
-use Rattle.records.proofs.rows.read_quantities.Reads as read-quantities-reads
 
 enum-known-e : tie.Need-enum-known-e
 enum-known-e c = search needs

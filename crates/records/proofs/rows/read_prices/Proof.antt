@@ -8,9 +8,6 @@ use borrow.Author.Needs.{needs}
 use native.Mathlib.Omega.{arith}
 use Rattle.records.proofs.rows.read_prices.Statement.{statement}
 use Rattle.records.proofs.rows.read_prices.Tie as tie
-use Rattle.records.proofs.rows.read_prices.Reads as reads
-use Rattle.records.proofs.rows.read_prices.Lts as lts
-use Rattle.records.proofs.fields.read_price.Reads as read-price-reads
 
 abbrev Inv-loop : tie.InvT-loop
 Inv-loop s at values₀ next₀ i₀ values next i = (i ≤ 12) × (length values ≡ 12) × (1 ≤ i → next ≤ length s) × Filled price s 12 at values i next

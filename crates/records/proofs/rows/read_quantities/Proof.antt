@@ -8,9 +8,6 @@ use borrow.Author.Needs.{needs}
 use native.Mathlib.Omega.{arith}
 use Rattle.records.proofs.rows.read_quantities.Statement.{statement}
 use Rattle.records.proofs.rows.read_quantities.Tie as tie
-use Rattle.records.proofs.rows.read_quantities.Reads as reads
-use Rattle.records.proofs.rows.read_quantities.Lts as lts
-use Rattle.records.proofs.fields.read_quantity.Reads as read-quantity-reads
 
 abbrev Inv-loop : tie.InvT-loop
 Inv-loop s at values₀ next₀ i₀ values next i = (i ≤ 12) × (length values ≡ 12) × (1 ≤ i → next ≤ length s) × Filled quantity s 12 at values i next

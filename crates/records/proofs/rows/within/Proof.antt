@@ -8,8 +8,6 @@ use Rattle.laws.specs.SumLaws.{Passed, passed-none, passed-more, passed-all, ev
 use borrow.Author.Needs.{needs}
 use Rattle.records.proofs.rows.within.Statement.{statement}
 use Rattle.records.proofs.rows.within.Tie as tie
-use Rattle.records.proofs.rows.within.Reads as reads
-use Rattle.records.proofs.rows.within.Lts as lts
 
 abbrev Inv-loop : tie.InvT-loop
 Inv-loop last values i₀ i = Passed 12 (λ j. leb (quantityAt values j) last) i
@@ -27,7 +25,10 @@ array-copy-out-q : tie.Need-array-copy-out-q Inv-loop μ-loop
 array-copy-out-q c = search needs
 
 returns : tie.Need-returns Inv-loop μ-loop
-returns c = sym (within-every _ _ ∙ every-no _ _ (λ j. leb (quantityAt ((c .before .before .before .before .before .args) .t1) j) ((c .before .before .before .before .before .args) .last)) ((c .before .before .before .loop-test) .taken) (lt-leb _ _ ((c .if1) .taken)))
+returns c =
+    let c3 = c .before .before .before in
+    let c5 = c3 .before .before in
+    sym (within-every _ _ ∙ every-no _ _ (λ j. leb (quantityAt ((c5 .args) .t1) j) ((c5 .args) .last)) ((c3 .loop-test) .taken) (lt-leb _ _ ((c .if1) .taken)))
 
 add-i : tie.Need-add-i Inv-loop μ-loop
 add-i c = search needs

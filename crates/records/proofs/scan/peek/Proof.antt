@@ -27,13 +27,20 @@ starts-requires c κs = search needs
 
 sub-len : tie.Need-sub-len
 sub-len c =
-    let f = full ((c .before .before .before .before .before .before .before .before .before .before .before .before .args) .s .now) Any ((c .before .before .before .before .before .before .before .before .before .before .read-change) .result) ((c .before .before .before .before .before .before .before .before .before .before .read-change) .ensures) ((c .before .before .before .before .before .before .before .before .e) .given .0 .0) ((c .before .before .before .before .before .before .before .before .e) .given .1) in
+    let c8 = c .before .before .before .before .before .before .before .before in
+    let c10 = c8 .before .before in
+    let c12 = c10 .before .before in
+    let f = full ((c12 .args) .s .now) Any ((c10 .read-change) .result) ((c10 .read-change) .ensures) ((c8 .e) .given .0 .0) ((c8 .e) .given .1) in
     f .stands .low
 
 add-len : tie.Need-add-len
 add-len c =
-    let f = full ((c .before .before .before .before .before .before .before .before .before .before .before .before .args) .s .now) Any ((c .before .before .before .before .before .before .before .before .before .before .read-change) .result) ((c .before .before .before .before .before .before .before .before .before .before .read-change) .ensures) ((c .before .before .before .before .before .before .before .before .e) .given .0 .0) ((c .before .before .before .before .before .before .before .before .e) .given .1) in
-    omega (arith, f .stands .high, (c .before .before .before .before .before .head-of) .ensures .few)
+    let c5 = c .before .before .before .before .before in
+    let c8 = c5 .before .before .before in
+    let c10 = c8 .before .before in
+    let c12 = c10 .before .before in
+    let f = full ((c12 .args) .s .now) Any ((c10 .read-change) .result) ((c10 .read-change) .ensures) ((c8 .e) .given .0 .0) ((c8 .e) .given .1) in
+    omega (arith, f .stands .high, (c5 .head-of) .ensures .few)
 
 nothing-requires : tie.Need-nothing-requires
 nothing-requires c κs = search needs
@@ -46,18 +53,32 @@ nothing-requires-2 c κs = search needs
 
 returns : tie.Need-returns
 returns c =
-    let s = (c .before .before .before .before .before .before .before .before .before .before .before .before .args) .s .now in
-    let f = full s Any ((c .before .before .before .before .before .before .before .before .before .before .read-change) .result) ((c .before .before .before .before .before .before .before .before .before .before .read-change) .ensures) ((c .before .before .before .before .before .before .before .before .e) .given .0 .0) ((c .before .before .before .before .before .before .before .before .e) .given .1) in
-    peek-yes s ((c .before .before .before .before .before .before .before .before .e) .given .0 .0) ((c .before .before .before .before .before .before .before .before .before .before .read-change) .result) f ((c .before .before .before .before .before .head-of) .result .len) ((c .before .before .before .before .before .head-of) .ensures .len) (ap (λ l. begins l s) (sym ((c .before .before .before .before .before .head-of) .ensures .bytes)) ∙ sym ((c .before .before .starts) .ensures) ∙ (c .before .if1) .taken)
+    let c2 = c .before .before in
+    let c5 = c2 .before .before .before in
+    let c8 = c5 .before .before .before in
+    let c10 = c8 .before .before in
+    let c12 = c10 .before .before in
+    let s = (c12 .args) .s .now in
+    let f = full s Any ((c10 .read-change) .result) ((c10 .read-change) .ensures) ((c8 .e) .given .0 .0) ((c8 .e) .given .1) in
+    peek-yes s ((c8 .e) .given .0 .0) ((c10 .read-change) .result) f ((c5 .head-of) .result .len) ((c5 .head-of) .ensures .len) (ap (λ l. begins l s) (sym ((c5 .head-of) .ensures .bytes)) ∙ sym ((c2 .starts) .ensures) ∙ (c .before .if1) .taken)
 
 returns-2 : tie.Need-returns-2
 returns-2 c =
-    let s = (c .before .before .before .before .before .before .before .before .before .before .before .before .args) .s .now in
-    let f = full s Any ((c .before .before .before .before .before .before .before .before .before .before .read-change) .result) ((c .before .before .before .before .before .before .before .before .before .before .read-change) .ensures) ((c .before .before .before .before .before .before .before .before .e) .given .0 .0) ((c .before .before .before .before .before .before .before .before .e) .given .1) in
-    (c .nothing) .ensures ∙ peek-no s ((c .before .before .before .before .before .before .before .before .e) .given .0 .0) ((c .before .before .before .before .before .before .before .before .before .before .read-change) .result) f (ap (λ l. begins l s) (sym ((c .before .before .before .before .before .head-of) .ensures .bytes)) ∙ sym ((c .before .before .starts) .ensures) ∙ (c .before .if1) .left)
+    let c2 = c .before .before in
+    let c5 = c2 .before .before .before in
+    let c8 = c5 .before .before .before in
+    let c10 = c8 .before .before in
+    let c12 = c10 .before .before in
+    let s = (c12 .args) .s .now in
+    let f = full s Any ((c10 .read-change) .result) ((c10 .read-change) .ensures) ((c8 .e) .given .0 .0) ((c8 .e) .given .1) in
+    (c .nothing) .ensures ∙ peek-no s ((c8 .e) .given .0 .0) ((c10 .read-change) .result) f (ap (λ l. begins l s) (sym ((c5 .head-of) .ensures .bytes)) ∙ sym ((c2 .starts) .ensures) ∙ (c .before .if1) .left)
 
 returns-3 : tie.Need-returns-3
-returns-3 c = (c .nothing2) .ensures ∙ peek-bad ((c .before .before .before .before .before .before .args) .s .now) ((c .before .before .e2) .given .0 .0) (read-bad ((c .before .before .before .before .before .before .args) .s .now) Any ((c .before .before .before .before .read-change) .result) ((c .before .before .before .before .read-change) .ensures) ((c .before .before .e2) .given .0 .0) ((c .before .before .e2) .given .1))
+returns-3 c =
+    let c2 = c .before .before in
+    let c4 = c2 .before .before in
+    let c6 = c4 .before .before in
+    (c .nothing2) .ensures ∙ peek-bad ((c6 .args) .s .now) ((c2 .e2) .given .0 .0) (read-bad ((c6 .args) .s .now) Any ((c4 .read-change) .result) ((c4 .read-change) .ensures) ((c2 .e2) .given .0 .0) ((c2 .e2) .given .1))
 
 pub peek-spec : {M : Type 1} → statement M
 peek-spec =

@@ -16,7 +16,10 @@ no-failure-requires : tie.Need-no-failure-requires
 no-failure-requires c κs = search needs
 
 returns : tie.Need-returns
-returns c = (c .no-failure) .ensures ∙ sym (ap (λ (b : Bool). failureAnswer (check b 2 (viewed ((c .before .before .before .before .args) .mark) failure ((c .before .before .before .before .args) .s .now)))) (sym ((c .before .before .is-failure) .ensures) ∙ not-true _ ((c .before .if1) .taken)))
+returns c =
+    let c2 = c .before .before in
+    let c4 = c2 .before .before in
+    (c .no-failure) .ensures ∙ sym (ap (λ (b : Bool). failureAnswer (check b 2 (viewed ((c4 .args) .mark) failure ((c4 .args) .s .now)))) (sym ((c2 .is-failure) .ensures) ∙ not-true _ ((c .before .if1) .taken)))
 
 fields-at-requires : tie.Need-fields-at-requires
 fields-at-requires c κs = search needs
@@ -34,10 +37,24 @@ no-failure-requires-2 : tie.Need-no-failure-requires-2
 no-failure-requires-2 c κs = search needs
 
 returns-2 : tie.Need-returns-2
-returns-2 c = ap failureAnswer (view-at ((c .before .before .before .before .before .before .before .before .before .args) .s .now) ((c .before .before .before .before .before .before .before .before .before .args) .mark) failure ((c .before .before .before .before .before .fields-at) .result .end) ((c .before .before .before .before .failure-then) .result .end) ((c .before .before .before .before .before .fields-at) .result .name) ((c .before .before .before .before .failure-then) .result .failure) ((c .before .before .before .before .before .fields-at) .ensures .0) ((c .before .before .before .before .failure-then) .ensures .0) _ ((c .before .before .e) .given .1)) ∙ sym (ap (λ (b : Bool). failureAnswer (check b 2 (viewed ((c .before .before .before .before .before .before .before .before .before .args) .mark) failure ((c .before .before .before .before .before .before .before .before .before .args) .s .now)))) (sym ((c .before .before .before .before .before .before .before .is-failure) .ensures) ∙ not-false _ ((c .before .before .before .before .before .before .if1) .left)))
+returns-2 c =
+    let c2 = c .before .before in
+    let c4 = c2 .before .before in
+    let c5 = c4 .before in
+    let c6 = c5 .before in
+    let c7 = c6 .before in
+    let c9 = c7 .before .before in
+    ap failureAnswer (view-at ((c9 .args) .s .now) ((c9 .args) .mark) failure ((c5 .fields-at) .result .end) ((c4 .failure-then) .result .end) ((c5 .fields-at) .result .name) ((c4 .failure-then) .result .failure) ((c5 .fields-at) .ensures .0) ((c4 .failure-then) .ensures .0) _ ((c2 .e) .given .1)) ∙ sym (ap (λ (b : Bool). failureAnswer (check b 2 (viewed ((c9 .args) .mark) failure ((c9 .args) .s .now)))) (sym ((c7 .is-failure) .ensures) ∙ not-false _ ((c6 .if1) .left)))
 
 returns-3 : tie.Need-returns-3
-returns-3 c = (c .no-failure2) .ensures ∙ ap failureAnswer (view-no ((c .before .before .before .before .before .before .before .before .before .args) .s .now) ((c .before .before .before .before .before .before .before .before .before .args) .mark) failure ((c .before .before .before .before .before .fields-at) .result .end) ((c .before .before .before .before .failure-then) .result .end) ((c .before .before .before .before .before .fields-at) .result .name) ((c .before .before .before .before .failure-then) .result .failure) ((c .before .before .before .before .before .fields-at) .ensures .0) ((c .before .before .before .before .failure-then) .ensures .0) _ ((c .before .before .e2) .given .1)) ∙ sym (ap (λ (b : Bool). failureAnswer (check b 2 (viewed ((c .before .before .before .before .before .before .before .before .before .args) .mark) failure ((c .before .before .before .before .before .before .before .before .before .args) .s .now)))) (sym ((c .before .before .before .before .before .before .before .is-failure) .ensures) ∙ not-false _ ((c .before .before .before .before .before .before .if1) .left)))
+returns-3 c =
+    let c2 = c .before .before in
+    let c4 = c2 .before .before in
+    let c5 = c4 .before in
+    let c6 = c5 .before in
+    let c7 = c6 .before in
+    let c9 = c7 .before .before in
+    (c .no-failure2) .ensures ∙ ap failureAnswer (view-no ((c9 .args) .s .now) ((c9 .args) .mark) failure ((c5 .fields-at) .result .end) ((c4 .failure-then) .result .end) ((c5 .fields-at) .result .name) ((c4 .failure-then) .result .failure) ((c5 .fields-at) .ensures .0) ((c4 .failure-then) .ensures .0) _ ((c2 .e2) .given .1)) ∙ sym (ap (λ (b : Bool). failureAnswer (check b 2 (viewed ((c9 .args) .mark) failure ((c9 .args) .s .now)))) (sym ((c7 .is-failure) .ensures) ∙ not-false _ ((c6 .if1) .left)))
 
 pub failure-of-spec : {M : Type 1} → statement M
 failure-of-spec =

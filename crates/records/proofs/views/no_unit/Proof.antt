@@ -1,11 +1,6 @@
-use native.Mathlib.Omega.{arith}
 use borrow.Author.Needs.{needs}
 use Rattle.records.proofs.views.no_unit.Statement.{statement}
 use Rattle.records.proofs.views.no_unit.Tie as tie
-use Rattle.records.proofs.views.no_unit.Reads as reads
-use Rattle.records.proofs.views.no_unit.Lts as lts
-use Rattle.records.proofs.views.no_offer.Reads as no-offer-reads
-use Rattle.records.proofs.views.no_reserve.Reads as no-reserve-reads
 
 no-offer-requires : tie.Need-no-offer-requires
 no-offer-requires c κs = search needs

@@ -20,10 +20,19 @@ enum-known-e-2 : tie.Need-enum-known-e-2
 enum-known-e-2 c = search needs
 
 returns : tie.Need-returns
-returns c = ap pricesAnswer (view-at ((c .before .before .before .before .before .before .before .args) .s .now) Pr hourPrices ((c .before .before .before .before .before .fields-at) .result .end) ((c .before .before .before .before .hour-prices-then) .result .end) ((c .before .before .before .before .before .fields-at) .result .name) ((c .before .before .before .before .hour-prices-then) .result .prices) ((c .before .before .before .before .before .fields-at) .ensures .0) ((c .before .before .before .before .hour-prices-then) .ensures .0) _ ((c .before .before .e) .given .1))
+returns c =
+    let c2 = c .before .before in
+    let c4 = c2 .before .before in
+    let c5 = c4 .before in
+    let c7 = c5 .before .before in
+    ap pricesAnswer (view-at ((c7 .args) .s .now) Pr hourPrices ((c5 .fields-at) .result .end) ((c4 .hour-prices-then) .result .end) ((c5 .fields-at) .result .name) ((c4 .hour-prices-then) .result .prices) ((c5 .fields-at) .ensures .0) ((c4 .hour-prices-then) .ensures .0) _ ((c2 .e) .given .1))
 
 returns-2 : tie.Need-returns-2
-returns-2 c = ap pricesAnswer (view-no ((c .before .before .before .before .before .before .args) .s .now) Pr hourPrices ((c .before .before .before .before .fields-at) .result .end) ((c .before .before .before .hour-prices-then) .result .end) ((c .before .before .before .before .fields-at) .result .name) ((c .before .before .before .hour-prices-then) .result .prices) ((c .before .before .before .before .fields-at) .ensures .0) ((c .before .before .before .hour-prices-then) .ensures .0) _ ((c .before .e2) .given .1))
+returns-2 c =
+    let c3 = c .before .before .before in
+    let c4 = c3 .before in
+    let c6 = c4 .before .before in
+    ap pricesAnswer (view-no ((c6 .args) .s .now) Pr hourPrices ((c4 .fields-at) .result .end) ((c3 .hour-prices-then) .result .end) ((c4 .fields-at) .result .name) ((c3 .hour-prices-then) .result .prices) ((c4 .fields-at) .ensures .0) ((c3 .hour-prices-then) .ensures .0) _ ((c .before .e2) .given .1))
 
 pub prices-of-spec : {M : Type 1} → statement M
 prices-of-spec =

@@ -1,16 +1,11 @@
 use Prim.Native.Nat.{_≤_, _+_, _-_}
-use mathlib.Core.Path.{_≡_, refl, ap, _∙_}
+use mathlib.Core.Path.{_≡_}
 use lib.ListN.{length, take, length-set}
-use lib.Seq.{take-all}
 use Rattle.records.specs.tables.Inner.{Wrote}
-use Rattle.records.proofs.writing.Putting.{wrote-none}
 use Rattle.records.proofs.writing.Lemmas.{copy-more, copy-none, copy-all}
 use borrow.Author.Needs.{needs}
-use native.Mathlib.Omega.{arith}
 use Rattle.records.proofs.writing.copy.Statement.{statement}
 use Rattle.records.proofs.writing.copy.Tie as tie
-use Rattle.records.proofs.writing.copy.Reads as reads
-use Rattle.records.proofs.writing.copy.Lts as lts
 
 abbrev Inv-loop : tie.InvT-loop
 Inv-loop src out₀ at i₀ out i = (i ≤ length src) × (length out ≡ length out₀) × (at + length src ≤ length out₀) × Wrote out₀ out at (at + i) (take i src)

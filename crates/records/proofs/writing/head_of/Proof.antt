@@ -3,9 +3,6 @@ use native.Mathlib.Omega.{arith}
 use borrow.Author.Needs.{needs}
 use Rattle.records.proofs.writing.head_of.Statement.{statement}
 use Rattle.records.proofs.writing.head_of.Tie as tie
-use Rattle.records.proofs.writing.head_of.Reads as reads
-use Rattle.records.proofs.writing.head_of.Lts as lts
-use Rattle.records.proofs.writing.write_head.Reads as write-head-reads
 
 slice-aggregate-write-head : tie.Need-slice-aggregate-write-head
 slice-aggregate-write-head c = search needs

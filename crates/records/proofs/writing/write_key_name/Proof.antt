@@ -1,4 +1,4 @@
-use mathlib.Core.Path.{_≡_, sym, _∙_}
+use mathlib.Core.Path.{sym, _∙_}
 use lib.ListN.{length-set}
 use Rattle.records.proofs.writing.Putting.{wrote-one, wrote-then, wrote-length}
 use Rattle.records.proofs.writing.Lemmas.{name-yes, name-no}
@@ -6,12 +6,6 @@ use native.Mathlib.Omega.{arith}
 use borrow.Author.Needs.{needs}
 use Rattle.records.proofs.writing.write_key_name.Statement.{statement}
 use Rattle.records.proofs.writing.write_key_name.Tie as tie
-use Rattle.records.proofs.writing.write_key_name.Reads as reads
-use Rattle.records.proofs.writing.write_key_name.Lts as lts
-use Rattle.records.proofs.names.spelled_len.Reads as spelled-len-reads
-use Rattle.records.proofs.names.write_name.Reads as write-name-reads
-use Rattle.records.proofs.marks.has_name.Reads as has-name-reads
-use Rattle.records.proofs.writing.write_none.Reads as write-none-reads
 
 has-name-requires : tie.Need-has-name-requires
 has-name-requires c κs = search needs
@@ -36,8 +30,13 @@ same-length c = wrote-length ((c .before .before .write-name) .ensures) ∙ simp
 
 returns : tie.Need-returns
 returns c =
-    rw (name-yes ((c .before .before .before .before .before .before .before .before .args) .kind) ((c .before .before .before .before .before .before .before .before .args) .mark) ((c .before .before .before .before .before .before .before .before .args) .name) (sym ((c .before .before .before .before .before .before .has-name) .ensures) ∙ (c .before .before .before .before .before .if1) .taken), ← (c .before .before .before .before .spelled-len) .ensures .0)
-    (wrote-then (wrote-one ((c .before .before .before .before .before .before .before .before .args) .out .now) ((c .before .before .before .before .before .before .before .before .args) .at) ((c .before .before .before .before .spelled-len) .result)) ((c .before .before .write-name) .ensures))
+    let c2 = c .before .before in
+    let c4 = c2 .before .before in
+    let c5 = c4 .before in
+    let c6 = c5 .before in
+    let c8 = c6 .before .before in
+    rw (name-yes ((c8 .args) .kind) ((c8 .args) .mark) ((c8 .args) .name) (sym ((c6 .has-name) .ensures) ∙ (c5 .if1) .taken), ← (c4 .spelled-len) .ensures .0)
+    (wrote-then (wrote-one ((c8 .args) .out .now) ((c8 .args) .at) ((c4 .spelled-len) .result)) ((c2 .write-name) .ensures))
 
 write-none-requires : tie.Need-write-none-requires
 write-none-requires c κs = search needs
@@ -46,7 +45,12 @@ same-length-2 : tie.Need-same-length-2
 same-length-2 c = wrote-length ((c .before .before .write-none) .ensures)
 
 returns-2 : tie.Need-returns-2
-returns-2 c = rw (name-no ((c .before .before .before .before .before .before .before .args) .kind) ((c .before .before .before .before .before .before .before .args) .mark) ((c .before .before .before .before .before .before .before .args) .name) (sym ((c .before .before .before .before .before .has-name) .ensures) ∙ (c .before .before .before .before .if1) .left)) ((c .before .before .write-none) .ensures)
+returns-2 c =
+    let c2 = c .before .before in
+    let c4 = c2 .before .before in
+    let c5 = c4 .before in
+    let c7 = c5 .before .before in
+    rw (name-no ((c7 .args) .kind) ((c7 .args) .mark) ((c7 .args) .name) (sym ((c5 .has-name) .ensures) ∙ (c4 .if1) .left)) ((c2 .write-none) .ensures)
 
 pub write-key-name-spec : {M : Type 1} → statement M
 write-key-name-spec =

@@ -4,8 +4,6 @@ use native.Mathlib.Omega.{arith}
 use borrow.Author.Needs.{needs}
 use Rattle.records.proofs.writing.write_lead.Statement.{statement}
 use Rattle.records.proofs.writing.write_lead.Tie as tie
-use Rattle.records.proofs.writing.write_lead.Reads as reads
-use Rattle.records.proofs.writing.write_lead.Lts as lts
 
 enum-told : tie.Need-enum-told
 enum-told c = search needs

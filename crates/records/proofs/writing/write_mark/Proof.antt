@@ -4,9 +4,6 @@ use native.Mathlib.Omega.{arith}
 use borrow.Author.Needs.{needs}
 use Rattle.records.proofs.writing.write_mark.Statement.{statement}
 use Rattle.records.proofs.writing.write_mark.Tie as tie
-use Rattle.records.proofs.writing.write_mark.Reads as reads
-use Rattle.records.proofs.writing.write_mark.Lts as lts
-use Rattle.records.proofs.marks.bytes_of.Reads as bytes-of-reads
 
 bytes-of-requires : tie.Need-bytes-of-requires
 bytes-of-requires c κs = search needs

@@ -1,10 +1,7 @@
 use Rattle.records.proofs.writing.Putting.{wrote-none, wrote-one}
-use native.Mathlib.Omega.{arith}
 use borrow.Author.Needs.{needs}
 use Rattle.records.proofs.writing.write_none.Statement.{statement}
 use Rattle.records.proofs.writing.write_none.Tie as tie
-use Rattle.records.proofs.writing.write_none.Reads as reads
-use Rattle.records.proofs.writing.write_none.Lts as lts
 
 enum-told : tie.Need-enum-told
 enum-told c = search needs

@@ -47,7 +47,9 @@ put-decimal-put-byte-requires : (t : ℕ) → put-decimal-lts.Need-put-byte-requ
   put-decimal-below t,
   put-decimal.Post,
 ) (put-decimal-at t) put-decimal.Post
-put-decimal-put-byte-requires t c κs = omega (arith, (c .before .before .before .pre) .1, ap length (decimal-one ((c .before .before .before .args) .n) ((c .before .if1) .taken)))
+put-decimal-put-byte-requires t c κs =
+    let c3 = c .before .before .before in
+    omega (arith, (c3 .pre) .1, ap length (decimal-one ((c3 .args) .n) ((c .before .if1) .taken)))
 
 put-decimal-same-length : (t : ℕ) → put-decimal-lts.Need-same-length (
   put-byte-reads.Asked,
@@ -63,7 +65,11 @@ put-decimal-returns : (t : ℕ) → put-decimal-lts.Need-returns (
   put-decimal-below t,
   put-decimal.Post,
 ) (put-decimal-at t) put-decimal.Post
-put-decimal-returns t c = rw (decimal-one ((c .before .before .before .before .before .before .args) .n) ((c .before .before .before .before .if1) .taken)) ((c .before .before .put-byte) .ensures)
+put-decimal-returns t c =
+    let c2 = c .before .before in
+    let c4 = c2 .before .before in
+    let c6 = c4 .before .before in
+    rw (decimal-one ((c6 .args) .n) ((c4 .if1) .taken)) ((c2 .put-byte) .ensures)
 
 put-decimal-put-decimal-requires : (t : ℕ) → put-decimal-lts.Need-put-decimal-requires (
   put-byte-reads.Asked,
@@ -72,9 +78,10 @@ put-decimal-put-decimal-requires : (t : ℕ) → put-decimal-lts.Need-put-decima
   put-decimal.Post,
 ) (put-decimal-at t) put-decimal.Post
 put-decimal-put-decimal-requires t c κs =
-    let n = (c .before .before .before .args) .n in
-    let h : n ≡ t = (c .before .before .before .pre) .0 in
-    (omega arith, omega (arith, (c .before .before .before .pre) .1, decimal-longer n ((c .before .if1) .left)))
+    let c3 = c .before .before .before in
+    let n = (c3 .args) .n in
+    let h : n ≡ t = (c3 .pre) .0 in
+    (omega arith, omega (arith, (c3 .pre) .1, decimal-longer n ((c .before .if1) .left)))
 
 put-decimal-cast-put-byte-2 : (t : ℕ) → put-decimal-lts.Need-cast-put-byte-2 (
   put-byte-reads.Asked,
@@ -98,7 +105,11 @@ put-decimal-put-byte-requires-2 : (t : ℕ) → put-decimal-lts.Need-put-byte-re
   put-decimal-below t,
   put-decimal.Post,
 ) (put-decimal-at t) put-decimal.Post
-put-decimal-put-byte-requires-2 t c κs = omega (arith, (c .before .before .before .before .before .before .before .pre) .1, decimal-longer ((c .before .before .before .before .before .before .before .args) .n) ((c .before .before .before .before .before .if1) .left), (c .before .before .before .put-decimal) .ensures .behind, writes-size ((c .before .before .before .put-decimal) .ensures))
+put-decimal-put-byte-requires-2 t c κs =
+    let c3 = c .before .before .before in
+    let c5 = c3 .before .before in
+    let c7 = c5 .before .before in
+    omega (arith, (c7 .pre) .1, decimal-longer ((c7 .args) .n) ((c5 .if1) .left), (c3 .put-decimal) .ensures .behind, writes-size ((c3 .put-decimal) .ensures))
 
 put-decimal-same-length-2 : (t : ℕ) → put-decimal-lts.Need-same-length-2 (
   put-byte-reads.Asked,
@@ -114,7 +125,12 @@ put-decimal-returns-2 : (t : ℕ) → put-decimal-lts.Need-returns-2 (
   put-decimal-below t,
   put-decimal.Post,
 ) (put-decimal-at t) put-decimal.Post
-put-decimal-returns-2 t c = rw (decimal-more ((c .before .before .before .before .before .before .before .before .before .before .args) .n) ((c .before .before .before .before .before .before .before .before .if1) .left)) (writes-then ((c .before .before .before .before .before .before .put-decimal) .ensures) ((c .before .before .put-byte2) .ensures))
+put-decimal-returns-2 t c =
+    let c2 = c .before .before in
+    let c6 = c2 .before .before .before .before in
+    let c8 = c6 .before .before in
+    let c10 = c8 .before .before in
+    rw (decimal-more ((c10 .args) .n) ((c8 .if1) .left)) (writes-then ((c6 .put-decimal) .ensures) ((c2 .put-byte2) .ensures))
 
 pub +put-decimal-spec : {M : Type 1} → statement M
 +put-decimal-spec = close μ-put-decimal λ t. put-decimal-lts.spec (

@@ -16,7 +16,11 @@ same-length : tie.Need-same-length
 same-length c = search needs
 
 returns : tie.Need-returns
-returns c = writes-then (writes-then ((c .before .before .before .before .before .before .before .before .before .before .put-byte) .ensures) ((c .before .before .before .before .before .before .put-byte2) .ensures)) ((c .before .before .put-byte3) .ensures)
+returns c =
+    let c2 = c .before .before in
+    let c6 = c2 .before .before .before .before in
+    let c10 = c6 .before .before .before .before in
+    writes-then (writes-then ((c10 .put-byte) .ensures) ((c6 .put-byte2) .ensures)) ((c2 .put-byte3) .ensures)
 
 pub put-three-spec : {M : Type 1} → statement M
 put-three-spec =

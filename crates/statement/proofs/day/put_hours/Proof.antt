@@ -32,7 +32,9 @@ add-put-hour : tie.Need-add-put-hour Inv-loop μ-loop
 add-put-hour c = search needs
 
 put-hour-requires : tie.Need-put-hour-requires Inv-loop μ-loop
-put-hour-requires c κs = let v = (c .before .before .before .loop) .inv in (v .4 .hour ((c .before .before .before .loop) .h) (omega arith) _, omega (arith, lines-size (v .5), v .3, v .2))
+put-hour-requires c κs =
+    let c3 = c .before .before .before in
+    let v = (c3 .loop) .inv in (v .4 .hour ((c3 .loop) .h) (omega arith) _, omega (arith, lines-size (v .5), v .3, v .2))
 
 add-h : tie.Need-add-h Inv-loop μ-loop
 add-h c = search needs

@@ -13,31 +13,48 @@ day-requires : tie.Need-day-requires
 day-requires c κs = search needs
 
 returns : tie.Need-returns
-returns c = answers-astray ((c .before .before .before .before .before .args) .out .now) (is-astray ((c .before .before .before .before .before .args) .book) ((c .before .before .before .before .before .args) .log .now) ((c .before .before .day) .result) ((c .before .before .day) .ensures) ((c .if1) .taken))
+returns c =
+    let c2 = c .before .before in
+    let c5 = c2 .before .before .before in
+    answers-astray ((c5 .args) .out .now) (is-astray ((c5 .args) .book) ((c5 .args) .log .now) ((c2 .day) .result) ((c2 .day) .ensures) ((c .if1) .taken))
 
 put-day-requires : tie.Need-put-day-requires
-put-day-requires c κs = let x = held ((c .before .before .before .before .before .before .before .args) .book) ((c .before .before .before .before .before .before .before .args) .log .now) ((c .before .before .before .before .day) .result) ((c .before .before .before .before .day) .ensures) ((c .before .before .if1) .left) in (few-units x, few-hours x, (c .before .if2) .taken)
+put-day-requires c κs =
+    let c2 = c .before .before in
+    let c4 = c2 .before .before in
+    let c7 = c4 .before .before .before in
+    let x = held ((c7 .args) .book) ((c7 .args) .log .now) ((c4 .day) .result) ((c4 .day) .ensures) ((c2 .if1) .left) in (few-units x, few-hours x, (c .before .if2) .taken)
 
 same-length : tie.Need-same-length
 same-length c = search needs
 
 returns-2 : tie.Need-returns-2
 returns-2 c =
-    let x = held ((c .before .before .before .before .before .before .before .before .before .before .args) .book) ((c .before .before .before .before .before .before .before .before .before .before .args) .log .now) ((c .before .before .before .before .before .before .before .day) .result) ((c .before .before .before .before .before .before .before .day) .ensures) ((c .before .before .before .before .before .if1) .left) in
-    let w = stated x ((c .before .before .put-day) .ensures .0) in
-    answers-fitted (x .list) (x .is) (omega (arith, w .behind, (c .before .before .put-day) .ensures .1)) (fits-written w)
+    let c2 = c .before .before in
+    let c5 = c2 .before .before .before in
+    let c7 = c5 .before .before in
+    let c10 = c7 .before .before .before in
+    let x = held ((c10 .args) .book) ((c10 .args) .log .now) ((c7 .day) .result) ((c7 .day) .ensures) ((c5 .if1) .left) in
+    let w = stated x ((c2 .put-day) .ensures .0) in
+    answers-fitted (x .list) (x .is) (omega (arith, w .behind, (c2 .put-day) .ensures .1)) (fits-written w)
 
 slice-aggregate-put-day : tie.Need-slice-aggregate-put-day
 slice-aggregate-put-day c = search needs
 
 put-day-requires-2 : tie.Need-put-day-requires-2
-put-day-requires-2 c κs = let x = held ((c .before .before .before .before .before .before .before .args) .book) ((c .before .before .before .before .before .before .before .args) .log .now) ((c .before .before .before .before .day) .result) ((c .before .before .before .before .day) .ensures) ((c .before .before .if1) .left) in (few-units x, few-hours x, omega (arith, length-replicate {A = ℕ} 145200 0))
+put-day-requires-2 c κs =
+    let c2 = c .before .before in
+    let c4 = c2 .before .before in
+    let c7 = c4 .before .before .before in
+    let x = held ((c7 .args) .book) ((c7 .args) .log .now) ((c4 .day) .result) ((c4 .day) .ensures) ((c2 .if1) .left) in (few-units x, few-hours x, omega (arith, length-replicate {A = ℕ} 145200 0))
 
 array-share-prefix-aside : tie.Need-array-share-prefix-aside
 array-share-prefix-aside c = let w = (c .before .before .put-day2) .ensures .0 .text in omega (arith, w .behind, w .room, writes-size w)
 
 slice-aggregate-write-front : tie.Need-slice-aggregate-write-front
-slice-aggregate-write-front c = let w = (c .before .before .before .put-day2) .ensures .0 .text in sym (length-take-le {A = ℕ} ((c .before .before .before .put-day2) .result .at) ((c .before .before .before .put-day2) .last .0) (omega (arith, w .behind, w .room, writes-size w)))
+slice-aggregate-write-front c =
+    let c3 = c .before .before .before in
+    let w = (c3 .put-day2) .ensures .0 .text in sym (length-take-le {A = ℕ} ((c3 .put-day2) .result .at) ((c3 .put-day2) .last .0) (omega (arith, w .behind, w .room, writes-size w)))
 
 write-front-requires : tie.Need-write-front-requires
 write-front-requires c κs = search needs
@@ -47,9 +64,14 @@ same-length-2 c = search needs
 
 returns-3 : tie.Need-returns-3
 returns-3 c =
-    let x = held ((c .before .before .before .before .before .before .before .before .before .before .before .before .before .before .args) .book) ((c .before .before .before .before .before .before .before .before .before .before .before .before .before .before .args) .log .now) ((c .before .before .before .before .before .before .before .before .before .before .before .day) .result) ((c .before .before .before .before .before .before .before .before .before .before .before .day) .ensures) ((c .before .before .before .before .before .before .before .before .before .if1) .left) in
-    let w = stated x ((c .before .before .before .before .before .before .put-day2) .ensures .0) in
-    answers-fitted (x .list) (x .is) (omega (arith, w .behind, (c .before .before .before .before .before .before .put-day2) .ensures .1)) (fits-front w ((c .before .before .write-front) .ensures))
+    let c2 = c .before .before in
+    let c6 = c2 .before .before .before .before in
+    let c9 = c6 .before .before .before in
+    let c11 = c9 .before .before in
+    let c14 = c11 .before .before .before in
+    let x = held ((c14 .args) .book) ((c14 .args) .log .now) ((c11 .day) .result) ((c11 .day) .ensures) ((c9 .if1) .left) in
+    let w = stated x ((c6 .put-day2) .ensures .0) in
+    answers-fitted (x .list) (x .is) (omega (arith, w .behind, (c6 .put-day2) .ensures .1)) (fits-front w ((c2 .write-front) .ensures))
 
 pub statement-spec : {M : Type 1} → statement M
 statement-spec =

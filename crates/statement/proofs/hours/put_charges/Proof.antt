@@ -38,8 +38,10 @@ amount-line-requires c κs = search needs
 
 put-line-requires : tie.Need-put-line-requires Inv-loop μ-loop
 put-line-requires c κs =
-    let args = c .before .before .before .before .before .before .before .before .args in
-    let l = c .before .before .before .before .before .before .loop in
+    let c6 = c .before .before .before .before .before .before in
+    let c8 = c6 .before .before in
+    let args = c8 .args in
+    let l = c6 .loop in
     let v = l .inv in
     omega (arith, lines-size (v .5), lines-end (l .i) (few-lines (lineOf (args .hour) (args .kind)) (l .i) (args .t5 .list)) (v .5), v .4)
 

@@ -27,7 +27,13 @@ same-length : tie.Need-same-length
 same-length c = search needs
 
 returns-2 : tie.Need-returns-2
-returns-2 c = (rw (ne-eqb _ 0 ((c .before .before .before .before .before .before .if1) .left)) (lines-as (ap (λ (l : Line). l ∷ []) ((c .before .before .before .amount-line) .ensures ∙ ap (λ (n : Name). amountLine ((c .before .before .before .before .before .before .before .before .args) .hour) Off n ((c .before .before .before .before .before .before .before .before .args) .offset .0)) ((c .before .before .before .before .no-name) .ensures))) ((c .before .before .put-line) .ensures .0)), (c .before .before .put-line) .ensures .1)
+returns-2 c =
+    let c2 = c .before .before in
+    let c3 = c2 .before in
+    let c4 = c3 .before in
+    let c6 = c4 .before .before in
+    let c8 = c6 .before .before in
+    (rw (ne-eqb _ 0 ((c6 .if1) .left)) (lines-as (ap (λ (l : Line). l ∷ []) ((c3 .amount-line) .ensures ∙ ap (λ (n : Name). amountLine ((c8 .args) .hour) Off n ((c8 .args) .offset .0)) ((c4 .no-name) .ensures))) ((c2 .put-line) .ensures .0)), (c2 .put-line) .ensures .1)
 
 pub put-offset-spec : {M : Type 1} → statement M
 put-offset-spec =

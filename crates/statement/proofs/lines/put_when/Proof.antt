@@ -16,7 +16,11 @@ same-length c = search needs
 
 returns : tie.Need-returns
 unfolding whenBytes
-returns c = rw (eq-eqb _ 0 ((c .before .before .before .before .before .before .before .before .if1) .taken)) (writes-then ((c .before .before .before .before .before .before .put-byte) .ensures) ((c .before .before .put-byte2) .ensures))
+returns c =
+    let c2 = c .before .before in
+    let c6 = c2 .before .before .before .before in
+    let c8 = c6 .before .before in
+    rw (eq-eqb _ 0 ((c8 .if1) .taken)) (writes-then ((c6 .put-byte) .ensures) ((c2 .put-byte2) .ensures))
 
 put-two-requires : tie.Need-put-two-requires
 put-two-requires c κs = search needs

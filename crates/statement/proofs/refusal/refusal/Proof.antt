@@ -18,7 +18,9 @@ array-share-prefix-line : tie.Need-array-share-prefix-line
 array-share-prefix-line c = search needs
 
 slice-aggregate-write-front : tie.Need-slice-aggregate-write-front
-slice-aggregate-write-front c = sym (length-take-le {A = ℕ} ((c .before .before .before .put-refusal) .result) ((c .before .before .before .put-refusal) .last .0) (omega (arith, (c .before .before .before .put-refusal) .ensures .behind, (c .before .before .before .put-refusal) .ensures .room)))
+slice-aggregate-write-front c =
+    let c3 = c .before .before .before in
+    sym (length-take-le {A = ℕ} ((c3 .put-refusal) .result) ((c3 .put-refusal) .last .0) (omega (arith, (c3 .put-refusal) .ensures .behind, (c3 .put-refusal) .ensures .room)))
 
 write-front-requires : tie.Need-write-front-requires
 write-front-requires c κs = search needs
@@ -28,8 +30,11 @@ same-length c = search needs
 
 returns : tie.Need-returns
 returns c =
-    let f = (c .before .before .before .before .before .before .before .before .before .fits) .ordinal in let g = (c .before .before .before .before .before .before .before .before .before .fits) .number in
-    (fits-front ((c .before .before .before .before .before .before .put-refusal) .ensures) ((c .before .before .write-front) .ensures), refusal-length ((c .before .before .before .before .before .before .before .before .before .args) .ordinal) ((c .before .before .before .before .before .before .before .before .before .args) .number) (omega arith) (omega arith))
+    let c2 = c .before .before in
+    let c6 = c2 .before .before .before .before in
+    let c9 = c6 .before .before .before in
+    let f = (c9 .fits) .ordinal in let g = (c9 .fits) .number in
+    (fits-front ((c6 .put-refusal) .ensures) ((c2 .write-front) .ensures), refusal-length ((c9 .args) .ordinal) ((c9 .args) .number) (omega arith) (omega arith))
 
 pub refusal-spec : {M : Type 1} → statement M
 refusal-spec =

@@ -15,7 +15,10 @@ same-length : tie.Need-same-length
 same-length c = search needs
 
 returns : tie.Need-returns
-returns c = (rw (ne-eqb _ 0 ((c .before .before .before .before .if1) .taken)) ((c .before .before .put-error) .ensures .0), omega (arith, (c .before .before .put-error) .ensures .1))
+returns c =
+    let c2 = c .before .before in
+    let c4 = c2 .before .before in
+    (rw (ne-eqb _ 0 ((c4 .if1) .taken)) ((c2 .put-error) .ensures .0), omega (arith, (c2 .put-error) .ensures .1))
 
 amount-line-requires : tie.Need-amount-line-requires
 amount-line-requires c κs = search needs
@@ -27,15 +30,24 @@ amount-line-requires-2 : tie.Need-amount-line-requires-2
 amount-line-requires-2 c κs = search needs
 
 put-line-requires-2 : tie.Need-put-line-requires-2
-put-line-requires-2 c κs = omega (arith, (c .before .before .before .before .before .before .before .before .before .before .before .before .before .before .pre), (c .before .before .before .before .put-line) .ensures .1, lines-size ((c .before .before .before .before .put-line) .ensures .0))
+put-line-requires-2 c κs =
+    let c4 = c .before .before .before .before in
+    let c14 = c4 .before .before .before .before .before .before .before .before .before .before in
+    omega (arith, (c14 .pre), (c4 .put-line) .ensures .1, lines-size ((c4 .put-line) .ensures .0))
 
 same-length-2 : tie.Need-same-length-2
 same-length-2 c = search needs
 
 returns-2 : tie.Need-returns-2
-returns-2 c = (
-  rw ((c .before .before .before .before .before .before .before .before .before .before .before .before .if1) .left) (lines-then (lines-as (ap (λ (l : Line). l ∷ []) ((c .before .before .before .before .before .before .before .before .amount-line) .ensures)) ((c .before .before .before .before .before .before .before .put-line) .ensures .0)) (lines-as (ap (λ (l : Line). l ∷ []) ((c .before .before .before .amount-line2) .ensures)) ((c .before .before .put-line2) .ensures .0))),
-  omega (arith, (c .before .before .before .before .before .before .before .put-line) .ensures .1, (c .before .before .put-line2) .ensures .1),
+returns-2 c =
+    let c2 = c .before .before in
+    let c3 = c2 .before in
+    let c7 = c3 .before .before .before .before in
+    let c8 = c7 .before in
+    let c12 = c8 .before .before .before .before in
+    (
+  rw ((c12 .if1) .left) (lines-then (lines-as (ap (λ (l : Line). l ∷ []) ((c8 .amount-line) .ensures)) ((c7 .put-line) .ensures .0)) (lines-as (ap (λ (l : Line). l ∷ []) ((c3 .amount-line2) .ensures)) ((c2 .put-line2) .ensures .0))),
+  omega (arith, (c7 .put-line) .ensures .1, (c2 .put-line2) .ensures .1),
 )
 
 pub put-unit-spec : {M : Type 1} → statement M

@@ -1,9 +1,7 @@
-use mathlib.Core.Path.{_≡_, ap}
-use lib.IntN.{ℤ}
+use mathlib.Core.Path.{ap}
 use mir.Facts.{toZ-ofZ}
 use Rattle.stdin.specs.Rounds.{brokeOff}
 use Rattle.stdin.proofs.Rounds.{taken-in}
-use native.Mathlib.Omega.{arith}
 use borrow.Author.Needs.{needs}
 use Rattle.stdin.proofs.Input.take_in.Statement.{statement}
 use Rattle.stdin.proofs.Input.take_in.Tie as tie
@@ -37,9 +35,12 @@ same-length-2 c = search needs
 
 returns : tie.Need-returns
 returns c =
-    let s = c .before .before .before .before .before .before .before .before .before .before .before .before .before .before .before in
+    let c6 = c .before .before .before .before .before .before in
+    let c9 = c6 .before .before .before in
+    let c15 = c9 .before .before .before .before .before .before in
+    let s = c15 in
     let g = toZ-ofZ ((s .fits) .got) in
-    taken-in g (s .pre) ((c .before .before .before .before .before .before .before .before .before .count) .ensures .1) ((c .before .before .before .before .before .before .read-on) .ensures) ((c .before .is-over) .ensures) ((c .goes-on) .ensures) (ap brokeOff g)
+    taken-in g (s .pre) ((c9 .count) .ensures .1) ((c6 .read-on) .ensures) ((c .before .is-over) .ensures) ((c .goes-on) .ensures) (ap brokeOff g)
 
 pub take-in-spec : {M : Type 1} → statement M
 take-in-spec =

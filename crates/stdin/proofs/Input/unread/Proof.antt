@@ -1,7 +1,6 @@
 use mathlib.Core.Path.{ap}
 use mathlib.Core.Bool.{true, false}
 use Rattle.filter.specs.declared.reading.Reading.{Reading}
-use native.Mathlib.Omega.{arith}
 use borrow.Author.Needs.{needs}
 use Rattle.stdin.proofs.Input.unread.Statement.{statement}
 use Rattle.stdin.proofs.Input.unread.Tie as tie

@@ -1,13 +1,9 @@
 use mathlib.Core.Path.{sym, ap, _∙_}
 use Rattle.book.specs.tables.Worked.{totalReply}
 use Rattle.book.specs.Handed.{unitDayFrom}
-use native.Mathlib.Omega.{arith}
 use borrow.Author.Needs.{needs}
 use Rattle.book.proofs.amounts.days.answer_of.Statement.{statement}
 use Rattle.book.proofs.amounts.days.answer_of.Tie as tie
-use Rattle.book.proofs.amounts.days.answer_of.Reads as reads
-use Rattle.book.proofs.amounts.days.answer_of.Lts as lts
-use Rattle.book.proofs.amounts.days.refused_day.Reads as refused-day-reads
 
 enum-known-d : tie.Need-enum-known-d
 enum-known-d c = search needs

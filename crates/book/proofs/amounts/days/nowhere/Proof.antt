@@ -4,11 +4,8 @@ use Prim.Native.Nat.{ℕ, _-_}
 use borrow.Author.Needs.{needs}
 use Rattle.laws.specs.SumLaws.{Passed, passed-none, passed-more, passed-all, every-no}
 use Rattle.book.specs.tables.Worked.{placeIn}
-use native.Mathlib.Omega.{arith}
 use Rattle.book.proofs.amounts.days.nowhere.Statement.{statement}
 use Rattle.book.proofs.amounts.days.nowhere.Tie as tie
-use Rattle.book.proofs.amounts.days.nowhere.Reads as reads
-use Rattle.book.proofs.amounts.days.nowhere.Lts as lts
 
 abbrev Inv-loop : tie.InvT-loop
 Inv-loop d j₀ j = Passed 24 (λ (j : ℕ). not (placeIn d j .known)) j
@@ -26,7 +23,11 @@ element-copy-out-u : tie.Need-element-copy-out-u Inv-loop μ-loop
 element-copy-out-u c = search needs
 
 returns : tie.Need-returns Inv-loop μ-loop
-returns c = sym (every-no 24 ((c .before .before .before .loop) .j) (λ (j : ℕ). not (placeIn ((c .before .before .before .before .args) .t1) j .known)) ((c .before .before .loop-test) .taken) (ap not ((c .if1) .taken)))
+returns c =
+    let c2 = c .before .before in
+    let c3 = c2 .before in
+    let c4 = c3 .before in
+    sym (every-no 24 ((c3 .loop) .j) (λ (j : ℕ). not (placeIn ((c4 .args) .t1) j .known)) ((c2 .loop-test) .taken) (ap not ((c .if1) .taken)))
 
 add-j : tie.Need-add-j Inv-loop μ-loop
 add-j c = search needs

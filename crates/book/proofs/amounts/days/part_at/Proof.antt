@@ -1,11 +1,7 @@
 use Rattle.book.proofs.amounts.days.Lemmas.{part-empty, part-there}
-use native.Mathlib.Omega.{arith}
 use borrow.Author.Needs.{needs}
 use Rattle.book.proofs.amounts.days.part_at.Statement.{statement}
 use Rattle.book.proofs.amounts.days.part_at.Tie as tie
-use Rattle.book.proofs.amounts.days.part_at.Reads as reads
-use Rattle.book.proofs.amounts.days.part_at.Lts as lts
-use Rattle.records.proofs.amounts.unit_part.Reads as unit-part-reads
 
 sub-unit-part : tie.Need-sub-unit-part
 sub-unit-part c = (c .before .before .before .pre) ((c .before .if1) .taken)
@@ -20,7 +16,10 @@ unit-part-requires : tie.Need-unit-part-requires
 unit-part-requires c κs = search needs
 
 returns : tie.Need-returns
-returns c = part-there ((c .before .before .before .before .before .before .args) .unit) ((c .before .before .before .before .before .before .args) .price) ((c .before .before .before .before .before .before .args) .log .now) ((c .before .before .before .before .if1) .taken) ((c .before .unit-part) .result) ((c .before .unit-part) .ensures)
+returns c =
+    let c4 = c .before .before .before .before in
+    let c6 = c4 .before .before in
+    part-there ((c6 .args) .unit) ((c6 .args) .price) ((c6 .args) .log .now) ((c4 .if1) .taken) ((c .before .unit-part) .result) ((c .before .unit-part) .ensures)
 
 returns-2 : tie.Need-returns-2
 returns-2 c = part-empty ((c .before .before .args) .unit) ((c .before .before .args) .price) ((c .before .before .args) .log .now) ((c .if1) .left)

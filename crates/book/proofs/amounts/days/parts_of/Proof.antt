@@ -1,12 +1,8 @@
 use Prim.Native.Nat.{_-_}
 use borrow.Author.Needs.{needs}
 use Rattle.book.proofs.amounts.days.Lemmas.{Filled, filled-none, filled-more, filled-all}
-use native.Mathlib.Omega.{arith}
 use Rattle.book.proofs.amounts.days.parts_of.Statement.{statement}
 use Rattle.book.proofs.amounts.days.parts_of.Tie as tie
-use Rattle.book.proofs.amounts.days.parts_of.Reads as reads
-use Rattle.book.proofs.amounts.days.parts_of.Lts as lts
-use Rattle.book.proofs.amounts.days.part_at.Reads as part-at-reads
 
 abbrev Inv-loop : tie.InvT-loop
 Inv-loop log units table d₀ h₀ d h = Filled log units table (d .ticks) (d .starts) h
@@ -30,7 +26,11 @@ element-copy-out-q : tie.Need-element-copy-out-q Inv-loop μ-loop
 element-copy-out-q c = search needs
 
 part-at-requires : tie.Need-part-at-requires Inv-loop μ-loop
-part-at-requires c κs = (c .before .before .before .before .before .pre) ((c .before .before .before .loop) .h) ((c .before .before .loop-test) .taken) _
+part-at-requires c κs =
+    let c2 = c .before .before in
+    let c3 = c2 .before in
+    let c5 = c3 .before .before in
+    (c5 .pre) ((c3 .loop) .h) ((c2 .loop-test) .taken) _
 
 mul-t : tie.Need-mul-t Inv-loop μ-loop
 mul-t c = search needs
@@ -51,7 +51,11 @@ loop-less : tie.Need-loop-less Inv-loop μ-loop
 loop-less c = search needs
 
 loop-again : tie.Need-loop-again Inv-loop μ-loop
-loop-again c = filled-more ((c .before .before .before .before .before .before .loop) .inv) ((c .before .before .before .before .before .loop-test) .taken) ((c .before .before .part-at) .result) ((c .before .before .part-at) .ensures)
+loop-again c =
+    let c2 = c .before .before in
+    let c5 = c2 .before .before .before in
+    let c6 = c5 .before in
+    filled-more ((c6 .loop) .inv) ((c5 .loop-test) .taken) ((c2 .part-at) .result) ((c2 .part-at) .ensures)
 
 returns : tie.Need-returns Inv-loop μ-loop
 returns c = filled-all ((c .before .loop) .inv) ((c .loop-test) .left)

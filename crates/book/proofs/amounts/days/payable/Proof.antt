@@ -4,12 +4,8 @@ use borrow.Author.Needs.{needs}
 use borrow.Author.Tests.{not-true, not-false}
 use Rattle.laws.specs.SumLaws.{Passed, passed-none, passed-more, passed-all, every-no}
 use Rattle.book.specs.tables.Worked.{placeIn, priceFor, paid}
-use native.Mathlib.Omega.{arith}
 use Rattle.book.proofs.amounts.days.payable.Statement.{statement}
 use Rattle.book.proofs.amounts.days.payable.Tie as tie
-use Rattle.book.proofs.amounts.days.payable.Reads as reads
-use Rattle.book.proofs.amounts.days.payable.Lts as lts
-use Rattle.book.proofs.amounts.days.hour_payable.Reads as hour-payable-reads
 
 abbrev Inv-loop : tie.InvT-loop
 Inv-loop units table j₀ j = Passed 24 (λ (j : ℕ). paid (placeIn units j) (priceFor table j)) j
@@ -36,7 +32,11 @@ hour-payable-requires : tie.Need-hour-payable-requires Inv-loop μ-loop
 hour-payable-requires c κs = search needs
 
 returns : tie.Need-returns Inv-loop μ-loop
-returns c = sym (every-no 24 ((c .before .before .before .before .before .loop) .j) (λ (j : ℕ). paid (placeIn ((c .before .before .before .before .before .before .args) .t1) j) (priceFor ((c .before .before .before .before .before .before .args) .t2) j)) ((c .before .before .before .before .loop-test) .taken) (sym ((c .before .hour-payable) .ensures) ∙ not-true _ ((c .if1) .taken)))
+returns c =
+    let c4 = c .before .before .before .before in
+    let c5 = c4 .before in
+    let c6 = c5 .before in
+    sym (every-no 24 ((c5 .loop) .j) (λ (j : ℕ). paid (placeIn ((c6 .args) .t1) j) (priceFor ((c6 .args) .t2) j)) ((c4 .loop-test) .taken) (sym ((c .before .hour-payable) .ensures) ∙ not-true _ ((c .if1) .taken)))
 
 add-j : tie.Need-add-j Inv-loop μ-loop
 add-j c = search needs
@@ -45,7 +45,10 @@ loop-less : tie.Need-loop-less Inv-loop μ-loop
 loop-less c = search needs
 
 loop-again : tie.Need-loop-again Inv-loop μ-loop
-loop-again c = passed-more ((c .before .before .before .before .before .loop) .inv) ((c .before .before .before .before .loop-test) .taken) (sym ((c .before .hour-payable) .ensures) ∙ not-false _ ((c .if1) .left))
+loop-again c =
+    let c4 = c .before .before .before .before in
+    let c5 = c4 .before in
+    passed-more ((c5 .loop) .inv) ((c4 .loop-test) .taken) (sym ((c .before .hour-payable) .ensures) ∙ not-false _ ((c .if1) .left))
 
 returns-2 : tie.Need-returns-2 Inv-loop μ-loop
 returns-2 c = sym (passed-all ((c .before .loop) .inv) ((c .loop-test) .left))

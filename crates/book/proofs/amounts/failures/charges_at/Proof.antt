@@ -43,13 +43,23 @@ ticks-of-requires : tie.Need-ticks-of-requires Inv-loop μ-loop
 ticks-of-requires c κs = search needs
 
 mul-ticks : tie.Need-mul-ticks Inv-loop μ-loop
-mul-ticks c = omega (arith, (c .before .before .before .before .loop-test) .taken, (c .before .before .before .before .before .before .before .pre) .few)
+mul-ticks c =
+    let c4 = c .before .before .before .before in
+    let c7 = c4 .before .before .before in
+    omega (arith, (c4 .loop-test) .taken, (c7 .pre) .few)
 
 array-set-from-ticks : tie.Need-array-set-from-ticks Inv-loop μ-loop
-array-set-from-ticks c = omega (arith, (c .before .before .before .before .loop-test) .taken, (c .before .before .before .before .before .before .before .pre) .few, (c .before .before .before .before .before .loop) .inv .long)
+array-set-from-ticks c =
+    let c4 = c .before .before .before .before in
+    let c5 = c4 .before in
+    let c7 = c5 .before .before in
+    omega (arith, (c4 .loop-test) .taken, (c7 .pre) .few, (c5 .loop) .inv .long)
 
 add-i : tie.Need-add-i Inv-loop μ-loop
-add-i c = omega (arith, (c .before .before .before .before .loop-test) .taken, (c .before .before .before .before .before .before .before .pre) .few)
+add-i c =
+    let c4 = c .before .before .before .before in
+    let c7 = c4 .before .before .before in
+    omega (arith, (c4 .loop-test) .taken, (c7 .pre) .few)
 
 loop-less : tie.Need-loop-less Inv-loop μ-loop
 loop-less c = omega (arith, (c .before .before .before .before .loop-test) .taken)

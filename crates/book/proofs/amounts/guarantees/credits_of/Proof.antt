@@ -9,8 +9,6 @@ use Rattle.records.specs.Amounts.{noImport}
 use borrow.Author.Needs.{needs}
 use Rattle.book.proofs.amounts.guarantees.credits_of.Statement.{statement}
 use Rattle.book.proofs.amounts.guarantees.credits_of.Tie as tie
-use Rattle.book.proofs.amounts.guarantees.credits_of.Reads as reads
-use Rattle.book.proofs.amounts.guarantees.credits_of.Lts as lts
 
 abbrev Inv-loop : tie.InvT-loop
 Inv-loop n entries ticks₀ i₀ ticks i = Filling entryCredit entries noImport ticks noTicks 16 n i
@@ -28,19 +26,35 @@ array-copy-out-e : tie.Need-array-copy-out-e Inv-loop μ-loop
 array-copy-out-e c = search (needs, unmapped)
 
 mul-ticks : tie.Need-mul-ticks Inv-loop μ-loop
-mul-ticks c = omega (arith, (c .before .before .before .loop) .inv .upto, (c .before .before .before .before .pre), (c .before .before .loop-test) .taken)
+mul-ticks c =
+    let c2 = c .before .before in
+    let c3 = c2 .before in
+    let c4 = c3 .before in
+    omega (arith, (c3 .loop) .inv .upto, (c4 .pre), (c2 .loop-test) .taken)
 
 array-set-from-ticks : tie.Need-array-set-from-ticks Inv-loop μ-loop
-array-set-from-ticks c = omega (arith, (c .before .before .before .loop) .inv .long, (c .before .before .before .before .pre), (c .before .before .loop-test) .taken)
+array-set-from-ticks c =
+    let c2 = c .before .before in
+    let c3 = c2 .before in
+    let c4 = c3 .before in
+    omega (arith, (c3 .loop) .inv .long, (c4 .pre), (c2 .loop-test) .taken)
 
 add-i : tie.Need-add-i Inv-loop μ-loop
-add-i c = omega (arith, (c .before .before .before .loop) .inv .upto, (c .before .before .before .before .pre), (c .before .before .loop-test) .taken)
+add-i c =
+    let c2 = c .before .before in
+    let c3 = c2 .before in
+    let c4 = c3 .before in
+    omega (arith, (c3 .loop) .inv .upto, (c4 .pre), (c2 .loop-test) .taken)
 
 loop-less : tie.Need-loop-less Inv-loop μ-loop
 loop-less c = omega (arith, (c .before .before .loop-test) .taken)
 
 loop-again : tie.Need-loop-again Inv-loop μ-loop
-loop-again c = fill-more ((c .before .before .before .loop) .inv) ((c .before .before .loop-test) .taken) ((c .before .before .before .before .pre)) refl
+loop-again c =
+    let c2 = c .before .before in
+    let c3 = c2 .before in
+    let c4 = c3 .before in
+    fill-more ((c3 .loop) .inv) ((c2 .loop-test) .taken) ((c4 .pre)) refl
 
 returns : tie.Need-returns Inv-loop μ-loop
 returns c = fill-all ((c .before .loop) .inv) ((c .loop-test) .left) ((c .before .before .pre)) (search (needs, unmapped))

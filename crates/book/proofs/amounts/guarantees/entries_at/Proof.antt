@@ -37,10 +37,16 @@ element-copy-out-x : tie.Need-element-copy-out-x Inv-loop μ-loop
 element-copy-out-x c = search (needs, unmapped)
 
 sub-offset-entry : tie.Need-sub-offset-entry Inv-loop μ-loop
-sub-offset-entry c = (c .before .before .before .before .before .before .before .pre) .each ((c .before .before .loop) .i) ((c .before .loop-test) .taken)
+sub-offset-entry c =
+    let c2 = c .before .before in
+    let c7 = c2 .before .before .before .before .before in
+    (c7 .pre) .each ((c2 .loop) .i) ((c .before .loop-test) .taken)
 
 part-offset-entry-start : tie.Need-part-offset-entry-start Inv-loop μ-loop
-part-offset-entry-start c = (c .before .before .before .before .before .before .before .pre) .each ((c .before .before .loop) .i) ((c .before .loop-test) .taken)
+part-offset-entry-start c =
+    let c2 = c .before .before in
+    let c7 = c2 .before .before .before .before .before in
+    (c7 .pre) .each ((c2 .loop) .i) ((c .before .loop-test) .taken)
 
 part-offset-entry-end : tie.Need-part-offset-entry-end Inv-loop μ-loop
 part-offset-entry-end c = search needs
@@ -49,19 +55,35 @@ offset-entry-requires-2 : tie.Need-offset-entry-requires-2 Inv-loop μ-loop
 offset-entry-requires-2 c κs = search needs
 
 mul-entries : tie.Need-mul-entries Inv-loop μ-loop
-mul-entries c = omega (arith, (c .before .before .before .before .before .loop) .inv .upto, (c .before .before .before .before .before .before .before .before .before .before .pre) .few, (c .before .before .before .before .loop-test) .taken)
+mul-entries c =
+    let c4 = c .before .before .before .before in
+    let c5 = c4 .before in
+    let c10 = c5 .before .before .before .before .before in
+    omega (arith, (c5 .loop) .inv .upto, (c10 .pre) .few, (c4 .loop-test) .taken)
 
 array-set-from-entries : tie.Need-array-set-from-entries Inv-loop μ-loop
-array-set-from-entries c = omega (arith, (c .before .before .before .before .before .loop) .inv .long, (c .before .before .before .before .before .before .before .before .before .before .pre) .few, (c .before .before .before .before .loop-test) .taken)
+array-set-from-entries c =
+    let c4 = c .before .before .before .before in
+    let c5 = c4 .before in
+    let c10 = c5 .before .before .before .before .before in
+    omega (arith, (c5 .loop) .inv .long, (c10 .pre) .few, (c4 .loop-test) .taken)
 
 add-i : tie.Need-add-i Inv-loop μ-loop
-add-i c = omega (arith, (c .before .before .before .before .before .loop) .inv .upto, (c .before .before .before .before .before .before .before .before .before .before .pre) .few, (c .before .before .before .before .loop-test) .taken)
+add-i c =
+    let c4 = c .before .before .before .before in
+    let c5 = c4 .before in
+    let c10 = c5 .before .before .before .before .before in
+    omega (arith, (c5 .loop) .inv .upto, (c10 .pre) .few, (c4 .loop-test) .taken)
 
 loop-less : tie.Need-loop-less Inv-loop μ-loop
 loop-less c = omega (arith, (c .before .before .before .before .loop-test) .taken)
 
 loop-again : tie.Need-loop-again Inv-loop μ-loop
-loop-again c = fill-more ((c .before .before .before .before .before .loop) .inv) ((c .before .before .before .before .loop-test) .taken) ((c .before .before .before .before .before .before .before .before .before .before .pre) .few) (ap (λ (a : EntryAnswer). a .entry) ((c .before .offset-entry2) .ensures) ∙ ap (λ (x : List ℕ). offsetEntryIn x ((c .before .before .before .before .before .before .before .before .before .before .args) .prices) .entry) (to-end (getD ((c .before .before .before .before .before .before .before .before .before .before .args) .t2 .at) ((c .before .before .before .before .before .loop) .i) noSpot .start) ((c .before .before .before .before .before .before .before .before .before .before .args) .log .now)))
+loop-again c =
+    let c4 = c .before .before .before .before in
+    let c5 = c4 .before in
+    let c10 = c5 .before .before .before .before .before in
+    fill-more ((c5 .loop) .inv) ((c4 .loop-test) .taken) ((c10 .pre) .few) (ap (λ (a : EntryAnswer). a .entry) ((c .before .offset-entry2) .ensures) ∙ ap (λ (x : List ℕ). offsetEntryIn x ((c10 .args) .prices) .entry) (to-end (getD ((c10 .args) .t2 .at) ((c5 .loop) .i) noSpot .start) ((c10 .args) .log .now)))
 
 returns : tie.Need-returns Inv-loop μ-loop
 unfolding entriesIn

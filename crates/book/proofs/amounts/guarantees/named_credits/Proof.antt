@@ -35,19 +35,35 @@ array-copy-out-t : tie.Need-array-copy-out-t Inv-loop μ-loop
 array-copy-out-t c = search (needs, unmapped)
 
 mul-t11 : tie.Need-mul-t11 Inv-loop μ-loop
-mul-t11 c = omega (arith, (c .before .before .before .before .loop) .inv .upto, (c .before .before .before .before .before .before .pre), (c .before .before .before .loop-test) .taken)
+mul-t11 c =
+    let c3 = c .before .before .before in
+    let c4 = c3 .before in
+    let c6 = c4 .before .before in
+    omega (arith, (c4 .loop) .inv .upto, (c6 .pre), (c3 .loop-test) .taken)
 
 element-set-from-a : tie.Need-element-set-from-a Inv-loop μ-loop
-element-set-from-a c = omega (arith, (c .before .before .before .before .loop) .inv .long, (c .before .before .before .before .before .before .pre), (c .before .before .before .loop-test) .taken)
+element-set-from-a c =
+    let c3 = c .before .before .before in
+    let c4 = c3 .before in
+    let c6 = c4 .before .before in
+    omega (arith, (c4 .loop) .inv .long, (c6 .pre), (c3 .loop-test) .taken)
 
 add-i : tie.Need-add-i Inv-loop μ-loop
-add-i c = omega (arith, (c .before .before .before .before .loop) .inv .upto, (c .before .before .before .before .before .before .pre), (c .before .before .before .loop-test) .taken)
+add-i c =
+    let c3 = c .before .before .before in
+    let c4 = c3 .before in
+    let c6 = c4 .before .before in
+    omega (arith, (c4 .loop) .inv .upto, (c6 .pre), (c3 .loop-test) .taken)
 
 loop-less : tie.Need-loop-less Inv-loop μ-loop
 loop-less c = omega (arith, (c .before .before .before .loop-test) .taken)
 
 loop-again : tie.Need-loop-again Inv-loop μ-loop
-loop-again c = naming-more ((c .before .before .before .before .loop) .inv) ((c .before .before .before .loop-test) .taken) ((c .before .before .before .before .before .before .pre))
+loop-again c =
+    let c3 = c .before .before .before in
+    let c4 = c3 .before in
+    let c6 = c4 .before .before in
+    naming-more ((c4 .loop) .inv) ((c3 .loop-test) .taken) ((c6 .pre))
 
 returns : tie.Need-returns Inv-loop μ-loop
 returns c =

@@ -2,9 +2,6 @@ use Rattle.book.proofs.amounts.Handed.{no-credits}
 use borrow.Author.Needs.{needs}
 use Rattle.book.proofs.amounts.guarantees.no_guarantees.Statement.{statement}
 use Rattle.book.proofs.amounts.guarantees.no_guarantees.Tie as tie
-use Rattle.book.proofs.amounts.guarantees.no_guarantees.Reads as reads
-use Rattle.book.proofs.amounts.guarantees.no_guarantees.Lts as lts
-use Rattle.book.proofs.amounts.guarantees.no_credits.Reads as no-credits-reads
 
 no-credits-requires : tie.Need-no-credits-requires
 no-credits-requires c κs = search needs

@@ -24,7 +24,9 @@ key-of-requires-2 : tie.Need-key-of-requires-2
 key-of-requires-2 c κs = search needs
 
 gather-rows-requires-2 : tie.Need-gather-rows-requires-2
-gather-rows-requires-2 c κs = ((c .before .before .before .before .before .before .before .pre) .0, key-low ((c .key-of2) .ensures) ((c .before .before .before .before .before .before .before .pre) .1))
+gather-rows-requires-2 c κs =
+    let c7 = c .before .before .before .before .before .before .before in
+    ((c7 .pre) .0, key-low ((c .key-of2) .ensures) ((c7 .pre) .1))
 
 worked-requires : tie.Need-worked-requires
 worked-requires c κs = let k = (c .before .before .before .before .before .before .gather-rows) .ok in let k2 = (c .before .gather-rows2) .ok in let la : length ((c .before .before .before .before .before .before .gather-rows) .result .at) ≡ 16 = search (needs, unmapped) in let lb : length ((c .before .gather-rows2) .result .at) ≡ 16 = search (needs, unmapped) in

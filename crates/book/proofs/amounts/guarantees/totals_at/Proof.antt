@@ -42,7 +42,11 @@ totals-with-export-requires : tie.Need-totals-with-export-requires Inv-loop μ-l
 totals-with-export-requires c κs = search needs
 
 add-i : tie.Need-add-i Inv-loop μ-loop
-add-i c = omega (arith, (c .before .before .before .before .before .loop) .inv .upto, (c .before .before .before .before .before .before .before .pre) .few, (c .before .before .before .before .loop-test) .taken)
+add-i c =
+    let c4 = c .before .before .before .before in
+    let c5 = c4 .before in
+    let c7 = c5 .before .before in
+    omega (arith, (c5 .loop) .inv .upto, (c7 .pre) .few, (c4 .loop-test) .taken)
 
 loop-less : tie.Need-loop-less Inv-loop μ-loop
 loop-less c = omega (arith, (c .before .before .before .before .loop-test) .taken)

@@ -5,11 +5,6 @@ use Rattle.book.proofs.amounts.hours.Lemmas.{head-of, head-size, head-w
 use borrow.Author.Needs.{needs}
 use Rattle.book.proofs.amounts.hours.day_in.Statement.{statement}
 use Rattle.book.proofs.amounts.hours.day_in.Tie as tie
-use Rattle.book.proofs.amounts.hours.day_in.Reads as reads
-use Rattle.book.proofs.amounts.hours.day_in.Lts as lts
-use Rattle.book.proofs.amounts.hours.day_named.Reads as day-named-reads
-use Rattle.records.proofs.heads.record_head.Reads as record-head-reads
-use Rattle.records.proofs.marks.order.Reads as order-reads
 
 record-head-requires : tie.Need-record-head-requires
 record-head-requires c κs = search needs

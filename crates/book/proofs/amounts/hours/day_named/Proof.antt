@@ -6,10 +6,6 @@ use native.Mathlib.Omega.{arith}
 use Rattle.book.proofs.amounts.hours.Lemmas.{Dayed, dayed-start, dayed-few, dayed-within, dayed-hour, dayed-put, dayed-skip, dayed-end}
 use Rattle.book.proofs.amounts.hours.day_named.Statement.{statement}
 use Rattle.book.proofs.amounts.hours.day_named.Tie as tie
-use Rattle.book.proofs.amounts.hours.day_named.Reads as reads
-use Rattle.book.proofs.amounts.hours.day_named.Lts as lts
-use Rattle.book.proofs.amounts.hours.hour_for.Reads as hour-for-reads
-use Rattle.book.proofs.log.rows.place_in.Reads as place-in-reads
 
 abbrev Inv-loop : tie.InvT-loop
 Inv-loop log rows n mark name hours₀ i₀ hours i = Dayed log rows n mark name i hours
@@ -36,21 +32,38 @@ sub-j : tie.Need-sub-j Inv-loop μ-loop
 sub-j c = search needs
 
 mul-hours : tie.Need-mul-hours Inv-loop μ-loop
-mul-hours c = omega (arith, dayed-hour ((c .before .before .before .before .before .loop) .inv) ((c .before .before .before .before .loop-test) .taken) ((c .before .before .hour-for) .ensures) ((c .before .if1) .taken) (c .before .before .before .before .before .before .before .before .pre))
+mul-hours c =
+    let c2 = c .before .before in
+    let c4 = c2 .before .before in
+    let c5 = c4 .before in
+    let c8 = c5 .before .before .before in
+    omega (arith, dayed-hour ((c5 .loop) .inv) ((c4 .loop-test) .taken) ((c2 .hour-for) .ensures) ((c .before .if1) .taken) (c8 .pre))
 
 array-set-from-hours : tie.Need-array-set-from-hours Inv-loop μ-loop
-array-set-from-hours c = omega (arith, (c .before .before .before .before .before .loop) .inv .size, dayed-hour ((c .before .before .before .before .before .loop) .inv) ((c .before .before .before .before .loop-test) .taken) ((c .before .before .hour-for) .ensures) ((c .before .if1) .taken) (c .before .before .before .before .before .before .before .before .pre))
+array-set-from-hours c =
+    let c2 = c .before .before in
+    let c4 = c2 .before .before in
+    let c5 = c4 .before in
+    let c8 = c5 .before .before .before in
+    omega (arith, (c5 .loop) .inv .size, dayed-hour ((c5 .loop) .inv) ((c4 .loop-test) .taken) ((c2 .hour-for) .ensures) ((c .before .if1) .taken) (c8 .pre))
 
 add-i : tie.Need-add-i Inv-loop μ-loop
-add-i c = omega (arith, dayed-few ((c .before .before .before .before .loop) .inv) ((c .before .before .before .loop-test) .taken) (c .before .before .before .before .before .before .before .pre))
+add-i c =
+    let c3 = c .before .before .before in
+    let c4 = c3 .before in
+    let c7 = c4 .before .before .before in
+    omega (arith, dayed-few ((c4 .loop) .inv) ((c3 .loop-test) .taken) (c7 .pre))
 
 loop-less : tie.Need-loop-less Inv-loop μ-loop
 loop-less c = omega (arith, (c .before .before .before .loop-test) .taken)
 
 loop-again : tie.Need-loop-again Inv-loop μ-loop
-loop-again c = ⊎-elim
-    (λ x. subst⁻¹ (Dayed _ _ _ _ _ _) (x .2) (dayed-put ((c .before .before .before .before .loop) .inv) ((c .before .before .before .loop-test) .taken) ((c .before .hour-for) .ensures) (x .0 .taken) (x .1 .ensures .0)))
-    (λ x. subst⁻¹ (Dayed _ _ _ _ _ _) (x .1) (dayed-skip ((c .before .before .before .before .loop) .inv) ((c .before .before .before .loop-test) .taken) ((c .before .hour-for) .ensures) (x .0 .left))) ((c .if1) .came)
+loop-again c =
+    let c3 = c .before .before .before in
+    let c4 = c3 .before in
+    ⊎-elim
+    (λ x. subst⁻¹ (Dayed _ _ _ _ _ _) (x .2) (dayed-put ((c4 .loop) .inv) ((c3 .loop-test) .taken) ((c .before .hour-for) .ensures) (x .0 .taken) (x .1 .ensures .0)))
+    (λ x. subst⁻¹ (Dayed _ _ _ _ _ _) (x .1) (dayed-skip ((c4 .loop) .inv) ((c3 .loop-test) .taken) ((c .before .hour-for) .ensures) (x .0 .left))) ((c .if1) .came)
 
 returns : tie.Need-returns Inv-loop μ-loop
 returns c = dayed-end ((c .before .loop) .inv) ((c .loop-test) .left)

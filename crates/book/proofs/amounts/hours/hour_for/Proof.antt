@@ -9,17 +9,14 @@ use Rattle.book.proofs.amounts.hours.Lemmas.{hour-marked, name-hourless
 use borrow.Author.Needs.{needs}
 use Rattle.book.proofs.amounts.hours.hour_for.Statement.{statement}
 use Rattle.book.proofs.amounts.hours.hour_for.Tie as tie
-use Rattle.book.proofs.amounts.hours.hour_for.Reads as reads
-use Rattle.book.proofs.amounts.hours.hour_for.Lts as lts
-use Rattle.book.proofs.amounts.hours.hour_in.Reads as hour-in-reads
-use Rattle.book.proofs.log.rows.place_in.Reads as place-in-reads
-use Rattle.records.proofs.scan.starts.Reads as starts-reads
 
 hour-in-requires : tie.Need-hour-in-requires
 hour-in-requires c κs = search needs
 
 returns : tie.Need-returns
-returns c = name-hourless ((c .before .before .before .before .args) .row) ((c .before .before .before .before .args) .mark) ((c .before .before .before .before .args) .name .now) ((c .before .before .before .before .args) .log .now) ((c .before .hour-in) .ensures) ((c .if1) .taken)
+returns c =
+    let c4 = c .before .before .before .before in
+    name-hourless ((c4 .args) .row) ((c4 .args) .mark) ((c4 .args) .name .now) ((c4 .args) .log .now) ((c .before .hour-in) .ensures) ((c .if1) .taken)
 
 place-in-requires : tie.Need-place-in-requires
 place-in-requires c κs = search needs
@@ -28,10 +25,16 @@ add-at : tie.Need-add-at
 add-at c = search needs
 
 sub-starts : tie.Need-sub-starts
-sub-starts c = omega (arith, (c .place-in) .ensures .0, (c .before .before .before .before .before .pre) (hour-marked ((c .before .before .before .before .before .args) .row) ((c .before .before .before .before .before .args) .mark) ((c .before .before .before .before .before .args) .name .now) ((c .before .before .before .before .before .args) .log .now) ((c .before .before .hour-in) .ensures) ((c .before .if1) .left)))
+sub-starts c =
+    let c2 = c .before .before in
+    let c5 = c2 .before .before .before in
+    omega (arith, (c .place-in) .ensures .0, (c5 .pre) (hour-marked ((c5 .args) .row) ((c5 .args) .mark) ((c5 .args) .name .now) ((c5 .args) .log .now) ((c2 .hour-in) .ensures) ((c .before .if1) .left)))
 
 part-starts-start : tie.Need-part-starts-start
-part-starts-start c = omega (arith, (c .place-in) .ensures .0, (c .before .before .before .before .before .pre) (hour-marked ((c .before .before .before .before .before .args) .row) ((c .before .before .before .before .before .args) .mark) ((c .before .before .before .before .before .args) .name .now) ((c .before .before .before .before .before .args) .log .now) ((c .before .before .hour-in) .ensures) ((c .before .if1) .left)))
+part-starts-start c =
+    let c2 = c .before .before in
+    let c5 = c2 .before .before .before in
+    omega (arith, (c .place-in) .ensures .0, (c5 .pre) (hour-marked ((c5 .args) .row) ((c5 .args) .mark) ((c5 .args) .name .now) ((c5 .args) .log .now) ((c2 .hour-in) .ensures) ((c .before .if1) .left)))
 
 part-starts-end : tie.Need-part-starts-end
 part-starts-end c = search needs
@@ -40,10 +43,20 @@ starts-requires : tie.Need-starts-requires
 starts-requires c κs = search needs
 
 returns-2 : tie.Need-returns-2
-returns-2 c = name-starts ((c .before .before .before .before .before .before .before .before .args) .row) ((c .before .before .before .before .before .before .before .before .args) .mark) ((c .before .before .before .before .before .before .before .before .args) .name .now) ((c .before .before .before .before .before .before .before .before .args) .log .now) ((c .before .before .before .before .before .hour-in) .ensures) ((c .before .before .before .before .if1) .left) ((c .before .starts) .ensures ∙ ap (begins ((c .before .before .before .before .before .before .before .before .args) .name .now)) (to-end ((c .before .before .before .place-in) .result + 3) ((c .before .before .before .before .before .before .before .before .args) .log .now)) ∙ ap (λ (x : ℕ). begins ((c .before .before .before .before .before .before .before .before .args) .name .now) (drop (x + 3) ((c .before .before .before .before .before .before .before .before .args) .log .now))) ((c .before .before .before .place-in) .ensures .0)) true ((c .if2) .taken)
+returns-2 c =
+    let c3 = c .before .before .before in
+    let c4 = c3 .before in
+    let c5 = c4 .before in
+    let c8 = c5 .before .before .before in
+    name-starts ((c8 .args) .row) ((c8 .args) .mark) ((c8 .args) .name .now) ((c8 .args) .log .now) ((c5 .hour-in) .ensures) ((c4 .if1) .left) ((c .before .starts) .ensures ∙ ap (begins ((c8 .args) .name .now)) (to-end ((c3 .place-in) .result + 3) ((c8 .args) .log .now)) ∙ ap (λ (x : ℕ). begins ((c8 .args) .name .now) (drop (x + 3) ((c8 .args) .log .now))) ((c3 .place-in) .ensures .0)) true ((c .if2) .taken)
 
 returns-3 : tie.Need-returns-3
-returns-3 c = name-starts ((c .before .before .before .before .before .before .before .before .args) .row) ((c .before .before .before .before .before .before .before .before .args) .mark) ((c .before .before .before .before .before .before .before .before .args) .name .now) ((c .before .before .before .before .before .before .before .before .args) .log .now) ((c .before .before .before .before .before .hour-in) .ensures) ((c .before .before .before .before .if1) .left) ((c .before .starts) .ensures ∙ ap (begins ((c .before .before .before .before .before .before .before .before .args) .name .now)) (to-end ((c .before .before .before .place-in) .result + 3) ((c .before .before .before .before .before .before .before .before .args) .log .now)) ∙ ap (λ (x : ℕ). begins ((c .before .before .before .before .before .before .before .before .args) .name .now) (drop (x + 3) ((c .before .before .before .before .before .before .before .before .args) .log .now))) ((c .before .before .before .place-in) .ensures .0)) false ((c .if2) .left)
+returns-3 c =
+    let c3 = c .before .before .before in
+    let c4 = c3 .before in
+    let c5 = c4 .before in
+    let c8 = c5 .before .before .before in
+    name-starts ((c8 .args) .row) ((c8 .args) .mark) ((c8 .args) .name .now) ((c8 .args) .log .now) ((c5 .hour-in) .ensures) ((c4 .if1) .left) ((c .before .starts) .ensures ∙ ap (begins ((c8 .args) .name .now)) (to-end ((c3 .place-in) .result + 3) ((c8 .args) .log .now)) ∙ ap (λ (x : ℕ). begins ((c8 .args) .name .now) (drop (x + 3) ((c8 .args) .log .now))) ((c3 .place-in) .ensures .0)) false ((c .if2) .left)
 
 pub hour-for-spec : {M : Type 1} → statement M
 hour-for-spec =

@@ -1,10 +1,7 @@
 use Rattle.book.proofs.amounts.hours.Lemmas.{hour-below, hour-other, hour-own}
-use native.Mathlib.Omega.{arith}
 use borrow.Author.Needs.{needs}
 use Rattle.book.proofs.amounts.hours.hour_in.Statement.{statement}
 use Rattle.book.proofs.amounts.hours.hour_in.Tie as tie
-use Rattle.book.proofs.amounts.hours.hour_in.Reads as reads
-use Rattle.book.proofs.amounts.hours.hour_in.Lts as lts
 
 returns : tie.Need-returns
 returns c = hour-below ((c .before .args) .row) ((c .before .args) .mark) ((c .if1) .taken)

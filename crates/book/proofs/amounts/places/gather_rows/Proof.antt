@@ -34,10 +34,19 @@ stands-in-requires : tie.Need-stands-in-requires Inv-loop μ-loop
 stands-in-requires c κs = search needs
 
 with-row-requires : tie.Need-with-row-requires Inv-loop μ-loop
-with-row-requires c κs = gathered-room ((c .before .before .before .before .loop) .inv) ((c .before .before .before .loop-test) .taken) ((c .before .before .before .before .before .before .before .before .pre) .0) ((c .before .before .before .before .before .before .before .before .args) .key) ((c .before .before .before .before .before .before .hour-slot) .ensures .0) ((c .before .before .before .before .before .before .before .before .pre) .1) (sym ((c .before .stands-in) .ensures) ∙ (c .if1) .taken)
+with-row-requires c κs =
+    let c3 = c .before .before .before in
+    let c4 = c3 .before in
+    let c6 = c4 .before .before in
+    let c8 = c6 .before .before in
+    gathered-room ((c4 .loop) .inv) ((c3 .loop-test) .taken) ((c8 .pre) .0) ((c8 .args) .key) ((c6 .hour-slot) .ensures .0) ((c8 .pre) .1) (sym ((c .before .stands-in) .ensures) ∙ (c .if1) .taken)
 
 add-i : tie.Need-add-i Inv-loop μ-loop
-add-i c = omega (arith, gathered-few ((c .before .before .before .before .loop) .inv) ((c .before .before .before .loop-test) .taken) ((c .before .before .before .before .before .before .before .before .pre) .0))
+add-i c =
+    let c3 = c .before .before .before in
+    let c4 = c3 .before in
+    let c8 = c4 .before .before .before .before in
+    omega (arith, gathered-few ((c4 .loop) .inv) ((c3 .loop-test) .taken) ((c8 .pre) .0))
 
 loop-less : tie.Need-loop-less Inv-loop μ-loop
 loop-less c = omega (arith, (c .before .before .before .loop-test) .taken)
@@ -49,7 +58,10 @@ loop-again c = ⊎-elim
     (λ x. subst⁻¹ (Gathered _ _ _ _ _) (x .1) (gathered-on ((c .before .before .before .before .loop) .inv) ((c .before .before .before .loop-test) .taken) (sym ((c .before .stands-in) .ensures) ∙ x .0 .left))) ((c .if1) .came)
 
 returns : tie.Need-returns Inv-loop μ-loop
-returns c = (gathered-end ((c .before .loop) .inv) ((c .loop-test) .left) ((c .before .before .before .before .before .args) .key) ((c .before .before .before .hour-slot) .ensures .0) ((c .before .before .before .before .before .pre) .1), (c .before .loop) .inv .few)
+returns c =
+    let c3 = c .before .before .before in
+    let c5 = c3 .before .before in
+    (gathered-end ((c .before .loop) .inv) ((c .loop-test) .left) ((c5 .args) .key) ((c3 .hour-slot) .ensures .0) ((c5 .pre) .1), (c .before .loop) .inv .few)
 
 pub gather-rows-spec : {M : Type 1} → statement M
 gather-rows-spec =

@@ -19,7 +19,9 @@ head-key-requires : tie.Need-head-key-requires
 head-key-requires c κs = search needs
 
 returns : tie.Need-returns
-returns c = ap (λ (a : KeyAnswer). a .key .name) ((c .before .head-key) .ensures ∙ ap (λ r. keyAnswer (headKey r)) (to-end ((c .before .before .before .before .args) .start) ((c .before .before .before .before .args) .log .now)))
+returns c =
+    let c4 = c .before .before .before .before in
+    ap (λ (a : KeyAnswer). a .key .name) ((c .before .head-key) .ensures ∙ ap (λ r. keyAnswer (headKey r)) (to-end ((c4 .args) .start) ((c4 .args) .log .now)))
 
 pub name-at-spec : {M : Type 1} → statement M
 name-at-spec =

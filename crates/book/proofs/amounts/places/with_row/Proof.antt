@@ -19,10 +19,14 @@ inserted-requires : tie.Need-inserted-requires
 inserted-requires c κs = ((c .position-for) .ensures .0, (c .before .before .before .before .pre) .0)
 
 returns : tie.Need-returns
-returns c = (
-  omega (arith, (c .inserted) .ensures .0, (c .before .before .before .before .before .pre) .0),
+returns c =
+    let c2 = c .before .before in
+    let c3 = c2 .before in
+    let c5 = c3 .before .before in
+    (
+  omega (arith, (c .inserted) .ensures .0, (c5 .pre) .0),
   (c .inserted) .ensures .1 ∙ sym ((c .before .position-for) .ensures .1)
-      ∙ ap (λ y. putSpot y (spots ((c .before .before .before .before .before .args) .p))) (spot-read ((c .before .before .before .before .before .args) .log .now) ((c .before .before .before .before .before .args) .row) ((c .before .before .before .place-in) .result) ((c .before .before .name-at) .result) ((c .before .before .before .place-in) .ensures .0) ((c .before .before .name-at) .ensures)),
+      ∙ ap (λ y. putSpot y (spots ((c5 .args) .p))) (spot-read ((c5 .args) .log .now) ((c5 .args) .row) ((c3 .place-in) .result) ((c2 .name-at) .result) ((c3 .place-in) .ensures .0) ((c2 .name-at) .ensures)),
 )
 
 pub with-row-spec : {M : Type 1} → statement M

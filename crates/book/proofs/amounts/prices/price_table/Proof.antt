@@ -32,27 +32,51 @@ place-in-requires : tie.Need-place-in-requires Inv-loop μ-loop
 place-in-requires c κs = search needs
 
 price-at-requires : tie.Need-price-at-requires Inv-loop μ-loop
-price-at-requires c κs = tabling-within ((c .before .before .before .before .before .loop) .inv) ((c .before .before .before .before .loop-test) .taken) ((c .before .before .price-hour) .ensures) ((c .before .if1) .taken) (c .before .before .before .before .before .before .before .before .pre) ((c .place-in) .ensures .0)
+price-at-requires c κs =
+    let c2 = c .before .before in
+    let c4 = c2 .before .before in
+    let c5 = c4 .before in
+    let c8 = c5 .before .before .before in
+    tabling-within ((c5 .loop) .inv) ((c4 .loop-test) .taken) ((c2 .price-hour) .ensures) ((c .before .if1) .taken) (c8 .pre) ((c .place-in) .ensures .0)
 
 sub-j : tie.Need-sub-j Inv-loop μ-loop
 sub-j c = search needs
 
 mul-hours : tie.Need-mul-hours Inv-loop μ-loop
-mul-hours c = omega (arith, tabling-hour ((c .before .before .before .before .before .before .loop) .inv) ((c .before .before .before .before .before .loop-test) .taken) ((c .before .before .before .price-hour) .ensures) ((c .before .before .if1) .taken) (c .before .before .before .before .before .before .before .before .before .pre))
+mul-hours c =
+    let c2 = c .before .before in
+    let c3 = c2 .before in
+    let c5 = c3 .before .before in
+    let c6 = c5 .before in
+    let c9 = c6 .before .before .before in
+    omega (arith, tabling-hour ((c6 .loop) .inv) ((c5 .loop-test) .taken) ((c3 .price-hour) .ensures) ((c2 .if1) .taken) (c9 .pre))
 
 array-set-from-hours : tie.Need-array-set-from-hours Inv-loop μ-loop
-array-set-from-hours c = omega (arith, (c .before .before .before .before .before .before .loop) .inv .size, tabling-hour ((c .before .before .before .before .before .before .loop) .inv) ((c .before .before .before .before .before .loop-test) .taken) ((c .before .before .before .price-hour) .ensures) ((c .before .before .if1) .taken) (c .before .before .before .before .before .before .before .before .before .pre))
+array-set-from-hours c =
+    let c2 = c .before .before in
+    let c3 = c2 .before in
+    let c5 = c3 .before .before in
+    let c6 = c5 .before in
+    let c9 = c6 .before .before .before in
+    omega (arith, (c6 .loop) .inv .size, tabling-hour ((c6 .loop) .inv) ((c5 .loop-test) .taken) ((c3 .price-hour) .ensures) ((c2 .if1) .taken) (c9 .pre))
 
 add-i : tie.Need-add-i Inv-loop μ-loop
-add-i c = omega (arith, tabling-few ((c .before .before .before .before .loop) .inv) ((c .before .before .before .loop-test) .taken) (c .before .before .before .before .before .before .before .pre))
+add-i c =
+    let c3 = c .before .before .before in
+    let c4 = c3 .before in
+    let c7 = c4 .before .before .before in
+    omega (arith, tabling-few ((c4 .loop) .inv) ((c3 .loop-test) .taken) (c7 .pre))
 
 loop-less : tie.Need-loop-less Inv-loop μ-loop
 loop-less c = omega (arith, (c .before .before .before .loop-test) .taken)
 
 loop-again : tie.Need-loop-again Inv-loop μ-loop
-loop-again c = ⊎-elim
-    (λ x. subst⁻¹ (Tabling _ _ _ _ _) (x .3) (tabling-put ((c .before .before .before .before .loop) .inv) ((c .before .before .before .loop-test) .taken) ((c .before .price-hour) .ensures) (x .0 .taken) (x .1 .ensures .0) _ (x .2 .ensures)))
-    (λ x. subst⁻¹ (Tabling _ _ _ _ _) (x .1) (tabling-skip ((c .before .before .before .before .loop) .inv) ((c .before .before .before .loop-test) .taken) ((c .before .price-hour) .ensures) (x .0 .left))) ((c .if1) .came)
+loop-again c =
+    let c3 = c .before .before .before in
+    let c4 = c3 .before in
+    ⊎-elim
+    (λ x. subst⁻¹ (Tabling _ _ _ _ _) (x .3) (tabling-put ((c4 .loop) .inv) ((c3 .loop-test) .taken) ((c .before .price-hour) .ensures) (x .0 .taken) (x .1 .ensures .0) _ (x .2 .ensures)))
+    (λ x. subst⁻¹ (Tabling _ _ _ _ _) (x .1) (tabling-skip ((c4 .loop) .inv) ((c3 .loop-test) .taken) ((c .before .price-hour) .ensures) (x .0 .left))) ((c .if1) .came)
 
 returns : tie.Need-returns Inv-loop μ-loop
 returns c = tabling-end ((c .before .loop) .inv) ((c .loop-test) .left) ((c .before .before .no-price) .ensures)

@@ -41,21 +41,34 @@ place-in-requires : tie.Need-place-in-requires Inv-loop μ-loop
 place-in-requires c κs = search needs
 
 name-at-requires : tie.Need-name-at-requires Inv-loop μ-loop
-name-at-requires c κs = omega (
+name-at-requires c κs =
+    let c2 = c .before .before in
+    let c4 = c2 .before .before in
+    let c5 = c4 .before in
+    let c9 = c5 .before .before .before .before in
+    omega (
   arith,
   (c .place-in) .ensures .0,
-  listed-place ((c .before .before .before .before .before .loop) .inv) ((c .before .before .before .before .loop-test) .taken) (c .before .before .before .before .before .before .before .before .before .pre) (sym ((c .before .before .of-mark) .ensures) ∙ (c .before .if1) .taken),
+  listed-place ((c5 .loop) .inv) ((c4 .loop-test) .taken) (c9 .pre) (sym ((c2 .of-mark) .ensures) ∙ (c .before .if1) .taken),
 )
 
 with-name-requires : tie.Need-with-name-requires Inv-loop μ-loop
-with-name-requires c κs = omega (
+with-name-requires c κs =
+    let c5 = c .before .before .before .before .before in
+    let c6 = c5 .before in
+    let c10 = c6 .before .before .before .before in
+    omega (
   arith,
-  (c .before .before .before .before .before .before .loop) .inv .few,
-  listed-at ((c .before .before .before .before .before .before .loop) .inv) ((c .before .before .before .before .before .loop-test) .taken) (c .before .before .before .before .before .before .before .before .before .before .pre),
+  (c6 .loop) .inv .few,
+  listed-at ((c6 .loop) .inv) ((c5 .loop-test) .taken) (c10 .pre),
 )
 
 add-i : tie.Need-add-i Inv-loop μ-loop
-add-i c = omega (arith, listed-at ((c .before .before .before .before .loop) .inv) ((c .before .before .before .loop-test) .taken) (c .before .before .before .before .before .before .before .before .pre))
+add-i c =
+    let c3 = c .before .before .before in
+    let c4 = c3 .before in
+    let c8 = c4 .before .before .before .before in
+    omega (arith, listed-at ((c4 .loop) .inv) ((c3 .loop-test) .taken) (c8 .pre))
 
 loop-less : tie.Need-loop-less Inv-loop μ-loop
 loop-less c = omega (arith, (c .before .before .before .loop-test) .taken)
@@ -68,9 +81,12 @@ loop-again c = ⊎-elim
     (λ x. subst⁻¹ (Listed _ _ _ _ _) (x .1) (listed-skip ((c .before .before .before .before .loop) .inv) ((c .before .before .before .loop-test) .taken) (sym ((c .before .of-mark) .ensures) ∙ x .0 .left))) ((c .if1) .came)
 
 returns : tie.Need-returns Inv-loop μ-loop
-returns c = (
-  listed-end ((c .before .loop) .inv) ((c .loop-test) .left) ((c .before .before .before .before .before .args) .key) ((c .before .before .before .order) .ensures),
-  listed-few ((c .before .loop) .inv) (c .before .before .before .before .before .pre),
+returns c =
+    let c3 = c .before .before .before in
+    let c5 = c3 .before .before in
+    (
+  listed-end ((c .before .loop) .inv) ((c .loop-test) .left) ((c5 .args) .key) ((c3 .order) .ensures),
+  listed-few ((c .before .loop) .inv) (c5 .pre),
   (c .before .loop) .inv .whole,
 )
 

@@ -13,9 +13,12 @@ inserted-requires : tie.Need-inserted-requires
 inserted-requires c κs = search needs
 
 returns : tie.Need-returns
-returns c = (
+returns c =
+    let c2 = c .before .before in
+    let c3 = c2 .before in
+    (
   omega (arith, (c .inserted) .ensures .0),
-  (c .inserted) .ensures .1 ∙ taken-up ((c .before .before .position-of) .result .new) _ (namesIn ((c .before .before .before .args) .u)) ((c .before .if1) .taken) ∙ sym ((c .before .before .position-of) .ensures .1),
+  (c .inserted) .ensures .1 ∙ taken-up ((c2 .position-of) .result .new) _ (namesIn ((c3 .args) .u)) ((c .before .if1) .taken) ∙ sym ((c2 .position-of) .ensures .1),
   (c .inserted) .ensures .2,
 )
 

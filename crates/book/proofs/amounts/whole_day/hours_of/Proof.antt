@@ -6,10 +6,6 @@ use Rattle.book.proofs.Inserting.{unmapped}
 use Rattle.book.proofs.amounts.whole_day.Lemmas.{Hours, hours-start, hours-more, hours-end}
 use Rattle.book.proofs.amounts.whole_day.hours_of.Statement.{statement}
 use Rattle.book.proofs.amounts.whole_day.hours_of.Tie as tie
-use Rattle.book.proofs.amounts.whole_day.hours_of.Reads as reads
-use Rattle.book.proofs.amounts.whole_day.hours_of.Lts as lts
-use Rattle.book.proofs.amounts.whole_day.hour_of.Reads as hour-of-reads
-use Rattle.book.proofs.amounts.whole_day.no_hour.Reads as no-hour-reads
 
 abbrev Inv-loop : tie.InvT-loop
 Inv-loop log rows n table hours₀ i₀ hours i = Hours log rows n table hours i

@@ -1,12 +1,7 @@
 use Rattle.book.proofs.amounts.whole_day.Lemmas.{hour-blank}
-use native.Mathlib.Omega.{arith}
 use borrow.Author.Needs.{needs}
 use Rattle.book.proofs.amounts.whole_day.no_hour.Statement.{statement}
 use Rattle.book.proofs.amounts.whole_day.no_hour.Tie as tie
-use Rattle.book.proofs.amounts.whole_day.no_hour.Reads as reads
-use Rattle.book.proofs.amounts.whole_day.no_hour.Lts as lts
-use Rattle.book.proofs.amounts.failures.no_charges.Reads as no-charges-reads
-use Rattle.book.proofs.amounts.guarantees.no_guarantees.Reads as no-guarantees-reads
 
 no-guarantees-requires : tie.Need-no-guarantees-requires
 no-guarantees-requires c κs = search needs
@@ -18,7 +13,9 @@ no-charges-requires-2 : tie.Need-no-charges-requires-2
 no-charges-requires-2 c κs = search needs
 
 returns : tie.Need-returns
-returns c = hour-blank ((c .before .before .no-guarantees) .ensures .0) ((c .before .before .no-guarantees) .ensures .2) ((c .before .no-charges) .ensures .0) ((c .before .no-charges) .ensures .2) ((c .no-charges2) .ensures .0) ((c .no-charges2) .ensures .2)
+returns c =
+    let c2 = c .before .before in
+    hour-blank ((c2 .no-guarantees) .ensures .0) ((c2 .no-guarantees) .ensures .2) ((c .before .no-charges) .ensures .0) ((c .before .no-charges) .ensures .2) ((c .no-charges2) .ensures .0) ((c .no-charges2) .ensures .2)
 
 pub no-hour-spec : {M : Type 1} → statement M
 no-hour-spec =

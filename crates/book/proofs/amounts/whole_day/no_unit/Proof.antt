@@ -1,12 +1,8 @@
 use mathlib.Core.Path.{ap}
 use Rattle.book.specs.Layer.{Name, noTicks}
-use native.Mathlib.Omega.{arith}
 use borrow.Author.Needs.{needs}
 use Rattle.book.proofs.amounts.whole_day.no_unit.Statement.{statement}
 use Rattle.book.proofs.amounts.whole_day.no_unit.Tie as tie
-use Rattle.book.proofs.amounts.whole_day.no_unit.Reads as reads
-use Rattle.book.proofs.amounts.whole_day.no_unit.Lts as lts
-use Rattle.records.proofs.names.no_name.Reads as no-name-reads
 
 no-name-requires : tie.Need-no-name-requires
 no-name-requires c κs = search needs

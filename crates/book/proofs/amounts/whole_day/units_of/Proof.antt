@@ -7,10 +7,6 @@ use Rattle.book.proofs.Inserting.{unmapped}
 use Rattle.book.proofs.amounts.whole_day.Lemmas.{Dealt, dealt-start, dealt-more, dealt-end, unit-keyed}
 use Rattle.book.proofs.amounts.whole_day.units_of.Statement.{statement}
 use Rattle.book.proofs.amounts.whole_day.units_of.Tie as tie
-use Rattle.book.proofs.amounts.whole_day.units_of.Reads as reads
-use Rattle.book.proofs.amounts.whole_day.units_of.Lts as lts
-use Rattle.book.proofs.amounts.days.of_unit.Reads as of-unit-reads
-use Rattle.book.proofs.amounts.whole_day.no_unit.Reads as no-unit-reads
 
 abbrev Inv-loop : tie.InvT-loop
 Inv-loop log rows n table u units₀ i₀ units i = Dealt log rows n u table units i
@@ -31,13 +27,20 @@ element-copy-out-name : tie.Need-element-copy-out-name Inv-loop μ-loop
 element-copy-out-name c = search needs
 
 of-unit-requires : tie.Need-of-unit-requires Inv-loop μ-loop
-of-unit-requires c κs = ((c .before .before .before .before .before .pre) .0, unit-keyed ((c .before .before .before .before .before .pre) .1 .padded ((c .before .before .loop) .i) ((c .before .loop-test) .taken) _))
+of-unit-requires c κs =
+    let c2 = c .before .before in
+    let c5 = c2 .before .before .before in
+    ((c5 .pre) .0, unit-keyed ((c5 .pre) .1 .padded ((c2 .loop) .i) ((c .before .loop-test) .taken) _))
 
 mul-units : tie.Need-mul-units Inv-loop μ-loop
 mul-units c = omega (arith, (c .before .before .before .before .before .before .pre) .1 .few, (c .before .before .loop-test) .taken)
 
 array-set-from-units : tie.Need-array-set-from-units Inv-loop μ-loop
-array-set-from-units c = omega (arith, (c .before .before .before .loop) .inv .long, (c .before .before .before .before .before .before .pre) .1 .few, (c .before .before .loop-test) .taken)
+array-set-from-units c =
+    let c2 = c .before .before in
+    let c3 = c2 .before in
+    let c6 = c3 .before .before .before in
+    omega (arith, (c3 .loop) .inv .long, (c6 .pre) .1 .few, (c2 .loop-test) .taken)
 
 add-i : tie.Need-add-i Inv-loop μ-loop
 add-i c = omega (arith, (c .before .before .before .before .before .before .pre) .1 .few, (c .before .before .loop-test) .taken)

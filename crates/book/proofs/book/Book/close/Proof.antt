@@ -15,16 +15,26 @@ parse-close-requires : tie.Need-parse-close-requires
 parse-close-requires c κs = search needs
 
 returns : tie.Need-returns
-returns c = close-refused ((c .before .before .before .before .before .before .before .args) .self) ((c .before .before .before .before .before .before .before .args) .log .now) (is-rowed _ _ ((c .before .before .before .check-rows) .ensures) ((c .before .before .if1) .taken)) ((c .before .before .before .before .before .before .before .args) .rec .now) ((c .before .parse-close) .ensures) ((c .if2) .taken)
+returns c =
+    let c2 = c .before .before in
+    let c3 = c2 .before in
+    let c7 = c3 .before .before .before .before in
+    close-refused ((c7 .args) .self) ((c7 .args) .log .now) (is-rowed _ _ ((c3 .check-rows) .ensures) ((c2 .if1) .taken)) ((c7 .args) .rec .now) ((c .before .parse-close) .ensures) ((c .if2) .taken)
 
 held-close-requires : tie.Need-held-close-requires
 held-close-requires c κs = search needs
 
 returns-2 : tie.Need-returns-2
-returns-2 c = makes-by (ap closing (sym ((c .before .before .parse-close) .ensures) ∙ (c .before .if2) .left)) ((c .held-close) .ensures _ _ noKey (held-from _ _ ((c .before .before .before .before .check-rows) .ensures) ((c .before .before .before .if1) .taken))) .leaves
+returns-2 c =
+    let c2 = c .before .before in
+    let c3 = c2 .before in
+    let c4 = c3 .before in
+    makes-by (ap closing (sym ((c2 .parse-close) .ensures) ∙ (c .before .if2) .left)) ((c .held-close) .ensures _ _ noKey (held-from _ _ ((c4 .check-rows) .ensures) ((c3 .if1) .taken))) .leaves
 
 returns-3 : tie.Need-returns-3
-returns-3 c = leaves-16 _ ((c .before .before .before .before .before .args) .self) ((c .before .before .before .before .before .args) .log .now) (not-rowed _ _ ((c .before .check-rows) .ensures) ((c .if1) .left))
+returns-3 c =
+    let c5 = c .before .before .before .before .before in
+    leaves-16 _ ((c5 .args) .self) ((c5 .args) .log .now) (not-rowed _ _ ((c .before .check-rows) .ensures) ((c .if1) .left))
 
 pub close-spec : {M : Type 1} → statement M
 close-spec =

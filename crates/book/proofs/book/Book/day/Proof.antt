@@ -8,20 +8,9 @@ use Rattle.book.specs.Register.{standing}
 use Rattle.book.proofs.book.Rows.{is-rowed, not-rowed, rowed-logged, rowed-log}
 use Rattle.book.proofs.Inserting.{unmapped}
 use Rattle.book.proofs.amounts.whole_day.Lemmas.{day-made, day-astray, names-formed}
-use native.Mathlib.Omega.{arith}
 use borrow.Author.Needs.{needs}
 use Rattle.book.proofs.book.Book.day.Statement.{statement}
 use Rattle.book.proofs.book.Book.day.Tie as tie
-use Rattle.book.proofs.book.Book.day.Reads as reads
-use Rattle.book.proofs.book.Book.day.Lts as lts
-use Rattle.book.proofs.book.Book.check_rows.Reads as check-rows-reads
-use Rattle.book.proofs.amounts.prices.price_table.Reads as price-table-reads
-use Rattle.book.proofs.amounts.units.names_in.Reads as names-in-reads
-use Rattle.book.proofs.amounts.whole_day.hours_of.Reads as hours-of-reads
-use Rattle.book.proofs.amounts.whole_day.no_hour.Reads as no-hour-reads
-use Rattle.book.proofs.amounts.whole_day.no_unit.Reads as no-unit-reads
-use Rattle.book.proofs.amounts.whole_day.units_of.Reads as units-of-reads
-use Rattle.records.proofs.keys.key_of.Reads as key-of-reads
 
 check-rows-requires : tie.Need-check-rows-requires
 check-rows-requires c κs = search needs
@@ -30,16 +19,28 @@ cast-n : tie.Need-cast-n
 cast-n c = search needs
 
 price-table-requires : tie.Need-price-table-requires
-price-table-requires c κs = rowed-log ((c .before .before .before .before .before .before .args) .self) ((c .before .before .before .before .before .before .args) .log .now) ((c .before .before .before .check-rows) .ensures) (is-rowed ((c .before .before .before .before .before .before .args) .self) ((c .before .before .before .before .before .before .args) .log .now) ((c .before .before .before .check-rows) .ensures) ((c .before .before .if1) .taken))
+price-table-requires c κs =
+    let c2 = c .before .before in
+    let c3 = c2 .before in
+    let c6 = c3 .before .before .before in
+    rowed-log ((c6 .args) .self) ((c6 .args) .log .now) ((c3 .check-rows) .ensures) (is-rowed ((c6 .args) .self) ((c6 .args) .log .now) ((c3 .check-rows) .ensures) ((c2 .if1) .taken))
 
 hours-of-requires : tie.Need-hours-of-requires
-hours-of-requires c κs = rowed-log ((c .before .before .before .before .before .before .before .before .args) .self) ((c .before .before .before .before .before .before .before .before .args) .log .now) ((c .before .before .before .before .before .check-rows) .ensures) (is-rowed ((c .before .before .before .before .before .before .before .before .args) .self) ((c .before .before .before .before .before .before .before .before .args) .log .now) ((c .before .before .before .before .before .check-rows) .ensures) ((c .before .before .before .before .if1) .taken))
+hours-of-requires c κs =
+    let c4 = c .before .before .before .before in
+    let c5 = c4 .before in
+    let c8 = c5 .before .before .before in
+    rowed-log ((c8 .args) .self) ((c8 .args) .log .now) ((c5 .check-rows) .ensures) (is-rowed ((c8 .args) .self) ((c8 .args) .log .now) ((c5 .check-rows) .ensures) ((c4 .if1) .taken))
 
 key-of-requires : tie.Need-key-of-requires
 key-of-requires c κs = search needs
 
 names-in-requires : tie.Need-names-in-requires
-names-in-requires c κs = rowed-log ((c .before .before .before .before .before .before .before .before .before .before .before .args) .self) ((c .before .before .before .before .before .before .before .before .before .before .before .args) .log .now) ((c .before .before .before .before .before .before .before .before .check-rows) .ensures) (is-rowed ((c .before .before .before .before .before .before .before .before .before .before .before .args) .self) ((c .before .before .before .before .before .before .before .before .before .before .before .args) .log .now) ((c .before .before .before .before .before .before .before .before .check-rows) .ensures) ((c .before .before .before .before .before .before .before .if1) .taken))
+names-in-requires c κs =
+    let c7 = c .before .before .before .before .before .before .before in
+    let c8 = c7 .before in
+    let c11 = c8 .before .before .before in
+    rowed-log ((c11 .args) .self) ((c11 .args) .log .now) ((c8 .check-rows) .ensures) (is-rowed ((c11 .args) .self) ((c11 .args) .log .now) ((c8 .check-rows) .ensures) ((c7 .if1) .taken))
 
 units-of-requires : tie.Need-units-of-requires
 units-of-requires c κs =
@@ -68,7 +69,11 @@ no-unit-requires : tie.Need-no-unit-requires
 no-unit-requires c κs = search needs
 
 returns-2 : tie.Need-returns-2
-returns-2 c = day-astray (load ((c .before .before .before .before .before .before .args) .self) ((c .before .before .before .before .before .before .args) .log .now)) (not-rowed ((c .before .before .before .before .before .before .args) .self) ((c .before .before .before .before .before .before .args) .log .now) ((c .before .before .before .check-rows) .ensures) ((c .before .before .if1) .left)) ((c .before .no-hour) .result) ((c .before .no-hour) .ensures) ((c .no-unit) .result) ((c .no-unit) .ensures)
+returns-2 c =
+    let c2 = c .before .before in
+    let c3 = c2 .before in
+    let c6 = c3 .before .before .before in
+    day-astray (load ((c6 .args) .self) ((c6 .args) .log .now)) (not-rowed ((c6 .args) .self) ((c6 .args) .log .now) ((c3 .check-rows) .ensures) ((c2 .if1) .left)) ((c .before .no-hour) .result) ((c .before .no-hour) .ensures) ((c .no-unit) .result) ((c .no-unit) .ensures)
 
 pub day-spec : {M : Type 1} → statement M
 day-spec =

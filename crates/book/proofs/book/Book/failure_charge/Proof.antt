@@ -15,31 +15,55 @@ ask-failure-requires : tie.Need-ask-failure-requires
 ask-failure-requires c κs = search needs
 
 returns : tie.Need-returns
-returns c = failure-wrong ((c .before .before .before .before .before .before .before .before .before .args) .self) ((c .before .before .before .before .before .before .before .before .before .args) .log .now) ((c .before .before .before .before .before .before .before .before .before .args) .mark .now) ((c .before .before .before .before .before .before .before .before .before .args) .hour) ((c .before .before .before .before .before .before .before .before .before .args) .name .now) (is-rowed ((c .before .before .before .before .before .before .before .before .before .args) .self) ((c .before .before .before .before .before .before .before .before .before .args) .log .now) ((c .before .before .before .before .check-rows) .ensures) ((c .before .before .before .if1) .taken)) ((c .before .before .ask-failure) .result) ((c .before .before .ask-failure) .ensures) ((c .if2) .taken)
+returns c =
+    let c2 = c .before .before in
+    let c3 = c2 .before in
+    let c4 = c3 .before in
+    let c9 = c4 .before .before .before .before .before in
+    failure-wrong ((c9 .args) .self) ((c9 .args) .log .now) ((c9 .args) .mark .now) ((c9 .args) .hour) ((c9 .args) .name .now) (is-rowed ((c9 .args) .self) ((c9 .args) .log .now) ((c4 .check-rows) .ensures) ((c3 .if1) .taken)) ((c2 .ask-failure) .result) ((c2 .ask-failure) .ensures) ((c .if2) .taken)
 
 cast-n : tie.Need-cast-n
 cast-n c = search needs
 
 price-in-requires : tie.Need-price-in-requires
-price-in-requires c κs = (
-  rowed-log ((c .before .before .before .before .before .before .before .before .before .before .before .before .args) .self) ((c .before .before .before .before .before .before .before .before .before .before .before .before .args) .log .now) ((c .before .before .before .before .before .before .before .check-rows) .ensures) (is-rowed ((c .before .before .before .before .before .before .before .before .before .before .before .before .args) .self) ((c .before .before .before .before .before .before .before .before .before .before .before .before .args) .log .now) ((c .before .before .before .before .before .before .before .check-rows) .ensures) ((c .before .before .before .before .before .before .if1) .taken)),
-  failure-formed ((c .before .before .before .before .before .before .before .before .before .before .before .before .args) .mark .now) ((c .before .before .before .before .before .before .before .before .before .before .before .before .args) .hour) ((c .before .before .before .before .before .before .before .before .before .before .before .before .args) .name .now) ((c .before .before .before .before .before .ask-failure) .result) ((c .before .before .before .before .before .ask-failure) .ensures) .low,
+price-in-requires c κs =
+    let c5 = c .before .before .before .before .before in
+    let c6 = c5 .before in
+    let c7 = c6 .before in
+    let c12 = c7 .before .before .before .before .before in
+    (
+  rowed-log ((c12 .args) .self) ((c12 .args) .log .now) ((c7 .check-rows) .ensures) (is-rowed ((c12 .args) .self) ((c12 .args) .log .now) ((c7 .check-rows) .ensures) ((c6 .if1) .taken)),
+  failure-formed ((c12 .args) .mark .now) ((c12 .args) .hour) ((c12 .args) .name .now) ((c5 .ask-failure) .result) ((c5 .ask-failure) .ensures) .low,
 )
 
 of-key-requires : tie.Need-of-key-requires
-of-key-requires c κs = (
-  rowed-log ((c .before .before .before .before .before .before .before .before .before .before .before .before .before .before .args) .self) ((c .before .before .before .before .before .before .before .before .before .before .before .before .before .before .args) .log .now) ((c .before .before .before .before .before .before .before .before .before .check-rows) .ensures) (is-rowed ((c .before .before .before .before .before .before .before .before .before .before .before .before .before .before .args) .self) ((c .before .before .before .before .before .before .before .before .before .before .before .before .before .before .args) .log .now) ((c .before .before .before .before .before .before .before .before .before .check-rows) .ensures) ((c .before .before .before .before .before .before .before .before .if1) .taken)),
-  failure-formed ((c .before .before .before .before .before .before .before .before .before .before .before .before .before .before .args) .mark .now) ((c .before .before .before .before .before .before .before .before .before .before .before .before .before .before .args) .hour) ((c .before .before .before .before .before .before .before .before .before .before .before .before .before .before .args) .name .now) ((c .before .before .before .before .before .before .before .ask-failure) .result) ((c .before .before .before .before .before .before .before .ask-failure) .ensures),
+of-key-requires c κs =
+    let c7 = c .before .before .before .before .before .before .before in
+    let c8 = c7 .before in
+    let c9 = c8 .before in
+    let c14 = c9 .before .before .before .before .before in
+    (
+  rowed-log ((c14 .args) .self) ((c14 .args) .log .now) ((c9 .check-rows) .ensures) (is-rowed ((c14 .args) .self) ((c14 .args) .log .now) ((c9 .check-rows) .ensures) ((c8 .if1) .taken)),
+  failure-formed ((c14 .args) .mark .now) ((c14 .args) .hour) ((c14 .args) .name .now) ((c7 .ask-failure) .result) ((c7 .ask-failure) .ensures),
 )
 
 returns-2 : tie.Need-returns-2
-returns-2 c = let x = is-rowed ((c .before .before .before .before .before .before .before .before .before .before .before .before .before .before .before .args) .self) ((c .before .before .before .before .before .before .before .before .before .before .before .before .before .before .before .args) .log .now) ((c .before .before .before .before .before .before .before .before .before .before .check-rows) .ensures) ((c .before .before .before .before .before .before .before .before .before .if1) .taken) in
-    let g = rowed-logged ((c .before .before .before .before .before .before .before .before .before .before .before .before .before .before .before .args) .self) ((c .before .before .before .before .before .before .before .before .before .before .before .before .before .before .before .args) .log .now) ((c .before .before .before .before .before .before .before .before .before .before .check-rows) .ensures) x in
-    failure-at ((c .before .before .before .before .before .before .before .before .before .before .before .before .before .before .before .args) .self) ((c .before .before .before .before .before .before .before .before .before .before .before .before .before .before .before .args) .log .now) ((c .before .before .before .before .before .before .before .before .before .before .before .before .before .before .before .args) .mark .now) ((c .before .before .before .before .before .before .before .before .before .before .before .before .before .before .before .args) .hour) ((c .before .before .before .before .before .before .before .before .before .before .before .before .before .before .before .args) .name .now) x ((c .before .before .before .before .before .before .before .before .ask-failure) .result) ((c .before .before .before .before .before .before .before .before .ask-failure) .ensures) ((c .before .before .before .before .before .before .if2) .left) _
-    ((c .of-key) .ensures (x .list) g (failure-asked ((c .before .before .before .before .before .before .before .before .before .before .before .before .before .before .before .args) .self) ((c .before .before .before .before .before .before .before .before .before .before .before .before .before .before .before .args) .log .now) ((c .before .before .before .before .before .before .before .before .before .before .before .before .before .before .before .args) .mark .now) ((c .before .before .before .before .before .before .before .before .before .before .before .before .before .before .before .args) .hour) ((c .before .before .before .before .before .before .before .before .before .before .before .before .before .before .before .args) .name .now) x ((c .before .before .before .before .before .before .before .before .ask-failure) .result) ((c .before .before .before .before .before .before .before .before .ask-failure) .ensures) ((c .before .before .before .before .before .before .if2) .left)) (priceOf (standing (x .list))) ((c .before .before .price-in) .ensures (x .list) g))
+returns-2 c =
+    let c2 = c .before .before in
+    let c6 = c2 .before .before .before .before in
+    let c8 = c6 .before .before in
+    let c9 = c8 .before in
+    let c10 = c9 .before in
+    let c15 = c10 .before .before .before .before .before in
+    let x = is-rowed ((c15 .args) .self) ((c15 .args) .log .now) ((c10 .check-rows) .ensures) ((c9 .if1) .taken) in
+    let g = rowed-logged ((c15 .args) .self) ((c15 .args) .log .now) ((c10 .check-rows) .ensures) x in
+    failure-at ((c15 .args) .self) ((c15 .args) .log .now) ((c15 .args) .mark .now) ((c15 .args) .hour) ((c15 .args) .name .now) x ((c8 .ask-failure) .result) ((c8 .ask-failure) .ensures) ((c6 .if2) .left) _
+    ((c .of-key) .ensures (x .list) g (failure-asked ((c15 .args) .self) ((c15 .args) .log .now) ((c15 .args) .mark .now) ((c15 .args) .hour) ((c15 .args) .name .now) x ((c8 .ask-failure) .result) ((c8 .ask-failure) .ensures) ((c6 .if2) .left)) (priceOf (standing (x .list))) ((c2 .price-in) .ensures (x .list) g))
 
 returns-3 : tie.Need-returns-3
-returns-3 c = leaves-16 _ ((c .before .before .before .before .before .before .args) .self) ((c .before .before .before .before .before .before .args) .log .now) (not-rowed ((c .before .before .before .before .before .before .args) .self) ((c .before .before .before .before .before .before .args) .log .now) ((c .before .check-rows) .ensures) ((c .if1) .left))
+returns-3 c =
+    let c6 = c .before .before .before .before .before .before in
+    leaves-16 _ ((c6 .args) .self) ((c6 .args) .log .now) (not-rowed ((c6 .args) .self) ((c6 .args) .log .now) ((c .before .check-rows) .ensures) ((c .if1) .left))
 
 pub failure-charge-spec : {M : Type 1} → statement M
 failure-charge-spec =

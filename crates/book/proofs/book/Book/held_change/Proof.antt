@@ -8,7 +8,10 @@ enum-known-act : tie.Need-enum-known-act
 enum-known-act c = search needs
 
 held-enter-requires : tie.Need-held-enter-requires
-held-enter-requires c κs = ((c .before .before .before .before .before .before .before .pre) .0, ((c .before .before .before .before .before .before .before .pre) .1 .0, record { want = Any; change = only-record ((c .before .before .before .before .before .before .before .pre) .1 .1) ((c .before .before .before .act) .given .1) .1 }))
+held-enter-requires c κs =
+    let c3 = c .before .before .before in
+    let c7 = c3 .before .before .before .before in
+    ((c7 .pre) .0, ((c7 .pre) .1 .0, record { want = Any; change = only-record ((c7 .pre) .1 .1) ((c3 .act) .given .1) .1 }))
 
 enum-told : tie.Need-enum-told
 enum-told c = search needs
@@ -32,22 +35,34 @@ same-length : tie.Need-same-length
 same-length c = search needs
 
 returns : tie.Need-returns
-returns c = let w = only-record ((c .before .before .before .before .before .before .before .before .before .before .pre) .1 .1) ((c .before .before .before .before .before .before .act) .given .1) in makes-by (w .0) ((c .before .before .held-enter) .ensures Any (w .1))
+returns c =
+    let c2 = c .before .before in
+    let c6 = c2 .before .before .before .before in
+    let c10 = c6 .before .before .before .before in
+    let w = only-record ((c10 .pre) .1 .1) ((c6 .act) .given .1) in makes-by (w .0) ((c2 .held-enter) .ensures Any (w .1))
 
 same-length-2 : tie.Need-same-length-2
 same-length-2 c = search needs
 
 returns-2 : tie.Need-returns-2
-returns-2 c = makes-by (only-back ((c .before .before .before .before .before .before .before .pre) .1 .1) ((c .before .before .before .enum-told) .given .1)) ((c .held-take-back) .ensures _)
+returns-2 c =
+    let c3 = c .before .before .before in
+    let c7 = c3 .before .before .before .before in
+    makes-by (only-back ((c7 .pre) .1 .1) ((c3 .enum-told) .given .1)) ((c .held-take-back) .ensures _)
 
 returns-3 : tie.Need-returns-3
-returns-3 c = makes-by (only-close ((c .before .before .before .before .before .pre) .1 .1) ((c .before .enum-told2) .given .1)) ((c .held-close) .ensures _ _ _ ((c .before .before .before .before .before .pre) .0))
+returns-3 c =
+    let c5 = c .before .before .before .before .before in
+    makes-by (only-close ((c5 .pre) .1 .1) ((c .before .enum-told2) .given .1)) ((c .held-close) .ensures _ _ _ ((c5 .pre) .0))
 
 same-length-3 : tie.Need-same-length-3
 same-length-3 c = search needs
 
 returns-4 : tie.Need-returns-4
-returns-4 c = only-none ((c .before .before .before .before .before .before .before .before .before .pre) .1 .1) ((c .before .before .before .before .before .enum-told3) .given .1)
+returns-4 c =
+    let c5 = c .before .before .before .before .before in
+    let c9 = c5 .before .before .before .before in
+    only-none ((c9 .pre) .1 .1) ((c5 .enum-told3) .given .1)
 
 pub held-change-spec : {M : Type 1} → statement M
 held-change-spec =

@@ -19,10 +19,17 @@ mul-row : tie.Need-mul-row
 mul-row c = search needs
 
 element-copy-out-row : tie.Need-element-copy-out-row
-element-copy-out-row c = last-few (c .before .before .before .before .before .pre) ((c .before .before .before .if1) .left) ((c .before .if2) .left)
+element-copy-out-row c =
+    let c3 = c .before .before .before in
+    let c5 = c3 .before .before in
+    last-few (c5 .pre) ((c3 .if1) .left) ((c .before .if2) .left)
 
 restore-requires : tie.Need-restore-requires
-restore-requires c κs = (held-log (c .before .before .before .before .before .before .before .pre), (above (c .before .before .before .before .before .before .before .pre) ((c .before .before .before .before .before .if1) .left) ((c .before .before .before .if2) .left), (c .before .before .before .before .before .before .before .pre) .size))
+restore-requires c κs =
+    let c3 = c .before .before .before in
+    let c5 = c3 .before .before in
+    let c7 = c5 .before .before in
+    (held-log (c7 .pre), (above (c7 .pre) ((c5 .if1) .left) ((c3 .if2) .left), (c7 .pre) .size))
 
 sub-self : tie.Need-sub-self
 sub-self c = search needs
@@ -34,7 +41,12 @@ cast-self : tie.Need-cast-self
 cast-self c = search needs
 
 returns-3 : tie.Need-returns-3
-returns-3 c = λ k. back-makes (c .before .before .before .before .before .before .before .before .before .before .pre) ((c .before .before .before .before .before .before .before .before .if1) .left) ((c .before .before .before .before .before .before .if2) .left) ((c .start-in) .ensures .0) ((c .before .before .restore) .ensures)
+returns-3 c =
+    let c2 = c .before .before in
+    let c6 = c2 .before .before .before .before in
+    let c8 = c6 .before .before in
+    let c10 = c8 .before .before in
+    λ k. back-makes (c10 .pre) ((c8 .if1) .left) ((c6 .if2) .left) ((c .start-in) .ensures .0) ((c2 .restore) .ensures)
 
 pub held-take-back-spec : {M : Type 1} → statement M
 held-take-back-spec =

@@ -15,16 +15,25 @@ parse-take-back-requires : tie.Need-parse-take-back-requires
 parse-take-back-requires c κs = search needs
 
 returns : tie.Need-returns
-returns c = back-refused ((c .before .before .before .before .before .before .before .args) .self) ((c .before .before .before .before .before .before .before .args) .log .now) (is-rowed _ _ ((c .before .before .before .check-rows) .ensures) ((c .before .before .if1) .taken)) ((c .before .before .before .before .before .before .before .args) .rec .now) ((c .before .parse-take-back) .ensures) ((c .if2) .taken)
+returns c =
+    let c2 = c .before .before in
+    let c3 = c2 .before in
+    let c7 = c3 .before .before .before .before in
+    back-refused ((c7 .args) .self) ((c7 .args) .log .now) (is-rowed _ _ ((c3 .check-rows) .ensures) ((c2 .if1) .taken)) ((c7 .args) .rec .now) ((c .before .parse-take-back) .ensures) ((c .if2) .taken)
 
 held-take-back-requires : tie.Need-held-take-back-requires
 held-take-back-requires c κs = held-from _ _ ((c .before .before .before .before .check-rows) .ensures) ((c .before .before .before .if1) .taken)
 
 returns-2 : tie.Need-returns-2
-returns-2 c = makes-by (ap takenBack (sym ((c .before .before .before .parse-take-back) .ensures) ∙ (c .before .before .if2) .left)) ((c .held-take-back) .ensures noKey) .leaves
+returns-2 c =
+    let c2 = c .before .before in
+    let c3 = c2 .before in
+    makes-by (ap takenBack (sym ((c3 .parse-take-back) .ensures) ∙ (c2 .if2) .left)) ((c .held-take-back) .ensures noKey) .leaves
 
 returns-3 : tie.Need-returns-3
-returns-3 c = leaves-16 _ ((c .before .before .before .before .before .args) .self) ((c .before .before .before .before .before .args) .log .now) (not-rowed _ _ ((c .before .check-rows) .ensures) ((c .if1) .left))
+returns-3 c =
+    let c5 = c .before .before .before .before .before in
+    leaves-16 _ ((c5 .args) .self) ((c5 .args) .log .now) (not-rowed _ _ ((c .before .check-rows) .ensures) ((c .if1) .left))
 
 pub take-back-spec : {M : Type 1} → statement M
 take-back-spec =

@@ -5,7 +5,6 @@ use Rattle.book.proofs.amounts.Handed.{with-units, no-names-few}
 use mathlib.Core.List.{[]}
 use Rattle.book.proofs.amounts.units.Lemmas.{units-at}
 use mathlib.Core.Path.{sym, ap}
-use lib.ListN.{length-replicate}
 use borrow.Author.Needs.{needs}
 use Rattle.book.proofs.book.Book.units.Statement.{statement}
 use Rattle.book.proofs.book.Book.units.Tie as tie
@@ -21,15 +20,21 @@ key-of-requires c κs = search needs
 
 names-in-requires : tie.Need-names-in-requires
 names-in-requires c κs =
-    let a = c .before .before .before .before .before .before .before .args in
-    let w = (c .before .before .before .before .check-rows) .ensures in
-    rowed-log (a .self) (a .log .now) w (is-rowed (a .self) (a .log .now) w ((c .before .before .before .if1) .taken))
+    let c3 = c .before .before .before in
+    let c4 = c3 .before in
+    let c7 = c4 .before .before .before in
+    let a = c7 .args in
+    let w = (c4 .check-rows) .ensures in
+    rowed-log (a .self) (a .log .now) w (is-rowed (a .self) (a .log .now) w ((c3 .if1) .taken))
 
 returns : tie.Need-returns
 returns c =
-    let a = c .before .before .before .before .before .before .before .before .args in
-    let w = (c .before .before .before .before .before .check-rows) .ensures in
-    let x = is-rowed (a .self) (a .log .now) w ((c .before .before .before .before .if1) .taken) in
+    let c4 = c .before .before .before .before in
+    let c5 = c4 .before in
+    let c8 = c5 .before .before .before in
+    let a = c8 .args in
+    let w = (c5 .check-rows) .ensures in
+    let x = is-rowed (a .self) (a .log .now) w ((c4 .if1) .taken) in
     let u = (c .names-in) .result in (
       units-at (load (a .self) (a .log .now)) (x .list) (x .is) ((c .before .key-of) .result) ((c .before .key-of) .ensures) u ((c .names-in) .ensures .0 (x .list) (rowed-logged (a .self) (a .log .now) w x)),
       (c .names-in) .ensures .1,

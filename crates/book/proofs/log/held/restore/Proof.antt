@@ -23,16 +23,23 @@ is-filing-requires : tie.Need-is-filing-requires
 is-filing-requires c κs = search needs
 
 returns : tie.Need-returns
-returns c = ((λ d l g. back-rows g ((c .before .before .kind-in) .ensures) (sym ((c .before .is-filing) .ensures) ∙ (c .if1) .taken)), (c .before .before .before .before .before .pre) .1 .1)
+returns c =
+    let c2 = c .before .before in
+    let c5 = c2 .before .before .before in
+    ((λ d l g. back-rows g ((c2 .kind-in) .ensures) (sym ((c .before .is-filing) .ensures) ∙ (c .if1) .taken)), (c5 .pre) .1 .1)
 
 start-in-requires : tie.Need-start-in-requires
 start-in-requires c κs = search needs
 
 sub-head-key : tie.Need-sub-head-key
-sub-head-key c = newest-within ((c .before .before .before .before .before .before .pre) .0) ((c .before .before .before .before .before .before .pre) .1 .0) ((c .start-in) .ensures .0)
+sub-head-key c =
+    let c6 = c .before .before .before .before .before .before in
+    newest-within ((c6 .pre) .0) ((c6 .pre) .1 .0) ((c .start-in) .ensures .0)
 
 part-head-key-start : tie.Need-part-head-key-start
-part-head-key-start c = omega (arith, newest-within ((c .before .before .before .before .before .before .pre) .0) ((c .before .before .before .before .before .before .pre) .1 .0) ((c .start-in) .ensures .0))
+part-head-key-start c =
+    let c6 = c .before .before .before .before .before .before in
+    omega (arith, newest-within ((c6 .pre) .0) ((c6 .pre) .1 .0) ((c .start-in) .ensures .0))
 
 part-head-key-end : tie.Need-part-head-key-end
 part-head-key-end c = search needs
@@ -56,22 +63,67 @@ written-before-requires : tie.Need-written-before-requires
 written-before-requires c κs = search needs
 
 mul-was : tie.Need-mul-was
-mul-was c = omega (arith, wrote-few ((c .before .before .before .before .before .before .before .before .before .before .before .before .before .before .before .pre) .0) ((c .before .before .before .before .before .before .before .before .before .before .before .before .before .before .before .pre) .1 .0) (λ d l g. (c .written-before) .ensures d l (undoing g ((c .before .before .before .before .before .before .before .before .before .before .before .before .kind-in) .ensures) (sym ((c .before .before .before .before .before .before .before .before .before .before .before .is-filing) .ensures) ∙ (c .before .before .before .before .before .before .before .before .before .before .if1) .left) ((c .before .before .before .before .before .before .before .before .before .start-in) .ensures .0) ((c .before .before .before .before .before .before .before .head-key) .ensures) ((c .before .before .before .before .before .hour-slot) .ensures .0) ((c .before .before .before .before .record-head) .ensures .0))))
+mul-was c =
+    let c4 = c .before .before .before .before in
+    let c5 = c4 .before in
+    let c7 = c5 .before .before in
+    let c9 = c7 .before .before in
+    let c10 = c9 .before in
+    let c11 = c10 .before in
+    let c12 = c11 .before in
+    let c15 = c12 .before .before .before in
+    omega (arith, wrote-few ((c15 .pre) .0) ((c15 .pre) .1 .0) (λ d l g. (c .written-before) .ensures d l (undoing g ((c12 .kind-in) .ensures) (sym ((c11 .is-filing) .ensures) ∙ (c10 .if1) .left) ((c9 .start-in) .ensures .0) ((c7 .head-key) .ensures) ((c5 .hour-slot) .ensures .0) ((c4 .record-head) .ensures .0))))
 
 element-copy-out-was : tie.Need-element-copy-out-was
-element-copy-out-was c = wrote-few ((c .before .before .before .before .before .before .before .before .before .before .before .before .before .before .before .pre) .0) ((c .before .before .before .before .before .before .before .before .before .before .before .before .before .before .before .pre) .1 .0) (λ d l g. (c .written-before) .ensures d l (undoing g ((c .before .before .before .before .before .before .before .before .before .before .before .before .kind-in) .ensures) (sym ((c .before .before .before .before .before .before .before .before .before .before .before .is-filing) .ensures) ∙ (c .before .before .before .before .before .before .before .before .before .before .if1) .left) ((c .before .before .before .before .before .before .before .before .before .start-in) .ensures .0) ((c .before .before .before .before .before .before .before .head-key) .ensures) ((c .before .before .before .before .before .hour-slot) .ensures .0) ((c .before .before .before .before .record-head) .ensures .0)))
+element-copy-out-was c =
+    let c4 = c .before .before .before .before in
+    let c5 = c4 .before in
+    let c7 = c5 .before .before in
+    let c9 = c7 .before .before in
+    let c10 = c9 .before in
+    let c11 = c10 .before in
+    let c12 = c11 .before in
+    let c15 = c12 .before .before .before in
+    wrote-few ((c15 .pre) .0) ((c15 .pre) .1 .0) (λ d l g. (c .written-before) .ensures d l (undoing g ((c12 .kind-in) .ensures) (sym ((c11 .is-filing) .ensures) ∙ (c10 .if1) .left) ((c9 .start-in) .ensures .0) ((c7 .head-key) .ensures) ((c5 .hour-slot) .ensures .0) ((c4 .record-head) .ensures .0)))
 
 add-rows : tie.Need-add-rows
 add-rows c = search needs
 
 mul-rows : tie.Need-mul-rows
-mul-rows c = omega (arith, wrote-few ((c .before .before .before .before .before .before .before .before .before .before .before .before .before .before .before .before .pre) .0) ((c .before .before .before .before .before .before .before .before .before .before .before .before .before .before .before .before .pre) .1 .0) (λ d l g. (c .before .written-before) .ensures d l (undoing g ((c .before .before .before .before .before .before .before .before .before .before .before .before .before .kind-in) .ensures) (sym ((c .before .before .before .before .before .before .before .before .before .before .before .before .is-filing) .ensures) ∙ (c .before .before .before .before .before .before .before .before .before .before .before .if1) .left) ((c .before .before .before .before .before .before .before .before .before .before .start-in) .ensures .0) ((c .before .before .before .before .before .before .before .before .head-key) .ensures) ((c .before .before .before .before .before .before .hour-slot) .ensures .0) ((c .before .before .before .before .before .record-head) .ensures .0))))
+mul-rows c =
+    let c5 = c .before .before .before .before .before in
+    let c6 = c5 .before in
+    let c8 = c6 .before .before in
+    let c10 = c8 .before .before in
+    let c11 = c10 .before in
+    let c12 = c11 .before in
+    let c13 = c12 .before in
+    let c16 = c13 .before .before .before in
+    omega (arith, wrote-few ((c16 .pre) .0) ((c16 .pre) .1 .0) (λ d l g. (c .before .written-before) .ensures d l (undoing g ((c13 .kind-in) .ensures) (sym ((c12 .is-filing) .ensures) ∙ (c11 .if1) .left) ((c10 .start-in) .ensures .0) ((c8 .head-key) .ensures) ((c6 .hour-slot) .ensures .0) ((c5 .record-head) .ensures .0))))
 
 element-write-rows : tie.Need-element-write-rows
-element-write-rows c = wrote-few ((c .before .before .before .before .before .before .before .before .before .before .before .before .before .before .before .before .pre) .0) ((c .before .before .before .before .before .before .before .before .before .before .before .before .before .before .before .before .pre) .1 .0) (λ d l g. (c .before .written-before) .ensures d l (undoing g ((c .before .before .before .before .before .before .before .before .before .before .before .before .before .kind-in) .ensures) (sym ((c .before .before .before .before .before .before .before .before .before .before .before .before .is-filing) .ensures) ∙ (c .before .before .before .before .before .before .before .before .before .before .before .if1) .left) ((c .before .before .before .before .before .before .before .before .before .before .start-in) .ensures .0) ((c .before .before .before .before .before .before .before .before .head-key) .ensures) ((c .before .before .before .before .before .before .hour-slot) .ensures .0) ((c .before .before .before .before .before .record-head) .ensures .0)))
+element-write-rows c =
+    let c5 = c .before .before .before .before .before in
+    let c6 = c5 .before in
+    let c8 = c6 .before .before in
+    let c10 = c8 .before .before in
+    let c11 = c10 .before in
+    let c12 = c11 .before in
+    let c13 = c12 .before in
+    let c16 = c13 .before .before .before in
+    wrote-few ((c16 .pre) .0) ((c16 .pre) .1 .0) (λ d l g. (c .before .written-before) .ensures d l (undoing g ((c13 .kind-in) .ensures) (sym ((c12 .is-filing) .ensures) ∙ (c11 .if1) .left) ((c10 .start-in) .ensures .0) ((c8 .head-key) .ensures) ((c6 .hour-slot) .ensures .0) ((c5 .record-head) .ensures .0)))
 
 returns-2 : tie.Need-returns-2
-returns-2 c = restored ((c .before .before .before .before .before .before .before .before .before .before .before .before .before .before .before .before .pre) .1 .1) ((c .before .written-before) .result) (λ d l g. (c .before .written-before) .ensures d l (undoing g ((c .before .before .before .before .before .before .before .before .before .before .before .before .before .kind-in) .ensures) (sym ((c .before .before .before .before .before .before .before .before .before .before .before .before .is-filing) .ensures) ∙ (c .before .before .before .before .before .before .before .before .before .before .before .if1) .left) ((c .before .before .before .before .before .before .before .before .before .before .start-in) .ensures .0) ((c .before .before .before .before .before .before .before .before .head-key) .ensures) ((c .before .before .before .before .before .before .hour-slot) .ensures .0) ((c .before .before .before .before .before .record-head) .ensures .0)))
+returns-2 c =
+    let c5 = c .before .before .before .before .before in
+    let c6 = c5 .before in
+    let c8 = c6 .before .before in
+    let c10 = c8 .before .before in
+    let c11 = c10 .before in
+    let c12 = c11 .before in
+    let c13 = c12 .before in
+    let c16 = c13 .before .before .before in
+    restored ((c16 .pre) .1 .1) ((c .before .written-before) .result) (λ d l g. (c .before .written-before) .ensures d l (undoing g ((c13 .kind-in) .ensures) (sym ((c12 .is-filing) .ensures) ∙ (c11 .if1) .left) ((c10 .start-in) .ensures .0) ((c8 .head-key) .ensures) ((c6 .hour-slot) .ensures .0) ((c5 .record-head) .ensures .0)))
 
 pub restore-spec : {M : Type 1} → statement M
 restore-spec =

@@ -22,10 +22,14 @@ sub-j : tie.Need-sub-j Inv-loop μ-loop
 sub-j c = search needs
 
 mul-row : tie.Need-mul-row Inv-loop μ-loop
-mul-row c = omega (arith, ruled-few ((c .before .before .before .before .pre) .0 .logged .ruled) (back-inside ((c .before .loop) .inv) ((c .loop-test) .taken) _ refl))
+mul-row c =
+    let c4 = c .before .before .before .before in
+    omega (arith, ruled-few ((c4 .pre) .0 .logged .ruled) (back-inside ((c .before .loop) .inv) ((c .loop-test) .taken) _ refl))
 
 element-copy-out-row : tie.Need-element-copy-out-row Inv-loop μ-loop
-element-copy-out-row c = ruled-few ((c .before .before .before .before .pre) .0 .logged .ruled) (back-inside ((c .before .loop) .inv) ((c .loop-test) .taken) _ refl)
+element-copy-out-row c =
+    let c4 = c .before .before .before .before in
+    ruled-few ((c4 .pre) .0 .logged .ruled) (back-inside ((c .before .loop) .inv) ((c .loop-test) .taken) _ refl)
 
 wrote-in-requires : tie.Need-wrote-in-requires Inv-loop μ-loop
 wrote-in-requires c κs = search needs
@@ -34,10 +38,20 @@ place-in-requires : tie.Need-place-in-requires Inv-loop μ-loop
 place-in-requires c κs = search needs
 
 sub-starts : tie.Need-sub-starts Inv-loop μ-loop
-sub-starts c = back-within ((c .before .before .before .before .before .loop) .inv) ((c .before .before .before .before .loop-test) .taken) _ refl (sym ((c .before .before .wrote-in) .ensures) ∙ (c .before .if1) .taken) _ ((c .place-in) .ensures .0) ((c .before .before .before .before .before .before .before .before .pre) .0)
+sub-starts c =
+    let c2 = c .before .before in
+    let c4 = c2 .before .before in
+    let c5 = c4 .before in
+    let c8 = c5 .before .before .before in
+    back-within ((c5 .loop) .inv) ((c4 .loop-test) .taken) _ refl (sym ((c2 .wrote-in) .ensures) ∙ (c .before .if1) .taken) _ ((c .place-in) .ensures .0) ((c8 .pre) .0)
 
 part-starts-start : tie.Need-part-starts-start Inv-loop μ-loop
-part-starts-start c = omega (arith, back-within ((c .before .before .before .before .before .loop) .inv) ((c .before .before .before .before .loop-test) .taken) _ refl (sym ((c .before .before .wrote-in) .ensures) ∙ (c .before .if1) .taken) _ ((c .place-in) .ensures .0) ((c .before .before .before .before .before .before .before .before .pre) .0))
+part-starts-start c =
+    let c2 = c .before .before in
+    let c4 = c2 .before .before in
+    let c5 = c4 .before in
+    let c8 = c5 .before .before .before in
+    omega (arith, back-within ((c5 .loop) .inv) ((c4 .loop-test) .taken) _ refl (sym ((c2 .wrote-in) .ensures) ∙ (c .before .if1) .taken) _ ((c .place-in) .ensures .0) ((c8 .pre) .0))
 
 part-starts-end : tie.Need-part-starts-end Inv-loop μ-loop
 part-starts-end c = search needs
@@ -46,19 +60,36 @@ starts-requires : tie.Need-starts-requires Inv-loop μ-loop
 starts-requires c κs = search needs
 
 returns : tie.Need-returns Inv-loop μ-loop
-returns c = back-hit ((c .before .before .before .before .before .before .before .before .loop) .inv) ((c .before .before .before .before .before .before .before .loop-test) .taken) _ refl (sym ((c .before .before .before .before .before .wrote-in) .ensures) ∙ (c .before .before .before .before .if1) .taken) _ ((c .before .before .before .place-in) .ensures .0) (begins-there ((c .before .before .before .before .before .before .before .before .before .before .before .args) .head .now) ((c .before .before .before .before .before .before .before .before .before .before .before .args) .log .now) ((c .before .before .before .place-in) .result) ((c .before .starts) .ensures) ((c .if2) .taken))
+returns c =
+    let c3 = c .before .before .before in
+    let c4 = c3 .before in
+    let c5 = c4 .before in
+    let c7 = c5 .before .before in
+    let c8 = c7 .before in
+    let c11 = c8 .before .before .before in
+    back-hit ((c8 .loop) .inv) ((c7 .loop-test) .taken) _ refl (sym ((c5 .wrote-in) .ensures) ∙ (c4 .if1) .taken) _ ((c3 .place-in) .ensures .0) (begins-there ((c11 .args) .head .now) ((c11 .args) .log .now) ((c3 .place-in) .result) ((c .before .starts) .ensures) ((c .if2) .taken))
 
 loop-less : tie.Need-loop-less Inv-loop μ-loop
 loop-less c = omega (arith, (c .before .before .before .before .before .before .before .loop-test) .taken)
 
 loop-again : tie.Need-loop-again Inv-loop μ-loop
-loop-again c = back-other ((c .before .before .before .before .before .before .before .before .loop) .inv) ((c .before .before .before .before .before .before .before .loop-test) .taken) _ refl (sym ((c .before .before .before .before .before .wrote-in) .ensures) ∙ (c .before .before .before .before .if1) .taken) _ ((c .before .before .before .place-in) .ensures .0) (begins-there ((c .before .before .before .before .before .before .before .before .before .before .before .args) .head .now) ((c .before .before .before .before .before .before .before .before .before .before .before .args) .log .now) ((c .before .before .before .place-in) .result) ((c .before .starts) .ensures) ((c .if2) .left))
+loop-again c =
+    let c3 = c .before .before .before in
+    let c4 = c3 .before in
+    let c5 = c4 .before in
+    let c7 = c5 .before .before in
+    let c8 = c7 .before in
+    let c11 = c8 .before .before .before in
+    back-other ((c8 .loop) .inv) ((c7 .loop-test) .taken) _ refl (sym ((c5 .wrote-in) .ensures) ∙ (c4 .if1) .taken) _ ((c3 .place-in) .ensures .0) (begins-there ((c11 .args) .head .now) ((c11 .args) .log .now) ((c3 .place-in) .result) ((c .before .starts) .ensures) ((c .if2) .left))
 
 loop-less-2 : tie.Need-loop-less-2 Inv-loop μ-loop
 loop-less-2 c = omega (arith, (c .before .before .before .loop-test) .taken)
 
 loop-again-2 : tie.Need-loop-again-2 Inv-loop μ-loop
-loop-again-2 c = back-skip ((c .before .before .before .before .loop) .inv) ((c .before .before .before .loop-test) .taken) _ refl (sym ((c .before .wrote-in) .ensures) ∙ (c .if1) .left)
+loop-again-2 c =
+    let c3 = c .before .before .before in
+    let c4 = c3 .before in
+    back-skip ((c4 .loop) .inv) ((c3 .loop-test) .taken) _ refl (sym ((c .before .wrote-in) .ensures) ∙ (c .if1) .left)
 
 returns-2 : tie.Need-returns-2 Inv-loop μ-loop
 returns-2 c = backward-end ((c .before .loop) .inv) ((c .loop-test) .left) 0

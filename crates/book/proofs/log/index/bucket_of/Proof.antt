@@ -28,7 +28,9 @@ mul-sum : tie.Need-mul-sum Inv-loop μ-loop
 mul-sum c = omega (arith, byte-weighs ((c .wide) .result) ((c .before .before .loop) .weight) ((c .wide) .ensures .1) ((c .before .before .loop) .inv .light))
 
 add-sum : tie.Need-add-sum Inv-loop μ-loop
-add-sum c = omega (arith, byte-weighs ((c .wide) .result) ((c .before .before .loop) .weight) ((c .wide) .ensures .1) ((c .before .before .loop) .inv .light), (c .before .before .loop) .inv .most, (c .before .loop-test) .taken)
+add-sum c =
+    let c2 = c .before .before in
+    omega (arith, byte-weighs ((c .wide) .result) ((c2 .loop) .weight) ((c .wide) .ensures .1) ((c2 .loop) .inv .light), (c2 .loop) .inv .most, (c .before .loop-test) .taken)
 
 mul-weight : tie.Need-mul-weight Inv-loop μ-loop
 mul-weight c = omega (arith, (c .before .before .loop) .inv .light)

@@ -20,7 +20,10 @@ add-result : tie.Need-add-result
 add-result c = search needs
 
 returns : tie.Need-returns
-returns c = (omega (arith, (c .before .wide) .ensures .0, (c .wide2) .ensures .0, (c .before .before .order) .ensures), omega (arith, (c .before .wide) .ensures .0, (c .wide2) .ensures .1, (c .before .before .order) .ensures, order-low ((c .before .before .before .args) .key .mark)))
+returns c =
+    let c2 = c .before .before in
+    let c3 = c2 .before in
+    (omega (arith, (c .before .wide) .ensures .0, (c .wide2) .ensures .0, (c2 .order) .ensures), omega (arith, (c .before .wide) .ensures .0, (c .wide2) .ensures .1, (c2 .order) .ensures, order-low ((c3 .args) .key .mark)))
 
 pub hour-slot-spec : {M : Type 1} → statement M
 hour-slot-spec =

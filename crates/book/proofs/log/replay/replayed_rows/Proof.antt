@@ -35,7 +35,12 @@ is-record-requires : tie.Need-is-record-requires Inv-loop μ-loop
 is-record-requires c κs = tt
 
 returns : tie.Need-returns Inv-loop μ-loop
-returns c = head-bad ((c .before .before .before .before .before) .loop .inv) ((c .before .before .before .before) .loop-test .taken) (view-bad _ ((c .before .before) .peek .result) (((c .before .before) .peek .ensures) ∙ ap (λ r. viewOf (scan r)) (to-end ((c .before .before .before .before .before) .loop .q) (((c .before .before .before .before .before .before .before) .args .part .now)))) (sym ((c .before) .is-record .ensures) ∙ not-true _ ((c) .if1 .taken)))
+returns c =
+    let c2 = c .before .before in
+    let c4 = c2 .before .before in
+    let c5 = c4 .before in
+    let c7 = c5 .before .before in
+    head-bad ((c5) .loop .inv) ((c4) .loop-test .taken) (view-bad _ ((c2) .peek .result) (((c2) .peek .ensures) ∙ ap (λ r. viewOf (scan r)) (to-end ((c5) .loop .q) (((c7) .args .part .now)))) (sym ((c .before) .is-record .ensures) ∙ not-true _ ((c) .if1 .taken)))
 
 bucket-of-requires : tie.Need-bucket-of-requires Inv-loop μ-loop
 bucket-of-requires c κs = tt
@@ -47,10 +52,14 @@ array-read-near : tie.Need-array-read-near Inv-loop μ-loop
 array-read-near c = ((c) .bucket-of .ensures .1)
 
 cast-near : tie.Need-cast-near Inv-loop μ-loop
-cast-near c = omega (arith, (head-near ((c .before .before .before .before .before .before) .loop .inv) ((c) .bucket-of .result)), ((c .before .before .before .before .before .before) .loop .inv) .few)
+cast-near c =
+    let c6 = c .before .before .before .before .before .before in
+    omega (arith, (head-near ((c6) .loop .inv) ((c) .bucket-of .result)), ((c6) .loop .inv) .few)
 
 find-in-requires : tie.Need-find-in-requires Inv-loop μ-loop
-find-in-requires c κs = (head-log ((c .before .before .before .before .before .before .before) .loop .inv), (head-near ((c .before .before .before .before .before .before .before) .loop .inv) ((c .before) .bucket-of .result)))
+find-in-requires c κs =
+    let c7 = c .before .before .before .before .before .before .before in
+    (head-log ((c7) .loop .inv), (head-near ((c7) .loop .inv) ((c .before) .bucket-of .result)))
 
 hour-slot-requires : tie.Need-hour-slot-requires Inv-loop μ-loop
 hour-slot-requires c κs = tt
@@ -68,34 +77,133 @@ change-fault-requires : tie.Need-change-fault-requires Inv-loop μ-loop
 change-fault-requires c κs = tt
 
 returns-2 : tie.Need-returns-2 Inv-loop μ-loop
-returns-2 c = head-refused ((c .before .before .before .before .before .before .before .before .before .before .before .before) .loop .inv) ((c .before .before .before .before .before .before .before .before .before .before .before) .loop-test .taken) (view-got _ ((c .before .before .before .before .before .before .before .before .before) .peek .result) (((c .before .before .before .before .before .before .before .before .before) .peek .ensures) ∙ ap (λ r. viewOf (scan r)) (to-end ((c .before .before .before .before .before .before .before .before .before .before .before .before) .loop .q) (((c .before .before .before .before .before .before .before .before .before .before .before .before .before .before) .args .part .now)))) (sym ((c .before .before .before .before .before .before .before .before) .is-record .ensures) ∙ not-false _ ((c .before .before .before .before .before .before .before) .if1 .left))) ((c .before .before .before .before .before .before) .bucket-of .ensures .0) ((c .before .before .before .before) .find-in .ensures) ((c .before .before .before) .hour-slot .ensures .0) ((c .before .before) .limit-of .ensures) ((c .before) .change-fault .ensures) ((c) .if2 .taken)
+returns-2 c =
+    let c2 = c .before .before in
+    let c3 = c2 .before in
+    let c4 = c3 .before in
+    let c6 = c4 .before .before in
+    let c7 = c6 .before in
+    let c8 = c7 .before in
+    let c9 = c8 .before in
+    let c11 = c9 .before .before in
+    let c12 = c11 .before in
+    let c14 = c12 .before .before in
+    head-refused ((c12) .loop .inv) ((c11) .loop-test .taken) (view-got _ ((c9) .peek .result) (((c9) .peek .ensures) ∙ ap (λ r. viewOf (scan r)) (to-end ((c12) .loop .q) (((c14) .args .part .now)))) (sym ((c8) .is-record .ensures) ∙ not-false _ ((c7) .if1 .left))) ((c6) .bucket-of .ensures .0) ((c4) .find-in .ensures) ((c3) .hour-slot .ensures .0) ((c2) .limit-of .ensures) ((c .before) .change-fault .ensures) ((c) .if2 .taken)
 
 clear-row-requires : tie.Need-clear-row-requires Inv-loop μ-loop
-clear-row-requires c κs = head-clear ((c .before .before .before .before .before .before .before .before .before .before .before .before .before) .loop .inv) ((c .before .before .before .before .before .before .before .before .before .before .before .before) .loop-test .taken) (view-got _ ((c .before .before .before .before .before .before .before .before .before .before) .peek .result) (((c .before .before .before .before .before .before .before .before .before .before) .peek .ensures) ∙ ap (λ r. viewOf (scan r)) (to-end ((c .before .before .before .before .before .before .before .before .before .before .before .before .before) .loop .q) (((c .before .before .before .before .before .before .before .before .before .before .before .before .before .before .before) .args .part .now)))) (sym ((c .before .before .before .before .before .before .before .before .before) .is-record .ensures) ∙ not-false _ ((c .before .before .before .before .before .before .before .before) .if1 .left))) ((c .before .before .before .before .before .before .before) .bucket-of .ensures .0) ((c .before .before .before .before .before) .find-in .ensures)
+clear-row-requires c κs =
+    let c5 = c .before .before .before .before .before in
+    let c7 = c5 .before .before in
+    let c8 = c7 .before in
+    let c9 = c8 .before in
+    let c10 = c9 .before in
+    let c12 = c10 .before .before in
+    let c13 = c12 .before in
+    let c15 = c13 .before .before in
+    head-clear ((c13) .loop .inv) ((c12) .loop-test .taken) (view-got _ ((c10) .peek .result) (((c10) .peek .ensures) ∙ ap (λ r. viewOf (scan r)) (to-end ((c13) .loop .q) (((c15) .args .part .now)))) (sym ((c9) .is-record .ensures) ∙ not-false _ ((c8) .if1 .left))) ((c7) .bucket-of .ensures .0) ((c5) .find-in .ensures)
 
 row-for-requires : tie.Need-row-for-requires Inv-loop μ-loop
-row-for-requires c κs = head-row ((c .before .before .before .before .before .before .before .before .before .before .before .before .before .before) .loop .inv) ((c .before .before .before .before .before .before .before .before .before .before .before .before .before) .loop-test .taken) (view-got _ ((c .before .before .before .before .before .before .before .before .before .before .before) .peek .result) (((c .before .before .before .before .before .before .before .before .before .before .before) .peek .ensures) ∙ ap (λ r. viewOf (scan r)) (to-end ((c .before .before .before .before .before .before .before .before .before .before .before .before .before .before) .loop .q) (((c .before .before .before .before .before .before .before .before .before .before .before .before .before .before .before .before) .args .part .now)))) (sym ((c .before .before .before .before .before .before .before .before .before .before) .is-record .ensures) ∙ not-false _ ((c .before .before .before .before .before .before .before .before .before) .if1 .left))) ((c .before .before .before .before .before .before .before .before) .bucket-of .ensures .0) ((c .before .before .before .before .before .before) .find-in .ensures) ((c .before .before .before .before .before) .hour-slot .ensures .0) ((c .before .before .before .before) .limit-of .ensures) ((c .before .before .before) .change-fault .ensures) ((c .before .before) .if2 .left)
+row-for-requires c κs =
+    let c2 = c .before .before in
+    let c3 = c2 .before in
+    let c4 = c3 .before in
+    let c5 = c4 .before in
+    let c6 = c5 .before in
+    let c8 = c6 .before .before in
+    let c9 = c8 .before in
+    let c10 = c9 .before in
+    let c11 = c10 .before in
+    let c13 = c11 .before .before in
+    let c14 = c13 .before in
+    let c16 = c14 .before .before in
+    head-row ((c14) .loop .inv) ((c13) .loop-test .taken) (view-got _ ((c11) .peek .result) (((c11) .peek .ensures) ∙ ap (λ r. viewOf (scan r)) (to-end ((c14) .loop .q) (((c16) .args .part .now)))) (sym ((c10) .is-record .ensures) ∙ not-false _ ((c9) .if1 .left))) ((c8) .bucket-of .ensures .0) ((c6) .find-in .ensures) ((c5) .hour-slot .ensures .0) ((c4) .limit-of .ensures) ((c3) .change-fault .ensures) ((c2) .if2 .left)
 
 mul-rows : tie.Need-mul-rows Inv-loop μ-loop
-mul-rows c = omega (arith, head-few ((c .before .before .before .before .before .before .before .before .before .before .before .before .before .before .before) .loop .inv) ((c .before .before .before .before .before .before .before .before .before .before .before .before .before .before) .loop-test .taken) (view-got _ ((c .before .before .before .before .before .before .before .before .before .before .before .before) .peek .result) (((c .before .before .before .before .before .before .before .before .before .before .before .before) .peek .ensures) ∙ ap (λ r. viewOf (scan r)) (to-end ((c .before .before .before .before .before .before .before .before .before .before .before .before .before .before .before) .loop .q) (((c .before .before .before .before .before .before .before .before .before .before .before .before .before .before .before .before .before) .args .part .now)))) (sym ((c .before .before .before .before .before .before .before .before .before .before .before) .is-record .ensures) ∙ not-false _ ((c .before .before .before .before .before .before .before .before .before .before) .if1 .left))) ((c .before .before .before .before .before .before .before .before .before) .bucket-of .ensures .0) ((c .before .before .before .before .before .before .before) .find-in .ensures) ((c .before .before .before .before .before .before) .hour-slot .ensures .0) ((c .before .before .before .before .before) .limit-of .ensures) ((c .before .before .before .before) .change-fault .ensures) ((c .before .before .before) .if2 .left) .0)
+mul-rows c =
+    let c3 = c .before .before .before in
+    let c4 = c3 .before in
+    let c5 = c4 .before in
+    let c6 = c5 .before in
+    let c7 = c6 .before in
+    let c9 = c7 .before .before in
+    let c10 = c9 .before in
+    let c11 = c10 .before in
+    let c12 = c11 .before in
+    let c14 = c12 .before .before in
+    let c15 = c14 .before in
+    let c17 = c15 .before .before in
+    omega (arith, head-few ((c15) .loop .inv) ((c14) .loop-test .taken) (view-got _ ((c12) .peek .result) (((c12) .peek .ensures) ∙ ap (λ r. viewOf (scan r)) (to-end ((c15) .loop .q) (((c17) .args .part .now)))) (sym ((c11) .is-record .ensures) ∙ not-false _ ((c10) .if1 .left))) ((c9) .bucket-of .ensures .0) ((c7) .find-in .ensures) ((c6) .hour-slot .ensures .0) ((c5) .limit-of .ensures) ((c4) .change-fault .ensures) ((c3) .if2 .left) .0)
 
 element-write-rows : tie.Need-element-write-rows Inv-loop μ-loop
-element-write-rows c = head-few ((c .before .before .before .before .before .before .before .before .before .before .before .before .before .before .before) .loop .inv) ((c .before .before .before .before .before .before .before .before .before .before .before .before .before .before) .loop-test .taken) (view-got _ ((c .before .before .before .before .before .before .before .before .before .before .before .before) .peek .result) (((c .before .before .before .before .before .before .before .before .before .before .before .before) .peek .ensures) ∙ ap (λ r. viewOf (scan r)) (to-end ((c .before .before .before .before .before .before .before .before .before .before .before .before .before .before .before) .loop .q) (((c .before .before .before .before .before .before .before .before .before .before .before .before .before .before .before .before .before) .args .part .now)))) (sym ((c .before .before .before .before .before .before .before .before .before .before .before) .is-record .ensures) ∙ not-false _ ((c .before .before .before .before .before .before .before .before .before .before) .if1 .left))) ((c .before .before .before .before .before .before .before .before .before) .bucket-of .ensures .0) ((c .before .before .before .before .before .before .before) .find-in .ensures) ((c .before .before .before .before .before .before) .hour-slot .ensures .0) ((c .before .before .before .before .before) .limit-of .ensures) ((c .before .before .before .before) .change-fault .ensures) ((c .before .before .before) .if2 .left) .0
+element-write-rows c =
+    let c3 = c .before .before .before in
+    let c4 = c3 .before in
+    let c5 = c4 .before in
+    let c6 = c5 .before in
+    let c7 = c6 .before in
+    let c9 = c7 .before .before in
+    let c10 = c9 .before in
+    let c11 = c10 .before in
+    let c12 = c11 .before in
+    let c14 = c12 .before .before in
+    let c15 = c14 .before in
+    let c17 = c15 .before .before in
+    head-few ((c15) .loop .inv) ((c14) .loop-test .taken) (view-got _ ((c12) .peek .result) (((c12) .peek .ensures) ∙ ap (λ r. viewOf (scan r)) (to-end ((c15) .loop .q) (((c17) .args .part .now)))) (sym ((c11) .is-record .ensures) ∙ not-false _ ((c10) .if1 .left))) ((c9) .bucket-of .ensures .0) ((c7) .find-in .ensures) ((c6) .hour-slot .ensures .0) ((c5) .limit-of .ensures) ((c4) .change-fault .ensures) ((c3) .if2 .left) .0
 
 add-latest : tie.Need-add-latest Inv-loop μ-loop
-add-latest c = omega (arith, head-few ((c .before .before .before .before .before .before .before .before .before .before .before .before .before .before .before) .loop .inv) ((c .before .before .before .before .before .before .before .before .before .before .before .before .before .before) .loop-test .taken) (view-got _ ((c .before .before .before .before .before .before .before .before .before .before .before .before) .peek .result) (((c .before .before .before .before .before .before .before .before .before .before .before .before) .peek .ensures) ∙ ap (λ r. viewOf (scan r)) (to-end ((c .before .before .before .before .before .before .before .before .before .before .before .before .before .before .before) .loop .q) (((c .before .before .before .before .before .before .before .before .before .before .before .before .before .before .before .before .before) .args .part .now)))) (sym ((c .before .before .before .before .before .before .before .before .before .before .before) .is-record .ensures) ∙ not-false _ ((c .before .before .before .before .before .before .before .before .before .before) .if1 .left))) ((c .before .before .before .before .before .before .before .before .before) .bucket-of .ensures .0) ((c .before .before .before .before .before .before .before) .find-in .ensures) ((c .before .before .before .before .before .before) .hour-slot .ensures .0) ((c .before .before .before .before .before) .limit-of .ensures) ((c .before .before .before .before) .change-fault .ensures) ((c .before .before .before) .if2 .left) .0)
+add-latest c =
+    let c3 = c .before .before .before in
+    let c4 = c3 .before in
+    let c5 = c4 .before in
+    let c6 = c5 .before in
+    let c7 = c6 .before in
+    let c9 = c7 .before .before in
+    let c10 = c9 .before in
+    let c11 = c10 .before in
+    let c12 = c11 .before in
+    let c14 = c12 .before .before in
+    let c15 = c14 .before in
+    let c17 = c15 .before .before in
+    omega (arith, head-few ((c15) .loop .inv) ((c14) .loop-test .taken) (view-got _ ((c12) .peek .result) (((c12) .peek .ensures) ∙ ap (λ r. viewOf (scan r)) (to-end ((c15) .loop .q) (((c17) .args .part .now)))) (sym ((c11) .is-record .ensures) ∙ not-false _ ((c10) .if1 .left))) ((c9) .bucket-of .ensures .0) ((c7) .find-in .ensures) ((c6) .hour-slot .ensures .0) ((c5) .limit-of .ensures) ((c4) .change-fault .ensures) ((c3) .if2 .left) .0)
 
 cast-latest : tie.Need-cast-latest Inv-loop μ-loop
-cast-latest c = omega (arith, head-few ((c .before .before .before .before .before .before .before .before .before .before .before .before .before .before .before) .loop .inv) ((c .before .before .before .before .before .before .before .before .before .before .before .before .before .before) .loop-test .taken) (view-got _ ((c .before .before .before .before .before .before .before .before .before .before .before .before) .peek .result) (((c .before .before .before .before .before .before .before .before .before .before .before .before) .peek .ensures) ∙ ap (λ r. viewOf (scan r)) (to-end ((c .before .before .before .before .before .before .before .before .before .before .before .before .before .before .before) .loop .q) (((c .before .before .before .before .before .before .before .before .before .before .before .before .before .before .before .before .before) .args .part .now)))) (sym ((c .before .before .before .before .before .before .before .before .before .before .before) .is-record .ensures) ∙ not-false _ ((c .before .before .before .before .before .before .before .before .before .before) .if1 .left))) ((c .before .before .before .before .before .before .before .before .before) .bucket-of .ensures .0) ((c .before .before .before .before .before .before .before) .find-in .ensures) ((c .before .before .before .before .before .before) .hour-slot .ensures .0) ((c .before .before .before .before .before) .limit-of .ensures) ((c .before .before .before .before) .change-fault .ensures) ((c .before .before .before) .if2 .left) .0)
+cast-latest c =
+    let c3 = c .before .before .before in
+    let c4 = c3 .before in
+    let c5 = c4 .before in
+    let c6 = c5 .before in
+    let c7 = c6 .before in
+    let c9 = c7 .before .before in
+    let c10 = c9 .before in
+    let c11 = c10 .before in
+    let c12 = c11 .before in
+    let c14 = c12 .before .before in
+    let c15 = c14 .before in
+    let c17 = c15 .before .before in
+    omega (arith, head-few ((c15) .loop .inv) ((c14) .loop-test .taken) (view-got _ ((c12) .peek .result) (((c12) .peek .ensures) ∙ ap (λ r. viewOf (scan r)) (to-end ((c15) .loop .q) (((c17) .args .part .now)))) (sym ((c11) .is-record .ensures) ∙ not-false _ ((c10) .if1 .left))) ((c9) .bucket-of .ensures .0) ((c7) .find-in .ensures) ((c6) .hour-slot .ensures .0) ((c5) .limit-of .ensures) ((c4) .change-fault .ensures) ((c3) .if2 .left) .0)
 
 mul-latest : tie.Need-mul-latest Inv-loop μ-loop
-mul-latest c = omega (arith, ((c .before .before .before .before .before .before .before .before .before) .bucket-of .ensures .1))
+mul-latest c =
+    let c9 = c .before .before .before .before .before .before .before .before .before in
+    omega (arith, ((c9) .bucket-of .ensures .1))
 
 array-write-latest : tie.Need-array-write-latest Inv-loop μ-loop
-array-write-latest c = ((c .before .before .before .before .before .before .before .before .before) .bucket-of .ensures .1)
+array-write-latest c =
+    let c9 = c .before .before .before .before .before .before .before .before .before in
+    ((c9) .bucket-of .ensures .1)
 
 count-with-requires : tie.Need-count-with-requires Inv-loop μ-loop
-count-with-requires c κs = head-fewer ((c .before .before .before .before .before .before .before .before .before .before .before .before .before .before .before) .loop .inv) ((c .before .before .before .before .before .before .before .before .before .before .before .before .before .before) .loop-test .taken) (view-got _ ((c .before .before .before .before .before .before .before .before .before .before .before .before) .peek .result) (((c .before .before .before .before .before .before .before .before .before .before .before .before) .peek .ensures) ∙ ap (λ r. viewOf (scan r)) (to-end ((c .before .before .before .before .before .before .before .before .before .before .before .before .before .before .before) .loop .q) (((c .before .before .before .before .before .before .before .before .before .before .before .before .before .before .before .before .before) .args .part .now)))) (sym ((c .before .before .before .before .before .before .before .before .before .before .before) .is-record .ensures) ∙ not-false _ ((c .before .before .before .before .before .before .before .before .before .before) .if1 .left))) ((c .before .before .before .before .before .before .before .before .before) .bucket-of .ensures .0) ((c .before .before .before .before .before .before .before) .find-in .ensures) ((c .before .before .before .before .before .before) .hour-slot .ensures .0)
+count-with-requires c κs =
+    let c6 = c .before .before .before .before .before .before in
+    let c7 = c6 .before in
+    let c9 = c7 .before .before in
+    let c10 = c9 .before in
+    let c11 = c10 .before in
+    let c12 = c11 .before in
+    let c14 = c12 .before .before in
+    let c15 = c14 .before in
+    let c17 = c15 .before .before in
+    head-fewer ((c15) .loop .inv) ((c14) .loop-test .taken) (view-got _ ((c12) .peek .result) (((c12) .peek .ensures) ∙ ap (λ r. viewOf (scan r)) (to-end ((c15) .loop .q) (((c17) .args .part .now)))) (sym ((c11) .is-record .ensures) ∙ not-false _ ((c10) .if1 .left))) ((c9) .bucket-of .ensures .0) ((c7) .find-in .ensures) ((c6) .hour-slot .ensures .0)
 
 mul-counts : tie.Need-mul-counts Inv-loop μ-loop
 mul-counts c = omega (arith, ((c .before .before .before .before .before .before .before) .hour-slot .ensures .1))
@@ -104,16 +212,59 @@ array-write-counts : tie.Need-array-write-counts Inv-loop μ-loop
 array-write-counts c = ((c .before .before .before .before .before .before .before) .hour-slot .ensures .1)
 
 add-q : tie.Need-add-q Inv-loop μ-loop
-add-q c = omega (arith, head-few ((c .before .before .before .before .before .before .before .before .before .before .before .before .before .before .before .before .before) .loop .inv) ((c .before .before .before .before .before .before .before .before .before .before .before .before .before .before .before .before) .loop-test .taken) (view-got _ ((c .before .before .before .before .before .before .before .before .before .before .before .before .before .before) .peek .result) (((c .before .before .before .before .before .before .before .before .before .before .before .before .before .before) .peek .ensures) ∙ ap (λ r. viewOf (scan r)) (to-end ((c .before .before .before .before .before .before .before .before .before .before .before .before .before .before .before .before .before) .loop .q) (((c .before .before .before .before .before .before .before .before .before .before .before .before .before .before .before .before .before .before .before) .args .part .now)))) (sym ((c .before .before .before .before .before .before .before .before .before .before .before .before .before) .is-record .ensures) ∙ not-false _ ((c .before .before .before .before .before .before .before .before .before .before .before .before) .if1 .left))) ((c .before .before .before .before .before .before .before .before .before .before .before) .bucket-of .ensures .0) ((c .before .before .before .before .before .before .before .before .before) .find-in .ensures) ((c .before .before .before .before .before .before .before .before) .hour-slot .ensures .0) ((c .before .before .before .before .before .before .before) .limit-of .ensures) ((c .before .before .before .before .before .before) .change-fault .ensures) ((c .before .before .before .before .before) .if2 .left) .1)
+add-q c =
+    let c5 = c .before .before .before .before .before in
+    let c6 = c5 .before in
+    let c7 = c6 .before in
+    let c8 = c7 .before in
+    let c9 = c8 .before in
+    let c11 = c9 .before .before in
+    let c12 = c11 .before in
+    let c13 = c12 .before in
+    let c14 = c13 .before in
+    let c16 = c14 .before .before in
+    let c17 = c16 .before in
+    let c19 = c17 .before .before in
+    omega (arith, head-few ((c17) .loop .inv) ((c16) .loop-test .taken) (view-got _ ((c14) .peek .result) (((c14) .peek .ensures) ∙ ap (λ r. viewOf (scan r)) (to-end ((c17) .loop .q) (((c19) .args .part .now)))) (sym ((c13) .is-record .ensures) ∙ not-false _ ((c12) .if1 .left))) ((c11) .bucket-of .ensures .0) ((c9) .find-in .ensures) ((c8) .hour-slot .ensures .0) ((c7) .limit-of .ensures) ((c6) .change-fault .ensures) ((c5) .if2 .left) .1)
 
 add-i : tie.Need-add-i Inv-loop μ-loop
-add-i c = omega (arith, head-few ((c .before .before .before .before .before .before .before .before .before .before .before .before .before .before .before .before .before) .loop .inv) ((c .before .before .before .before .before .before .before .before .before .before .before .before .before .before .before .before) .loop-test .taken) (view-got _ ((c .before .before .before .before .before .before .before .before .before .before .before .before .before .before) .peek .result) (((c .before .before .before .before .before .before .before .before .before .before .before .before .before .before) .peek .ensures) ∙ ap (λ r. viewOf (scan r)) (to-end ((c .before .before .before .before .before .before .before .before .before .before .before .before .before .before .before .before .before) .loop .q) (((c .before .before .before .before .before .before .before .before .before .before .before .before .before .before .before .before .before .before .before) .args .part .now)))) (sym ((c .before .before .before .before .before .before .before .before .before .before .before .before .before) .is-record .ensures) ∙ not-false _ ((c .before .before .before .before .before .before .before .before .before .before .before .before) .if1 .left))) ((c .before .before .before .before .before .before .before .before .before .before .before) .bucket-of .ensures .0) ((c .before .before .before .before .before .before .before .before .before) .find-in .ensures) ((c .before .before .before .before .before .before .before .before) .hour-slot .ensures .0) ((c .before .before .before .before .before .before .before) .limit-of .ensures) ((c .before .before .before .before .before .before) .change-fault .ensures) ((c .before .before .before .before .before) .if2 .left) .0)
+add-i c =
+    let c5 = c .before .before .before .before .before in
+    let c6 = c5 .before in
+    let c7 = c6 .before in
+    let c8 = c7 .before in
+    let c9 = c8 .before in
+    let c11 = c9 .before .before in
+    let c12 = c11 .before in
+    let c13 = c12 .before in
+    let c14 = c13 .before in
+    let c16 = c14 .before .before in
+    let c17 = c16 .before in
+    let c19 = c17 .before .before in
+    omega (arith, head-few ((c17) .loop .inv) ((c16) .loop-test .taken) (view-got _ ((c14) .peek .result) (((c14) .peek .ensures) ∙ ap (λ r. viewOf (scan r)) (to-end ((c17) .loop .q) (((c19) .args .part .now)))) (sym ((c13) .is-record .ensures) ∙ not-false _ ((c12) .if1 .left))) ((c11) .bucket-of .ensures .0) ((c9) .find-in .ensures) ((c8) .hour-slot .ensures .0) ((c7) .limit-of .ensures) ((c6) .change-fault .ensures) ((c5) .if2 .left) .0)
 
 loop-less : tie.Need-loop-less Inv-loop μ-loop
-loop-less c = omega (arith, ((c .before .before .before .before .before .before .before .before .before .before .before .before .before .before .before .before) .loop-test .taken))
+loop-less c =
+    let c16 = c .before .before .before .before .before .before .before .before .before .before .before .before .before .before .before .before in
+    omega (arith, ((c16) .loop-test .taken))
 
 loop-again : tie.Need-loop-again Inv-loop μ-loop
-loop-again c = head-next ((c .before .before .before .before .before .before .before .before .before .before .before .before .before .before .before .before .before) .loop .inv) ((c .before .before .before .before .before .before .before .before .before .before .before .before .before .before .before .before) .loop-test .taken) (view-got _ ((c .before .before .before .before .before .before .before .before .before .before .before .before .before .before) .peek .result) (((c .before .before .before .before .before .before .before .before .before .before .before .before .before .before) .peek .ensures) ∙ ap (λ r. viewOf (scan r)) (to-end ((c .before .before .before .before .before .before .before .before .before .before .before .before .before .before .before .before .before) .loop .q) (((c .before .before .before .before .before .before .before .before .before .before .before .before .before .before .before .before .before .before .before) .args .part .now)))) (sym ((c .before .before .before .before .before .before .before .before .before .before .before .before .before) .is-record .ensures) ∙ not-false _ ((c .before .before .before .before .before .before .before .before .before .before .before .before) .if1 .left))) ((c .before .before .before .before .before .before .before .before .before .before .before) .bucket-of .ensures .0) ((c .before .before .before .before .before .before .before .before .before) .find-in .ensures) ((c .before .before .before .before .before .before .before .before) .hour-slot .ensures .0) ((c .before .before .before .before .before .before .before) .limit-of .ensures) ((c .before .before .before .before .before .before) .change-fault .ensures) ((c .before .before .before .before .before) .if2 .left) ((c .before .before .before .before .before .before .before .before .before .before .before) .bucket-of .ensures .1) ((c .before .before .before) .clear-row .ensures) ((c .before .before) .row-for .ensures) ((c .before) .count-with .ensures)
+loop-again c =
+    let c2 = c .before .before in
+    let c3 = c2 .before in
+    let c5 = c3 .before .before in
+    let c6 = c5 .before in
+    let c7 = c6 .before in
+    let c8 = c7 .before in
+    let c9 = c8 .before in
+    let c11 = c9 .before .before in
+    let c12 = c11 .before in
+    let c13 = c12 .before in
+    let c14 = c13 .before in
+    let c16 = c14 .before .before in
+    let c17 = c16 .before in
+    let c19 = c17 .before .before in
+    head-next ((c17) .loop .inv) ((c16) .loop-test .taken) (view-got _ ((c14) .peek .result) (((c14) .peek .ensures) ∙ ap (λ r. viewOf (scan r)) (to-end ((c17) .loop .q) (((c19) .args .part .now)))) (sym ((c13) .is-record .ensures) ∙ not-false _ ((c12) .if1 .left))) ((c11) .bucket-of .ensures .0) ((c9) .find-in .ensures) ((c8) .hour-slot .ensures .0) ((c7) .limit-of .ensures) ((c6) .change-fault .ensures) ((c5) .if2 .left) ((c11) .bucket-of .ensures .1) ((c3) .clear-row .ensures) ((c2) .row-for .ensures) ((c .before) .count-with .ensures)
 
 returns-3 : tie.Need-returns-3 Inv-loop μ-loop
 returns-3 c = head-end ((c .before) .loop .inv) ((c) .loop-test .left)

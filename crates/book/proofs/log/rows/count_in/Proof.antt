@@ -27,7 +27,11 @@ counted-requires : tie.Need-counted-requires Inv-loop μ-loop
 counted-requires c κs = counting-room ((c .before .before .loop) .inv) (c .before .before .before .before .pre) ((c .before .loop-test) .taken) .1
 
 add-i : tie.Need-add-i Inv-loop μ-loop
-add-i c = omega (arith, counting-room ((c .before .before .before .loop) .inv) (c .before .before .before .before .before .pre) ((c .before .before .loop-test) .taken) .0)
+add-i c =
+    let c2 = c .before .before in
+    let c3 = c2 .before in
+    let c5 = c3 .before .before in
+    omega (arith, counting-room ((c3 .loop) .inv) (c5 .pre) ((c2 .loop-test) .taken) .0)
 
 loop-less : tie.Need-loop-less Inv-loop μ-loop
 loop-less c = omega (arith, (c .before .before .loop-test) .taken)

@@ -13,7 +13,9 @@ not-found-requires : tie.Need-not-found-requires
 not-found-requires c κs = search needs
 
 returns : tie.Need-returns
-returns c = λ l g hk hp few. subst⁻¹ (λ (r : Seek). Sought ((c .before .before .before .args) .rows .now) ((c .before .before .before .args) .n) ((c .before .before .before .args) .key) r l) ((c .not-found) .ensures) (seeking-none ((c .before .before .before .pre) .1) ((c .before .if1) .taken) ((c .before .before .before .args) .key) l g hk hp few)
+returns c =
+    let c3 = c .before .before .before in
+    λ l g hk hp few. subst⁻¹ (λ (r : Seek). Sought ((c3 .args) .rows .now) ((c3 .args) .n) ((c3 .args) .key) r l) ((c .not-found) .ensures) (seeking-none ((c3 .pre) .1) ((c .before .if1) .taken) ((c3 .args) .key) l g hk hp few)
 
 hour-slot-requires : tie.Need-hour-slot-requires
 hour-slot-requires c κs = search needs
@@ -31,7 +33,11 @@ find-head-requires : tie.Need-find-head-requires
 find-head-requires c κs = (c .before .before .before .before .before .before .pre)
 
 returns-2 : tie.Need-returns-2
-returns-2 c = λ l g hk hp few. (c .find-head) .ensures ((c .before .before .before .before .before .before .before .args) .key) l (record { logged = g; slot-is = (c .before .before .before .before .hour-slot) .ensures .0; head-is = (c .before .before .before .record-head) .ensures .0; low = hk; padded = hp; few = few })
+returns-2 c =
+    let c3 = c .before .before .before in
+    let c4 = c3 .before in
+    let c7 = c4 .before .before .before in
+    λ l g hk hp few. (c .find-head) .ensures ((c7 .args) .key) l (record { logged = g; slot-is = (c4 .hour-slot) .ensures .0; head-is = (c3 .record-head) .ensures .0; low = hk; padded = hp; few = few })
 
 pub find-in-spec : {M : Type 1} → statement M
 find-in-spec =

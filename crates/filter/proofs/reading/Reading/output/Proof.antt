@@ -12,7 +12,11 @@ same-length : tie.Need-same-length
 same-length c = search needs
 
 returns : tie.Need-returns
-returns c = prints-text statementOf longestStatement ((c .before .before .before .before .before .before .before .before .args) .self) _ ((c .before .before .before .before .before .before .before .before .args) .out .now) _ ((c .before .before .statement) .result) ((c .before .before .before .before .if1) .taken) ((c .before .before .statement) .ensures)
+returns c =
+    let c2 = c .before .before in
+    let c4 = c2 .before .before in
+    let c8 = c4 .before .before .before .before in
+    prints-text statementOf longestStatement ((c8 .args) .self) _ ((c8 .args) .out .now) _ ((c2 .statement) .result) ((c4 .if1) .taken) ((c2 .statement) .ensures)
 
 ordinal-requires : tie.Need-ordinal-requires
 ordinal-requires c κs = search needs
@@ -24,7 +28,12 @@ same-length-2 : tie.Need-same-length-2
 same-length-2 c = search needs
 
 returns-2 : tie.Need-returns-2
-returns-2 c = prints-refusal statementOf longestStatement ((c .before .before .before .before .before .before .before .before .before .args) .self) _ ((c .before .before .before .before .before .before .before .before .before .args) .out .now) _ ((c .before .before .refusal) .result) ((c .before .before .before .before .ordinal) .result) (omega arith) ((c .before .before .before .before .before .if1) .left) ((c .before .before .before .before .ordinal) .ensures) ((c .before .before .refusal) .ensures)
+returns-2 c =
+    let c2 = c .before .before in
+    let c4 = c2 .before .before in
+    let c5 = c4 .before in
+    let c9 = c5 .before .before .before .before in
+    prints-refusal statementOf longestStatement ((c9 .args) .self) _ ((c9 .args) .out .now) _ ((c2 .refusal) .result) ((c4 .ordinal) .result) (omega arith) ((c5 .if1) .left) ((c4 .ordinal) .ensures) ((c2 .refusal) .ensures)
 
 pub output-spec : {M : Type 1} → statement M
 output-spec =

@@ -1,5 +1,4 @@
 use lib.IntN.{pos}
-use Prim.Native.Nat.{_<_, _^_}
 use mir.Syntax.{w32}
 use mir.Val.{Fits}
 use Rattle.laws.specs.Exp.{u32, var, _⊗_, fits, same}
@@ -7,8 +6,6 @@ use native.Mathlib.Omega.{arith}
 use borrow.Author.Needs.{needs}
 use Rattle.money.proofs.units.CentsPerStart.ticks.Statement.{statement}
 use Rattle.money.proofs.units.CentsPerStart.ticks.Tie as tie
-use Rattle.money.proofs.units.CentsPerStart.ticks.Reads as reads
-use Rattle.money.proofs.units.CentsPerStart.ticks.Lts as lts
 
 cast-t2 : tie.Need-cast-t2
 cast-t2 c = search needs

@@ -2,9 +2,6 @@ use native.Mathlib.Omega.{arith}
 use borrow.Author.Needs.{needs}
 use Rattle.money.proofs.units.Price.between.Statement.{statement}
 use Rattle.money.proofs.units.Price.between.Tie as tie
-use Rattle.money.proofs.units.Price.between.Reads as reads
-use Rattle.money.proofs.units.Price.between.Lts as lts
-use Rattle.money.proofs.units.Price.for_quantity.Reads as for-quantity-reads
 
 sub-part : tie.Need-sub-part
 sub-part c = search needs

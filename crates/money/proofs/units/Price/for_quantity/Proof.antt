@@ -3,8 +3,6 @@ use native.Mathlib.Omega.{arith}
 use borrow.Author.Needs.{needs}
 use Rattle.money.proofs.units.Price.for_quantity.Statement.{statement}
 use Rattle.money.proofs.units.Price.for_quantity.Tie as tie
-use Rattle.money.proofs.units.Price.for_quantity.Reads as reads
-use Rattle.money.proofs.units.Price.for_quantity.Lts as lts
 
 cast-t3 : tie.Need-cast-t3
 cast-t3 c = fits (i32 ((c .before .before .args) .self .0) 200000) (omega arith)

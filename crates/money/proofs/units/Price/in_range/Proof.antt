@@ -1,13 +1,10 @@
-use lib.IntN.{pos, negsuc}
+use lib.IntN.{negsuc}
 use mir.Syntax.{w32}
 use mir.Val.{SFits}
 use Rattle.laws.specs.Held as h
 use borrow.Author.Needs.{needs}
-use native.Mathlib.Omega.{arith}
 use Rattle.money.proofs.units.Price.in_range.Statement.{statement}
 use Rattle.money.proofs.units.Price.in_range.Tie as tie
-use Rattle.money.proofs.units.Price.in_range.Reads as reads
-use Rattle.money.proofs.units.Price.in_range.Lts as lts
 
 returns : tie.Need-returns
 returns c =

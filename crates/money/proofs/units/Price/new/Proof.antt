@@ -2,13 +2,9 @@ use mathlib.Core.Path.{_≡_, sym, _∙_}
 use mathlib.Core.Bool.{true, false}
 use mir.Facts.{toZ-ofZ}
 use Rattle.money.specs.Units.{priceOk}
-use native.Mathlib.Omega.{arith}
 use borrow.Author.Needs.{needs}
 use Rattle.money.proofs.units.Price.new.Statement.{statement}
 use Rattle.money.proofs.units.Price.new.Tie as tie
-use Rattle.money.proofs.units.Price.new.Reads as reads
-use Rattle.money.proofs.units.Price.new.Lts as lts
-use Rattle.money.proofs.units.Price.in_range.Reads as in-range-reads
 
 in-range-requires : tie.Need-in-range-requires
 in-range-requires c κs = search needs

@@ -5,8 +5,6 @@ use Rattle.laws.specs.Held as h
 use borrow.Author.Needs.{needs}
 use Rattle.money.proofs.units.PriceGap.lesser.Statement.{statement}
 use Rattle.money.proofs.units.PriceGap.lesser.Tie as tie
-use Rattle.money.proofs.units.PriceGap.lesser.Reads as reads
-use Rattle.money.proofs.units.PriceGap.lesser.Lts as lts
 
 returns : tie.Need-returns
 unfolding minℤ

@@ -1,6 +1,6 @@
-use lib.IntN.{ℤ, pos, natAbs}
-use Prim.Native.Nat.{ℕ, _+_, _/_}
-use mathlib.Core.Path.{_≡_, ap, _∙_}
+use lib.IntN.{pos}
+use Prim.Native.Nat.{_+_, _/_}
+use mathlib.Core.Path.{_∙_}
 use mir.Syntax.{w64}
 use mir.Val.{SFits}
 use Rattle.laws.specs.Held as h
@@ -11,9 +11,6 @@ use native.Mathlib.Omega.{arith}
 use borrow.Author.Needs.{needs}
 use Rattle.money.proofs.units.Ticks.cents.Statement.{statement}
 use Rattle.money.proofs.units.Ticks.cents.Tie as tie
-use Rattle.money.proofs.units.Ticks.cents.Reads as reads
-use Rattle.money.proofs.units.Ticks.cents.Lts as lts
-use Rattle.money.proofs.units.Ticks.magnitude.Reads as magnitude-reads
 
 magnitude-requires : tie.Need-magnitude-requires
 magnitude-requires c κs = search needs
@@ -25,7 +22,9 @@ cast-whole : tie.Need-cast-whole
 cast-whole c = search needs
 
 sub-t7 : tie.Need-sub-t7
-sub-t7 c = fits (neg (u32 (((c .before .before .before .magnitude) .result + 60) / 120) 100000000000000000)) (omega (arith, (c .before .before .before .magnitude) .ensures .1))
+sub-t7 c =
+    let c3 = c .before .before .before in
+    fits (neg (u32 (((c3 .magnitude) .result + 60) / 120) 100000000000000000)) (omega (arith, (c3 .magnitude) .ensures .1))
 
 returns : tie.Need-returns
 returns c =

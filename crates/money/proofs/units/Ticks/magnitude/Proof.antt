@@ -1,19 +1,16 @@
-use lib.IntN.{ℤ, pos, negsuc, natAbs, _-ℤ_}
+use lib.IntN.{ℤ, pos, natAbs}
 use lib.Signed.{_<ℤ_}
-use mathlib.Core.Path.{_≡_, ap, _∙_}
-use Prim.Native.Nat.{ℕ, _+_, _≤_}
+use mathlib.Core.Path.{ap, _∙_}
+use Prim.Native.Nat.{_+_}
 use mir.Syntax.{w64}
-use mir.Val.{SFits, toZ, ofZ}
+use mir.Val.{SFits}
 use Rattle.laws.specs.Held as h
-use Rattle.laws.specs.Held.{Carried}
 use Rattle.laws.specs.IntLaws.{lt-true, lt-false}
 use Rattle.money.specs.laws.UnitLaws.{flip-abs, flip-above, abs-most, flipped}
 use borrow.Author.Needs.{needs}
 use native.Mathlib.Omega.{arith}
 use Rattle.money.proofs.units.Ticks.magnitude.Statement.{statement}
 use Rattle.money.proofs.units.Ticks.magnitude.Tie as tie
-use Rattle.money.proofs.units.Ticks.magnitude.Reads as reads
-use Rattle.money.proofs.units.Ticks.magnitude.Lts as lts
 
 sub-result : tie.Need-sub-result
 sub-result c =

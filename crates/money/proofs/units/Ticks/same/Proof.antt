@@ -5,11 +5,8 @@ use mir.Val.{SFits, ofZ}
 use Rattle.laws.specs.Held as h
 use Rattle.money.specs.laws.UnitLaws.{same-true, same-false}
 use borrow.Author.Needs.{needs}
-use native.Mathlib.Omega.{arith}
 use Rattle.money.proofs.units.Ticks.same.Statement.{statement}
 use Rattle.money.proofs.units.Ticks.same.Tie as tie
-use Rattle.money.proofs.units.Ticks.same.Reads as reads
-use Rattle.money.proofs.units.Ticks.same.Lts as lts
 
 returns : tie.Need-returns
 returns c =
@@ -18,7 +15,9 @@ returns c =
     sym (same-true _ _ (h.same-bits f g ((c .if1) .taken)))
 
 returns-2 : tie.Need-returns-2
-returns-2 c = sym (same-false ((c .before .before .before .before .before .args) .self .0) ((c .before .before .before .before .before .args) .other .0) (λ e. (c .if1) .left (ap (λ (z : ℤ). ofZ w64 z) e)))
+returns-2 c =
+    let c5 = c .before .before .before .before .before in
+    sym (same-false ((c5 .args) .self .0) ((c5 .args) .other .0) (λ e. (c .if1) .left (ap (λ (z : ℤ). ofZ w64 z) e)))
 
 pub same-spec : {M : Type 1} → statement M
 same-spec = tie.close (tie.spec returns returns-2)
