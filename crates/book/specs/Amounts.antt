@@ -7,11 +7,11 @@ use lib.IntN.{ℤ, pos, _+ℤ_}
 use lib.ListN.{length}
 use Rattle.laws.specs.Sums.{Σℤ, every}
 use Rattle.money.specs.Refusals.{noSuchKey, priceMissing}
+use Rattle.money.specs.Units.{dayHours, intervals}
 use Rattle.book.specs.Layer.{Key, Rec, Mark, Pr, Im, Ex, HourPrices, emptyName, same, atHour, Quantity, pricesOf, exportOf, quantityAt, rowOf, offset, offsetEntry, creditTicks, unitTicks, startCents, reversal, chargeTicks}
 use Rattle.book.specs.declared.answers.NamedAmount.{NamedAmount}
 use Rattle.book.specs.ByName.{byName}
 use Rattle.book.specs.Replies.{Reply, refused, guarantees, unitDay, charge}
-use Rattle.money.specs.Units.{dayHours, intervals}
 
 -- the standing record of a key, if there is one
 pub data Pick : Type 0 where
@@ -95,7 +95,8 @@ dayTotal k rs price = Σℤ dayHours (λ (j : ℕ). hourTicks (unitAt k rs j) (p
 unfoldable pub unitDayOf : Key → List Rec → (ℕ → HourPricing) → Reply
 unitDayOf k rs price =
     cond (every dayHours (λ (j : ℕ). absent (unitAt k rs j))) (refused noSuchKey)
-    (cond (every dayHours (λ (j : ℕ). payable (unitAt k rs j) (price (1 + j)))) (unitDay (dayTotal k rs price) (reversal (dayTotal k rs price))) (refused priceMissing))
+    (cond (every dayHours (λ (j : ℕ). payable (unitAt k rs j) (price (1 + j)))) (unitDay (dayTotal k rs price) (reversal (dayTotal k rs price)))
+    (refused priceMissing))
 
 -- ---- failure charges
 

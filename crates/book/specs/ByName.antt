@@ -21,7 +21,8 @@ byName k (r ∷ rs) = cond (sameHour k (r .key)) (inOrder r (byName k rs)) (byNa
 -- a name in that order, once
 unfoldable pub addName : Name → List Name → List Name
 addName n [] = n ∷ []
-addName n (x ∷ xs) = cond (nameBefore (decodedBytes n) (decodedBytes x)) (n ∷ x ∷ xs) (cond (nameBefore (decodedBytes x) (decodedBytes n)) (x ∷ addName n xs) (x ∷ xs))
+addName n (x ∷ xs) = cond (nameBefore (decodedBytes n) (decodedBytes x)) (n ∷ x ∷ xs)
+    (cond (nameBefore (decodedBytes x) (decodedBytes n)) (x ∷ addName n xs) (x ∷ xs))
 
 abbrev pub sameMark : Key → Key → Bool
 sameMark a b = eqb (order (a .mark)) (order (b .mark))

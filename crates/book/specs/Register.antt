@@ -74,7 +74,8 @@ roomFor l lent c = spaceFault (length l) (length (writeAll l)) (length (write c)
 
 -- "then 10 or 11, 12, 13", "`CO` never gives 12": the number with which a change is refused after the list l over a lent length; 0 where it is not
 unfoldable pub refusal : List Change → ℕ → Change → ℕ
-refusal l lent (filed r) = cond (stands (r .key) (standing l)) keyStands (cond (ltb (count (r .key) (standing l)) (limitOf (r .key))) (roomFor l lent (filed r)) hourFull)
+refusal l lent (filed r) = cond (stands (r .key) (standing l)) keyStands
+    (cond (ltb (count (r .key) (standing l)) (limitOf (r .key))) (roomFor l lent (filed r)) hourFull)
 refusal l lent (corrected r) = cond (stands (r .key) (standing l)) (roomFor l lent (corrected r)) noSuchKey
 refusal l lent (withdrawn k) = cond (stands k (standing l)) (roomFor l lent (withdrawn k)) noSuchKey
 

@@ -3,6 +3,7 @@ use Prim.Native.Nat.{ℕ, zero, suc, _+_}
 use mathlib.Core.List.{List, [], _∷_, map}
 use lib.ListN.{length}
 use Rattle.money.specs.Refusals.{notTogether}
+use Rattle.money.specs.Units.{dayHours}
 use Rattle.book.specs.Layer.{Name, Rec, Fi, Fe, emptyName, noTicks, pad}
 use Rattle.book.specs.declared.answers.HourAmounts.{HourAmounts}
 use Rattle.book.specs.declared.answers.UnitAmounts.{UnitAmounts}
@@ -13,7 +14,6 @@ use Rattle.book.specs.Register.{Reply, standing, maxChanges}
 use Rattle.book.specs.Meaning.{Load, belongs, mismatched}
 use Rattle.book.specs.UnitNames.{ghKey, unitKey}
 use Rattle.book.specs.Handed.{hourHanded, guaranteesFrom, chargesFrom, dayHanded, unitDayFrom}
-use Rattle.money.specs.Units.{dayHours}
 
 -- an hour: its guarantees, its charges of failed imports and those of failed exports
 pub record HourReply : Type 0 where

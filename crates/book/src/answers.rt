@@ -1,10 +1,10 @@
 // What a call brings back.
 use crate::book::Book;
+use crate::book::CHANGES_MAX;
 use money::names::Name;
+use money::units::HOURS;
 use money::units::Ticks;
 use records::names::no_name;
-use crate::book::CHANGES_MAX;
-use money::units::HOURS;
 ghost use mathlib.Core.Path.{_≡_};
 ghost use Rattle.book.specs.Meaning.{replyOf};
 ghost use Rattle.book.specs.Replies.{replied};

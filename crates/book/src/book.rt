@@ -2,8 +2,8 @@
 use crate::log::replay;
 ghost use mathlib.Core.Path.{_≡_};
 ghost use mathlib.Core.Bool.{false};
-ghost use Rattle.book.specs.Meaning.{load};
 ghost use lib.ListN.{length};
+ghost use Rattle.book.specs.Meaning.{load};
 ghost use Rattle.book.specs.tables.Rows.{Rowed};
 
 // Changes in a book, at most.

@@ -2,6 +2,7 @@
 use crate::answers::Answer;
 use crate::answers::Done;
 use crate::book::Book;
+use crate::book::CHANGES_MAX;
 use money::refusals::NOT_TOGETHER;
 use records::marks::Kind;
 use records::marks::Wanted;
@@ -9,7 +10,6 @@ use records::parse::parse_any;
 use records::parse::parse_change;
 use records::parse::parse_close;
 use records::parse::parse_take_back;
-use crate::book::CHANGES_MAX;
 ghost use Rattle.book.specs.Layer.{parse};
 ghost use Rattle.book.specs.Register.{listed, file, correct, withdraw, takeBack, close, change};
 ghost use Rattle.book.specs.Meaning.{Leaves, Meets, replyOf};

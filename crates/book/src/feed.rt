@@ -1,10 +1,10 @@
 // The records of an input, taken back to back into a book.
 use crate::answers::refusal_in;
-use crate::log::index::bucket_of;
 use crate::book::Book;
+use crate::book::CHANGES_MAX;
+use crate::log::index::bucket_of;
 use money::refusals::NOT_TOGETHER;
 use records::parse::first_change;
-use crate::book::CHANGES_MAX;
 ghost use mathlib.Core.Path.{_≡_};
 ghost use mathlib.Core.List.{List};
 ghost use Prim.Native.Nat.{ℕ, _≤_};

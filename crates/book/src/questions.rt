@@ -1,6 +1,7 @@
 // The questions of a key, of a mark and hour, and for free bytes.
 use crate::answers::Answer;
 use crate::book::Book;
+use crate::book::CHANGES_MAX;
 use crate::log::refusal;
 use crate::log::rows::count_in;
 use crate::log::rows::find_in;
@@ -9,7 +10,6 @@ use money::refusals::NO_SUCH_KEY;
 use money::refusals::NOT_TOGETHER;
 use records::keys::ask_hour;
 use records::keys::ask_key;
-use crate::book::CHANGES_MAX;
 ghost use Rattle.book.specs.Register.{ask, recordOf, countOf, freeBytes};
 ghost use Rattle.book.specs.Meaning.{Meets, replyOf};
 

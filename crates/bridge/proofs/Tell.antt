@@ -16,11 +16,11 @@ use Rattle.money.specs.declared.units.Answer.the-variants.{Amount, Refused}
 use Rattle.records.specs.Names.{decodeName, storedName, spellingOf}
 use Rattle.records.specs.laws.BookLaws.{spelling-none}
 use Rattle.records.specs.declared.names.Spelling.{Spelling}
-use Rattle.statement.specs.laws.LineLaws.{spells}
 use Rattle.records.specs.Keys.{nameAnswer}
 use Rattle.records.specs.declared.keys.NameAnswer.{NameAnswer}
 use Rattle.book.specs.declared.book.Book.{Book}
 use Rattle.book.specs.declared.answers.NamedAmount.{NamedAmount}
+use Rattle.statement.specs.laws.LineLaws.{spells}
 use Rattle.bridge.specs.Bridge.{stored, told, orderOf, creditSizes, creditsSizes, creditsAmounts, answerNumber, ticksTold}
 
 -- a refusal: the row stays
@@ -46,7 +46,8 @@ module _ (a b : List ℕ) {x y : NameAnswer} (e : x ≡ nameAnswer (storedName (
   pub order-before : {t : Bool} → t ≡ nameBefore (decodedBytes (x .name)) (decodedBytes (y .name)) → t ≡ true → 0 ≡ orderOf a b
   order-before p q = sym (ap (λ (t : Bool). cond t 0 (cond (sameName (x .name) (y .name)) 1 2)) (sym p ∙ q)) ∙ ordered
 
-  pub order-rest : {t s : Bool} (n : ℕ) → t ≡ nameBefore (decodedBytes (x .name)) (decodedBytes (y .name)) → t ≡ false → s ≡ sameName (x .name) (y .name) → n ≡ cond s 1 2 → n ≡ orderOf a b
+  pub order-rest : {t s : Bool} (n : ℕ) → t ≡ nameBefore (decodedBytes (x .name)) (decodedBytes (y .name)) → t ≡ false → s ≡ sameName (x .name) (y .name) → n ≡
+      cond s 1 2 → n ≡ orderOf a b
   order-rest n p q r z =
       z ∙ ap (λ (s : Bool). cond s 1 2) r ∙ sym (ap (λ (t : Bool). cond t 0 (cond (sameName (x .name) (y .name)) 1 2)) (sym p ∙ q)) ∙ ordered
 
@@ -70,16 +71,19 @@ module _ (b : Book) (lent : List ℕ) (h n : ℕ) (list : List NamedAmount) (siz
   none-told = record { sizes-are = refl; amounts-are = refl }
 
   pub one-told : {i : ℕ} {sizes sizes′ : List ℕ} {amounts amounts′ : List ℤ} → Telling i sizes amounts → i < n → n ≤ length list
-      → sizes′ ≡ creditSizes b lent h i (getD list i noAmount) sizes → amounts′ ≡ stored amounts (i + 1) (getD list i noAmount .ticks .0) → Telling (i + 1) sizes′ amounts′
+      → sizes′ ≡ creditSizes b lent h i (getD list i noAmount) sizes → amounts′ ≡ stored amounts (i + 1) (getD list i noAmount .ticks .0) → Telling (i + 1)
+      sizes′ amounts′
   unfolding creditsSizes creditsAmounts
   one-told {i = i} {sizes = sizes} {amounts = amounts} t lt long e f =
       let cs = take n list in
       let c = getD list i noAmount in
       let k : i + 1 ≡ suc i = omega arith in
       let p : drop i cs ≡ c ∷ drop (i + 1) cs =
-      drop-cons cs i noAmount (omega (arith, length-take-le n list long)) ∙ ap (λ (x : NamedAmount). x ∷ drop (suc i) cs) (getD-take n list i noAmount lt) ∙ ap (λ (m : ℕ). c ∷ drop m cs) (sym k) in
+      drop-cons cs i noAmount (omega (arith, length-take-le n list long)) ∙ ap (λ (x : NamedAmount). x ∷ drop (suc i) cs) (getD-take n list i noAmount lt) ∙ ap
+      (λ (m : ℕ). c ∷ drop m cs) (sym k) in
       record {
-        sizes-are = ap (creditsSizes b lent h (i + 1) (drop (i + 1) cs)) e ∙ sym (ap (λ (x : List NamedAmount). creditsSizes b lent h i x sizes) p) ∙ t .sizes-are;
+        sizes-are = ap (creditsSizes b lent h (i + 1) (drop (i + 1) cs)) e ∙ sym (ap (λ (x : List NamedAmount). creditsSizes b lent h i x sizes) p) ∙
+            t .sizes-are;
         amounts-are = ap (creditsAmounts (i + 1) (drop (i + 1) cs)) f ∙ sym (ap (λ (x : List NamedAmount). creditsAmounts i x amounts) p) ∙ t .amounts-are;
       }
 
@@ -87,8 +91,11 @@ module _ (b : Book) (lent : List ℕ) (h n : ℕ) (list : List NamedAmount) (siz
       → (sizes ≡ creditsSizes b lent h 0 (take n list) sizes₀) × (amounts ≡ creditsAmounts 0 (take n list) amounts₀)
   unfolding creditsSizes creditsAmounts
   all-told {i = i} {sizes = sizes} {amounts = amounts} t le long =
-      let p : drop i (take n list) ≡ [] = drop-of-length-le (take n list) {i = i} (omega (arith, length-take-le n list long)) in
-      (sym (ap (λ (x : List NamedAmount). creditsSizes b lent h i x sizes) p) ∙ t .sizes-are, sym (ap (λ (x : List NamedAmount). creditsAmounts i x amounts) p) ∙ t .amounts-are)
+      let p : drop i (take n list) ≡ [] = drop-of-length-le (take n list) {i = i} (omega (arith, length-take-le n list long)) in (
+        sym (ap (λ (x : List NamedAmount). creditsSizes b lent h i x sizes) p) ∙ t .sizes-are,
+        sym (ap (λ (x : List NamedAmount). creditsAmounts i x amounts) p)
+            ∙ t .amounts-are,
+      )
 
 -- ---- a name as it is written
 

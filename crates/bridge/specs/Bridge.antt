@@ -7,13 +7,13 @@ use lib.Dec.{ltb, eqb}
 use lib.IntN.{ℤ}
 use lib.ListN.{length, getD, set, take}
 use Rattle.laws.specs.Sums.{orElse}
-use Rattle.records.specs.Names.{decodeName, storedName, spellingOf}
-use Rattle.records.specs.Keys.{nameAnswer}
 use Rattle.money.specs.Names.{decodedBytes, nameBefore, sameName}
 use Rattle.money.specs.Refusals.{endsEarly, markUnknown, notTogether}
 use Rattle.money.specs.declared.names.Name.{Name}
 use Rattle.money.specs.declared.units.Answer.{Answer}
 use Rattle.money.specs.declared.units.Answer.the-variants.{Amount, Refused}
+use Rattle.records.specs.Names.{decodeName, storedName, spellingOf}
+use Rattle.records.specs.Keys.{nameAnswer}
 use Rattle.records.specs.declared.marks.Mark.the-variants.{Im, Fi, Fe}
 use Rattle.records.specs.Marks.{markBytes}
 use Rattle.records.specs.Views.{pricesIn}
@@ -78,7 +78,8 @@ wantedBy m = cond (eqb (m % 4) 1) (Only File) (cond (eqb (m % 4) 2) (Only Correc
 
 -- a change for a method
 abbrev pub writeNumber : ℕ → List ℕ → List ℕ → ℕ
-writeNumber m s d = cond (eqb m 0) (anyNumber s d) (cond (eqb m 4) (bare takeBackBytes s) (cond (eqb m 5) (bare closeBytes s) (putNumber (parse (wantedBy m) s) 0 d)))
+writeNumber m s d = cond (eqb m 0) (anyNumber s d)
+    (cond (eqb m 4) (bare takeBackBytes s) (cond (eqb m 5) (bare closeBytes s) (putNumber (parse (wantedBy m) s) 0 d)))
 
 abbrev pub writeBytes : ℕ → List ℕ → List ℕ → List ℕ
 writeBytes m s d = cond (eqb m 0) (anyBytes s d) (cond (eqb m 4) d (cond (eqb m 5) d (putBytes (parse (wantedBy m) s) 0 d)))
@@ -207,7 +208,8 @@ hasAmount s = begins (73 ∷ 77 ∷ []) s || (begins (71 ∷ 72 ∷ []) s || (be
 
 abbrev pub amountIn : List ℕ → List ℕ → Answer
 amountIn p s =
-    cond (begins (73 ∷ 77 ∷ []) s) (creditIn s (pricesIn p)) (cond (begins (71 ∷ 72 ∷ []) s) (unitAmountIn s (pricesIn p)) (cond (begins (70 ∷ 73 ∷ []) s) (chargeIn Fi s (pricesIn p)) (chargeIn Fe s (pricesIn p))))
+    cond (begins (73 ∷ 77 ∷ []) s) (creditIn s (pricesIn p)) (cond (begins (71 ∷ 72 ∷ []) s) (unitAmountIn s (pricesIn p))
+    (cond (begins (70 ∷ 73 ∷ []) s) (chargeIn Fi s (pricesIn p)) (chargeIn Fe s (pricesIn p))))
 
 abbrev pub answerNumber : Answer → ℕ
 answerNumber (Amount t) = 0
@@ -251,7 +253,8 @@ StartsWith w s = take (length w) s ≡ w
 pub record FeedBytes (b : Book) (s input s′ : List ℕ) : Type 0 where
   pub apart : load b s ≡ mismatched → s′ ≡ s
   pub size : length s′ ≡ length s
-  pub used : (l : List Change) → load b s ≡ belongs l → StartsWith (writeAll (feeds.feeding (length s) (record { list = l; closed = b .closed }) input .reg .list)) s′
+  pub used : (l : List Change) → load b s ≡ belongs l → StartsWith
+      (writeAll (feeds.feeding (length s) (record { list = l; closed = b .closed }) input .reg .list)) s′
 
 -- the statement, written into lent bytes
 unfoldable pub statementIn : List ℕ → List ℕ → List ℕ → Outcome

@@ -7,8 +7,8 @@ use book::answers::Guarantees;
 use book::answers::NamedAmount;
 use book::answers::UnitDay;
 use book::answers::refusal_in;
-use book::feed::feed;
 use book::book::Book;
+use book::feed::feed;
 use demands::make_change;
 use money::names::Name;
 use money::names::name_before;
@@ -24,8 +24,8 @@ use records::keys::ask_name;
 use records::leads::begins_with;
 use records::marks::Kind;
 use records::marks::Mark;
-use records::names::spell_name;
 use records::marks::Wanted;
+use records::names::spell_name;
 use records::parse::first_change;
 use records::parse::parse_any;
 use records::parse::parse_change;
@@ -45,12 +45,12 @@ ghost use Rattle.book.specs.Register.{recordOf, countOf, freeBytes, hourGuarant
 ghost use Rattle.book.specs.Meaning.{replyOf, guaranteesReply, dayReply};
 ghost use Rattle.book.specs.Replies.{replied};
 ghost use Rattle.book.specs.Handed.{maxCredits};
+ghost use Rattle.demands.specs.Script.{changeOf};
 ghost use Rattle.bridge.specs.Bridge.{stored, told, compareNumber, orderOf, anyNumber, anySize, anyBytes, writeNumber, writeSize, writeBytes, wantedBy};
 ghost use Rattle.bridge.specs.Bridge.{filingNumber, hasAmount, amountIn, answerNumber, amountNumber, ticksTold, amountTold};
 ghost use Rattle.bridge.specs.Bridge.{noBook, bookFrom, bookIn, flagOf, handedBack, methodIn, hourIn, Changed};
 ghost use Rattle.bridge.specs.Bridge.{asked, sizesTold, amountsTold, importPlace, placeTold, creditSizes, creditsSizes, creditsAmounts, hourSizes, hourAmounts};
 ghost use Rattle.bridge.specs.Bridge.{feedIn, feedState, feedSizes, FeedBytes, statementIn};
-ghost use Rattle.demands.specs.Script.{changeOf};
 
 #[no_mangle]
 pub extern "C" fn pewatuno_interface() -> u32

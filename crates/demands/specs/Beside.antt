@@ -5,6 +5,7 @@ use mathlib.Core.Path.{_≡_}
 use mathlib.Core.List.{List, [], _∷_, _++_, map}
 use mathlib.Core.Bool.{true}
 use lib.ListN.{length, take, drop, replicate}
+use Rattle.laws.specs.Lists.{All}
 use Rattle.book.specs.Layer.{Change, HourPrices, Mark, Rec, got, askHourOf, isFailure, chargeTicks}
 use Rattle.book.specs.ByName.{byName}
 use Rattle.book.specs.declared.book.Book.{Book}
@@ -14,7 +15,6 @@ use Rattle.book.specs.Register.{Reg, standing, writeAll, change, Reply, refused
 use Rattle.book.specs.Meaning.{belongs, load, bookOf}
 use Rattle.book.specs.Feed.{firstRecord}
 use Rattle.book.specs.Session.{Session}
-use Rattle.laws.specs.Lists.{All}
 
 -- ---- `feed`: "reads records back to back"
 
@@ -51,7 +51,8 @@ pub record CallsMade (ts : List Turn) (rs : List Reply) (s input : List ℕ) (r 
 
 -- what reading an input leaves, whatever list of calls came before on this book, all used bytes being lent
 abbrev pub ReadAsCalls : Book → List ℕ → List ℕ → Fed → List ℕ → Type 0
-ReadAsCalls b s input r s′ = (ts : List Turn) (rs : List Reply) (held : List ℕ) → Session ts rs b held → take (length held) s ≡ held → CallsMade ts rs s input r s′
+ReadAsCalls b s input r s′ = (ts : List Turn) (rs : List Reply) (held : List ℕ) → Session ts rs b held → take (length held) s ≡ held → CallsMade ts rs s input r
+    s′
 
 -- ---- `charges`: "`IFC`, `EFC` by name"
 
@@ -61,6 +62,8 @@ AsAsked l p r = chargeOf (r .key) (standing l) (priceOf (standing l)) ≡ charge
 
 -- the charges of a mark and hour with its `PR`: one for each failure that stands, by name
 pub record ChargesByKey (b : Book) (s : List ℕ) (m : Mark) (h : ℕ) (c : ChargesReply) : Type 0 where
-  pub lines : (l : List Change) → load b s ≡ belongs l → isFailure m ≡ true → askHourOf m h ≡ got (hourKey m h) [] → (p : HourPrices) → priceOf (standing l) h ≡ priced p
+  pub lines : (l : List Change) → load b s ≡ belongs l → isFailure m ≡ true → askHourOf m h ≡ got (hourKey m h) [] → (p : HourPrices) → priceOf (standing l) h ≡
+      priced p
       → c ≡ charged (map (chargeLine p) (byName (hourKey m h) (standing l)))
-  pub each : (l : List Change) → load b s ≡ belongs l → (p : HourPrices) → priceOf (standing l) h ≡ priced p → All (AsAsked l p) (byName (hourKey m h) (standing l))
+  pub each : (l : List Change) → load b s ≡ belongs l → (p : HourPrices) → priceOf (standing l) h ≡ priced p → All (AsAsked l p)
+      (byName (hourKey m h) (standing l))

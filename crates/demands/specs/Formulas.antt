@@ -58,12 +58,14 @@ pub record Formulas : Type 0 where
   pub credit : (r : Rec) (p : HourPrices) → creditTicks r p ≡ creditOver (importOf r .offer) (p .emp) (quantityAt (importOf r .mqsi))
   -- "Order: credit ascending, then decoded name in byte order, a prefix first"
   pub order : (a b : Import)
-      → precedes a b ≡ cond (ltZ (a .credit .0) (b .credit .0)) true (cond (ltZ (b .credit .0) (a .credit .0)) false (nameBefore (decodedBytes (a .name)) (decodedBytes (b .name))))
+      → precedes a b ≡ cond (ltZ (a .credit .0) (b .credit .0)) true
+      (cond (ltZ (b .credit .0) (a .credit .0)) false (nameBefore (decodedBytes (a .name)) (decodedBytes (b .name))))
   -- "up to and including it": names stand once in an hour
   pub including : (a b : Import) → upTo a b ≡ (precedes a b || sameName (a .name) (b .name))
   -- "In each interval, adj of an import = min(MQSI, max(0, sum of MQSI up to and including it - sum of all MQSW))"
   pub adjusted : (n : ℕ) (es : List Import) (ts : List Quantity) (i k : ℕ)
-      → adj n es ts i k ≡ min (mqsi (entry es i) k) (max0 (pos (Σℕ n (λ (j : ℕ). cond (upTo (entry es j) (entry es i)) (mqsi (entry es j) k) 0)) -ℤ pos (quantityAt ts k)))
+      → adj n es ts i k ≡ min (mqsi (entry es i) k)
+      (max0 (pos (Σℕ n (λ (j : ℕ). cond (upTo (entry es j) (entry es i)) (mqsi (entry es j) k) 0)) -ℤ pos (quantityAt ts k)))
   -- "sum of all MQSW" of some exports in interval k
   pub exports : (r : Rec) (rs : List Rec) (k : ℕ) → (exported [] k ≡ 0) × (exported (r ∷ rs) k ≡ quantityAt (exportOf r .mqsw) k + exported rs k)
   -- "Offset = sum of credits - sum of credits worked again with adj"
@@ -94,7 +96,9 @@ pub record Formulas : Type 0 where
   -- "dev = max(0, day-ahead quantity - pre-dispatch quantity)";
   -- "Import: min(max(0, PD market price - DA offer), max(0, PD offer - DA offer)) × dev × 12 ticks"
   pub import-charge : (f : Failure) (p : HourPrices) (dev : ℕ) → dev ≡ max0 (pos (f .«day_ahead_quantity» .0) -ℤ pos (f .«pre_dispatch_quantity» .0))
-      → chargeTicksFor Fi f p ≡ minℤ (maxℤ (pos 0) (p .pd .0 -ℤ f .«day_ahead_price» .0)) (maxℤ (pos 0) (f .«pre_dispatch_price» .0 -ℤ f .«day_ahead_price» .0)) *ℤ pos dev *ℤ pos 12
+      → chargeTicksFor Fi f p ≡ minℤ (maxℤ (pos 0) (p .pd .0 -ℤ f .«day_ahead_price» .0)) (maxℤ (pos 0) (f .«pre_dispatch_price» .0 -ℤ f .«day_ahead_price» .0))
+      *ℤ pos dev *ℤ pos 12
   -- "Export: the same with (DA bid - PD market price) and (DA bid - PD bid)"
   pub export-charge : (f : Failure) (p : HourPrices) (dev : ℕ) → dev ≡ max0 (pos (f .«day_ahead_quantity» .0) -ℤ pos (f .«pre_dispatch_quantity» .0))
-      → chargeTicksFor Fe f p ≡ minℤ (maxℤ (pos 0) (f .«day_ahead_price» .0 -ℤ p .pd .0)) (maxℤ (pos 0) (f .«day_ahead_price» .0 -ℤ f .«pre_dispatch_price» .0)) *ℤ pos dev *ℤ pos 12
+      → chargeTicksFor Fe f p ≡ minℤ (maxℤ (pos 0) (f .«day_ahead_price» .0 -ℤ p .pd .0)) (maxℤ (pos 0) (f .«day_ahead_price» .0 -ℤ f .«pre_dispatch_price» .0))
+      *ℤ pos dev *ℤ pos 12

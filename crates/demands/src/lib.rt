@@ -8,9 +8,9 @@ use book::answers::Done;
 use book::answers::Guarantees;
 use book::answers::NamedAmount;
 use book::answers::UnitDay;
+use book::book::Book;
 use book::feed::Fed;
 use book::feed::feed;
-use book::book::Book;
 use money::units::Ticks;
 use records::marks::Mark;
 use records::names::no_name;
@@ -110,7 +110,8 @@ fn no_day() -> UnitDay
 
 // Any call of the register: a change (0 to 5), an hour's guarantees (6), a unit's day (10), or another question (7 to 11).
 pub fn step(b: Book, log: &mut [u8], method: u8, mark: &[u8], hour: u8, bytes: &[u8]) -> Turned
-    ensures { λ r. ⌜ Demanded (callOf method (now (mark .entry)) hour (now (bytes .entry))) b (now (log .entry)) (r .book) (saidOf r) (now (log .exit)) × Alone (r .hourly) (r .daily) (r .answer) (r .guarantees) (r .day) ⌝ }
+    ensures { λ r. ⌜ Demanded (callOf method (now (mark .entry)) hour (now (bytes .entry))) b (now (log .entry)) (r .book) (saidOf r) (now (log .exit))
+        × Alone (r .hourly) (r .daily) (r .answer) (r .guarantees) (r .day) ⌝ }
 {
     if method < 6 {
         let d = make_change(b, log, method, bytes);

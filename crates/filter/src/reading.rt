@@ -1,7 +1,7 @@
 // Records that arrive in pieces of any size.
+use book::book::Book;
 use book::feed::Fed;
 use book::feed::feed;
-use book::book::Book;
 use money::refusals::ENDS_EARLY;
 use records::parse::first_change;
 ghost use mathlib.Core.Path.{_≡_};
@@ -71,7 +71,8 @@ fn feed_front(book: Book, log: &mut [u8], input: &[u8], end: usize) -> Fed
 
 // Moves the bytes between two places to the front. How many they are.
 fn to_front(bytes: &mut [u8], from: usize, end: usize) -> usize
-    ensures { λ r. ⌜ (now (bytes .exit) ≡ put (now (bytes .entry)) 0 (part from end (now (bytes .entry)))) × (r ≡ length (part from end (now (bytes .entry)))) ⌝ }
+    ensures { λ r. ⌜ (now (bytes .exit) ≡ put (now (bytes .entry)) 0 (part from end (now (bytes .entry))))
+        × (r ≡ length (part from end (now (bytes .entry)))) ⌝ }
 {
     let stop = least(end, bytes.len());
     if stop <= from {

@@ -22,11 +22,11 @@ use Rattle.book.specs.tables.Places.{spots}
 use Rattle.book.specs.tables.Worked.{Inside, noSpot}
 use Rattle.book.specs.Register.{Reg, file, called, listed, judged, refusal, writeAll}
 use Rattle.book.specs.laws.CallLaws.{called-long}
+use Rattle.book.specs.laws.OffsetLaws.{Each, none, more}
 use Rattle.hour_offset.specs.HourOffset.{recordOn, recorded, offsetAfter, hourOffset, answerOf}
 use Rattle.hour_offset.specs.laws.HourOffsetLaws.{at-none, first-then}
 use Rattle.hour_offset.specs.tables.Tally.{Sheet, noSheet, sheetOf, Few, Ready, addNumber, adding, endOf}
 use Rattle.hour_offset.specs.laws.TallyLaws.{Stood, Booked, booked-none, booked-few, rebased, added-is, stepped}
-use Rattle.book.specs.laws.OffsetLaws.{Each, none, more}
 use Rattle.hour_offset.specs.laws.EndLaws.{ended}
 use Rattle.hour_offset.specs.declared.tally.Tally.{Tally}
 use Rattle.hour_offset.specs.declared.tally.Tallied.{Tallied}
@@ -71,7 +71,8 @@ pub record Going (records : List ℕ) (t : Tally) (o at : ℕ) : Type 0 where
 
 pub started : (records : List ℕ) (t : Tally) → (sheetOf t ≡ noSheet) × Few t → Going records t 0 0
 unfolding hourOffset
-started records t w = record { within = omega arith; few = w .1; list = []; booked = subst (Booked records 0 []) (sym (w .0)) (booked-none records); so-far = refl }
+started records t w = record
+    { within = omega arith; few = w .1; list = []; booked = subst (Booked records 0 []) (sym (w .0)) (booked-none records); so-far = refl }
 
 each-inside : {s : List ℕ} {xs : List Spot} {rs : List Rec} → Each (Stood s) xs rs → (i : ℕ) → getD xs i noSpot .start ≤ length s
 each-inside none zero = omega arith
@@ -88,14 +89,20 @@ used-few s o l h b = omega (arith, b .short, booked-few b)
 
 module _ (records : List ℕ) (t : Tally) (o at : ℕ) (g : Going records t o at) where
   pub ready : Ready records t
-  ready = record { price = g .booked .reach; imports = inside (t .imports) (g .few .imports) (g .booked .imports); exports = inside (t .exports) (g .few .exports) (g .booked .exports) }
+  ready = record {
+    price = g .booked .reach;
+    imports = inside (t .imports) (g .few .imports) (g .booked .imports);
+    exports = inside (t .exports)
+        (g .few .exports) (g .booked .exports);
+  }
 
   -- nothing is left
   pub finished : length records ≤ at → endOf records (sheetOf t) ≡ answerOf (hourOffset records)
   finished h =
       let all : at ≡ length records = omega (arith, g .within) in
       ended records (sheetOf t) (g .booked .hour) (g .booked)
-      ∙ ap answerOf (sym (g .so-far ∙ ap (offsetAfter o (regOf (g .list))) (ap (λ (k : ℕ). drop k records) all ∙ drop-length records) ∙ at-none 0 o (regOf (g .list))))
+      ∙ ap answerOf
+      (sym (g .so-far ∙ ap (offsetAfter o (regOf (g .list))) (ap (λ (k : ℕ). drop k records) all ∙ drop-length records) ∙ at-none 0 o (regOf (g .list))))
 
   module _ (some : at < length records) where
     abbrev s : List ℕ
@@ -159,7 +166,8 @@ module _ (records : List ℕ) (t : Tally) (o at : ℕ) (g : Going records t o at
             ∙ ap (recordOn (keyOf (x .what) .hour) (x .left) offsetAfter) (called-is ∙ ap (judged (filed r) (regOf (g .list))) e)
             ∙ ap (λ (c : Change). recordOn (keyOf c .hour) (x .left) offsetAfter (judged (filed r) (regOf (g .list)) n)) (rd .is)
 
-        module _ (d : Tallied) (w : Adds (addNumber (f .key .mark) (f .key .name) (sheetOf t)) (adding (f .key .mark) (record { name = f .key .name; start = at }) (sheetOf t)) t d) where
+        module _ (d : Tallied) (w : Adds (addNumber (f .key .mark) (f .key .name) (sheetOf t))
+            (adding (f .key .mark) (record { name = f .key .name; start = at }) (sheetOf t)) t d) where
           key-is : f .key ≡ r .key
           key-is = x .key ∙ ap keyOf (rd .is)
 
@@ -179,13 +187,15 @@ module _ (records : List ℕ) (t : Tally) (o at : ℕ) (g : Going records t o at
               let hour-is : f .key .hour ≡ r .key .hour = ap (λ (k : Key). k .hour) key-is in
               let sheet-is : sheetOf (d .tally) ≡ adding (r .key .mark) (record { name = r .key .name; start = at }) (sheetOf t) =
               w .1 .1 q ∙ ap (λ (k : Key). adding (k .mark) (record { name = k .name; start = at }) (sheetOf t)) key-is in
-              let stood : Stood records (record { name = r .key .name; start = at }) r = record { inside = g .within; name = refl; rest = x .left; front = rd .front } in
+              let stood : Stood records (record { name = r .key .name; start = at }) r = record
+              { inside = g .within; name = refl; rest = x .left; front = rd .front } in
               record {
                 within = end-within;
                 few = w .1 .0;
                 list = filed r ∷ g .list;
                 booked = subst (λ (h : Sheet). Booked records (f .key .hour) (filed r ∷ g .list) h) (sym sheet-is)
-                    (subst (λ (n : ℕ). Booked records n (filed r ∷ g .list) (adding (r .key .mark) (record { name = r .key .name; start = at }) (sheetOf t))) (sym hour-is)
+                    (subst (λ (n : ℕ). Booked records n (filed r ∷ g .list) (adding (r .key .mark) (record { name = r .key .name; start = at }) (sheetOf t)))
+                    (sym hour-is)
                     (stepped records (g .list) (sheetOf t) r (rd .good) (rd .of-hour) booked (refusal-is ∙ e) at stood));
                 so-far =
                     over 0 e

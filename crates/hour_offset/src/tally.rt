@@ -11,8 +11,8 @@ use money::names::Name;
 use money::names::same_name;
 use money::refusals::HOUR_FULL;
 use money::refusals::KEY_STANDS;
-use money::refusals::PRICE_MISSING;
 use money::refusals::MARK_UNKNOWN;
+use money::refusals::PRICE_MISSING;
 use money::units::Answer;
 use money::units::Ticks;
 use records::amounts::hour_offset;
@@ -82,7 +82,8 @@ fn holds(p: Places, name: Name) -> bool
 // With a record's name and place; 10 where the name is there, 12 where all places are taken.
 fn with_place(p: Places, s: Spot) -> Placed
     requires { ⌜ p .n ≤ maxPlaces ⌝ }
-    ensures { λ r. ⌜ (r .number ≡ placedNumber (s .name) (spots p)) × ((r .places .n ≤ maxPlaces) × (r .number ≡ 0 → spots (r .places) ≡ putSpot s (spots p))) ⌝ }
+    ensures { λ r. ⌜ (r .number ≡ placedNumber (s .name) (spots p))
+        × ((r .places .n ≤ maxPlaces) × (r .number ≡ 0 → spots (r .places) ≡ putSpot s (spots p))) ⌝ }
 {
     if holds(p, s.name) {
         return Placed {
@@ -132,7 +133,8 @@ fn with_price(t: Tally, at: usize) -> Tallied
 // With an import's name and place.
 fn with_import(t: Tally, s: Spot) -> Tallied
     requires { ⌜ Few t ⌝ }
-    ensures { λ r. ⌜ (r .number ≡ placedNumber (s .name) (sheetOf t .imports)) × (Few (r .tally) × (r .number ≡ 0 → sheetOf (r .tally) ≡ withImport s (sheetOf t))) ⌝ }
+    ensures { λ r. ⌜ (r .number ≡ placedNumber (s .name) (sheetOf t .imports))
+        × (Few (r .tally) × (r .number ≡ 0 → sheetOf (r .tally) ≡ withImport s (sheetOf t))) ⌝ }
 {
     let old = t.imports;
     let d = with_place(old, s);
@@ -152,7 +154,8 @@ fn with_import(t: Tally, s: Spot) -> Tallied
 // With an export's name and place.
 fn with_export(t: Tally, s: Spot) -> Tallied
     requires { ⌜ Few t ⌝ }
-    ensures { λ r. ⌜ (r .number ≡ placedNumber (s .name) (sheetOf t .exports)) × (Few (r .tally) × (r .number ≡ 0 → sheetOf (r .tally) ≡ withExport s (sheetOf t))) ⌝ }
+    ensures { λ r. ⌜ (r .number ≡ placedNumber (s .name) (sheetOf t .exports))
+        × (Few (r .tally) × (r .number ≡ 0 → sheetOf (r .tally) ≡ withExport s (sheetOf t))) ⌝ }
 {
     let old = t.exports;
     let d = with_place(old, s);
@@ -172,7 +175,8 @@ fn with_export(t: Tally, s: Spot) -> Tallied
 // With the record of a key that begins at a place, or the number of its refusal.
 pub(crate) fn with_record(t: Tally, key: Key, at: usize) -> Tallied
     requires { ⌜ Few t ⌝ }
-    ensures { λ r. ⌜ (r .number ≡ addNumber (key .mark) (key .name) (sheetOf t)) × (Few (r .tally) × (r .number ≡ 0 → sheetOf (r .tally) ≡ adding (key .mark) (record { name = key .name; start = at }) (sheetOf t))) ⌝ }
+    ensures { λ r. ⌜ (r .number ≡ addNumber (key .mark) (key .name) (sheetOf t))
+        × (Few (r .tally) × (r .number ≡ 0 → sheetOf (r .tally) ≡ adding (key .mark) (record { name = key .name; start = at }) (sheetOf t))) ⌝ }
 {
     let mark = key.mark;
     let name = key.name;

@@ -112,7 +112,8 @@ dif-mul a b c d =
 -- ---- statements on `dif`s
 pub dif-eq : (a b c d : ℕ) → (dif a b ≡ dif c d) ↔ (a + d ≡ c + b)
 dif-eq a b c d = (
-  (λ h. let k : P (dif a b) + N (dif c d) ≡ P (dif c d) + N (dif a b) = subst (λ (z : ℤ). P (dif a b) + N z ≡ P z + N (dif a b)) h refl in omega (arith, dif-is a b, dif-is c d)),
+  (λ h. let k : P (dif a b) + N (dif c d) ≡ P (dif c d) + N (dif a b) = subst (λ (z : ℤ). P (dif a b) + N z ≡ P z + N (dif a b)) h refl in omega
+      (arith, dif-is a b, dif-is c d)),
   (λ h. eq-of _ _ (omega (arith, dif-is a b, dif-is c d))),
 )
 
@@ -334,4 +335,23 @@ pub cancel-r : (x y : ℤ) → negℤ x +ℤ (x +ℤ y) ≡ y
 cancel-r = by₂ _ (λ a a′ b b′. simp ints (omega arith))
 
 -- `simp ring` multiplies out and sorts, whatever the terms are, so it proves what is a rearrangement. It adds up no like terms, and cancels x only against a −x beside it: for the rest go by `by₁` .. `by₅`
-pub ruleset ring = (+ℤ-assoc, +ℤ-comm, +-left-comm, *-assoc, *ℤ-comm, *-left-comm, *-distrib-+, *-distrib-r, *-neg, neg-*, negℤ-+ℤ, negℤ-negℤ, +ℤ-idl, +ℤ-idr, +ℤ-invr, +ℤ-invl, cancel-l, cancel-r)
+pub ruleset ring = (
+  +ℤ-assoc,
+  +ℤ-comm,
+  +-left-comm,
+  *-assoc,
+  *ℤ-comm,
+  *-left-comm,
+  *-distrib-+,
+  *-distrib-r,
+  *-neg,
+  neg-*,
+  negℤ-+ℤ,
+  negℤ-negℤ,
+  +ℤ-idl,
+  +ℤ-idr,
+  +ℤ-invr,
+  +ℤ-invl,
+  cancel-l,
+  cancel-r,
+)

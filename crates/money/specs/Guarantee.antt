@@ -27,4 +27,5 @@ credit o ps q = negℤ (minℤ (pos 0) (profits o ps q))
 -- a credit that is asked for: the prices of the hour, then as for a record
 unfoldable pub creditAnswer : Offer → List Price → List Quantity → Answer
 creditAnswer o ps qs =
-    answer (unless (pricesOk ps) numberOutside (unless (quantitiesOk qs) numberOutside (orElse (offerFault o) (unless (withinOk qs (lastQ o)) beyondList 0)))) (credit o ps (quantityAt qs))
+    answer (unless (pricesOk ps) numberOutside (unless (quantitiesOk qs) numberOutside (orElse (offerFault o) (unless (withinOk qs (lastQ o)) beyondList 0))))
+    (credit o ps (quantityAt qs))

@@ -47,7 +47,8 @@ abbrev pub rises : Price → Price → Quantity → Quantity → Bool
 rises p p′ q q′ = leZ (p .0) (p′ .0) && ltb (q .0) (q′ .0)
 
 abbrev pub risesAt : Offer → ℕ → Bool
-risesAt o i = rises (getD (o .prices) i noPrice) (getD (o .prices) (i + 1) noPrice) (getD (o .quantities) i noQuantity) (getD (o .quantities) (i + 1) noQuantity)
+risesAt o i = rises (getD (o .prices) i noPrice) (getD (o .prices) (i + 1) noPrice) (getD (o .quantities) i noQuantity)
+    (getD (o .quantities) (i + 1) noQuantity)
 
 unfoldable pub orderOk : Offer → Bool
 orderOk o = leb 1 (Q o 0) && every (o .count - 1) (risesAt o)

@@ -24,7 +24,8 @@ maxImports = 16
 
 -- what stands past the end of a list: never met
 abbrev pub noImport : Import
-noImport = record { name = record { len = 0; bytes = [] }; credit = record { 0 = pos 0 }; quantities = []; offer = record { count = 0; prices = []; quantities = [] } }
+noImport = record
+    { name = record { len = 0; bytes = [] }; credit = record { 0 = pos 0 }; quantities = []; offer = record { count = 0; prices = []; quantities = [] } }
 
 abbrev pub entry : List Import → ℕ → Import
 entry es i = getD es i noImport
@@ -35,7 +36,8 @@ mqsi e k = quantityAt (e .quantities) k
 
 -- "Order: credit ascending, then decoded name in byte order, a prefix first"
 unfoldable pub precedes : Import → Import → Bool
-precedes a b = cond (ltZ (a .credit .0) (b .credit .0)) true (cond (ltZ (b .credit .0) (a .credit .0)) false (nameBefore (decodedBytes (a .name)) (decodedBytes (b .name))))
+precedes a b = cond (ltZ (a .credit .0) (b .credit .0)) true
+    (cond (ltZ (b .credit .0) (a .credit .0)) false (nameBefore (decodedBytes (a .name)) (decodedBytes (b .name))))
 
 -- a precedes e, or is e
 unfoldable pub upTo : Import → Import → Bool
@@ -58,10 +60,12 @@ offset n es ps ts = Σℤ n (λ i. entry es i .credit .0) -ℤ Σℤ n (λ i. cr
 
 -- "entry by entry with 4, 5, 6, 7 as for a record, 5 for a credit that the formula doesn't give"
 abbrev pub scheduleFault : List Price → Import → ℕ
-scheduleFault ps e = unless (withinOk (e .quantities) (lastQ (e .offer))) beyondList (unless (sameℤ (e .credit .0) (credit (e .offer) ps (mqsi e))) numberOutside 0)
+scheduleFault ps e = unless (withinOk (e .quantities) (lastQ (e .offer))) beyondList
+    (unless (sameℤ (e .credit .0) (credit (e .offer) ps (mqsi e))) numberOutside 0)
 
 unfoldable pub entryFault : List Price → Import → ℕ
-entryFault ps e = unless (nameOk (e .name)) nameFault (unless (quantitiesOk (e .quantities)) numberOutside (orElse (offerFault (e .offer)) (scheduleFault ps e)))
+entryFault ps e = unless (nameOk (e .name)) nameFault
+    (unless (quantitiesOk (e .quantities)) numberOutside (orElse (offerFault (e .offer)) (scheduleFault ps e)))
 
 -- "10 for a name already there"
 unfoldable pub freshName : List Import → ℕ → Bool

@@ -111,19 +111,22 @@ reservesNumbersOk h = reserveNumbersOk (h .spinning) && (reserveNumbersOk (h .no
 unfoldable pub numbersFine : UnitHour → Bool
 numbersFine h =
     leb (h .startup .0) maxCents && (leb (h .noload .0) maxCents
-    && (quantitiesOk (h .ahead) && (quantitiesOk (h .constrained) && (quantitiesOk (h .unconstrained) && (quantitiesOk (h .metered) && (quantitiesOk (h .capacity)
+    && (quantitiesOk (h .ahead) &&
+    (quantitiesOk (h .constrained) && (quantitiesOk (h .unconstrained) && (quantitiesOk (h .metered) && (quantitiesOk (h .capacity)
     && reservesNumbersOk h))))))
 
 -- "D within both lists, each reserve schedule within its own"
 unfoldable pub withinFine : UnitHour → Bool
 withinFine h =
     withinOk (h .ahead) (lastQ (h .aheadoffer)) && (withinOk (h .ahead) (lastQ (h .realoffer))
-    && (withinOk (h .spinning .schedules) (lastQ (h .spinning .offer)) && (withinOk (h .nonspinning .schedules) (lastQ (h .nonspinning .offer)) && withinOk (h .thirty .schedules) (lastQ (h .thirty .offer)))))
+    && (withinOk (h .spinning .schedules) (lastQ (h .spinning .offer)) &&
+    (withinOk (h .nonspinning .schedules) (lastQ (h .nonspinning .offer)) && withinOk (h .thirty .schedules) (lastQ (h .thirty .offer)))))
 
 -- the lists in the order of the record
 unfoldable pub listsFault : UnitHour → ℕ
 listsFault h =
-    orElse (offerFault (h .aheadoffer)) (orElse (offerFault (h .realoffer)) (orElse (reserveFault (h .spinning)) (orElse (reserveFault (h .nonspinning)) (reserveFault (h .thirty)))))
+    orElse (offerFault (h .aheadoffer))
+    (orElse (offerFault (h .realoffer)) (orElse (reserveFault (h .spinning)) (orElse (reserveFault (h .nonspinning)) (reserveFault (h .thirty)))))
 
 -- the hour's prices, then as for a record
 unfoldable pub unitFault : UnitHour → List Price → ℕ

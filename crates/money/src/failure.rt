@@ -1,16 +1,16 @@
 // Failure charges: of an import and of an export.
-ghost use mathlib.Core.Path.{_≡_};
-ghost use Prim.Native.Nat.{_≤_, _-_};
-ghost use lib.IntN.{ℤ, pos, natAbs, _-ℤ_, _*ℤ_};
-ghost use Rattle.laws.specs.Ints.{minℤ, maxℤ};
-ghost use Rattle.money.specs.Units.{maxGap};
-ghost use Rattle.money.specs.Failure.{dev, failureOk, importChargeAnswer, exportChargeAnswer};
 use crate::refusals::NUMBER_OUTSIDE;
 use crate::units::Answer;
 use crate::units::Price;
 use crate::units::PriceGap;
 use crate::units::Quantity;
 use crate::units::Ticks;
+ghost use mathlib.Core.Path.{_≡_};
+ghost use Prim.Native.Nat.{_≤_, _-_};
+ghost use lib.IntN.{ℤ, pos, natAbs, _-ℤ_, _*ℤ_};
+ghost use Rattle.laws.specs.Ints.{minℤ, maxℤ};
+ghost use Rattle.money.specs.Units.{maxGap};
+ghost use Rattle.money.specs.Failure.{dev, failureOk, importChargeAnswer, exportChargeAnswer};
 
 // A failed import or export of an hour: the quantities scheduled, and the prices offered or bid, day-ahead and in pre-dispatch.
 pub struct Failure {

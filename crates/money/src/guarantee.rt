@@ -1,8 +1,4 @@
 // The intertie offer guarantee: an import's credit for an hour.
-ghost use mathlib.Core.Path.{_≡_};
-ghost use Rattle.money.specs.Units.{quantityAt};
-ghost use Rattle.money.specs.Guarantee.{profits, credit, creditAnswer};
-ghost use Rattle.money.specs.laws.GuaranteeLaws.{Ready};
 use crate::offers::Offer;
 use crate::offers::costs_before;
 use crate::offers::last_of;
@@ -17,6 +13,10 @@ use crate::units::Ticks;
 use crate::units::prices_ok;
 use crate::units::quantities_ok;
 use crate::units::within_ok;
+ghost use mathlib.Core.Path.{_≡_};
+ghost use Rattle.money.specs.Units.{quantityAt};
+ghost use Rattle.money.specs.Guarantee.{profits, credit, creditAnswer};
+ghost use Rattle.money.specs.laws.GuaranteeLaws.{Ready};
 
 // The profits of twelve intervals. The walk over the pairs stops at the first one that reaches the quantity; what the pairs before it cost is known.
 pub(crate) fn profit_sum(o: Offer, prices: [Price; INTERVALS], qs: [Quantity; INTERVALS]) -> Ticks

@@ -1,8 +1,4 @@
 // The imports of an hour as the offset takes them: their order and their faults.
-ghost use mathlib.Core.Path.{_≡_};
-ghost use Prim.Native.Nat.{_<_, _≤_};
-ghost use Rattle.money.specs.Offset.{maxImports, precedes, upTo, entryFault, freshName, faultAt, entriesFault};
-ghost use Rattle.money.specs.laws.UnitLaws.{Rates};
 use crate::guarantee::credit_of;
 use crate::names::Name;
 use crate::names::name_before;
@@ -11,9 +7,9 @@ use crate::names::same_name;
 use crate::offers::Offer;
 use crate::offers::last_of;
 use crate::offers::offer_fault;
-use crate::refusals::NAME_FAULT;
 use crate::refusals::BEYOND_LIST;
 use crate::refusals::KEY_STANDS;
+use crate::refusals::NAME_FAULT;
 use crate::refusals::NUMBER_OUTSIDE;
 use crate::units::INTERVALS;
 use crate::units::Price;
@@ -21,6 +17,10 @@ use crate::units::Quantity;
 use crate::units::Ticks;
 use crate::units::quantities_ok;
 use crate::units::within_ok;
+ghost use mathlib.Core.Path.{_≡_};
+ghost use Prim.Native.Nat.{_<_, _≤_};
+ghost use Rattle.money.specs.Offset.{maxImports, precedes, upTo, entryFault, freshName, faultAt, entriesFault};
+ghost use Rattle.money.specs.laws.UnitLaws.{Rates};
 
 // The number of imports that an hour may have.
 pub const IMPORTS_MAX: usize = 16;

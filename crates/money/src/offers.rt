@@ -1,18 +1,18 @@
 // Offers: pairs of a price and a quantity, their rule, and what a quantity costs.
-ghost use mathlib.Core.Path.{_≡_};
-ghost use Prim.Native.Nat.{ℕ, _≤_, _<_};
-ghost use mathlib.Core.Bool.{_&&_};
-ghost use Rattle.money.specs.Units.{priceOk, quantityOk};
-ghost use Rattle.laws.specs.Sums.{Σℤ};
-ghost use Rattle.money.specs.Offers.{maxPairs, numbersOk, rises, orderOk, offerFault, lastQ, piece, cost, costAnswer};
-ghost use Rattle.money.specs.laws.OfferLaws.{Good, ticksAt};
-use crate::refusals::LIST_FAULT;
 use crate::refusals::BEYOND_LIST;
+use crate::refusals::LIST_FAULT;
 use crate::refusals::NUMBER_OUTSIDE;
 use crate::units::Answer;
 use crate::units::Price;
 use crate::units::Quantity;
 use crate::units::Ticks;
+ghost use mathlib.Core.Path.{_≡_};
+ghost use Prim.Native.Nat.{ℕ, _≤_, _<_};
+ghost use mathlib.Core.Bool.{_&&_};
+ghost use Rattle.laws.specs.Sums.{Σℤ};
+ghost use Rattle.money.specs.Units.{priceOk, quantityOk};
+ghost use Rattle.money.specs.Offers.{maxPairs, numbersOk, rises, orderOk, offerFault, lastQ, piece, cost, costAnswer};
+ghost use Rattle.money.specs.laws.OfferLaws.{Good, ticksAt};
 
 // The number of pairs that an offer may have.
 pub const PAIRS_MAX: usize = 20;

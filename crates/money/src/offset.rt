@@ -1,13 +1,4 @@
 // The wheel offset of an hour.
-ghost use mathlib.Core.Path.{_≡_};
-ghost use Prim.Native.Nat.{ℕ, _<_, _+_, _-_, min};
-ghost use mathlib.Core.Bool.{_&&_};
-ghost use lib.ListN.{length};
-ghost use Rattle.money.specs.Units.{intervals, priceOk, quantityAt};
-ghost use Rattle.money.specs.Offset.{maxTotal, mqsi, counted, reach, adj, offset, totalOk, totalsWith, ratesOk, offsetAnswer};
-ghost use Rattle.money.specs.laws.UnitLaws.{Fits, Rates};
-ghost use Rattle.money.specs.laws.OffsetLaws.{Listed};
-ghost use Rattle.money.specs.laws.LentLaws.{startOf, addOf, finishOf};
 use crate::guarantee::credit_of;
 use crate::imports::IMPORTS_MAX;
 use crate::imports::Import;
@@ -23,6 +14,15 @@ use crate::units::INTERVALS;
 use crate::units::Price;
 use crate::units::Quantity;
 use crate::units::Ticks;
+ghost use mathlib.Core.Path.{_≡_};
+ghost use Prim.Native.Nat.{ℕ, _<_, _+_, _-_, min};
+ghost use mathlib.Core.Bool.{_&&_};
+ghost use lib.ListN.{length};
+ghost use Rattle.money.specs.Units.{intervals, priceOk, quantityAt};
+ghost use Rattle.money.specs.Offset.{maxTotal, mqsi, counted, reach, adj, offset, totalOk, totalsWith, ratesOk, offsetAnswer};
+ghost use Rattle.money.specs.laws.UnitLaws.{Fits, Rates};
+ghost use Rattle.money.specs.laws.OffsetLaws.{Listed};
+ghost use Rattle.money.specs.laws.LentLaws.{startOf, addOf, finishOf};
 
 // What an hour's sixteen exports can come to.
 pub const TOTAL_MAX: Quantity = Quantity(1600000);

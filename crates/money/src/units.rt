@@ -1,11 +1,11 @@
 // Prices, quantities and money, each a type of its own, and what a call answers.
+use crate::refusals::NUMBER_OUTSIDE;
 ghost use mathlib.Core.Path.{_≡_};
 ghost use Prim.Native.Nat.{_<_, _≤_, _+_, _-_, _*_, min, max};
 ghost use lib.IntN.{ℤ, pos, negℤ, natAbs, _+ℤ_, _-ℤ_, _*ℤ_};
 ghost use Rattle.laws.specs.Ints.{minℤ};
 ghost use Rattle.money.specs.Units.{maxGap, priceOk, quantityOk, priceRead, quantityRead, pricesOk, quantitiesOk, withinOk, sameℤ, centsOf};
 ghost use Rattle.money.specs.laws.UnitLaws.{Moderate};
-use crate::refusals::NUMBER_OUTSIDE;
 
 // The intervals of an hour.
 pub const INTERVALS: usize = 12;

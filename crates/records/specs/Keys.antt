@@ -7,6 +7,7 @@ use lib.ListN.{length}
 use Rattle.money.specs.Refusals.{markUnknown, hourOutside, nameFault}
 use Rattle.money.specs.Names.{sameName}
 use Rattle.money.specs.declared.names.Name.{Name}
+use Rattle.money.specs.Units.{dayHours}
 use Rattle.records.specs.Reading.{Res, bad, got, _>>=_, check}
 use Rattle.records.specs.Numbers.{between}
 use Rattle.records.specs.Names.{decodeName, emptyName, storedName, spell, bytesOf}
@@ -17,7 +18,6 @@ use Rattle.records.specs.declared.marks.Mark.the-variants.{Gh}
 use Rattle.records.specs.declared.keys.Key.{Key}
 use Rattle.records.specs.declared.keys.KeyAnswer.{KeyAnswer}
 use Rattle.records.specs.declared.keys.NameAnswer.{NameAnswer}
-use Rattle.money.specs.Units.{dayHours}
 
 -- the same mark and hour
 unfoldable pub sameHour : Key → Key → Bool

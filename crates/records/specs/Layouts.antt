@@ -44,7 +44,8 @@ export s = many intervals quantity s >>= λ qs s. got (record { mqsw = qs }) s
 unfoldable pub schedules : Reader Schedules
 schedules s =
     amount maxCents s >>= λ su s. amount maxCents s >>= λ nl s.
-    many intervals quantity s >>= λ d s. many intervals quantity s >>= λ r s. many intervals quantity s >>= λ u s. many intervals quantity s >>= λ a s. many intervals quantity s >>= λ k s.
+    many intervals quantity s >>= λ d s. many intervals quantity s >>= λ r s. many intervals quantity s >>= λ u s. many intervals quantity s >>= λ a s. many
+    intervals quantity s >>= λ k s.
     got (record { startup = record { 0 = su }; noload = record { 0 = nl }; ahead = d; constrained = r; unconstrained = u; metered = a; capacity = k }) s
 
 -- "then for each of the three reserves, in C4's order, 12 prices and 12 schedules,"

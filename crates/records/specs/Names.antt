@@ -31,7 +31,8 @@ unfoldable pub escaped : Reader ℕ
 escaped [] = bad nameFault
 escaped (h ∷ []) = bad nameFault
 escaped (h ∷ l ∷ s) =
-    check (ltb (hexVal h) 16) nameFault (check (ltb (hexVal l) 16) nameFault (check (visible (16 * hexVal h + hexVal l)) nameFault (got (16 * hexVal h + hexVal l) s)))
+    check (ltb (hexVal h) 16) nameFault
+    (check (ltb (hexVal l) 16) nameFault (check (visible (16 * hexVal h + hexVal l)) nameFault (got (16 * hexVal h + hexVal l) s)))
 
 -- one byte of a name, plain or escaped
 unfoldable pub one : Reader ℕ

@@ -1,6 +1,6 @@
 // One field at a place of some bytes: a byte, a number, an hour.
-use money::refusals::HOUR_OUTSIDE;
 use money::refusals::ENDS_EARLY;
+use money::refusals::HOUR_OUTSIDE;
 use money::refusals::NUMBER_OUTSIDE;
 use money::units::Price;
 use money::units::PriceRead;

@@ -8,10 +8,10 @@ use crate::marks::Kind;
 use crate::marks::Mark;
 use crate::marks::Wanted;
 use crate::marks::head_at;
+use money::names::NAME_MAX;
 use money::names::Name;
 use money::refusals::HOUR_OUTSIDE;
 use money::refusals::MARK_UNKNOWN;
-use money::names::NAME_MAX;
 ghost use mathlib.Core.Path.{_≡_};
 ghost use Rattle.records.specs.HourRecord.{ofHour, sameAs, hourRecord, hourFrontOf};
 ghost use Rattle.records.specs.Changes.{change, noKey};
@@ -49,7 +49,8 @@ fn same_as(first: u8, hour: u8) -> bool
 
 // The mark and the hour of a record, each checked at its place.
 fn start_of(s: &[u8], first: u8) -> End
-    ensures { λ r. ⌜ (hourRecord first (now (s .entry)) ≡ then (now (s .entry)) r (λ t. change (Wanted.Only Kind.File) (now (s .entry)))) × EndIn (now (s .entry)) r ⌝ }
+    ensures { λ r. ⌜ (hourRecord first (now (s .entry)) ≡ then (now (s .entry)) r (λ t. change (Wanted.Only Kind.File) (now (s .entry))))
+        × EndIn (now (s .entry)) r ⌝ }
 {
     let h = head_at(s, Wanted::Only(Kind::File));
     let e1 = h.end;

@@ -2,12 +2,12 @@
 use crate::fields::End;
 use crate::fields::Num;
 use crate::fields::read_byte;
+use money::names::NAME_MAX;
 use money::names::Name;
 use money::names::name_before;
 use money::names::name_ok;
-use money::refusals::NAME_FAULT;
 use money::refusals::ENDS_EARLY;
-use money::names::NAME_MAX;
+use money::refusals::NAME_FAULT;
 ghost use mathlib.Core.Path.{_≡_};
 ghost use Prim.Native.Nat.{_+_, _≤_, _<_};
 ghost use lib.ListN.{length};

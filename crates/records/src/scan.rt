@@ -7,8 +7,8 @@ use crate::marks::Kind;
 use crate::marks::Mark;
 use crate::marks::Wanted;
 use crate::writing::head_of;
-use money::names::Name;
 use money::names::NAME_MAX;
+use money::names::Name;
 ghost use mathlib.Core.Path.{_≡_};
 ghost use Rattle.records.specs.Changes.{isRecord, kindIn, unseen, begins, scan, viewOf};
 

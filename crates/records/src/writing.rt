@@ -4,8 +4,8 @@ use crate::fields::End;
 use crate::keys::Key;
 use crate::marks::Kind;
 use crate::marks::Mark;
-use crate::marks::bytes_of;
 use crate::marks::Wanted;
+use crate::marks::bytes_of;
 use crate::marks::has_name;
 use crate::names::spelled_len;
 use crate::names::write_name;
@@ -14,8 +14,8 @@ use crate::scan::is_record;
 use crate::scan::kind_of;
 use money::names::Name;
 use money::refusals::BYTES_LEFT_OVER;
-use money::refusals::NO_SPACE;
 use money::refusals::MARK_UNKNOWN;
+use money::refusals::NO_SPACE;
 ghost use mathlib.Core.Path.{_≡_};
 ghost use Prim.Native.Nat.{_+_, _≤_};
 ghost use lib.ListN.{length};
@@ -119,7 +119,8 @@ fn copy(src: &[u8], out: &mut [u8], at: usize) -> usize
 
 // Writes the change that an argument's bytes are at a place of the log. 13 where it does not fit there.
 pub fn put(log: &mut [u8], at: usize, s: &[u8], want: Wanted) -> u8
-    ensures { λ r. ⌜ (r ≡ putNumber (parse want (now (s .entry))) at (now (log .entry))) × (now (log .exit) ≡ putBytes (parse want (now (s .entry))) at (now (log .entry))) ⌝ }
+    ensures { λ r. ⌜ (r ≡ putNumber (parse want (now (s .entry))) at (now (log .entry)))
+        × (now (log .exit) ≡ putBytes (parse want (now (s .entry))) at (now (log .entry))) ⌝ }
 {
     let c = read_change(s, want);
     let e = c.end;
@@ -170,7 +171,8 @@ fn is_view(view: View, lent: usize) -> bool
 
 // Writes the change that bytes end with, of which the view is known, at a place of the log. 13 where it does not fit there, 2 where the view is none.
 pub fn put_viewed(log: &mut [u8], at: usize, s: &[u8], view: View) -> u8
-    ensures { λ r. ⌜ (r ≡ viewedNumber view at (now (s .entry)) (now (log .entry))) × (now (log .exit) ≡ viewedBytes view at (now (s .entry)) (now (log .entry))) ⌝ }
+    ensures { λ r. ⌜ (r ≡ viewedNumber view at (now (s .entry)) (now (log .entry)))
+        × (now (log .exit) ≡ viewedBytes view at (now (s .entry)) (now (log .entry))) ⌝ }
 {
     if !is_view(view, s.len()) {
         return MARK_UNKNOWN;

@@ -1,9 +1,9 @@
 // Settles a day: reads records back to back from standard input into a book over 65,535 bytes, and prints the statement, or
 // `REF n r` where record n (from 1) is refused with number r.
-use stdin::Input;
-use stdin::read_input;
 use statement::day::STATEMENT_MAX;
 use statement::day::Written;
+use stdin::Input;
+use stdin::read_input;
 ghost use Rattle.settle.specs.Settle.{Shows, Printed};
 
 // What was written, unless the input could not be read.

@@ -115,7 +115,8 @@ pub record Outcome : Type 0 where
 
 -- 13 where the text is longer than what is lent, and nothing is written
 abbrev pub fitted : List ℕ → List ℕ → Outcome
-fitted t out = cond (leb (length t) (length out)) (record { number = 0; len = length t; bytes = put out 0 t }) (record { number = noSpace; len = 0; bytes = out })
+fitted t out = cond (leb (length t) (length out)) (record { number = 0; len = length t; bytes = put out 0 t })
+    (record { number = noSpace; len = 0; bytes = out })
 
 -- a text that is written from the first lent byte on, from the bytes lent to the bytes left
 pub record Fits (t lent left : List ℕ) (w : Written) : Type 0 where

@@ -56,7 +56,8 @@ fn put_hour_error(out: &mut [u8], c: Cursor, hour: u8) -> Cursor
 // A line for each credit, in their order.
 fn put_credits(out: &mut [u8], c: Cursor, hour: u8, a: Credits) -> Cursor
     requires { ⌜ (a .n ≤ maxCredits) × (c .at + 66 * a .n ≤ length (now out)) ⌝ }
-    ensures { λ r. ⌜ WritesLines (now (out .entry)) c (map (lineOf hour Iog) (take (a .n) (a .list))) (now (out .exit)) r × (r .at ≤ c .at + 66 * a .n) × (a .n ≡ length (take (a .n) (a .list))) ⌝ }
+    ensures { λ r. ⌜ WritesLines (now (out .entry)) c (map (lineOf hour Iog) (take (a .n) (a .list))) (now (out .exit)) r × (r .at ≤ c .at + 66 * a .n)
+        × (a .n ≡ length (take (a .n) (a .list))) ⌝ }
 {
     let n = a.n;
     let mut next = c;
@@ -74,7 +75,8 @@ fn put_credits(out: &mut [u8], c: Cursor, hour: u8, a: Credits) -> Cursor
 // A line for each charge, in their order.
 fn put_charges(out: &mut [u8], c: Cursor, hour: u8, kind: Kind, a: ChargeList) -> Cursor
     requires { ⌜ (a .n ≤ maxCharges) × (c .at + 66 * a .n ≤ length (now out)) ⌝ }
-    ensures { λ r. ⌜ WritesLines (now (out .entry)) c (map (lineOf hour kind) (take (a .n) (a .list))) (now (out .exit)) r × (r .at ≤ c .at + 66 * a .n) × (a .n ≡ length (take (a .n) (a .list))) ⌝ }
+    ensures { λ r. ⌜ WritesLines (now (out .entry)) c (map (lineOf hour kind) (take (a .n) (a .list))) (now (out .exit)) r × (r .at ≤ c .at + 66 * a .n)
+        × (a .n ≡ length (take (a .n) (a .list))) ⌝ }
 {
     let n = a.n;
     let mut next = c;

@@ -8,10 +8,10 @@ use lib.Dec.{eqb}
 use lib.IntN.{ℤ, pos}
 use lib.ListN.{length, take, drop}
 use lib.Signed.{ltZ}
-use Rattle.io.specs.Counts.{clamped}
 use Rattle.filter.specs.Reading.{begun, isOver, ReadsOn}
 use Rattle.filter.specs.declared.reading.Reading.{Reading}
 use Rattle.stdin.specs.declared.Input.{Input}
+use Rattle.io.specs.Counts.{clamped}
 
 -- ---- a read
 

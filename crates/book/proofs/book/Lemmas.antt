@@ -55,7 +55,8 @@ module _ (f : ℕ → Reg → Step) (b : Book) (s : List ℕ) where
       }
 
 -- a call that is a mark only: m is its first fault
-pub bare-fault : (b : Book) (s : List ℕ) (x : Loaded b s) (m n : ℕ) → n ≡ m → (f : ℕ → Reg → Step) (st : Step) → f (length s) (regOf b s x) ≡ unless-closed m (regOf b s x) st
+pub bare-fault : (b : Book) (s : List ℕ) (x : Loaded b s) (m n : ℕ) → n ≡ m → (f : ℕ → Reg → Step) (st : Step) → f (length s) (regOf b s x) ≡ unless-closed m
+    (regOf b s x) st
     → (n ≡ 0 → ⊥) → stepped f b s (load b s) ≡ answered (refused n)
 bare-fault b s x m n q f st e z = step-is f b s x ∙ e ∙ go m q
   where
@@ -75,7 +76,8 @@ keyed-right (bad n) f r w e z = absurd (omega (arith, w n refl, sym (ap (λ (y :
 module _ (b : Book) (s mark : List ℕ) (h : ℕ) (x : Loaded b s) (r : KeyAnswer) where
   module _ (name : List ℕ) (e : r ≡ keyAnswer (keyAsked mark h name)) where
     pub record-wrong : (r .number ≡ 0 → ⊥) → Meets (ask (recordOf mark h name)) b s b (refused (r .number)) s
-    record-wrong z = leaves-answered _ b s _ (step-is (stepOf (ask (recordOf mark h name))) b s x ∙ ap answered (keyed-wrong (keyAsked mark h name) (λ k. placeOf k (x .list)) r e z))
+    record-wrong z = leaves-answered _ b s _
+        (step-is (stepOf (ask (recordOf mark h name))) b s x ∙ ap answered (keyed-wrong (keyAsked mark h name) (λ k. placeOf k (x .list)) r e z))
 
     record-step : r .number ≡ 0 → (v : Survey) → v ≡ survey (r .key) (x .list)
         → stepped (stepOf (ask (recordOf mark h name))) b s (load b s) ≡ answered (cond (v .found) (place (v .start) (v .len)) (refused 11))
@@ -87,12 +89,14 @@ module _ (b : Book) (s mark : List ℕ) (h : ℕ) (x : Loaded b s) (r : KeyAnswe
     pub record-none : r .number ≡ 0 → (v : Survey) → v ≡ survey (r .key) (x .list) → v .found ≡ false → Meets (ask (recordOf mark h name)) b s b (refused 11) s
     record-none z v ev f = leaves-answered _ b s _ (record-step z v ev ∙ ap (λ (y : Bool). answered (cond y (place (v .start) (v .len)) (refused 11))) f)
 
-    pub record-at : r .number ≡ 0 → (v : Survey) → v ≡ survey (r .key) (x .list) → v .found ≡ true → Meets (ask (recordOf mark h name)) b s b (place (v .start) (v .len)) s
+    pub record-at : r .number ≡ 0 → (v : Survey) → v ≡ survey (r .key) (x .list) → v .found ≡ true → Meets (ask (recordOf mark h name)) b s b
+        (place (v .start) (v .len)) s
     record-at z v ev f = leaves-answered _ b s _ (record-step z v ev ∙ ap (λ (y : Bool). answered (cond y (place (v .start) (v .len)) (refused 11))) f)
 
   module _ (e : r ≡ keyAnswer (askHour mark h)) where
     pub count-wrong : (r .number ≡ 0 → ⊥) → Meets (ask (countOf mark h)) b s b (refused (r .number)) s
-    count-wrong z = leaves-answered _ b s _ (step-is (stepOf (ask (countOf mark h))) b s x ∙ ap answered (keyed-wrong (askHour mark h) (λ k. number (count k (standing (x .list)))) r e z))
+    count-wrong z = leaves-answered _ b s _
+        (step-is (stepOf (ask (countOf mark h))) b s x ∙ ap answered (keyed-wrong (askHour mark h) (λ k. number (count k (standing (x .list)))) r e z))
 
     pub count-at : r .number ≡ 0 → (v : Survey) → v ≡ survey (r .key) (x .list) → Meets (ask (countOf mark h)) b s b (number (v .count)) s
     count-at z v ev =

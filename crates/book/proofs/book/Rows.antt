@@ -74,7 +74,13 @@ len-there {s} {rows} {n} {l} g k h x ex =
     let p : f .what ≡ sw .what = cc in
     let b : drop x s ≡ write (filed (f .what)) ++ f .at .rest = ap (λ (m : ℕ). drop m s) ex ∙ f .at .bytes in
     let len : length (write (filed (sw .what))) ≡ survey k l .len =
-    omega (arith, ap length (sw .bytes), length-take (survey k l .len) (drop (survey k l .start) (writeAll l)), length-drop (survey k l .start) (writeAll l), sw .inside) in (
+    omega (
+      arith,
+      ap length (sw .bytes),
+      length-take (survey k l .len) (drop (survey k l .start) (writeAll l)),
+      length-drop (survey k l .start) (writeAll l),
+      sw .inside,
+    ) in (
       ap (λ (y : List ℕ). viewOf (scan y) .len) b ∙ ap (λ y. viewOf y .len) (scan-write (filed (f .what)) (f .at .rest) (f .at .good))
           ∙ ap (λ (y : Rec). length (write (filed y))) p ∙ len,
       omega (arith, ex, f .at .inside),
@@ -82,7 +88,8 @@ len-there {s} {rows} {n} {l} g k h x ex =
 
 module _ (b : Book) (s mark : List ℕ) (h : ℕ) (name : List ℕ) (x : Loaded b s) {rows : List ℕ} (g : Logged s rows (b .changes) (x .list))
     (r : KeyAnswer) (e : r ≡ keyAnswer (askKey mark h name)) (z : r .number ≡ 0)
-    (y : Seek) (f : (l : List Change) → Logged s rows (b .changes) l → r .key .hour < 32 → Padded (r .key .name) → latestOf (bucket (r .key)) l ≤ b .changes → Sought rows (b .changes) (r .key) y l) where
+    (y : Seek) (f : (l : List Change) → Logged s rows (b .changes) l → r .key .hour < 32 → Padded (r .key .name) → latestOf (bucket (r .key)) l ≤ b .changes →
+    Sought rows (b .changes) (r .key) y l) where
   sought-there : Sought rows (b .changes) (r .key) y (x .list)
   sought-there = let w = key-formed mark h name r e in f (x .list) g (w .low) (w .padded) (omega (arith, latest-few (bucket (r .key)) (x .list), x .count-is))
 

@@ -76,7 +76,8 @@ pub record Going (b₀ : Book) (s₀ input : List ℕ) (b : Book) (rows latest s
   pub near : (h : ℕ) → h < 8192 → latestOf h (held .base .list) ≤ getD latest h 0
   pub on : (l : List Change) → load b₀ s₀ ≡ belongs l → On (feeding (length s₀) (record { list = l; closed = b₀ .closed }) input) (length s₀) input b s n at
 
-first-of : (b : Book) (s input : List ℕ) (l : List Change) → load b s ≡ belongs l → Loaded b s → On (feeding (length s) (record { list = l; closed = b .closed }) input) (length s) input b s 0 0
+first-of : (b : Book) (s input : List ℕ) (l : List Change) → load b s ≡ belongs l → Loaded b s → On
+    (feeding (length s) (record { list = l; closed = b .closed }) input) (length s) input b s 0 0
 first-of b s input l e x =
     let y : x .list ≡ l = cc (x .is) in
     subst (λ (l : List Change). On (feeding (length s) (record { list = l; closed = b .closed }) input) (length s) input b s 0 0) y
@@ -157,7 +158,8 @@ finishes : (f : FeedReply) (s₀ input : List ℕ) (b : Book) (s : List ℕ) (n 
     → length s ≡ length s₀ → (n ≡ 0 → s ≡ s₀) → at ≡ length input → Ends f s₀ (record { book = b; count = n; taken = at; number = 0 }) s
 unfolding fed
 finishes f s₀ input b s n at x size kept all =
-    let w : f ≡ later n at (stopped (x .reg) 0) = x .so-far ∙ ap (λ (l : List ℕ). later n at (feeding (length s₀) (x .reg) l)) (ap (λ (k : ℕ). drop k input) all ∙ drop-length input) in
+    let w : f ≡ later n at (stopped (x .reg) 0) = x .so-far ∙ ap (λ (l : List ℕ). later n at (feeding (length s₀) (x .reg) l))
+    (ap (λ (k : ℕ). drop k input) all ∙ drop-length input) in
     subst⁻¹ (λ (f : FeedReply). Ends f s₀ (record { book = b; count = n; taken = at; number = 0 }) s) w (record {
       count = omega arith;
       taken = omega arith;
@@ -169,11 +171,13 @@ finishes f s₀ input b s n at x size kept all =
     })
 
 module _ {b₀ : Book} {s₀ input : List ℕ} {b : Book} {rows latest s : List ℕ} {n at : ℕ} (g : Going b₀ s₀ input b rows latest s n at) where
-  pub finished : length input ≤ at → (l : List Change) → load b₀ s₀ ≡ belongs l → Ends (feeding (length s₀) (record { list = l; closed = b₀ .closed }) input) s₀ (record { book = b; count = n; taken = at; number = 0 }) s
+  pub finished : length input ≤ at → (l : List Change) → load b₀ s₀ ≡ belongs l → Ends (feeding (length s₀) (record { list = l; closed = b₀ .closed }) input) s₀
+      (record { book = b; count = n; taken = at; number = 0 }) s
   finished h l e = finishes _ s₀ input b s n at (g .on l e) (g .size) (g .kept) (omega (arith, g .within))
 
   -- where the search for a key starts
-  pub since : {k : Key} {m : ℕ} → m ≡ bucket k → m < 8192 → {from : ℕ} → (from ≤ b .changes) × ((j : ℕ) → j ≤ getD latest m 0 → j ≤ b .changes → j ≤ from) → Since b s k from
+  pub since : {k : Key} {m : ℕ} → m ≡ bucket k → m < 8192 → {from : ℕ} → (from ≤ b .changes) × ((j : ℕ) → j ≤ getD latest m 0 → j ≤ b .changes → j ≤ from) →
+      Since b s k from
   since {k} {m} em lt w = record {
     inside = w .0;
     none = λ l p.
@@ -183,7 +187,8 @@ module _ {b₀ : Book} {s₀ input : List ℕ} {b : Book} {rows latest s : List 
   }
 
   -- what stands first in the rest of the input
-  module _ (some : at < length input) {f : Front} (e₀ : f ≡ frontOf (take (length input - at) (drop at input)) (readEntry (take (length input - at) (drop at input)))) where
+  module _ (some : at < length input) {f : Front}
+      (e₀ : f ≡ frontOf (take (length input - at) (drop at input)) (readEntry (take (length input - at) (drop at input)))) where
     front-is : f ≡ frontOf (drop at input) (readEntry (drop at input))
     front-is = e₀ ∙ ap (λ (l : List ℕ). frontOf l (readEntry l)) (take-all (length input - at) (drop at input) (omega (arith, length-drop at input)))
 
@@ -192,7 +197,8 @@ module _ {b₀ : Book} {s₀ input : List ℕ} {b : Book} {rows latest s : List 
     unfolding firstRecord
     unread z l e =
         let q = front-unread (drop at input) f front-is z in
-        let m : Meets (change (firstRecord (drop at input))) b s b (refused (f .number)) s = subst⁻¹ (λ (p : List ℕ). Meets (change p) b s b (refused (f .number)) s) (ap (front (drop at input)) q)
+        let m : Meets (change (firstRecord (drop at input))) b s b (refused (f .number)) s = subst⁻¹
+        (λ (p : List ℕ). Meets (change p) b s b (refused (f .number)) s) (ap (front (drop at input)) q)
         (unread-refused (g .held) (drop at input) (f .number) q) in
         ends _ s₀ input b s n at (g .on l e) (g .size) (g .kept) some b (refused (f .number)) s m (f .number) refl z
 
@@ -213,7 +219,8 @@ module _ {b₀ : Book} {s₀ input : List ℕ} {b : Book} {rows latest s : List 
       read-there = subst⁻¹ (λ (p : List ℕ). IsEntry p (f .view)) between (front-read (drop at input) f front-is z)
 
       -- and what the book said to it
-      module _ {r : Done} {s′ rows′ : List ℕ} (m : Makes (general (take (at + f .end - at) (drop at input))) b s (f .view .key) r s′ rows′) {k : ℕ} (q : k ≡ replied (replyOf (r .answer))) where
+      module _ {r : Done} {s′ rows′ : List ℕ} (m : Makes (general (take (at + f .end - at) (drop at input))) b s (f .view .key) r s′ rows′) {k : ℕ}
+          (q : k ≡ replied (replyOf (r .answer))) where
         said : Meets (change (firstRecord (drop at input))) b s (r .book) (replyOf (r .answer)) s′
         said = subst (λ (p : List ℕ). Meets (change p) b s (r .book) (replyOf (r .answer)) s′) between (m .leaves)
 
@@ -221,7 +228,8 @@ module _ {b₀ : Book} {s₀ input : List ℕ} {b : Book} {rows latest s : List 
             → Ends (feeding (length s₀) (record { list = l; closed = b₀ .closed }) input) s₀ (record { book = r .book; count = n; taken = at; number = k }) s′
         stops y l e = ends _ s₀ input b s n at (g .on l e) (g .size) (g .kept) some (r .book) (replyOf (r .answer)) s′ said k q y
 
-        pub continues : k ≡ 0 → {j : ℕ} → j ≡ bucket (f .view .key) → j < 8192 → Going b₀ s₀ input (r .book) rows′ (set latest j (r .book .changes)) s′ (n + 1) (at + f .end)
+        pub continues : k ≡ 0 → {j : ℕ} → j ≡ bucket (f .view .key) → j < 8192 → Going b₀ s₀ input (r .book) rows′ (set latest j (r .book .changes)) s′ (n + 1)
+            (at + f .end)
         continues y {j} ej lt = record {
           size = m .leaves .size ∙ g .size;
           within = end-within;
@@ -232,14 +240,22 @@ module _ {b₀ : Book} {s₀ input : List ℕ} {b : Book} {rows latest s : List 
           near = λ h hl.
               by-test (eqb h j)
               (λ u. let e = eqb-true h j u in
-              omega (arith, latest-few h (m .held .base .list), m .held .base .count-is, ap (λ (i : ℕ). getD (set latest j (r .book .changes)) i 0) e, getD-set-same latest j (r .book .changes) 0 (omega (arith, g .places))))
+              omega (
+                arith,
+                latest-few h (m .held .base .list),
+                m .held .base .count-is,
+                ap (λ (i : ℕ). getD (set latest j (r .book .changes)) i 0) e,
+                getD-set-same latest j (r .book .changes) 0 (omega (arith, g .places)),
+              ))
               (λ u. omega (
                 arith,
                 m .older (g .held .base .list) (m .held .base .list) (g .held .base .is) (m .held .base .is) h (λ e. eqb-false h j u (e ∙ sym ej)),
                 g .near h hl,
                 getD-set-other latest j h (r .book .changes) 0 (eqb-false h j u),
               ));
-          on = λ l e. subst⁻¹ (λ (j : ℕ). On (feeding (length s₀) (record { list = l; closed = b₀ .closed }) input) (length s₀) input (r .book) s′ (n + 1) (at + j)) (front-end (drop at input) f front-is z)
+          on = λ l e. subst⁻¹
+              (λ (j : ℕ). On (feeding (length s₀) (record { list = l; closed = b₀ .closed }) input) (length s₀) input (r .book) s′ (n + 1) (at + j))
+              (front-end (drop at input) f front-is z)
               (on-with _ s₀ input b s n at (g .on l e) (g .size) (g .kept) some (r .book) (replyOf (r .answer)) s′ said (sym q ∙ y));
         }
 
@@ -258,7 +274,8 @@ pub fed-checked : {b : Book} {s input rows : List ℕ} → Checked b s rows → 
 fed-checked h w = record { together = w; apart = λ d. let z : _≡_ {A = ℕ} 0 1 = cc (h .base .is) in absurd (omega arith) }
 
 -- book and bytes do not belong together
-pub fed-astray : (b : Book) (s input : List ℕ) → load b s ≡ mismatched → (length input ≡ 0 → ⊥) → Feeds b s input (record { book = b; count = 0; taken = 0; number = 16 }) s
+pub fed-astray : (b : Book) (s input : List ℕ) → load b s ≡ mismatched → (length input ≡ 0 → ⊥) → Feeds b s input
+    (record { book = b; count = 0; taken = 0; number = 16 }) s
 fed-astray b s input e some = record {
   together = λ l d. let z : _≡_ {A = ℕ} 0 1 = cc in absurd (omega arith);
   apart = λ d. record { count = refl; taken = refl; number = ap (λ (t : Bool). cond t 0 16) (sym (ne-eqb (length input) 0 some)); book = refl; bytes = refl };

@@ -27,11 +27,13 @@ pub built-all : {A B : Type 0} {f : A → B} {xs : List A} {d : A} {row : List B
     → Built f xs d row e n → n ≤ length row → n ≤ length xs → take n row ≡ map f (take n xs)
 built-all {A} {B} {f} {xs} {d} {row} {e} n b lr lx = go n xs row lr lx (b .each)
   where
-    go : (n : ℕ) (xs : List A) (row : List B) → n ≤ length row → n ≤ length xs → ((j : ℕ) → j < n → getD row j e ≡ f (getD xs j d)) → take n row ≡ map f (take n xs)
+    go : (n : ℕ) (xs : List A) (row : List B) → n ≤ length row → n ≤ length xs → ((j : ℕ) → j < n → getD row j e ≡ f (getD xs j d)) → take n row ≡ map f
+        (take n xs)
     go zero xs row lr lx h = refl
     go (suc n) [] row lr lx h = absurd (not-suc-le-zero lx)
     go (suc n) (x ∷ xs) [] lr lx h = absurd (not-suc-le-zero lr)
-    go (suc n) (x ∷ xs) (y ∷ row) lr lx h = ap₂ _∷_ (h 0 (omega arith)) (go n xs row (le-of-suc-le-suc lr) (le-of-suc-le-suc lx) (λ j l. h (suc j) (omega arith)))
+    go (suc n) (x ∷ xs) (y ∷ row) lr lx h = ap₂ _∷_ (h 0 (omega arith))
+        (go n xs row (le-of-suc-le-suc lr) (le-of-suc-le-suc lx) (λ j l. h (suc j) (omega arith)))
 
 -- a loop that fills a row of a size from the first n of a list
 pub record Filling {A B : Type 0} (f : A → B) (xs : List A) (d : A) (row : List B) (e : B) (size n i : ℕ) : Type 0 where
@@ -44,7 +46,8 @@ fill-start l = record { long = l; upto = omega arith; built = built-none }
 
 pub fill-more : {A B : Type 0} {f : A → B} {xs : List A} {d : A} {row : List B} {e : B} {size n i : ℕ} {v : B}
     → Filling f xs d row e size n i → i < n → n ≤ size → v ≡ f (getD xs i d) → Filling f xs d (set row i v) e size n (i + 1)
-fill-more {row = row} {i = i} {v = v} b h m q = record { long = length-set row i v ∙ b .long; upto = omega arith; built = built-more (b .built) (omega (arith, b .long)) q }
+fill-more {row = row} {i = i} {v = v} b h m q = record
+    { long = length-set row i v ∙ b .long; upto = omega arith; built = built-more (b .built) (omega (arith, b .long)) q }
 
 pub fill-all : {A B : Type 0} {f : A → B} {xs : List A} {d : A} {row : List B} {e : B} {size n i : ℕ}
     → Filling f xs d row e size n i → n ≤ i → n ≤ size → n ≤ length xs → take n row ≡ map f (take n xs)

@@ -6,6 +6,7 @@ use mathlib.Core.Bool.{true, false}
 use native.Mathlib.Omega.{arith}
 use native.Mathlib.Nat.{not-suc-le-zero, le-of-suc-le-suc}
 use lib.ListN.{length, drop, getD}
+use Rattle.laws.specs.Lists.{All, also}
 use Rattle.money.specs.Refusals.{noSuchKey, priceMissing}
 use Rattle.book.specs.Layer.{Key, Rec, Change, Mark, HourPrices, Ticks, isFailure, chargeIn, chargeTicks, Amount}
 use Rattle.book.specs.laws.LayerLaws.{PricesFit, hour-parts, charge-written}
@@ -17,7 +18,6 @@ use Rattle.book.specs.tables.Tables.{survey}
 use Rattle.book.specs.tables.Places.{spotOf}
 use Rattle.book.specs.tables.Worked.{Begun, ticksOf, chargeReply, chargesIn, namedOf}
 use Rattle.book.specs.laws.StandLaws.{At, found-at, none-at}
-use Rattle.laws.specs.Lists.{All, also}
 use Rattle.book.specs.laws.WorkedLaws.{Here, here}
 
 -- an element is the same by any default
@@ -30,7 +30,8 @@ abbrev pub ticksAt : HourPrices → Rec → Ticks
 ticksAt p r = record { 0 = chargeTicks r p }
 
 -- the charge of a failure that is written at a place
-charge-at : {s : List ℕ} (p : HourPrices) → PricesFit p → (m : Mark) → isFailure m ≡ true → (x : ℕ) (r : Rec) → At s x r → m ≡ r .key .mark → chargeIn m (drop x s) p ≡ Amount (ticksAt p r)
+charge-at : {s : List ℕ} (p : HourPrices) → PricesFit p → (m : Mark) → isFailure m ≡ true → (x : ℕ) (r : Rec) → At s x r → m ≡ r .key .mark → chargeIn m
+    (drop x s) p ≡ Amount (ticksAt p r)
 charge-at p f m b x r w e = ap₂ (λ (a : Mark) (u : List ℕ). chargeIn a u p) e (w .bytes) ∙ charge-written r p (w .rest) (w .good) (sym (ap isFailure e) ∙ b) f
 
 -- ---- a list of failures: no price is needed for none
@@ -68,7 +69,8 @@ module _ {s : List ℕ} {l : List Change} (o : Begun s l) where
 
   -- ---- of a mark and hour
 
-  charges-are : (p : HourPrices) → PricesFit p → (k : Key) → isFailure (k .mark) ≡ true → (rs : List Rec) → All (Here o k) rs → chargesIn s (k .mark) p (map (spotOf l) rs) ≡ map (ticksAt p) rs
+  charges-are : (p : HourPrices) → PricesFit p → (k : Key) → isFailure (k .mark) ≡ true → (rs : List Rec) → All (Here o k) rs → chargesIn s (k .mark) p
+      (map (spotOf l) rs) ≡ map (ticksAt p) rs
   unfolding chargesIn
   charges-are p f k b [] a = refl
   charges-are p f k b (r ∷ rs) (also c a) =

@@ -99,7 +99,8 @@ module _ {s : List ℕ} {l : List Change} (o : Begun s l) where
         let w = slots-in k u du j lt in
         let v = price-at j lt in
         let z = is-known (placeIn u j .known) (w .none ∙ ap absent e) in
-        let y : priceFor t j .known ≡ true = by-test (priceFor t j .known) (λ b. b) (λ b. true≠false (sym (ap (payable (is r)) (unknown-unpriced v b)) ∙ h) refl) in
+        let y : priceFor t j .known ≡ true = by-test (priceFor t j .known) (λ b. b)
+        (λ b. true≠false (sym (ap (payable (is r)) (unknown-unpriced v b)) ∙ h) refl) in
         let f = w .found z in
         let ps = priceFor t j .prices in
         let fr : f .what ≡ r = cc (sym (f .picked) ∙ e) in
@@ -125,7 +126,8 @@ module _ {s : List ℕ} {l : List Change} (o : Begun s l) where
 
     -- ---- the day
 
-    pub day-is : (ts : List Ticks) (ss : List CentsPerStart) → Parts s u t ts ss 24 → every 24 (λ (j : ℕ). payable (unitAt k (standing l) j) (price (1 + j))) ≡ true
+    pub day-is : (ts : List Ticks) (ss : List CentsPerStart) → Parts s u t ts ss 24 → every 24 (λ (j : ℕ). payable (unitAt k (standing l) j) (price (1 + j))) ≡
+        true
         → totalReply (dayAnswer ts ss) ≡ unitDay (dayTotal k (standing l) price) (reversal (dayTotal k (standing l) price))
     unfolding dayTotal
     day-is ts ss ps h =

@@ -24,7 +24,8 @@ else-judged : (c : Change) (g : Reg) (lent : ℕ) → Else (judged c g (refusal 
 unfolding refusal
 else-judged c g lent = by c
   where
-    roomy : (c d : Change) → Else (judged c g (cond (ltb (length (g .list)) 512) (cond (leb (length (writeAll (g .list)) + length (write d)) (capped lent)) 0 13) 13))
+    roomy : (c d : Change) → Else
+        (judged c g (cond (ltb (length (g .list)) 512) (cond (leb (length (writeAll (g .list)) + length (write d)) (capped lent)) 0 13) 13))
     roomy c d = go (ltb (length (g .list)) 512) (leb (length (writeAll (g .list)) + length (write d)) (capped lent))
       where
         go : (p q : Bool) → Else (judged c g (cond p (cond q 0 13) 13))
@@ -42,7 +43,8 @@ else-judged c g lent = by c
     new c false false n x = else-said 12 (λ z. omega arith)
 
     by : (c : Change) → Else (judged c g (refusal (g .list) lent c))
-    by (filed r) = new (filed r) (stands (r .key) (standing (g .list))) (ltb (count (r .key) (standing (g .list))) (limitOf (r .key))) _ (roomy (filed r) (filed r))
+    by (filed r) = new (filed r) (stands (r .key) (standing (g .list))) (ltb (count (r .key) (standing (g .list))) (limitOf (r .key))) _
+        (roomy (filed r) (filed r))
     by (corrected r) = standing-too (corrected r) (stands (r .key) (standing (g .list))) _ (roomy (corrected r) (corrected r))
     by (withdrawn k) = standing-too (withdrawn k) (stands k (standing (g .list))) _ (roomy (withdrawn k) (withdrawn k))
 
@@ -78,8 +80,11 @@ early s lent g r e one = go (ltb lent (length (writeAll (g .list)))) (begins tak
     read b c (fine x) p f = no (listed (fine x) lent g) (else-open g (judged x g (refusal (g .list) lent x)) (else-judged x g lent)) f
 
     go : (x a : Bool) → begins takeBackBytes s ≡ a → (b : Bool) → begins closeBytes s ≡ b
-        → cond x (answered (refused 16)) (cond a (takenBack (bareTakeBack s)) (cond b (closing (bareClose s)) (listed (parse Any s))) lent g) ≡ answered r → Unread s 1
+        → cond x (answered (refused 16)) (cond a (takenBack (bareTakeBack s)) (cond b (closing (bareClose s)) (listed (parse Any s))) lent g) ≡ answered r →
+        Unread s 1
     go true a p b q f = no (answered (refused 16)) (else-said 16 (λ z. omega arith)) f
-    go false true p b q f = no (takenBack (bareTakeBack s) lent g) (else-bare (bareTakeBack s) g (shorter (g .closed) (g .list)) (bare-early 84 66 s p) (else-shorter (g .closed) (g .list))) f
-    go false false p true q f = no (closing (bareClose s) lent g) (else-bare (bareClose s) g (becomes (record { list = g .list; closed = true })) (bare-early 67 76 s q) tt) f
+    go false true p b q f = no (takenBack (bareTakeBack s) lent g)
+        (else-bare (bareTakeBack s) g (shorter (g .closed) (g .list)) (bare-early 84 66 s p) (else-shorter (g .closed) (g .list))) f
+    go false false p true q f = no (closing (bareClose s) lent g)
+        (else-bare (bareClose s) g (becomes (record { list = g .list; closed = true })) (bare-early 67 76 s q) tt) f
     go false false p false q f = read p q (parse Any s) refl f

@@ -36,17 +36,21 @@ examples =
     -- (P) "`PR` takes 55 bytes: accepted with 55 free, refused with 54"
     record { calls = filing 55 ∷ []; says = accepted } ∷ record { calls = filing 54 ∷ []; says = refused 13 }
     -- the same record again: 10; less lent than is used: 16, for questions too
-    ∷ record { calls = filing 110 ∷ filing 55 ∷ []; says = refused 10 } ∷ record { calls = record { call = ask freeBytes; lent = 54 } ∷ filing 55 ∷ []; says = refused 16 }
+    ∷ record { calls = filing 110 ∷ filing 55 ∷ []; says = refused 10 } ∷ record
+    { calls = record { call = ask freeBytes; lent = 54 } ∷ filing 55 ∷ []; says = refused 16 }
     -- "`TB`, fresh"; "`CL` twice"
-    ∷ record { calls = record { call = takeBack takeBackBytes; lent = 0 } ∷ []; says = refused 14 } ∷ record { calls = closing ∷ closing ∷ []; says = refused 9 } ∷ []
+    ∷ record { calls = record { call = takeBack takeBackBytes; lent = 0 } ∷ []; says = refused 14 } ∷ record
+    { calls = closing ∷ closing ∷ []; says = refused 9 } ∷ []
 
 price-judged : (lent : ℕ) → refusal [] lent (filed priceRecord) ≡ spaceFault 0 0 55 lent
 unfolding refusal stands count standing writeAll
-price-judged lent = ap (λ (m : ℕ). cond (ltb 0 m) (spaceFault 0 0 (length (write (filed priceRecord))) lent) 12) price-limit ∙ ap (λ (n : ℕ). spaceFault 0 0 n lent) price-length
+price-judged lent = ap (λ (m : ℕ). cond (ltb 0 m) (spaceFault 0 0 (length (write (filed priceRecord))) lent) 12) price-limit ∙ ap
+    (λ (n : ℕ). spaceFault 0 0 n lent) price-length
 
 price-at : (lent : ℕ) → called (file priceBytes) lent fresh ≡ judged (filed priceRecord) fresh (spaceFault 0 0 55 lent)
 unfolding called writeAll
-price-at lent = ap (λ (b : Bool). cond b (answered (refused 16)) (listed (parse (Only File) priceBytes) lent fresh)) (le-ltb lent 0 (omega arith)) ∙ ap (λ (i : Input Change). listed i lent fresh) price-read ∙ ap (judged (filed priceRecord) fresh) (price-judged lent)
+price-at lent = ap (λ (b : Bool). cond b (answered (refused 16)) (listed (parse (Only File) priceBytes) lent fresh)) (le-ltb lent 0 (omega arith)) ∙ ap
+    (λ (i : Input Change). listed i lent fresh) price-read ∙ ap (judged (filed priceRecord) fresh) (price-judged lent)
 
 abbrev one : Reg
 one = record { list = filed priceRecord ∷ []; closed = false }

@@ -6,6 +6,7 @@ use mathlib.Core.Bool.{Bool, true, false, cond, not}
 use native.Mathlib.Omega.{arith}
 use lib.Dec.{ltb}
 use lib.ListN.{length, length-append}
+use Rattle.laws.specs.Lists.{All, done, also}
 use Rattle.records.specs.Amounts.{sameName}
 use Rattle.book.specs.Layer.{Key, Name, Rec, Change, filed, write, Good, Pr, same, sameHour, limitOf, decodedBytes, nameBefore}
 use Rattle.book.specs.laws.LayerLaws.{same-refl, sameHour-same, hour-parts, same-by, price-name}
@@ -14,7 +15,6 @@ use Rattle.book.specs.Amounts.{is, nil, pick, hourKey, absent}
 use Rattle.book.specs.ByName.{inOrder, byName}
 use Rattle.book.specs.Meaning.{Valid}
 use Rattle.book.specs.laws.RegisterLaws.{by-test, true≠false}
-use Rattle.laws.specs.Lists.{All, done, also}
 
 -- ---- the records of a mark and hour
 
@@ -26,13 +26,15 @@ named n (r ∷ rs) = cond (sameName n (r .key .name)) true (named n rs)
 named-in-order : (n : Name) (r : Rec) (xs : List Rec) → named n (inOrder r xs) ≡ cond (sameName n (r .key .name)) true (named n xs)
 unfolding inOrder
 named-in-order n r [] = refl
-named-in-order n r (x ∷ xs) = go (nameBefore (decodedBytes (r .key .name)) (decodedBytes (x .key .name))) (sameName n (r .key .name)) (sameName n (x .key .name)) refl refl (named-in-order n r xs)
+named-in-order n r (x ∷ xs) = go (nameBefore (decodedBytes (r .key .name)) (decodedBytes (x .key .name))) (sameName n (r .key .name))
+    (sameName n (x .key .name)) refl refl (named-in-order n r xs)
   where
     both : (c : Bool) → true ≡ cond c true true
     both true = refl
     both false = refl
 
-    go : (b p q : Bool) → sameName n (r .key .name) ≡ p → sameName n (x .key .name) ≡ q → named n (inOrder r xs) ≡ cond (sameName n (r .key .name)) true (named n xs)
+    go : (b p q : Bool) → sameName n (r .key .name) ≡ p → sameName n (x .key .name) ≡ q → named n (inOrder r xs) ≡ cond (sameName n (r .key .name)) true
+        (named n xs)
         → named n (cond b (r ∷ x ∷ xs) (x ∷ inOrder r xs)) ≡ cond p true (cond q true (named n xs))
     go true p q ep eq w = ap₂ (λ (a b : Bool). cond a true (cond b true (named n xs))) ep eq
     go false p true ep eq w = ap (λ (b : Bool). cond b true (named n (inOrder r xs))) eq ∙ both p
@@ -63,7 +65,8 @@ in-order-length r (x ∷ xs) = go (nameBefore (decodedBytes (r .key .name)) (dec
 pub count-named : (k j : Key) → sameHour k j ≡ true → (rs : List Rec) → count k rs ≡ length (byName j rs)
 unfolding count byName
 count-named k j e [] = refl
-count-named k j e (x ∷ xs) = ap (λ (b : Bool). cond b (count k xs + 1) (count k xs)) (sameHour-same k j e (x .key)) ∙ go (sameHour j (x .key)) (count-named k j e xs)
+count-named k j e (x ∷ xs) = ap (λ (b : Bool). cond b (count k xs + 1) (count k xs)) (sameHour-same k j e (x .key)) ∙ go (sameHour j (x .key))
+    (count-named k j e xs)
   where
     go : (b : Bool) → count k xs ≡ length (byName j xs) → cond b (count k xs + 1) (count k xs) ≡ length (cond b (inOrder x (byName j xs)) (byName j xs))
     go true q = omega (arith, in-order-length x (byName j xs))
@@ -86,7 +89,8 @@ no-prices h (also {r = x} {rs = xs} g a) e =
     (λ t. true≠false (ap (λ (b : Bool). cond b true (stands (hourKey Pr h) xs)) t) e)
     (λ t. by-test (sameHour (hourKey Pr h) (x .key))
     (λ u. true≠false (ap (same (hourKey Pr h)) (sym (price-key h x g u)) ∙ same-refl (hourKey Pr h)) t)
-    (λ u. ap (λ (b : Bool). cond b (count (hourKey Pr h) xs + 1) (count (hourKey Pr h) xs)) u ∙ no-prices h a (sym (ap (λ (b : Bool). cond b true (stands (hourKey Pr h) xs)) t) ∙ e)))
+    (λ u. ap (λ (b : Bool). cond b (count (hourKey Pr h) xs + 1) (count (hourKey Pr h) xs)) u ∙ no-prices h a
+    (sym (ap (λ (b : Bool). cond b true (stands (hourKey Pr h) xs)) t) ∙ e)))
 
 pub stands-pick : (k : Key) (rs : List Rec) → stands k rs ≡ not (absent (pick k rs))
 unfolding stands pick
@@ -115,7 +119,8 @@ none-picked k = refl
 
 module _ (l : List Change) (r : Rec) where
   -- 10 and 12 are all that it meets where there is room
-  pub filing-refused : roomFor l 65535 (filed r) ≡ 0 → (f w : Bool) → stands (r .key) (standing l) ≡ f → ltb (count (r .key) (standing l)) (limitOf (r .key)) ≡ w
+  pub filing-refused : roomFor l 65535 (filed r) ≡ 0 → (f w : Bool) → stands (r .key) (standing l) ≡ f → ltb (count (r .key) (standing l)) (limitOf (r .key)) ≡
+      w
       → refusal l 65535 (filed r) ≡ cond f 10 (cond w 0 12)
   unfolding refusal
   filing-refused z f w p q = (λ i. cond (p i) 10 (cond (q i) (z i) 12))
@@ -128,7 +133,8 @@ module _ (l : List Change) (r : Rec) where
   unfolding writeAll
   filing-length = length-append (writeAll l) (write (filed r))
 
-  pub filing-named : (k : Key) (b : Bool) → sameHour k (r .key) ≡ b → byName k (standing (filed r ∷ l)) ≡ cond b (inOrder r (byName k (standing l))) (byName k (standing l))
+  pub filing-named : (k : Key) (b : Bool) → sameHour k (r .key) ≡ b → byName k (standing (filed r ∷ l)) ≡ cond b (inOrder r (byName k (standing l)))
+      (byName k (standing l))
   unfolding standing byName
   filing-named k b e = ap (λ (t : Bool). cond t (inOrder r (byName k (standing l))) (byName k (standing l))) e
 

@@ -26,7 +26,8 @@ pub record Pass (B : Type 0) : Type 0 where
 unfoldable pub gather : {B : Type 0} → Pass B → List Change → List Change → B
 gather p all [] = p .none
 gather p all (c ∷ l) =
-    cond (p .pick (keyOf c) && liveAt (survey (keyOf c) all) (kindOf c) (length (writeAll l))) (p .put (keyOf c) (length (writeAll l) + leadLength (kindOf c)) (gather p all l)) (gather p all l)
+    cond (p .pick (keyOf c) && liveAt (survey (keyOf c) all) (kindOf c) (length (writeAll l)))
+    (p .put (keyOf c) (length (writeAll l) + leadLength (kindOf c)) (gather p all l)) (gather p all l)
 
 -- from the records themselves
 unfoldable pub collect : {B : Type 0} → Pass B → List Change → List Rec → B
@@ -47,7 +48,8 @@ unfolding writeAll
 grows [] l = omega arith
 grows (c ∷ cs) l = omega (arith, grows cs l, length-append (writeAll (cs ++ l)) (write c))
 
-passed : (k : Key) (newer l : List Change) → touched k newer ≡ false → (survey k (newer ++ l) .found ≡ survey k l .found) × (survey k (newer ++ l) .start ≡ survey k l .start)
+passed : (k : Key) (newer l : List Change) → touched k newer ≡ false → (survey k (newer ++ l) .found ≡ survey k l .found) ×
+    (survey k (newer ++ l) .start ≡ survey k l .start)
 unfolding touched survey
 passed k [] l h = (refl, refl)
 passed k (c ∷ cs) l h =
@@ -64,12 +66,15 @@ unfolding touched survey
 beyond k [] l h = true≠false h refl
 beyond k (c ∷ cs) l h =
     by-test (same k (keyOf c))
-    (λ t. subst (λ (b : Bool). length (writeAll l) ≤ cond b (cond (isCorrection (kindOf c)) (length (writeAll (cs ++ l)) + 2) (length (writeAll (cs ++ l)))) (survey k (cs ++ l) .start)) (sym t)
+    (λ t. subst (λ (b : Bool). length (writeAll l) ≤ cond b (cond (isCorrection (kindOf c)) (length (writeAll (cs ++ l)) + 2) (length (writeAll (cs ++ l))))
+    (survey k (cs ++ l) .start)) (sym t)
     (go (isCorrection (kindOf c)) (grows cs l)))
-    (λ t. subst (λ (b : Bool). length (writeAll l) ≤ cond b (cond (isCorrection (kindOf c)) (length (writeAll (cs ++ l)) + 2) (length (writeAll (cs ++ l)))) (survey k (cs ++ l) .start)) (sym t)
+    (λ t. subst (λ (b : Bool). length (writeAll l) ≤ cond b (cond (isCorrection (kindOf c)) (length (writeAll (cs ++ l)) + 2) (length (writeAll (cs ++ l))))
+    (survey k (cs ++ l) .start)) (sym t)
     (beyond k cs l (sym (ap (λ (b : Bool). cond b true (touched k cs)) t) ∙ h)))
   where
-    go : (b : Bool) → length (writeAll l) ≤ length (writeAll (cs ++ l)) → length (writeAll l) ≤ cond b (length (writeAll (cs ++ l)) + 2) (length (writeAll (cs ++ l)))
+    go : (b : Bool) → length (writeAll l) ≤ length (writeAll (cs ++ l)) → length (writeAll l) ≤ cond b (length (writeAll (cs ++ l)) + 2)
+        (length (writeAll (cs ++ l)))
     go true g = omega arith
     go false g = g
 
@@ -100,10 +105,19 @@ left-snoc newer c (r ∷ rs) =
     ∙ sym (ap (λ (b : Bool). left newer (cond b (without (keyOf c) rs) (r ∷ without (keyOf c) rs))) t))
 
 -- what the newest change of a key says of it
-own : (c : Change) (l : List Change) → isWithdrawal (kindOf c) ≡ false → (survey (keyOf c) (c ∷ l) .found ≡ true) × (survey (keyOf c) (c ∷ l) .start ≡ length (writeAll l) + leadLength (kindOf c))
+own : (c : Change) (l : List Change) → isWithdrawal (kindOf c) ≡ false → (survey (keyOf c) (c ∷ l) .found ≡ true) ×
+    (survey (keyOf c) (c ∷ l) .start ≡ length (writeAll l) + leadLength (kindOf c))
 unfolding survey
-own (filed r) l n = (ap (λ (b : Bool). cond b true (survey (r .key) l .found)) (same-refl (r .key)), ap (λ (b : Bool). cond b (length (writeAll l)) (survey (r .key) l .start)) (same-refl (r .key)) ∙ omega arith)
-own (corrected r) l n = (ap (λ (b : Bool). cond b true (survey (r .key) l .found)) (same-refl (r .key)), ap (λ (b : Bool). cond b (length (writeAll l) + 2) (survey (r .key) l .start)) (same-refl (r .key)))
+own (filed r) l n = (
+  ap (λ (b : Bool). cond b true (survey (r .key) l .found)) (same-refl (r .key)),
+  ap
+      (λ (b : Bool). cond b (length (writeAll l)) (survey (r .key) l .start)) (same-refl (r .key)) ∙ omega arith,
+)
+own (corrected r) l n = (
+  ap (λ (b : Bool). cond b true (survey (r .key) l .found)) (same-refl (r .key)),
+  ap
+      (λ (b : Bool). cond b (length (writeAll l) + 2) (survey (r .key) l .start)) (same-refl (r .key)),
+)
 own (withdrawn k) l n = true≠false refl n
 
 short : (c : Change) → leadLength (kindOf c) < length (write c)
@@ -127,7 +141,8 @@ module _ (newer : List Change) (c : Change) (l : List Change) (n : isWithdrawal 
       go false = refl
 
   live-own : touched (keyOf c) newer ≡ false
-      → (liveAt (survey (keyOf c) (newer ++ (c ∷ l))) (kindOf c) (length (writeAll l)) ≡ true) × (survey (keyOf c) (newer ++ (c ∷ l)) .start ≡ length (writeAll l) + leadLength (kindOf c))
+      → (liveAt (survey (keyOf c) (newer ++ (c ∷ l))) (kindOf c) (length (writeAll l)) ≡ true) ×
+      (survey (keyOf c) (newer ++ (c ∷ l)) .start ≡ length (writeAll l) + leadLength (kindOf c))
   unfolding liveAt
   live-own h =
       let s = survey (keyOf c) (newer ++ (c ∷ l)) in
@@ -150,7 +165,8 @@ picked false x y = refl
 -- the pass at a record, against the record itself
 module _ {B : Type 0} (p : Pass B) (newer : List Change) (c : Change) (l : List Change) (n : isWithdrawal (kindOf c) ≡ false) where
   at-own : (r : Rec) → keyOf c ≡ r .key → (rs : List Rec) (t : B) → t ≡ collect p (newer ++ (c ∷ l)) (left newer rs)
-      → cond (p .pick (keyOf c) && liveAt (survey (keyOf c) (newer ++ (c ∷ l))) (kindOf c) (length (writeAll l))) (p .put (keyOf c) (length (writeAll l) + leadLength (kindOf c)) t) t
+      → cond (p .pick (keyOf c) && liveAt (survey (keyOf c) (newer ++ (c ∷ l))) (kindOf c) (length (writeAll l)))
+      (p .put (keyOf c) (length (writeAll l) + leadLength (kindOf c)) t) t
       ≡ collect p (newer ++ (c ∷ l)) (left newer (r ∷ rs))
   unfolding left collect
   at-own r e rs t et =
@@ -170,12 +186,14 @@ gather-left : {B : Type 0} (p : Pass B) (newer l : List Change) → New l → ga
 unfolding gather standing liveAt New
 gather-left p newer [] w = unfold left collect in refl
 gather-left p newer (c ∷ l) w =
-    step c w (subst (λ (x : List Change). gather p x l ≡ collect p x (left (newer ++ (c ∷ [])) (standing l))) (append-assoc newer (c ∷ []) l) (gather-left p (newer ++ (c ∷ [])) l (w .1))
+    step c w (subst (λ (x : List Change). gather p x l ≡ collect p x (left (newer ++ (c ∷ [])) (standing l))) (append-assoc newer (c ∷ []) l)
+    (gather-left p (newer ++ (c ∷ [])) l (w .1))
     ∙ ap (collect p (newer ++ (c ∷ l))) (left-snoc newer c (standing l)))
   where
     step : (c : Change) → New (c ∷ l) → gather p (newer ++ (c ∷ l)) l ≡ collect p (newer ++ (c ∷ l)) (left newer (without (keyOf c) (standing l)))
         → gather p (newer ++ (c ∷ l)) (c ∷ l) ≡ collect p (newer ++ (c ∷ l)) (left newer (standing (c ∷ l)))
-    step (filed r) n e = at-own p newer (filed r) l refl r refl (standing l) _ (e ∙ ap (λ (xs : List Rec). collect p (newer ++ (filed r ∷ l)) (left newer xs)) (new-without r l n))
+    step (filed r) n e = at-own p newer (filed r) l refl r refl (standing l) _
+        (e ∙ ap (λ (xs : List Rec). collect p (newer ++ (filed r ∷ l)) (left newer xs)) (new-without r l n))
     step (corrected r) n e = at-own p newer (corrected r) l refl r refl (without (r .key) (standing l)) _ e
     step (withdrawn j) n e = unpicked (p .pick j) _ _ ∙ e
 
@@ -198,7 +216,8 @@ put-in-order all r [] = refl
 put-in-order all r (x ∷ xs) = go (nameBefore (decodedBytes (r .key .name)) (decodedBytes (x .key .name))) (put-in-order all r xs)
   where
     go : (b : Bool) → putSpot (spotOf all r) (map (spotOf all) xs) ≡ map (spotOf all) (inOrder r xs)
-        → cond b (spotOf all r ∷ map (spotOf all) (x ∷ xs)) (spotOf all x ∷ putSpot (spotOf all r) (map (spotOf all) xs)) ≡ map (spotOf all) (cond b (r ∷ x ∷ xs) (x ∷ inOrder r xs))
+        → cond b (spotOf all r ∷ map (spotOf all) (x ∷ xs)) (spotOf all x ∷ putSpot (spotOf all r) (map (spotOf all) xs)) ≡ map (spotOf all)
+        (cond b (r ∷ x ∷ xs) (x ∷ inOrder r xs))
     go true e = refl
     go false e = ap (λ (y : List Spot). spotOf all x ∷ y) e
 
@@ -208,7 +227,8 @@ collect-by-name k all [] = refl
 collect-by-name k all (r ∷ rs) = go (sameHour k (r .key)) (collect-by-name k all rs)
   where
     go : (b : Bool) → collect (hourPass k) all rs ≡ map (spotOf all) (byName k rs)
-        → cond b (putSpot (spotOf all r) (collect (hourPass k) all rs)) (collect (hourPass k) all rs) ≡ map (spotOf all) (cond b (inOrder r (byName k rs)) (byName k rs))
+        → cond b (putSpot (spotOf all r) (collect (hourPass k) all rs)) (collect (hourPass k) all rs) ≡ map (spotOf all)
+        (cond b (inOrder r (byName k rs)) (byName k rs))
     go true e = ap (putSpot (spotOf all r)) e ∙ put-in-order all r (byName k rs)
     go false e = e
 

@@ -81,7 +81,8 @@ pad-take z (suc m) (x ∷ xs) h = ap (λ l. x ∷ l) (pad-take z m xs (le-of-suc
 -- it is fixed by what it replies
 pub day-whole : (x : Reply) → unitDayFrom x ≡ unitDayFrom (dayReply (unitDayFrom x))
 day-whole (refused zero) = refl
-day-whole (refused (suc n)) = sym (ap (λ (b : Bool). unitDayFrom (cond b (unitDay (noTicks .0) (noTicks .0)) (refused (suc n)))) (ne-eqb (suc n) 0 (λ e. omega arith)))
+day-whole (refused (suc n)) = sym
+    (ap (λ (b : Bool). unitDayFrom (cond b (unitDay (noTicks .0) (noTicks .0)) (refused (suc n)))) (ne-eqb (suc n) 0 (λ e. omega arith)))
 day-whole accepted = refl
 day-whole (place a b) = refl
 day-whole (number n) = refl

@@ -4,12 +4,12 @@ use mathlib.Core.Path.{_≡_, refl, ap₂, _∙_}
 use mathlib.Core.List.{List}
 use mathlib.Core.Bool.{true, _&&_}
 use borrow.Author.Tests.{eq-eqb}
+use Rattle.laws.specs.Lists.{All}
 use Rattle.book.specs.Layer.{Key, Rec, Change, filed, Good, same, sameName, atHour}
 use Rattle.book.specs.laws.LayerLaws.{same-at, good-hour}
 use Rattle.book.specs.Register.{standing}
 use Rattle.book.specs.Meaning.{Valid}
 use Rattle.book.specs.laws.StandLaws.{all-map, standing-good}
-use Rattle.laws.specs.Lists.{All}
 
 pub record InDay (k j : Key) : Type 0 where
   pub low : 1 ≤ j .hour

@@ -36,7 +36,8 @@ module _ {A : Type 0} {put : List A → List A} {at : List A} {n i : ℕ} (h : S
       sought-at s (ap put z ∙ e ∙ ap (λ y. s ∷ y) (sym z))
 
   module _ (d : A) (le : n ≤ length at) (lt : i < n) where
-    pub sought-here : (s : A) → ((xs : List A) → put (getD at i d ∷ xs) ≡ s ∷ getD at i d ∷ xs) → put (take n at) ≡ take i (take n at) ++ (s ∷ drop i (take n at))
+    pub sought-here : (s : A) → ((xs : List A) → put (getD at i d ∷ xs) ≡ s ∷ getD at i d ∷ xs) → put (take n at) ≡ take i (take n at) ++
+        (s ∷ drop i (take n at))
     sought-here s e = let w = here at n i d le lt in sought-at s (ap put w ∙ e (drop (suc i) (take n at)) ∙ ap (λ y. s ∷ y) (sym w))
 
     pub sought-there : ((xs : List A) → put (getD at i d ∷ xs) ≡ getD at i d ∷ xs) → put (take n at) ≡ take n at
@@ -103,7 +104,8 @@ module _ {A : Type 0} {at row : List A} {n j i : ℕ} (h : n < length at) (o : O
   opened-end le s =
       let e : i ≡ j = omega (arith, o .low) in
       let front : take j row ≡ take j at = ap (λ m. take m row) (sym e) ∙ o .front ∙ ap (λ m. take m at) e in
-      let back : drop (suc j) (take (n + 1) row) ≡ drop j (take n at) = ap (λ m. drop (suc m) (take (n + 1) row)) (sym e) ∙ o .back ∙ ap (λ m. drop m (take n at)) e in
+      let back : drop (suc j) (take (n + 1) row) ≡ drop j (take n at) = ap (λ m. drop (suc m) (take (n + 1) row)) (sym e) ∙ o .back ∙ ap
+      (λ m. drop m (take n at)) e in
       let top : j ≤ n = omega (arith, o .high) in
       take-set-lt (n + 1) row j s (omega arith) ∙ set-split (take (n + 1) row) j s (omega (arith, length-used (n + 1) row (omega (arith, o .size))))
       ∙ (λ t. (take-take j (n + 1) row (omega arith) ∙ front ∙ sym (take-take j n at top)) t ++ (s ∷ back t))

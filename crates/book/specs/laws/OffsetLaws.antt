@@ -42,7 +42,8 @@ pub each-own : {P : Spot → Rec → Type 0} (f : Rec → Spot) {rs : List Rec} 
 each-own f done = none
 each-own f (also p a) = more p (each-own f a)
 
-pub each-with : {P Q : Spot → Rec → Type 0} {R : Rec → Type 0} → ((x : Spot) (r : Rec) → P x r → R r → Q x r) → {xs : List Spot} {rs : List Rec} → Each P xs rs → All R rs → Each Q xs rs
+pub each-with : {P Q : Spot → Rec → Type 0} {R : Rec → Type 0} → ((x : Spot) (r : Rec) → P x r → R r → Q x r) → {xs : List Spot} {rs : List Rec} → Each P xs rs
+    → All R rs → Each Q xs rs
 each-with f none done = none
 each-with f (more {x = x} {r = r} p e) (also q a) = more (f x r p q) (each-with f e a)
 
@@ -52,7 +53,8 @@ pub each-put : {P : Spot → Rec → Type 0} → ((x : Spot) (r : Rec) → P x r
 unfolding putSpot inOrder
 each-put n x r p none = more p none
 each-put {P} n x r p (more {x = y} {r = q} {xs = xs} {rs = rs} w e) =
-    subst (λ (t : Bool). Each P (cond t (x ∷ y ∷ xs) (y ∷ putSpot x xs)) (cond (nameBefore (decodedBytes (r .key .name)) (decodedBytes (q .key .name))) (r ∷ q ∷ rs) (q ∷ inOrder r rs)))
+    subst (λ (t : Bool). Each P (cond t (x ∷ y ∷ xs) (y ∷ putSpot x xs))
+    (cond (nameBefore (decodedBytes (r .key .name)) (decodedBytes (q .key .name))) (r ∷ q ∷ rs) (q ∷ inOrder r rs)))
     (sym (ap₂ (λ (a b : Name). nameBefore (decodedBytes a) (decodedBytes b)) (n x r p) (n y q w)))
     (go (nameBefore (decodedBytes (r .key .name)) (decodedBytes (q .key .name))) (each-put n x r p e))
   where
@@ -76,7 +78,8 @@ module _ (s : List ℕ) where
   unfolding entriesIn
   entries-mapped p xs = refl
 
-  pub entries-at : (p : HourPrices) {xs : List Spot} {rs : List Rec} → Each (λ (x : Spot) (r : Rec). entryAt s p x ≡ offsetEntry p r) xs rs → entriesIn s p xs ≡ map (offsetEntry p) rs
+  pub entries-at : (p : HourPrices) {xs : List Spot} {rs : List Rec} → Each (λ (x : Spot) (r : Rec). entryAt s p x ≡ offsetEntry p r) xs rs → entriesIn s p xs ≡
+      map (offsetEntry p) rs
   unfolding entriesIn
   entries-at p none = refl
   entries-at p (more w e) = ap₂ _∷_ w (entries-at p e)
@@ -95,7 +98,8 @@ module _ (s : List ℕ) where
       let q = exportOf r .mqsw in
       let most = quantity-most q (standing-export r (w .good) (w .mark)) in
       let g : ℕ → ℕ = λ k. f k + quantityAt q k in
-      ap (λ (y : List Quantity). totalsFrom y s xs) (w .added (rowOf 0 12 f) ∙ totals-more (rowOf 0 12 f) q f (row-at 12 f) (λ k i. omega (arith, b k i, most k i)))
+      ap (λ (y : List Quantity). totalsFrom y s xs)
+      (w .added (rowOf 0 12 f) ∙ totals-more (rowOf 0 12 f) q f (row-at 12 f) (λ k i. omega (arith, b k i, most k i)))
       ∙ totals-from (m + 1) g e (λ k i. omega (arith, b k i, most k i)) (omega arith)
       ∙ row-same 12 (λ (k : ℕ). g k + exported rs k) (λ (k : ℕ). f k + (quantityAt q k + exported rs k)) (λ k i. omega arith)
 
@@ -126,7 +130,8 @@ pub offset-given : (l : List Change) → Valid l → (h : ℕ) (p : HourPrices) 
     offsetAnswer (length is) (map (offsetEntry p) is) (p .emp) ts ≡ Amount (record { 0 = offset (length is) (map (offsetEntry p) is) (p .emp) ts })
 offset-given l v h p f fi fe =
     offset-amount (length is) (map (offsetEntry p) is) (p .emp) (totalsOf es) fi
-    (rates-ok (p .emp) (totalsOf es) (f .emp) (λ k i. subst (λ (x : ℕ). x ≤ 1600000) (sym (row-at 12 (exported es) k i)) (omega (arith, totals-small h es (in-hour (hourKey Ex h) l v) k i))))
+    (rates-ok (p .emp) (totalsOf es) (f .emp)
+    (λ k i. subst (λ (x : ℕ). x ≤ 1600000) (sym (row-at 12 (exported es) k i)) (omega (arith, totals-small h es (in-hour (hourKey Ex h) l v) k i))))
     sound apart
   where
     is : List Rec
@@ -150,7 +155,8 @@ offset-given l v h p f fi fe =
     apart i j lt lj =
         ap₂ (λ (a b : Import). sameName (a .name) (b .name)) (at i lt) (at j (omega arith))
         ∙ by-test (sameName (getD is i no-one .key .name) (getD is j no-one .key .name))
-        (λ t. absurd (apart-at (apart-by-name (hourKey Im h) (standing l) (once-standing l (valid-new l v))) no-one i j lt lj (sym (same-names (getD is i no-one .key .name) (getD is j no-one .key .name) t))))
+        (λ t. absurd (apart-at (apart-by-name (hourKey Im h) (standing l) (once-standing l (valid-new l v))) no-one i j lt lj
+        (sym (same-names (getD is i no-one .key .name) (getD is j no-one .key .name) t))))
         (λ t. t)
 
 -- a list of imports that is not empty is worked at its price

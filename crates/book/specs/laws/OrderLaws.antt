@@ -61,7 +61,8 @@ pick-same k (swap a b xs) s =
     (λ t. by-test (same k (b .key))
     (λ u. true≠false (sym (same-left k (a .key) t (b .key)) ∙ u) (apart-key (a .key) (b .key) xs b refl (s .0) .0))
     (λ u. ap₂ (λ (x y : Bool). cond x (is a) (cond y (is b) (pick k xs))) t u ∙ sym (ap₂ (λ (x y : Bool). cond y (is b) (cond x (is a) (pick k xs))) t u)))
-    (λ t. ap (λ (x : Bool). cond x (is a) (cond (same k (b .key)) (is b) (pick k xs))) t ∙ sym (ap (λ (x : Bool). cond (same k (b .key)) (is b) (cond x (is a) (pick k xs))) t))
+    (λ t. ap (λ (x : Bool). cond x (is a) (cond (same k (b .key)) (is b) (pick k xs))) t ∙ sym
+    (ap (λ (x : Bool). cond (same k (b .key)) (is b) (cond x (is a) (pick k xs))) t))
 pick-same k (next p q) s = pick-same k p s ∙ pick-same k q (once-same p s)
 
 -- ---- by name
@@ -72,7 +73,8 @@ before a b = nameBefore (decodedBytes (a .key .name)) (decodedBytes (b .key .nam
 one-way : (a b : Rec) → before a b ≡ true → before b a ≡ false
 one-way a b h =
     by-test (before b a)
-    (λ t. absurd (name-self (decodedBytes (a .key .name)) (name-trans (decodedBytes (a .key .name)) (decodedBytes (b .key .name)) (decodedBytes (a .key .name)) h t)))
+    (λ t. absurd
+    (name-self (decodedBytes (a .key .name)) (name-trans (decodedBytes (a .key .name)) (decodedBytes (b .key .name)) (decodedBytes (a .key .name)) h t)))
     (λ t. t)
 
 two-in-order : (a b : Rec) → before a b ≡ true → (xs : List Rec) → inOrder a (inOrder b xs) ≡ inOrder b (inOrder a xs)
@@ -84,11 +86,13 @@ two-in-order a b h (x ∷ xs) = go (two-in-order a b h xs) (before b x) refl (be
         → inOrder a (cond u (b ∷ x ∷ xs) (x ∷ inOrder b xs)) ≡ inOrder b (cond v (a ∷ x ∷ xs) (x ∷ inOrder a xs))
     go ih true eu true ev =
         ap (λ (t : Bool). cond t (a ∷ b ∷ x ∷ xs) (b ∷ inOrder a (x ∷ xs))) h
-        ∙ sym (ap (λ (t : Bool). cond t (b ∷ a ∷ x ∷ xs) (a ∷ inOrder b (x ∷ xs))) (one-way a b h) ∙ ap (λ (t : Bool). a ∷ cond t (b ∷ x ∷ xs) (x ∷ inOrder b xs)) eu)
+        ∙ sym (ap (λ (t : Bool). cond t (b ∷ a ∷ x ∷ xs) (a ∷ inOrder b (x ∷ xs))) (one-way a b h) ∙ ap
+        (λ (t : Bool). a ∷ cond t (b ∷ x ∷ xs) (x ∷ inOrder b xs)) eu)
     go ih true eu false ev = true≠false (name-trans (decodedBytes (a .key .name)) (decodedBytes (b .key .name)) (decodedBytes (x .key .name)) h eu) ev
     go ih false eu true ev =
         ap (λ (t : Bool). cond t (a ∷ x ∷ inOrder b xs) (x ∷ inOrder a (inOrder b xs))) ev
-        ∙ sym (ap (λ (t : Bool). cond t (b ∷ a ∷ x ∷ xs) (a ∷ inOrder b (x ∷ xs))) (one-way a b h) ∙ ap (λ (t : Bool). a ∷ cond t (b ∷ x ∷ xs) (x ∷ inOrder b xs)) eu)
+        ∙ sym (ap (λ (t : Bool). cond t (b ∷ a ∷ x ∷ xs) (a ∷ inOrder b (x ∷ xs))) (one-way a b h) ∙ ap
+        (λ (t : Bool). a ∷ cond t (b ∷ x ∷ xs) (x ∷ inOrder b xs)) eu)
     go ih false eu false ev =
         ap (λ (t : Bool). cond t (a ∷ x ∷ inOrder b xs) (x ∷ inOrder a (inOrder b xs))) ev ∙ ap (λ (y : List Rec). x ∷ y) ih
         ∙ sym (ap (λ (t : Bool). cond t (b ∷ x ∷ inOrder a xs) (x ∷ inOrder b (inOrder a xs))) eu)
@@ -96,7 +100,8 @@ two-in-order a b h (x ∷ xs) = go (two-in-order a b h xs) (before b x) refl (be
 any-two : (a b : Rec) → (decodedBytes (a .key .name) ≡ decodedBytes (b .key .name) → ⊥) → (xs : List Rec) → inOrder a (inOrder b xs) ≡ inOrder b (inOrder a xs)
 any-two a b d xs = go (name-tri (decodedBytes (a .key .name)) (decodedBytes (b .key .name)))
   where
-    go : (before a b ≡ true) ⊎ ((decodedBytes (a .key .name) ≡ decodedBytes (b .key .name)) ⊎ (before b a ≡ true)) → inOrder a (inOrder b xs) ≡ inOrder b (inOrder a xs)
+    go : (before a b ≡ true) ⊎ ((decodedBytes (a .key .name) ≡ decodedBytes (b .key .name)) ⊎ (before b a ≡ true)) → inOrder a (inOrder b xs) ≡ inOrder b
+        (inOrder a xs)
     go (inl h) = two-in-order a b h xs
     go (inr (inl e)) = absurd (d e)
     go (inr (inr h)) = sym (two-in-order b a h xs)
@@ -111,7 +116,8 @@ by-name-same k (swap a b xs) s = go (sameHour k (a .key)) refl (sameHour k (b .k
         → cond u (inOrder a (cond v (inOrder b (byName k xs)) (byName k xs))) (cond v (inOrder b (byName k xs)) (byName k xs))
         ≡ cond v (inOrder b (cond u (inOrder a (byName k xs)) (byName k xs))) (cond u (inOrder a (byName k xs)) (byName k xs))
     go true eu true ev =
-        any-two a b (names-apart (a .key) (b .key) (sym (sameHour-same k (a .key) eu (b .key)) ∙ ev) (apart-key (a .key) (b .key) xs b refl (s .0) .0)) (byName k xs)
+        any-two a b (names-apart (a .key) (b .key) (sym (sameHour-same k (a .key) eu (b .key)) ∙ ev) (apart-key (a .key) (b .key) xs b refl (s .0) .0))
+        (byName k xs)
     go true eu false ev = refl
     go false eu true ev = refl
     go false eu false ev = refl
@@ -132,9 +138,11 @@ module _ {xs ys : List Rec} (p : Reordered xs ys) (s : Once xs) where
   unfolding unitDayOf dayTotal
   day-any-order k price =
       let e : (j : ℕ) → unitAt k xs j ≡ unitAt k ys j = λ j. pick-same (atHour k (1 + j)) p s in
-      let t = Σℤ-ext 24 (λ (j : ℕ). hourTicks (unitAt k xs j) (price (1 + j))) (λ (j : ℕ). hourTicks (unitAt k ys j) (price (1 + j))) (λ j lt. ap (λ (x : Pick). hourTicks x (price (1 + j))) (e j)) in
+      let t = Σℤ-ext 24 (λ (j : ℕ). hourTicks (unitAt k xs j) (price (1 + j))) (λ (j : ℕ). hourTicks (unitAt k ys j) (price (1 + j)))
+      (λ j lt. ap (λ (x : Pick). hourTicks x (price (1 + j))) (e j)) in
       let a = every-ext 24 (λ (j : ℕ). absent (unitAt k xs j)) (λ (j : ℕ). absent (unitAt k ys j)) (λ j lt. ap absent (e j)) in
-      let b = every-ext 24 (λ (j : ℕ). payable (unitAt k xs j) (price (1 + j))) (λ (j : ℕ). payable (unitAt k ys j) (price (1 + j))) (λ j lt. ap (λ (x : Pick). payable x (price (1 + j))) (e j)) in
+      let b = every-ext 24 (λ (j : ℕ). payable (unitAt k xs j) (price (1 + j))) (λ (j : ℕ). payable (unitAt k ys j) (price (1 + j)))
+      (λ j lt. ap (λ (x : Pick). payable x (price (1 + j))) (e j)) in
       (λ i. cond (a i) (refused 11) (cond (b i) (unitDay (t i) (reversal (t i))) (refused 15)))
 
   pub charge-any-order : (k : Key) (price : ℕ → HourPricing) → chargeOf k xs price ≡ chargeOf k ys price

@@ -52,20 +52,23 @@ module _ (lent : ℕ) where
       ∙ ap (feedOn g (firstRecord xs) (xs ++ ys) (feeding lent)) e
       ∙ ap (λ (x : List ℕ). later 1 (length (firstRecord xs)) (feeding lent h x)) (drop-append-le (length (firstRecord xs)) xs ys (first-within xs))
 
-  at-first : (g : Reg) (xs : List ℕ) → 0 < length xs → (st : Step) → called (change (firstRecord xs)) lent g ≡ st → feeding lent g xs ≡ feedOn g (firstRecord xs) xs (feeding lent) st
+  at-first : (g : Reg) (xs : List ℕ) → 0 < length xs → (st : Step) → called (change (firstRecord xs)) lent g ≡ st → feeding lent g xs ≡ feedOn g
+      (firstRecord xs) xs (feeding lent) st
   at-first g xs some st e = first-then lent g xs some ∙ ap (feedOn g (firstRecord xs) xs (feeding lent)) e
 
   less : (n : ℕ) (xs : List ℕ) → 0 < length xs → length xs ≤ suc n → length (drop (length (firstRecord xs)) xs) ≤ n
   less n xs some h = omega (arith, length-drop (length (firstRecord xs)) xs, first-some xs some)
 
   -- wherever reading stopped, it goes on from there
-  goes-on : (ys : List ℕ) (n : ℕ) (g : Reg) (xs : List ℕ) → length xs ≤ n → feeding lent g (xs ++ ys) ≡ resumed lent (feeding lent g xs) (drop (feeding lent g xs .taken) xs ++ ys)
+  goes-on : (ys : List ℕ) (n : ℕ) (g : Reg) (xs : List ℕ) → length xs ≤ n → feeding lent g (xs ++ ys) ≡ resumed lent (feeding lent g xs)
+      (drop (feeding lent g xs .taken) xs ++ ys)
   unfolding fed
   goes-on ys zero g [] h = none-before (feeding lent g ys)
   goes-on ys (suc n) g [] h = none-before (feeding lent g ys)
   goes-on ys zero g (b ∷ xs) h = absurd (omega arith)
   goes-on ys (suc n) g (b ∷ xs) h =
-      go (λ x. goes-on ys n x (drop (length (firstRecord (b ∷ xs))) (b ∷ xs)) (less n (b ∷ xs) (omega arith) h)) (called (change (firstRecord (b ∷ xs))) lent g) refl
+      go (λ x. goes-on ys n x (drop (length (firstRecord (b ∷ xs))) (b ∷ xs)) (less n (b ∷ xs) (omega arith) h)) (called (change (firstRecord (b ∷ xs))) lent g)
+      refl
     where
       s : List ℕ
       s = b ∷ xs
@@ -93,7 +96,8 @@ module _ (lent : ℕ) where
   took-all (suc n) g [] h z = refl
   took-all zero g (b ∷ xs) h z = absurd (omega arith)
   took-all (suc n) g (b ∷ xs) h z =
-      go (λ x. took-all n x (drop (length (firstRecord (b ∷ xs))) (b ∷ xs)) (less n (b ∷ xs) (omega arith) h)) (called (change (firstRecord (b ∷ xs))) lent g) refl
+      go (λ x. took-all n x (drop (length (firstRecord (b ∷ xs))) (b ∷ xs)) (less n (b ∷ xs) (omega arith) h)) (called (change (firstRecord (b ∷ xs))) lent g)
+      refl
     where
       s : List ℕ
       s = b ∷ xs
@@ -118,24 +122,28 @@ module _ (lent : ℕ) where
   unfolding firstRecord
   stays ys g xs some r e z = go (readEntry xs) refl (ltb lent (length (writeAll (g .list)))) refl
     where
-      go : (i : Res Entry) → readEntry xs ≡ i → (b : Bool) → ltb lent (length (writeAll (g .list))) ≡ b → called (change (firstRecord (xs ++ ys))) lent g ≡ answered r
+      go : (i : Res Entry) → readEntry xs ≡ i → (b : Bool) → ltb lent (length (writeAll (g .list))) ≡ b → called (change (firstRecord (xs ++ ys))) lent g ≡
+          answered r
       go (got x t) q b w = ap (λ (l : List ℕ). called (change l) lent g) (first-more xs ys x t q) ∙ e
       go (bad j) q true w = called-short (change (firstRecord (xs ++ ys))) lent g w ∙ sym (called-short (change (firstRecord xs)) lent g w) ∙ e
       go (bad j) q false w =
           let a : called (change xs) lent g ≡ answered r = ap (λ (i : Res Entry). called (change (front xs i)) lent g) (sym q) ∙ e in
-          let c : called (change xs) lent g ≡ answered (refused j) = called-unread xs lent g j (entry-bad xs j q) ∙ ap (λ (b : Bool). answered (refused (cond b 16 j))) w in
+          let c : called (change xs) lent g ≡ answered (refused j) = called-unread xs lent g j (entry-bad xs j q) ∙ ap
+          (λ (b : Bool). answered (refused (cond b 16 j))) w in
           let y : r ≡ refused j = cc in
           let f = entry-firm xs ys j q (λ h. z (ap replied y ∙ h)) in
           ap (λ (i : Res Entry). called (change (front (xs ++ ys) i)) lent g) f
           ∙ called-unread (xs ++ ys) lent g j (entry-bad (xs ++ ys) j f) ∙ ap (λ (b : Bool). answered (refused (cond b 16 j))) w ∙ ap answered (sym y)
 
-  remains : (ys : List ℕ) (n : ℕ) (g : Reg) (xs : List ℕ) → length xs ≤ n → (feeding lent g xs .number ≡ 0 → ⊥) → (feeding lent g xs .number ≡ 1 → ⊥) → feeding lent g (xs ++ ys) ≡ feeding lent g xs
+  remains : (ys : List ℕ) (n : ℕ) (g : Reg) (xs : List ℕ) → length xs ≤ n → (feeding lent g xs .number ≡ 0 → ⊥) → (feeding lent g xs .number ≡ 1 → ⊥) → feeding
+      lent g (xs ++ ys) ≡ feeding lent g xs
   unfolding fed
   remains ys zero g [] h z o = absurd (z refl)
   remains ys (suc n) g [] h z o = absurd (z refl)
   remains ys zero g (b ∷ xs) h z o = absurd (omega arith)
   remains ys (suc n) g (b ∷ xs) h z o =
-      go (λ x. remains ys n x (drop (length (firstRecord (b ∷ xs))) (b ∷ xs)) (less n (b ∷ xs) (omega arith) h)) (called (change (firstRecord (b ∷ xs))) lent g) refl
+      go (λ x. remains ys n x (drop (length (firstRecord (b ∷ xs))) (b ∷ xs)) (less n (b ∷ xs) (omega arith) h)) (called (change (firstRecord (b ∷ xs))) lent g)
+      refl
     where
       s : List ℕ
       s = b ∷ xs
@@ -143,11 +151,13 @@ module _ (lent : ℕ) where
       k : ℕ
       k = length (firstRecord s)
 
-      go : ((x : Reg) → (feeding lent x (drop k s) .number ≡ 0 → ⊥) → (feeding lent x (drop k s) .number ≡ 1 → ⊥) → feeding lent x (drop k s ++ ys) ≡ feeding lent x (drop k s))
+      go : ((x : Reg) → (feeding lent x (drop k s) .number ≡ 0 → ⊥) → (feeding lent x (drop k s) .number ≡ 1 → ⊥) → feeding lent x (drop k s ++ ys) ≡ feeding
+          lent x (drop k s))
           → (st : Step) → called (change (firstRecord s)) lent g ≡ st → feeding lent g (s ++ ys) ≡ feeding lent g s
       go ih (answered r) e =
           let a = at-first g s (omega arith) (answered r) e in
-          at-first g (s ++ ys) (omega (arith, length-append s ys)) (answered r) (stays ys g s (omega arith) r e (λ w. o (ap (λ (f : FeedReply). f .number) a ∙ w))) ∙ sym a
+          at-first g (s ++ ys) (omega (arith, length-append s ys)) (answered r)
+          (stays ys g s (omega arith) r e (λ w. o (ap (λ (f : FeedReply). f .number) a ∙ w))) ∙ sym a
       go ih (becomes x) e =
           let a = at-first g s (omega arith) (becomes x) e in
           let num = ap (λ (f : FeedReply). f .number) a in
@@ -197,8 +207,10 @@ any-pieces lent g left (xs ∷ xss) =
     w : Pieces lent g (left ++ xs) (joined xss)
     w = pieces lent g (left ++ xs) (joined xss)
 
-    go : (n : ℕ) → f .number ≡ n → piecewise lent (f .reg) (drop (f .taken) (left ++ xs)) xss ≡ feeding lent (f .reg) (drop (f .taken) (left ++ xs) ++ joined xss)
-        → unless-refused f n (later (f .count) (f .taken) (piecewise lent (f .reg) (drop (f .taken) (left ++ xs)) xss)) ≡ feeding lent g ((left ++ xs) ++ joined xss)
+    go : (n : ℕ) → f .number ≡ n → piecewise lent (f .reg) (drop (f .taken) (left ++ xs)) xss ≡ feeding lent (f .reg)
+        (drop (f .taken) (left ++ xs) ++ joined xss)
+        → unless-refused f n (later (f .count) (f .taken) (piecewise lent (f .reg) (drop (f .taken) (left ++ xs)) xss)) ≡ feeding lent g
+        ((left ++ xs) ++ joined xss)
     go zero e ih =
         let d : drop (f .taken) (left ++ xs) ≡ [] = ap (λ (n : ℕ). drop n (left ++ xs)) (w .whole e .0) ∙ drop-length (left ++ xs) in
         ap (later (f .count) (f .taken)) (ih ∙ ap (λ (l : List ℕ). feeding lent (f .reg) (l ++ joined xss)) d) ∙ sym (w .whole e .1)

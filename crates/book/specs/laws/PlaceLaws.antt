@@ -51,7 +51,8 @@ module _ (k : Key) (c : Change) (l : List Change) where
 
 -- the newest change of the key says where it is
 newest : (k : Key) (c : Change) (l : List Change) → same k (keyOf c) ≡ true → not (isWithdrawal (kindOf c)) ≡ true
-    → Written k (c ∷ l) (cond (isCorrection (kindOf c)) (length (writeAll l) + 2) (length (writeAll l))) (cond (isCorrection (kindOf c)) (length (write c) - 2) (length (write c)))
+    → Written k (c ∷ l) (cond (isCorrection (kindOf c)) (length (writeAll l) + 2) (length (writeAll l)))
+    (cond (isCorrection (kindOf c)) (length (write c) - 2) (length (write c)))
 unfolding writeAll standing
 newest k (filed r) l t f =
     record {
@@ -67,7 +68,8 @@ newest k (corrected r) l t f =
       stands-so = unfold pick in (ap (λ (b : Bool). cond b (is r) (pick k (without (r .key) (standing l)))) t);
       inside = omega (arith, length-append (writeAll l) (write (corrected r)), w .0);
       bytes = ap (take (length (write (corrected r)) - 2)) (drop-append-add (writeAll l) (write (corrected r)) 2 ∙ w .1)
-          ∙ ap (λ (n : ℕ). take n (write (filed r))) (let q : length (write (corrected r)) - 2 ≡ length (write (filed r)) = omega (arith, w .0) in q) ∙ take-length (write (filed r));
+          ∙ ap (λ (n : ℕ). take n (write (filed r))) (let q : length (write (corrected r)) - 2 ≡ length (write (filed r)) = omega (arith, w .0) in q) ∙
+          take-length (write (filed r));
     }
 newest k (withdrawn j) l t f = true≠false f refl
 
@@ -87,7 +89,8 @@ survey-written k (c ∷ l) h =
     (survey-written k l (sym (ap (λ (b : Bool). cond b (not (isWithdrawal (kindOf c))) (survey k l .found)) t) ∙ h))))
 
 -- the register's place of a key is the surveyed one
-place-newest : (c : Change) (q : ℕ) → written c q ≡ cond (not (isWithdrawal (kindOf c))) (place (cond (isCorrection (kindOf c)) (q + 2) q) (cond (isCorrection (kindOf c)) (length (write c) - 2) (length (write c)))) (refused 11)
+place-newest : (c : Change) (q : ℕ) → written c q ≡ cond (not (isWithdrawal (kindOf c)))
+    (place (cond (isCorrection (kindOf c)) (q + 2) q) (cond (isCorrection (kindOf c)) (length (write c) - 2) (length (write c)))) (refused 11)
 place-newest (filed r) q = refl
 place-newest (corrected r) q = let e : length (write (filed r)) ≡ length (write (corrected r)) - 2 = omega (arith, write-co r .0) in ap (place (q + 2)) e
 place-newest (withdrawn k) q = refl
@@ -103,7 +106,8 @@ survey-place k (c ∷ l) = go (same k (keyOf c)) (survey-place k l)
     go : (b : Bool) → placeOf k l ≡ cond (survey k l .found) (place (survey k l .start) (survey k l .len)) (refused 11)
         → cond b (written c q) (placeOf k l)
         ≡ cond (cond b (not (isWithdrawal (kindOf c))) (survey k l .found))
-        (place (cond b (cond (isCorrection (kindOf c)) (q + 2) q) (survey k l .start)) (cond b (cond (isCorrection (kindOf c)) (length (write c) - 2) (length (write c))) (survey k l .len))) (refused 11)
+        (place (cond b (cond (isCorrection (kindOf c)) (q + 2) q) (survey k l .start))
+        (cond b (cond (isCorrection (kindOf c)) (length (write c) - 2) (length (write c))) (survey k l .len))) (refused 11)
     go true ih = place-newest c q
     go false ih = ih
 

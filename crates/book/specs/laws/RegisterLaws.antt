@@ -35,7 +35,8 @@ stands-without-other k j (x ∷ xs) h =
     by-test (same j (x .key))
     (λ t. ap (λ (b : Bool). stands k (cond b (without j xs) (x ∷ without j xs))) t ∙ stands-without-other k j xs h
     ∙ sym (ap (λ (b : Bool). cond b true (stands k xs)) (sym (same-right j (x .key) t k) ∙ h)))
-    (λ t. ap (λ (b : Bool). stands k (cond b (without j xs) (x ∷ without j xs))) t ∙ ap (λ (b : Bool). cond (same k (x .key)) true b) (stands-without-other k j xs h))
+    (λ t. ap (λ (b : Bool). stands k (cond b (without j xs) (x ∷ without j xs))) t ∙ ap (λ (b : Bool). cond (same k (x .key)) true b)
+    (stands-without-other k j xs h))
 
 pub stands-without-self : (k : Key) (xs : List Rec) → stands k (without k xs) ≡ false
 unfolding stands without
@@ -43,7 +44,8 @@ stands-without-self k [] = refl
 stands-without-self k (x ∷ xs) =
     by-test (same k (x .key))
     (λ t. ap (λ (b : Bool). stands k (cond b (without k xs) (x ∷ without k xs))) t ∙ stands-without-self k xs)
-    (λ t. ap (λ (b : Bool). stands k (cond b (without k xs) (x ∷ without k xs))) t ∙ ap (λ (b : Bool). cond b true (stands k (without k xs))) t ∙ stands-without-self k xs)
+    (λ t. ap (λ (b : Bool). stands k (cond b (without k xs) (x ∷ without k xs))) t ∙ ap (λ (b : Bool). cond b true (stands k (without k xs))) t ∙
+    stands-without-self k xs)
 
 -- a key that does not stand takes nothing away
 without-none : (k : Key) (xs : List Rec) → stands k xs ≡ false → without k xs ≡ xs
@@ -52,7 +54,8 @@ without-none k [] h = refl
 without-none k (x ∷ xs) h =
     by-test (same k (x .key))
     (λ t. true≠false (ap (λ (b : Bool). cond b true (stands k xs)) t) h)
-    (λ t. ap (λ (b : Bool). cond b (without k xs) (x ∷ without k xs)) t ∙ ap (λ (y : List Rec). x ∷ y) (without-none k xs (sym (ap (λ (b : Bool). cond b true (stands k xs)) t) ∙ h)))
+    (λ t. ap (λ (b : Bool). cond b (without k xs) (x ∷ without k xs)) t ∙ ap (λ (y : List Rec). x ∷ y)
+    (without-none k xs (sym (ap (λ (b : Bool). cond b true (stands k xs)) t) ∙ h)))
 
 -- no key twice
 unfoldable pub Once : List Rec → Type 0
@@ -65,14 +68,16 @@ once-without k [] u = u
 once-without k (x ∷ xs) u =
     by-test (same k (x .key))
     (λ t. subst (λ (b : Bool). Once (cond b (without k xs) (x ∷ without k xs))) (sym t) (once-without k xs (u .1)))
-    (λ t. subst (λ (b : Bool). Once (cond b (without k xs) (x ∷ without k xs))) (sym t) (stands-without-other (x .key) k xs (same-turned k (x .key) t) ∙ u .0, once-without k xs (u .1)))
+    (λ t. subst (λ (b : Bool). Once (cond b (without k xs) (x ∷ without k xs))) (sym t)
+    (stands-without-other (x .key) k xs (same-turned k (x .key) t) ∙ u .0, once-without k xs (u .1)))
 
 count-pos : (k j : Key) (xs : List Rec) → stands j xs ≡ true → sameHour k j ≡ true → 0 < count k xs
 unfolding stands count
 count-pos k j [] h e = true≠false h refl
 count-pos k j (x ∷ xs) h e =
     by-test (same j (x .key))
-    (λ t. let p : sameHour k (x .key) ≡ true = sym (hour-right j (x .key) t k) ∙ e in subst (λ (b : Bool). 0 < cond b (count k xs + 1) (count k xs)) (sym p) (omega arith))
+    (λ t. let p : sameHour k (x .key) ≡ true = sym (hour-right j (x .key) t k) ∙ e in subst (λ (b : Bool). 0 < cond b (count k xs + 1) (count k xs)) (sym p)
+    (omega arith))
     (λ t. let p = count-pos k j xs (sym (ap (λ (b : Bool). cond b true (stands j xs)) t) ∙ h) e in go (sameHour k (x .key)) p)
   where
     go : (b : Bool) → 0 < count k xs → 0 < cond b (count k xs + 1) (count k xs)
@@ -104,7 +109,8 @@ count-without k j (x ∷ xs) u h =
 
 -- the refusal by numbers
 pub refusal-judge : (l : List Change) (lent : ℕ) (c : Change)
-    → refusal l lent c ≡ changeFault (kindOf c) (stands (keyOf c) (standing l)) (count (keyOf c) (standing l)) (limitOf (keyOf c)) (length l) (length (writeAll l)) (length (write c)) lent
+    → refusal l lent c ≡ changeFault (kindOf c) (stands (keyOf c) (standing l)) (count (keyOf c) (standing l)) (limitOf (keyOf c)) (length l)
+    (length (writeAll l)) (length (write c)) lent
 unfolding refusal changeFault
 refusal-judge l lent (filed r) = refl
 refusal-judge l lent (corrected r) = refl
@@ -183,7 +189,8 @@ survey-count k (corrected r ∷ l) v =
     ∙ back-one (sameHour k (r .key)) (count k (standing l)) (count-pos k (r .key) (standing l) h)
     ∙ ap (λ (n : ℕ). cond (sameHour k (r .key)) (n + 1) n) (sym (count-without k (r .key) (standing l) (once-standing l (valid-new l (v .2))) h))
 survey-count k (withdrawn j ∷ l) v =
-    ap (λ (n : ℕ). cond (sameHour k j) (n - 1) n) (survey-count k l (v .2)) ∙ sym (count-without k j (standing l) (once-standing l (valid-new l (v .2))) (refusal-found l 65535 (withdrawn j) (v .1)))
+    ap (λ (n : ℕ). cond (sameHour k j) (n - 1) n) (survey-count k l (v .2)) ∙ sym
+    (count-without k j (standing l) (once-standing l (valid-new l (v .2))) (refusal-found l 65535 (withdrawn j) (v .1)))
 
 -- ---- "hour holds 16 of that mark (8 for `GH`)"
 count-same : (k j : Key) (xs : List Rec) → sameHour k j ≡ true → count k xs ≡ count j xs
@@ -219,10 +226,12 @@ unfolding Valid standing count refusal
 hour-few k [] v = omega arith
 hour-few k (filed r ∷ l) v =
     let few = ltb-true (count (r .key) (standing l)) (limitOf (r .key))
-    (few-filed (stands (r .key) (standing l)) (ltb (count (r .key) (standing l)) (limitOf (r .key))) (spaceFault (length l) (length (writeAll l)) (length (write (filed r))) 65535) (v .1)) in
+    (few-filed (stands (r .key) (standing l)) (ltb (count (r .key) (standing l)) (limitOf (r .key)))
+    (spaceFault (length l) (length (writeAll l)) (length (write (filed r))) 65535) (v .1)) in
     go (sameHour k (r .key)) refl few (hour-few k l (v .2))
   where
-    go : (b : Bool) → sameHour k (r .key) ≡ b → count (r .key) (standing l) < limitOf (r .key) → count k (standing l) ≤ limitOf k → cond b (count k (standing l) + 1) (count k (standing l)) ≤ limitOf k
+    go : (b : Bool) → sameHour k (r .key) ≡ b → count (r .key) (standing l) < limitOf (r .key) → count k (standing l) ≤ limitOf k → cond b
+        (count k (standing l) + 1) (count k (standing l)) ≤ limitOf k
     go true e few all = omega (arith, count-same k (r .key) (standing l) e, limit-same k (r .key) e)
     go false e few all = all
 hour-few k (corrected r ∷ l) v =

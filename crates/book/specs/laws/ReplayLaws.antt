@@ -48,7 +48,8 @@ replay-sound zero acc (b ∷ rest) l v e = nowhere e
 replay-sound (suc n) acc rest l v e = go (λ c k w h. replay-sound n (c ∷ acc) (drop k rest) l w h) (scan rest) refl e
   where
     Later : Type 0
-    Later = (c : Change) (k : ℕ) → Good c × (refusal acc 65535 c ≡ 0) × Valid acc → replay n (c ∷ acc) (drop k rest) ≡ belongs l → Played (c ∷ acc) (drop k rest) n l
+    Later = (c : Change) (k : ℕ) → Good c × (refusal acc 65535 c ≡ 0) × Valid acc → replay n (c ∷ acc) (drop k rest) ≡ belongs l → Played (c ∷ acc)
+        (drop k rest) n l
 
     more : Later → (c : Change) (k : ℕ) → scan rest ≡ seen c k → (b : Bool) → eqb (refusal acc 65535 c) 0 ≡ b
         → cond b (replay n (c ∷ acc) (drop k rest)) mismatched ≡ belongs l → Played acc rest (suc n) l
@@ -113,7 +114,8 @@ taken-valid : (m lent : ℕ) (g : Reg) → Valid (g .list) → Valid (after (tak
 unfolding Valid
 taken-valid m lent g v = go m (g .closed) (g .list) v
   where
-    go : (n : ℕ) (b : Bool) (l : List Change) → Valid l → Valid (after (unless-closed n (record { list = l; closed = b }) (shorter b l)) (record { list = l; closed = b }) .list)
+    go : (n : ℕ) (b : Bool) (l : List Change) → Valid l → Valid
+        (after (unless-closed n (record { list = l; closed = b }) (shorter b l)) (record { list = l; closed = b }) .list)
     go zero true l v = v
     go zero false [] v = v
     go zero false (c ∷ l) v = v .2
@@ -122,7 +124,8 @@ taken-valid m lent g v = go m (g .closed) (g .list) v
 closing-valid : (m lent : ℕ) (g : Reg) → Valid (g .list) → Valid (after (closing m lent g) g .list)
 closing-valid m lent g v = go m (g .closed)
   where
-    go : (n : ℕ) (b : Bool) → Valid (after (unless-closed n (record { list = g .list; closed = b }) (becomes (record { list = g .list; closed = true }))) g .list)
+    go : (n : ℕ) (b : Bool) → Valid
+        (after (unless-closed n (record { list = g .list; closed = b }) (becomes (record { list = g .list; closed = true }))) g .list)
     go zero true = v
     go zero false = v
     go (suc n) b = v
@@ -160,7 +163,8 @@ outcome-is call g s v h = go (ltb (length s) (length (writeAll (g .list)))) refl
     w = writeAll (g .list)
 
     go : (b : Bool) → ltb (length s) (length w) ≡ b
-        → leaving (bookOf g) s (stepped (stepOf call) (bookOf g) s (cond (leb (length w) (length s)) (replay (length (g .list)) [] (take (length w) s)) mismatched))
+        → leaving (bookOf g) s
+        (stepped (stepOf call) (bookOf g) s (cond (leb (length w) (length s)) (replay (length (g .list)) [] (take (length w) s)) mismatched))
         ≡ leaving (bookOf g) s (cond b (answered (refused 16)) (stepOf call (length s) g))
     go true t = simp (lt-leb (length w) (length s) (ltb-true (length s) (length w) t))
     go false t =

@@ -130,7 +130,8 @@ backs {ts} op le done = record { reg = λ i. record { list = run ts .list; close
 backs {ts} op le (back {n = n} {us = us} b lent enough) = one-back ts us n lent le enough (backs op (omega arith) b)
 
 -- such takings back are a session, and takings back of the register
-undo-is : {ts : List Turn} {rs : List Reply} {b : Book} {held : List ℕ} (before : Session ts rs b held) {n : ℕ} {us : List Turn} {qs : List Reply} {d : Book} {kept : List ℕ}
+undo-is : {ts : List Turn} {rs : List Reply} {b : Book} {held : List ℕ} (before : Session ts rs b held) {n : ℕ} {us : List Turn} {qs : List Reply} {d : Book}
+    {kept : List ℕ}
     → Undo before n us qs d kept → Session us qs d kept × Backs ts n us
 undo-is before undone = (before, done)
 undo-is before (undo u s h lent d′ r s′ m) =
@@ -149,10 +150,12 @@ agrees {ts} {rs} {b} {held} σ =
       finds = λ k. subst⁻¹ (λ (x : List ℕ). Shows (pick k (standing (run ts .list))) x (placeOf k (run ts .list))) (f .used) (place-shows k (run ts .list));
       reached = λ k x e. standing-asked k (run ts .list) (f .valid) x e;
       questions = λ q s h b′ r s′ m.
-          subst (λ (x : Book). Meets (ask q) x s b′ r s′) (f .book) m .answer ∙ asked (run ts) s (f .valid) (subst (λ (x : List ℕ). take (length x) s ≡ x) (f .used) h) q;
+          subst (λ (x : Book). Meets (ask q) x s b′ r s′) (f .book) m .answer ∙ asked (run ts) s (f .valid)
+          (subst (λ (x : List ℕ). take (length x) s ≡ x) (f .used) h) q;
     }
 
-taken-back : {ts : List Turn} {rs : List Reply} {b : Book} {held : List ℕ} (before : Session ts rs b held) {n : ℕ} {us : List Turn} {qs : List Reply} {d : Book} {kept : List ℕ}
+taken-back : {ts : List Turn} {rs : List Reply} {b : Book} {held : List ℕ} (before : Session ts rs b held) {n : ℕ} {us : List Turn} {qs : List Reply} {d : Book}
+    {kept : List ℕ}
     → b .closed ≡ false → n ≤ b .changes → Undo before n us qs d kept → Restored ts rs n us qs d kept
 taken-back before {n} op le u =
     let a = follows before in

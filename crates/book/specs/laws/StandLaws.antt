@@ -7,6 +7,7 @@ use native.Mathlib.Omega.{arith}
 use native.Mathlib.Nat.{not-suc-le-zero, le-of-suc-le-suc}
 use lib.ListN.{length, drop, getD, take-append-drop}
 use lib.Seq.{drop-append-le}
+use Rattle.laws.specs.Lists.{All, done, also}
 use Rattle.book.specs.Layer.{Key, Name, Rec, Change, filed, corrected, withdrawn, write, Good, same, sameHour, decodedBytes, nameBefore, keyAsked, got, markBytes}
 use Rattle.book.specs.laws.LayerLaws.{good-co, same-refl, same-alike, names-apart, sameHour-same, asked}
 use Rattle.book.specs.Layer.{askBytes}
@@ -18,7 +19,6 @@ use Rattle.book.specs.tables.Tables.{survey}
 use Rattle.book.specs.tables.Worked.{Begun}
 use Rattle.book.specs.laws.RegisterLaws.{by-test, true≠false, same-turned, survey-found, Once, valid-new, once-standing}
 use Rattle.book.specs.laws.PlaceLaws.{survey-written, pick-none}
-use Rattle.laws.specs.Lists.{All, done, also}
 
 -- ---- a property of all of a list
 
@@ -70,7 +70,8 @@ pick-key k (x ∷ xs) r e =
     (λ t. pick-key k xs r (sym (ap (λ (b : Bool). cond b (is x) (pick k xs)) t) ∙ e))
 
 -- the key of a record that stands can be asked for
-pub standing-asked : (k : Key) (l : List Change) → Valid l → (r : Rec) → pick k (standing l) ≡ is r → keyAsked (markBytes (r .key .mark)) (r .key .hour) (askBytes (r .key)) ≡ got (r .key) []
+pub standing-asked : (k : Key) (l : List Change) → Valid l → (r : Rec) → pick k (standing l) ≡ is r → keyAsked (markBytes (r .key .mark)) (r .key .hour)
+    (askBytes (r .key)) ≡ got (r .key) []
 standing-asked k l v r e = asked (filed r) (all-pick k r (standing-good l v) e)
 
 -- ---- each record is the one that stands under its key
@@ -88,7 +89,8 @@ unfolding Once pick
 own-pick [] u = done
 own-pick (x ∷ xs) u =
     also (ap (λ (b : Bool). cond b (is x) (pick (x .key) xs)) (same-refl (x .key)))
-    (all-map (λ (r : Rec) (h : (same (x .key) (r .key) ≡ false) × (pick (r .key) xs ≡ is r)). ap (λ (b : Bool). cond b (is x) (pick (r .key) xs)) (same-turned (x .key) (r .key) (h .0)) ∙ h .1)
+    (all-map (λ (r : Rec) (h : (same (x .key) (r .key) ≡ false) × (pick (r .key) xs ≡ is r)). ap (λ (b : Bool). cond b (is x) (pick (r .key) xs))
+    (same-turned (x .key) (r .key) (h .0)) ∙ h .1)
     (all-both (other-keys (x .key) xs (u .0)) (own-pick xs (u .1))))
 
 -- ---- what is written where
@@ -199,7 +201,8 @@ apart-by-name k (r ∷ rs) u = go (apart-by-name k rs (u .1)) (sameHour k (r .ke
   where
     go : Apart (byName k rs) → (b : Bool) → sameHour k (r .key) ≡ b → Apart (cond b (inOrder r (byName k rs)) (byName k rs))
     go w true t = apart-in-order r
-        (all-map (λ (x : Rec) (h : (same (r .key) (x .key) ≡ false) × (sameHour k (x .key) ≡ true)). names-apart (r .key) (x .key) (sym (sameHour-same k (r .key) t (x .key)) ∙ h .1) (h .0))
+        (all-map (λ (x : Rec) (h : (same (r .key) (x .key) ≡ false) × (sameHour k (x .key) ≡ true)). names-apart (r .key) (x .key)
+        (sym (sameHour-same k (r .key) t (x .key)) ∙ h .1) (h .0))
         (all-by-name k (other-keys (r .key) rs (u .0)))) w
     go w false t = w
 
@@ -209,7 +212,8 @@ all-at done d i h = absurd (not-suc-le-zero h)
 all-at (also p a) d zero h = p
 all-at (also p a) d (suc i) h = all-at a d i (le-of-suc-le-suc h)
 
-pub apart-at : {rs : List Rec} → Apart rs → (d : Rec) (i j : ℕ) → i < length rs → j < i → decodedBytes (getD rs j d .key .name) ≡ decodedBytes (getD rs i d .key .name) → ⊥
+pub apart-at : {rs : List Rec} → Apart rs → (d : Rec) (i j : ℕ) → i < length rs → j < i → decodedBytes (getD rs j d .key .name) ≡ decodedBytes
+    (getD rs i d .key .name) → ⊥
 apart-at lone d i j h l = absurd (not-suc-le-zero h)
 apart-at (apart n u) d zero j h l = absurd (not-suc-le-zero l)
 apart-at (apart n u) d (suc i) zero h l = all-at n d i (le-of-suc-le-suc h)

@@ -29,12 +29,14 @@ stops-from (suc n) lent g [] h = record { within = omega arith; few = omega arit
 stops-from zero lent g (b ∷ s) h = absurd (omega arith)
 stops-from (suc n) lent g (b ∷ s) h =
     subst (λ (f : FeedReply). Stops f (length (b ∷ s))) (sym (first-then lent g (b ∷ s) (omega arith)))
-    (go (λ x. stops-from n lent x (drop (length p) (b ∷ s)) (omega (arith, length-drop (length p) (b ∷ s), first-some (b ∷ s) (omega arith)))) (called (change p) lent g))
+    (go (λ x. stops-from n lent x (drop (length p) (b ∷ s)) (omega (arith, length-drop (length p) (b ∷ s), first-some (b ∷ s) (omega arith))))
+    (called (change p) lent g))
   where
     p : List ℕ
     p = firstRecord (b ∷ s)
 
-    go : ((x : Reg) → Stops (feeding lent x (drop (length p) (b ∷ s))) (length (drop (length p) (b ∷ s)))) → (st : Step) → Stops (feedOn g p (b ∷ s) (feeding lent) st) (length (b ∷ s))
+    go : ((x : Reg) → Stops (feeding lent x (drop (length p) (b ∷ s))) (length (drop (length p) (b ∷ s)))) → (st : Step) → Stops
+        (feedOn g p (b ∷ s) (feeding lent) st) (length (b ∷ s))
     go ih (answered r) = record { within = omega arith; few = omega arith; refused = λ z. omega arith }
     go ih (becomes x) =
         let i = ih x in
@@ -64,7 +66,8 @@ early-from zero lent g [] h z = absurd (omega arith)
 early-from (suc n) lent g [] h z = absurd (omega arith)
 early-from zero lent g (b ∷ s) h z = absurd (omega arith)
 early-from (suc n) lent g (b ∷ s) h z =
-    go (λ x. early-from n lent x (drop (length p) (b ∷ s)) (omega (arith, length-drop (length p) (b ∷ s), first-some (b ∷ s) (omega arith)))) (called (change p) lent g) refl
+    go (λ x. early-from n lent x (drop (length p) (b ∷ s)) (omega (arith, length-drop (length p) (b ∷ s), first-some (b ∷ s) (omega arith))))
+    (called (change p) lent g) refl
   where
     p : List ℕ
     p = firstRecord (b ∷ s)
@@ -72,7 +75,8 @@ early-from (suc n) lent g (b ∷ s) h z =
     Short : FeedReply → Type 0
     Short f = f .number ≡ 1 → length (drop (f .taken) (b ∷ s)) < 1383
 
-    go : ((x : Reg) → feeding lent x (drop (length p) (b ∷ s)) .number ≡ 1 → length (drop (feeding lent x (drop (length p) (b ∷ s)) .taken) (drop (length p) (b ∷ s))) < 1383)
+    go : ((x : Reg) → feeding lent x (drop (length p) (b ∷ s)) .number ≡ 1 → length
+        (drop (feeding lent x (drop (length p) (b ∷ s)) .taken) (drop (length p) (b ∷ s))) < 1383)
         → (st : Step) → called (change p) lent g ≡ st → length (drop (feeding lent g (b ∷ s) .taken) (b ∷ s)) < 1383
     go ih st e = subst⁻¹ Short (first-then lent g (b ∷ s) (omega arith) ∙ ap (feedOn g p (b ∷ s) (feeding lent)) e) (by st e) z
       where

@@ -23,7 +23,8 @@ unfolding totalsFrom
 totalling-more {s} {n} {at} {sums} {next} {i} t h l en =
     let one : suc i ≡ i + 1 = omega arith in
     let e : drop i (take n at) ≡ getD at i noSpot ∷ drop (i + 1) (take n at) =
-    drop-cons (take n at) i noSpot (omega (arith, length-take-le n at l)) ∙ ap₂ (λ (y : Spot) (k : ℕ). y ∷ drop k (take n at)) (getD-take n at i noSpot h) one in
+    drop-cons (take n at) i noSpot (omega (arith, length-take-le n at l)) ∙ ap₂ (λ (y : Spot) (k : ℕ). y ∷ drop k (take n at)) (getD-take n at i noSpot h)
+    one in
     record {
       upto = omega arith;
       whole = t .whole ∙ ap (totalsFrom sums s) e ∙ ap (λ (y : List Quantity). totalsFrom y s (drop (i + 1) (take n at))) (sym en);

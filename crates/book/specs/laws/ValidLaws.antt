@@ -41,7 +41,8 @@ unfolding Valid writeAll changeFault
 valid-size [] v = (omega arith, omega arith)
 valid-size (c ∷ l) v =
     let f = room-facts (length l) (length (writeAll l)) (length (write c)) 65535
-    (judge-room (isFiling (kindOf c)) (stands (keyOf c) (standing l)) (ltb (count (keyOf c) (standing l)) (limitOf (keyOf c))) (spaceFault (length l) (length (writeAll l)) (length (write c)) 65535) (sym (refusal-judge l 65535 c) ∙ v .1)) in
+    (judge-room (isFiling (kindOf c)) (stands (keyOf c) (standing l)) (ltb (count (keyOf c) (standing l)) (limitOf (keyOf c)))
+    (spaceFault (length l) (length (writeAll l)) (length (write c)) 65535) (sym (refusal-judge l 65535 c) ∙ v .1)) in
     (omega (arith, f .0), omega (arith, f .1, length-append (writeAll l) (write c)))
 
 -- ---- what stands

@@ -100,7 +100,8 @@ hour-fits l v h =
     record { guaranteed = g .is; imports = i .is; exports = e .is; few-credits = g .few; few-imports = i .few; few-exports = e .few }
 
 -- the j-th of n hours from h on
-pub hours-at : {A B : Type 0} (f : ℕ → A) (g : A → B) (z d : B) (n m h j : ℕ) → j < n → n ≤ m → getD (pad z m (map g (map f (hoursFrom h n)))) j d ≡ g (f (h + j))
+pub hours-at : {A B : Type 0} (f : ℕ → A) (g : A → B) (z d : B) (n m h j : ℕ) → j < n → n ≤ m → getD (pad z m (map g (map f (hoursFrom h n)))) j d ≡ g
+    (f (h + j))
 unfolding hoursFrom
 hours-at f g z d zero m h j lt le = absurd (not-suc-le-zero lt)
 hours-at f g z d (suc n) zero h j lt le = absurd (not-suc-le-zero le)
@@ -112,7 +113,8 @@ hours-at f g z d (suc n) (suc m) h (suc j) lt le =
 pub hour-is : (l : List Change) → Valid l → (j : ℕ) → j < 24 → (d : HourAmounts) → HourIs l (1 + j) (getD (dayFrom (dayAmounts (belongs l)) .hours) j d)
 unfolding wholeHanded
 hour-is l v j lt d =
-    subst (HourIs l (1 + j)) (sym (hours-at (hourReply (standing l) (priceOf (standing l))) hourFrom noHour d 24 24 1 j lt (omega arith))) (hour-fits l v (1 + j))
+    subst (HourIs l (1 + j)) (sym (hours-at (hourReply (standing l) (priceOf (standing l))) hourFrom noHour d 24 24 1 j lt (omega arith)))
+    (hour-fits l v (1 + j))
 
 -- ---- the units
 

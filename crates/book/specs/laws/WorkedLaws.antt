@@ -6,6 +6,7 @@ use mathlib.Core.Bool.{true}
 use native.Mathlib.Omega.{arith}
 use lib.ListN.{length, getD, length-map}
 use lib.Seq.{getD-take, length-take-le}
+use Rattle.laws.specs.Lists.{All}
 use Rattle.book.specs.Layer.{Key, Rec, Change, HourPrices, Im, Ex, totalsWithIn, entry, offsetEntry, offsetEntryIn, EntryAnswer, TotalsAnswer, sameHour}
 use Rattle.book.specs.laws.LayerLaws.{PricesFit, totals-written, entry-view, hour-parts}
 use Rattle.book.specs.declared.answers.NamedAmount.{NamedAmount}
@@ -17,10 +18,10 @@ use Rattle.book.specs.ByName.{byName}
 use Rattle.book.specs.tables.Places.{spotOf, spots}
 use Rattle.book.specs.tables.Worked.{Begun, noSpot, Inside, entryAt, entriesIn, entryCredit, totalsIn, namedOf}
 use Rattle.book.specs.laws.StandLaws.{all-map, all-at, Stands, all-stand, all-by-name}
-use Rattle.laws.specs.Lists.{All}
 use Rattle.book.specs.laws.OffsetLaws.{getD-mapped, each-own, entries-at, Adds, totals-at}
 
-pub named-are : (l : List Change) (p : HourPrices) (rs : List Rec) → namedOf (map (spotOf l) rs) (map entryCredit (map (offsetEntry p) rs)) ≡ map (creditAt p) rs
+pub named-are : (l : List Change) (p : HourPrices) (rs : List Rec) → namedOf (map (spotOf l) rs) (map entryCredit (map (offsetEntry p) rs)) ≡ map (creditAt p)
+    rs
 unfolding namedOf
 named-are l p [] = refl
 named-are l p (r ∷ rs) = ap (λ (x : List NamedAmount). creditAt p r ∷ x) (named-are l p rs)
@@ -53,12 +54,14 @@ module _ {s : List ℕ} {l : List Change} (o : Begun s l) where
       at : (i : ℕ) → i < p .n → getD (p .at) i noSpot .start ≤ length s
       at i h =
           let q : getD (p .at) i noSpot ≡ spotOf l (getD rs i none) =
-          sym (getD-take (p .n) (p .at) i noSpot h) ∙ ap (λ (x : List Spot). getD x i noSpot) e ∙ getD-mapped (spotOf l) rs i none noSpot (omega (arith, size)) in
+          sym (getD-take (p .n) (p .at) i noSpot h) ∙ ap (λ (x : List Spot). getD x i noSpot) e ∙ getD-mapped (spotOf l) rs i none noSpot
+          (omega (arith, size)) in
           subst (λ (x : Spot). x .start ≤ length s) (sym q) (all-at (here k) none i (omega (arith, size)) .0 .at .inside)
 
   -- ---- entries
 
-  pub entries-are : (p : HourPrices) → PricesFit p → (h : ℕ) (rs : List Rec) → All (Here (hourKey Im h)) rs → entriesIn s p (map (spotOf l) rs) ≡ map (offsetEntry p) rs
+  pub entries-are : (p : HourPrices) → PricesFit p → (h : ℕ) (rs : List Rec) → All (Here (hourKey Im h)) rs → entriesIn s p (map (spotOf l) rs) ≡ map
+      (offsetEntry p) rs
   entries-are p f h rs a = entries-at s p (each-own (spotOf l) (all-map at a))
     where
       at : (r : Rec) → Here (hourKey Im h) r → entryAt s p (spotOf l r) ≡ offsetEntry p r
@@ -79,5 +82,6 @@ module _ {s : List ℕ} {l : List Change} (o : Begun s l) where
           record {
             good = w .good;
             mark = mk;
-            added = λ ts. ap (λ (x : List ℕ). totalsWithIn x ts .totals) (w .bytes) ∙ ap (λ (a : TotalsAnswer). a .totals) (totals-written r ts (w .rest) (w .good) mk);
+            added = λ ts. ap (λ (x : List ℕ). totalsWithIn x ts .totals) (w .bytes) ∙ ap (λ (a : TotalsAnswer). a .totals)
+                (totals-written r ts (w .rest) (w .good) mk);
           }

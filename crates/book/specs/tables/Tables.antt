@@ -48,7 +48,8 @@ together mismatched = false
 -- n of its mark stand in the hour, which holds at most most
 unfoldable pub changeFault : Kind → Bool → ℕ → ℕ → ℕ → ℕ → ℕ → ℕ → ℕ
 changeFault kind found n most changes used len lent =
-    cond (isFiling kind) (cond found keyStands (cond (ltb n most) (spaceFault changes used len lent) hourFull)) (cond found (spaceFault changes used len lent) noSuchKey)
+    cond (isFiling kind) (cond found keyStands (cond (ltb n most) (spaceFault changes used len lent) hourFull))
+    (cond found (spaceFault changes used len lent) noSuchKey)
 
 -- ---- the number of a step; 0 where it is none
 

@@ -67,7 +67,8 @@ workedIn s p xs ys = guarantees (namedOf xs (map entryCredit (entriesIn s p xs))
 
 -- the offset of these imports and exports is not refused
 pub record Workable (s : List ℕ) (p : HourPrices) (xs ys : List Spot) : Type 0 where
-  pub sound : offsetAnswer (length xs) (entriesIn s p xs) (p .emp) (totalsIn s ys) ≡ Amount (record { 0 = offset (length xs) (entriesIn s p xs) (p .emp) (totalsIn s ys) })
+  pub sound : offsetAnswer (length xs) (entriesIn s p xs) (p .emp) (totalsIn s ys) ≡ Amount
+      (record { 0 = offset (length xs) (entriesIn s p xs) (p .emp) (totalsIn s ys) })
 
 -- no credits and offset 0, or a number
 abbrev pub noGuarantees : ℕ → Reply

@@ -1,25 +1,25 @@
 // A unit's day.
-use crate::answers::UnitDay;
 use crate::amounts::hours;
 use crate::amounts::hours::Day;
 use crate::amounts::hours::HourPlace;
-use crate::book::Book;
 use crate::amounts::prices::HourPrice;
 use crate::amounts::prices::PriceTable;
 use crate::amounts::prices::price_table;
+use crate::answers::UnitDay;
+use crate::book::Book;
+use crate::book::CHANGES_MAX;
 use money::production::DayAnswer;
 use money::refusals::NO_SUCH_KEY;
 use money::refusals::NOT_TOGETHER;
 use money::refusals::PRICE_MISSING;
 use money::units::CentsPerStart;
+use money::units::HOURS;
 use money::units::Ticks;
 use records::amounts::UnitPart;
 use records::amounts::day_of;
 use records::amounts::unit_part;
 use records::keys::Key;
 use records::keys::unit_key;
-use crate::book::CHANGES_MAX;
-use money::units::HOURS;
 ghost use mathlib.Core.Path.{_≡_};
 ghost use mathlib.Core.Bool.{true, not};
 ghost use mathlib.Core.List.{List};
@@ -155,7 +155,8 @@ pub(crate) fn of_unit(
     table: PriceTable,
 ) -> UnitDay
     requires { ⌜ Log (now log) (now rows) n ⌝ ∗ ⌜ Wellformed key ⌝ }
-    ensures { λ r. ⌜ ((l : List Change) → Logged (now (log .entry)) (now (rows .entry)) n l → key .mark ≡ Gh → (price : ℕ → HourPricing) → TableOf price table → dayReply r ≡ unitDayOf key (standing l) price) × (r ≡ unitDayFrom (dayReply r)) ⌝ }
+    ensures { λ r. ⌜ ((l : List Change) → Logged (now (log .entry)) (now (rows .entry)) n l → key .mark ≡ Gh → (price : ℕ → HourPricing) → TableOf price table
+        → dayReply r ≡ unitDayOf key (standing l) price) × (r ≡ unitDayFrom (dayReply r)) ⌝ }
 {
     let units = hours::day_in(log, rows, n, key);
     if nowhere(units) {
@@ -173,7 +174,8 @@ pub(crate) fn of_unit(
 impl Book {
     // The day total of a unit and its reversal.
     pub fn unit_day(self, log: &[u8], name: &[u8]) -> UnitDay
-        ensures { λ r. ⌜ Meets (ask (dayOf (now (name .entry)))) self (now (log .entry)) self (dayReply r) (now (log .entry)) × (r ≡ unitDayFrom (dayReply r)) ⌝ }
+        ensures { λ r. ⌜ Meets (ask (dayOf (now (name .entry)))) self (now (log .entry)) self (dayReply r) (now (log .entry))
+            × (r ≡ unitDayFrom (dayReply r)) ⌝ }
     {
         let mut rows = [0u32; CHANGES_MAX];
         if self.check_rows(log, &mut rows) {

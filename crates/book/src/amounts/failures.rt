@@ -1,4 +1,8 @@
 // Failure charges.
+use crate::amounts::places;
+use crate::amounts::places::Places;
+use crate::amounts::prices::HourPrice;
+use crate::amounts::prices::price_in;
 use crate::answers::Answer;
 use crate::answers::CHARGES_MAX;
 use crate::answers::ChargeList;
@@ -6,15 +10,12 @@ use crate::answers::Charges;
 use crate::answers::NamedAmount;
 use crate::answers::no_amount;
 use crate::book::Book;
-use crate::amounts::places;
-use crate::amounts::places::Places;
-use crate::amounts::prices::HourPrice;
-use crate::amounts::prices::price_in;
+use crate::book::CHANGES_MAX;
 use crate::log::rows::find_in;
+use money::refusals::MARK_UNKNOWN;
 use money::refusals::NO_SUCH_KEY;
 use money::refusals::NOT_TOGETHER;
 use money::refusals::PRICE_MISSING;
-use money::refusals::MARK_UNKNOWN;
 use money::units::Answer as Charged;
 use money::units::Ticks;
 use records::amounts::failure_charge;
@@ -25,7 +26,6 @@ use records::keys::key_of;
 use records::layouts::HourPrices;
 use records::marks::Mark;
 use records::marks::is_failure;
-use crate::book::CHANGES_MAX;
 ghost use mathlib.Core.Path.{_≡_};
 ghost use mathlib.Core.Bool.{true};
 ghost use mathlib.Core.List.{List, []};
@@ -52,9 +52,16 @@ fn answer_of(a: Charged) -> Answer
 }
 
 // By the rows of n changes, for a key, at a price of its hour.
-pub(crate) fn of_key(log: &[u8], rows: &[u32; CHANGES_MAX], n: usize, key: Key, price: HourPrice) -> Answer
+pub(crate) fn of_key(
+    log: &[u8],
+    rows: &[u32; CHANGES_MAX],
+    n: usize,
+    key: Key,
+    price: HourPrice,
+) -> Answer
     requires { ⌜ Log (now log) (now rows) n ⌝ ∗ ⌜ Wellformed key ⌝ }
-    ensures { λ r. ⌜ ((l : List Change) → Logged (now (log .entry)) (now (rows .entry)) n l → isFailure (key .mark) ≡ true → (q : ℕ → HourPricing) → PriceIs (q (key .hour)) price → replyOf r ≡ chargeOf key (standing l) q) ⌝ }
+    ensures { λ r. ⌜ ((l : List Change) → Logged (now (log .entry)) (now (rows .entry)) n l → isFailure (key .mark) ≡ true → (q : ℕ → HourPricing)
+        → PriceIs (q (key .hour)) price → replyOf r ≡ chargeOf key (standing l) q) ⌝ }
 {
     let f = find_in(log, rows, n, n, key);
     if f.found {
@@ -109,7 +116,8 @@ fn no_charge_list() -> ChargeList
 // The charges of the records at the places, with their names.
 fn named_charges(p: Places, ticks: [Ticks; CHARGES_MAX]) -> ChargeList
     requires { ⌜ p .n ≤ maxPlaces ⌝ }
-    ensures { λ r. ⌜ (take (r .n) (r .list) ≡ namedOf (take (p .n) (p .at)) (take (p .n) ticks)) × (r .n ≤ maxCharges) × (r ≡ chargeListOf (take (r .n) (r .list))) ⌝ }
+    ensures { λ r. ⌜ (take (r .n) (r .list) ≡ namedOf (take (p .n) (p .at)) (take (p .n) ticks)) × (r .n ≤ maxCharges)
+        × (r ≡ chargeListOf (take (r .n) (r .list))) ⌝ }
 {
     let mut a = no_charge_list();
     let mut i: usize = 0;
@@ -141,7 +149,9 @@ pub(crate) fn of_hour(
     price: HourPrice,
 ) -> Charges
     requires { ⌜ Log (now log) (now rows) n ⌝ ∗ ⌜ hour < 32 ⌝ }
-    ensures { λ r. ⌜ ((l : List Change) → Logged (now (log .entry)) (now (rows .entry)) n l → isFailure mark ≡ true → (q : ℕ → HourPricing) → PriceIs (q hour) price → chargesReply r ≡ chargesOf (hourKey mark hour) (standing l) q) × (r .charges .n ≤ maxCharges) × (r ≡ chargesFrom (chargesReply r)) ⌝ }
+    ensures { λ r. ⌜ ((l : List Change) → Logged (now (log .entry)) (now (rows .entry)) n l → isFailure mark ≡ true → (q : ℕ → HourPricing)
+        → PriceIs (q hour) price → chargesReply r ≡ chargesOf (hourKey mark hour) (standing l) q) × (r .charges .n ≤ maxCharges)
+        × (r ≡ chargesFrom (chargesReply r)) ⌝ }
 {
     let failures = places::gather_rows(log, rows, n, key_of(mark, hour));
     if failures.n == 0 {
@@ -177,7 +187,8 @@ impl Book {
 
     // The charges of an hour's failed imports (FI) or exports (FE), by name.
     pub fn charges(self, log: &[u8], mark: Mark, hour: u8) -> Charges
-        ensures { λ r. ⌜ (chargesReply r ≡ hourCharges mark hour (load self (now (log .entry)))) × (r .charges .n ≤ maxCharges) × (r ≡ chargesFrom (chargesReply r)) ⌝ }
+        ensures { λ r. ⌜ (chargesReply r ≡ hourCharges mark hour (load self (now (log .entry)))) × (r .charges .n ≤ maxCharges)
+            × (r ≡ chargesFrom (chargesReply r)) ⌝ }
     {
         let mut rows = [0u32; CHANGES_MAX];
         if self.check_rows(log, &mut rows) {

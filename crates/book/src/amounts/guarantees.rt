@@ -1,18 +1,20 @@
 // An hour's guarantees and its wheel offset.
+use crate::amounts::places;
+use crate::amounts::places::Places;
+use crate::amounts::prices::HourPrice;
+use crate::amounts::prices::price_in;
 use crate::answers::CREDITS_MAX;
 use crate::answers::Credits;
 use crate::answers::Guarantees;
 use crate::answers::NamedAmount;
 use crate::answers::no_amount;
 use crate::book::Book;
-use crate::amounts::places;
-use crate::amounts::places::Places;
-use crate::amounts::prices::HourPrice;
-use crate::amounts::prices::price_in;
+use crate::book::CHANGES_MAX;
 use money::imports::Import;
 use money::refusals::NOT_TOGETHER;
 use money::refusals::PRICE_MISSING;
 use money::units::Answer;
+use money::units::INTERVALS;
 use money::units::Quantity;
 use money::units::Ticks;
 use records::amounts::hour_offset;
@@ -22,8 +24,6 @@ use records::keys::hour_key;
 use records::keys::key_of;
 use records::layouts::HourPrices;
 use records::marks::Mark;
-use crate::book::CHANGES_MAX;
-use money::units::INTERVALS;
 ghost use mathlib.Core.Path.{_≡_};
 ghost use mathlib.Core.List.{List, [], map};
 ghost use lib.ListN.{take};
@@ -104,7 +104,8 @@ fn no_credits() -> Credits
 // The credits of the records at the places, with their names.
 fn named_credits(p: Places, ticks: [Ticks; CREDITS_MAX]) -> Credits
     requires { ⌜ p .n ≤ maxPlaces ⌝ }
-    ensures { λ r. ⌜ (take (r .n) (r .list) ≡ namedOf (take (p .n) (p .at)) (take (p .n) ticks)) × (r .n ≤ maxCredits) × (r ≡ creditsOf (take (r .n) (r .list))) ⌝ }
+    ensures { λ r. ⌜ (take (r .n) (r .list) ≡ namedOf (take (p .n) (p .at)) (take (p .n) ticks)) × (r .n ≤ maxCredits)
+        × (r ≡ creditsOf (take (r .n) (r .list))) ⌝ }
 {
     let mut a = no_credits();
     let mut i: usize = 0;
@@ -133,7 +134,9 @@ pub(crate) fn no_guarantees(number: u8) -> Guarantees
 // Of the imports and exports at the places, at their hour's prices.
 fn worked(log: &[u8], imports: Places, exports: Places, prices: HourPrices) -> Guarantees
     requires { ⌜ Inside (now log) imports ⌝ ∗ ⌜ Inside (now log) exports ⌝ }
-    ensures { λ r. ⌜ (Workable (now (log .entry)) prices (spots imports) (spots exports) → guaranteesReply r ≡ workedIn (now (log .entry)) prices (spots imports) (spots exports)) × (r .credits .n ≤ maxCredits) × (r ≡ guaranteesFrom (guaranteesReply r)) ⌝ }
+    ensures { λ r. ⌜ (Workable (now (log .entry)) prices (spots imports) (spots exports)
+        → guaranteesReply r ≡ workedIn (now (log .entry)) prices (spots imports) (spots exports)) × (r .credits .n ≤ maxCredits)
+        × (r ≡ guaranteesFrom (guaranteesReply r)) ⌝ }
 {
     let entries = entries_at(log, imports, prices);
     let totals = totals_at(log, exports);
@@ -161,7 +164,8 @@ pub(crate) fn of_hour(
     price: HourPrice,
 ) -> Guarantees
     requires { ⌜ Log (now log) (now rows) n ⌝ ∗ ⌜ hour < 32 ⌝ }
-    ensures { λ r. ⌜ ((l : List Change) → Logged (now (log .entry)) (now (rows .entry)) n l → (q : ℕ → HourPricing) → PriceIs (q hour) price → guaranteesReply r ≡ guaranteesOf (standing l) q hour) × (r .credits .n ≤ maxCredits) × (r ≡ guaranteesFrom (guaranteesReply r)) ⌝ }
+    ensures { λ r. ⌜ ((l : List Change) → Logged (now (log .entry)) (now (rows .entry)) n l → (q : ℕ → HourPricing) → PriceIs (q hour) price
+        → guaranteesReply r ≡ guaranteesOf (standing l) q hour) × (r .credits .n ≤ maxCredits) × (r ≡ guaranteesFrom (guaranteesReply r)) ⌝ }
 {
     let imports = places::gather_rows(log, rows, n, key_of(Mark::Im, hour));
     if imports.n == 0 {
@@ -178,7 +182,8 @@ pub(crate) fn of_hour(
 impl Book {
     // The credit of each import of an hour by name, and the wheel offset.
     pub fn guarantees(self, log: &[u8], hour: u8) -> Guarantees
-        ensures { λ r. ⌜ Meets (ask (hourGuarantees hour)) self (now (log .entry)) self (guaranteesReply r) (now (log .entry)) × (r .credits .n ≤ maxCredits) × (r ≡ guaranteesFrom (guaranteesReply r)) ⌝ }
+        ensures { λ r. ⌜ Meets (ask (hourGuarantees hour)) self (now (log .entry)) self (guaranteesReply r) (now (log .entry)) × (r .credits .n ≤ maxCredits)
+            × (r ≡ guaranteesFrom (guaranteesReply r)) ⌝ }
     {
         let mut rows = [0u32; CHANGES_MAX];
         if self.check_rows(log, &mut rows) {

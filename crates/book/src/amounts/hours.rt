@@ -1,11 +1,11 @@
 // Where the records of a mark and name are written, in each hour of the day.
+use crate::book::CHANGES_MAX;
 use crate::log::rows::place_in;
+use money::units::HOURS;
 use records::heads::record_head;
 use records::keys::Key;
 use records::marks::order;
 use records::scan::starts;
-use crate::book::CHANGES_MAX;
-use money::units::HOURS;
 ghost use mathlib.Core.Path.{_≡_};
 ghost use mathlib.Core.Bool.{true, _&&_};
 ghost use mathlib.Core.List.{List};
@@ -101,7 +101,9 @@ pub(crate) fn day_in(log: &[u8], rows: &[u32; CHANGES_MAX], n: usize, key: Key) 
             known: false,
             start: 0,
         };
-        return Day { hours: [none; HOURS] };
+        return Day {
+            hours: [none; HOURS],
+        };
     }
     day_named(log, rows, n, order(mark) as u32, &bytes[3..len])
 }

@@ -1,4 +1,5 @@
 // Where the standing records of a mark and hour are written, by decoded name.
+use crate::book::CHANGES_MAX;
 use crate::log::index::hour_slot;
 use crate::log::rows::place_in;
 use crate::log::rows::stands_in;
@@ -7,7 +8,6 @@ use records::heads::head_key;
 use records::keys::Key;
 use records::names::comes_before;
 use records::names::no_name;
-use crate::book::CHANGES_MAX;
 ghost use mathlib.Core.Path.{_≡_};
 ghost use mathlib.Core.List.{List, _∷_, _++_, map};
 ghost use lib.ListN.{length, take, drop};
@@ -92,7 +92,8 @@ pub(crate) fn name_at(log: &[u8], start: usize) -> Name
 // With the record of a row, before the first whose name comes after its own.
 fn with_row(log: &[u8], p: Places, row: u32) -> Places
     requires { ⌜ (p .n < maxPlaces) × (rowPlace row ≤ length (now log)) ⌝ }
-    ensures { λ r. ⌜ (r .n ≤ maxPlaces) × (spots r ≡ putSpot (record { name = keyAt (now (log .entry)) (rowPlace row) .name; start = rowPlace row }) (spots p)) ⌝ }
+    ensures { λ r. ⌜ (r .n ≤ maxPlaces)
+        × (spots r ≡ putSpot (record { name = keyAt (now (log .entry)) (rowPlace row) .name; start = rowPlace row }) (spots p)) ⌝ }
 {
     let start = place_in(row);
     let name = name_at(log, start);
@@ -104,7 +105,8 @@ fn with_row(log: &[u8], p: Places, row: u32) -> Places
 // By the rows of n changes, for the key's mark and hour.
 pub(crate) fn gather_rows(log: &[u8], rows: &[u32; CHANGES_MAX], n: usize, key: Key) -> Places
     requires { ⌜ Log (now log) (now rows) n ⌝ ∗ ⌜ key .hour < 32 ⌝ }
-    ensures { λ r. ⌜ ((l : List Change) → Logged (now (log .entry)) (now (rows .entry)) n l → take (r .n) (r .at) ≡ map (spotOf l) (byName key (standing l))) × (r .n ≤ maxPlaces) ⌝ }
+    ensures { λ r. ⌜ ((l : List Change) → Logged (now (log .entry)) (now (rows .entry)) n l → take (r .n) (r .at) ≡ map (spotOf l) (byName key (standing l)))
+        × (r .n ≤ maxPlaces) ⌝ }
 {
     let slot = hour_slot(key);
     let mut p = no_spots();

@@ -1,14 +1,14 @@
 // Prices: of an hour, and of each hour of the day.
+use crate::book::CHANGES_MAX;
 use crate::log::rows::find_in;
 use crate::log::rows::place_in;
+use money::units::HOURS;
+use money::units::INTERVALS;
 use money::units::Price;
 use records::keys::key_of;
 use records::layouts::HourPrices;
 use records::marks::Mark;
 use records::views::prices_of;
-use crate::book::CHANGES_MAX;
-use money::units::HOURS;
-use money::units::INTERVALS;
 ghost use mathlib.Core.Path.{_≡_};
 ghost use mathlib.Core.Bool.{false};
 ghost use mathlib.Core.List.{List};

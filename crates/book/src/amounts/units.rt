@@ -1,6 +1,7 @@
 // The names of the units: those under which a GH stands.
-use crate::book::Book;
 use crate::amounts::places::name_at;
+use crate::book::Book;
+use crate::book::CHANGES_MAX;
 use crate::log::rows::place_in;
 use money::names::Name;
 use money::refusals::NOT_TOGETHER;
@@ -10,7 +11,6 @@ use records::marks::Mark;
 use records::marks::order;
 use records::names::comes_before;
 use records::names::no_name;
-use crate::book::CHANGES_MAX;
 ghost use mathlib.Core.Path.{_≡_};
 ghost use mathlib.Core.Bool.{cond, _&&_};
 ghost use mathlib.Core.List.{List, [], _∷_, _++_};
@@ -76,7 +76,8 @@ fn position_of(u: Units, name: Name) -> Slot
 // With the name at j, and those from there on one place further.
 fn inserted(u: Units, j: usize, name: Name) -> Units
     requires { ⌜ (j ≤ u .n) × (u .n < 512) ⌝ }
-    ensures { λ r. ⌜ (r .n ≡ u .n + 1) × (namesIn r ≡ take j (namesIn u) ++ (name ∷ drop j (namesIn u))) × (u ≡ unitsOf (namesIn u) → r ≡ unitsOf (namesIn r)) ⌝ }
+    ensures { λ r. ⌜ (r .n ≡ u .n + 1) × (namesIn r ≡ take j (namesIn u) ++ (name ∷ drop j (namesIn u)))
+        × (u ≡ unitsOf (namesIn u) → r ≡ unitsOf (namesIn r)) ⌝ }
 {
     let mut next = u;
     let mut i = u.n;
@@ -115,7 +116,8 @@ fn no_names() -> Units
 // By the rows of n changes, for the key's mark. Names are read where they are written.
 pub(crate) fn names_in(log: &[u8], rows: &[u32; CHANGES_MAX], n: usize, key: Key) -> Units
     requires { ⌜ Log (now log) (now rows) n ⌝ }
-    ensures { λ r. ⌜ ((l : List Change) → Logged (now (log .entry)) (now (rows .entry)) n l → take (r .n) (r .names) ≡ namesOf key (standing l)) × (r .n ≤ 512) × (r ≡ unitsOf (namesIn r)) ⌝ }
+    ensures { λ r. ⌜ ((l : List Change) → Logged (now (log .entry)) (now (rows .entry)) n l → take (r .n) (r .names) ≡ namesOf key (standing l)) × (r .n ≤ 512)
+        × (r ≡ unitsOf (namesIn r)) ⌝ }
 {
     let wanted = key.mark;
     let mark = order(wanted) as usize;

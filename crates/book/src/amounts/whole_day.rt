@@ -1,27 +1,27 @@
 // All amounts of a day, from one check of the book.
-use crate::answers::DayAmounts;
-use crate::answers::HourAmounts;
-use crate::answers::UnitAmounts;
-use crate::answers::UnitDay;
 use crate::amounts::days;
 use crate::amounts::failures;
 use crate::amounts::failures::no_charges;
 use crate::amounts::guarantees;
 use crate::amounts::guarantees::no_guarantees;
-use crate::book::Book;
 use crate::amounts::prices::HourPrice;
 use crate::amounts::prices::PriceTable;
 use crate::amounts::prices::price_table;
 use crate::amounts::units;
 use crate::amounts::units::Units;
+use crate::answers::DayAmounts;
+use crate::answers::HourAmounts;
+use crate::answers::UnitAmounts;
+use crate::answers::UnitDay;
+use crate::book::Book;
+use crate::book::CHANGES_MAX;
 use money::refusals::NOT_TOGETHER;
+use money::units::HOURS;
 use money::units::Ticks;
 use records::keys::Key;
 use records::keys::key_of;
 use records::marks::Mark;
 use records::names::no_name;
-use crate::book::CHANGES_MAX;
-use money::units::HOURS;
 ghost use mathlib.Core.Path.{_≡_};
 ghost use mathlib.Core.List.{List};
 ghost use Prim.Native.Nat.{ℕ, _<_};
@@ -51,9 +51,16 @@ fn no_hour() -> HourAmounts
 }
 
 // By the rows of n changes, at a price of the hour.
-fn hour_of(log: &[u8], rows: &[u32; CHANGES_MAX], n: usize, hour: u8, price: HourPrice) -> HourAmounts
+fn hour_of(
+    log: &[u8],
+    rows: &[u32; CHANGES_MAX],
+    n: usize,
+    hour: u8,
+    price: HourPrice,
+) -> HourAmounts
     requires { ⌜ Log (now log) (now rows) n ⌝ ∗ ⌜ hour < 32 ⌝ }
-    ensures { λ r. ⌜ ((l : List Change) → Logged (now (log .entry)) (now (rows .entry)) n l → (q : ℕ → HourPricing) → PriceIs (q hour) price → r ≡ hourFrom (hourReply (standing l) q hour)) ⌝ }
+    ensures { λ r. ⌜ ((l : List Change) → Logged (now (log .entry)) (now (rows .entry)) n l → (q : ℕ → HourPricing) → PriceIs (q hour) price
+        → r ≡ hourFrom (hourReply (standing l) q hour)) ⌝ }
 {
     let guarantees = guarantees::of_hour(log, rows, n, hour, price);
     let imports = failures::of_hour(log, rows, n, Mark::Fi, hour, price);
@@ -66,9 +73,15 @@ fn hour_of(log: &[u8], rows: &[u32; CHANGES_MAX], n: usize, hour: u8, price: Hou
 }
 
 // Hours 1 to 24, at the prices of a table.
-fn hours_of(log: &[u8], rows: &[u32; CHANGES_MAX], n: usize, table: PriceTable) -> [HourAmounts; HOURS]
+fn hours_of(
+    log: &[u8],
+    rows: &[u32; CHANGES_MAX],
+    n: usize,
+    table: PriceTable,
+) -> [HourAmounts; HOURS]
     requires { ⌜ Log (now log) (now rows) n ⌝ }
-    ensures { λ r. ⌜ ((l : List Change) → Logged (now (log .entry)) (now (rows .entry)) n l → (q : ℕ → HourPricing) → TableOf q table → r ≡ dayFrom (wholeOf (standing l) q) .hours) ⌝ }
+    ensures { λ r. ⌜ ((l : List Change) → Logged (now (log .entry)) (now (rows .entry)) n l → (q : ℕ → HourPricing) → TableOf q table
+        → r ≡ dayFrom (wholeOf (standing l) q) .hours) ⌝ }
 {
     let none = no_hour();
     let mut hours = [none; HOURS];
@@ -104,7 +117,8 @@ fn units_of(
     table: PriceTable,
 ) -> [UnitAmounts; CHANGES_MAX]
     requires { ⌜ Log (now log) (now rows) n ⌝ ∗ ⌜ Named u ⌝ }
-    ensures { λ r. ⌜ ((l : List Change) → Logged (now (log .entry)) (now (rows .entry)) n l → namesIn u ≡ namesOf ghKey (standing l) → (q : ℕ → HourPricing) → TableOf q table → r ≡ dayFrom (wholeOf (standing l) q) .units) ⌝ }
+    ensures { λ r. ⌜ ((l : List Change) → Logged (now (log .entry)) (now (rows .entry)) n l → namesIn u ≡ namesOf ghKey (standing l) → (q : ℕ → HourPricing)
+        → TableOf q table → r ≡ dayFrom (wholeOf (standing l) q) .units) ⌝ }
 {
     let none = no_unit();
     let mut units = [none; CHANGES_MAX];

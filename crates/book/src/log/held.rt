@@ -1,8 +1,9 @@
 // Changes on a book that was checked: the rows of its changes are at hand and change with it, and nothing is replayed.
 use crate::answers::Answer;
 use crate::answers::Done;
-use crate::log::index::hour_slot;
 use crate::book::Book;
+use crate::book::CHANGES_MAX;
+use crate::log::index::hour_slot;
 use crate::log::refusal::change_fault;
 use crate::log::rows::clear_row;
 use crate::log::rows::count_in;
@@ -23,7 +24,6 @@ use records::marks::is_withdrawal;
 use records::scan::View;
 use records::scan::starts;
 use records::writing::put_viewed;
-use crate::book::CHANGES_MAX;
 ghost use mathlib.Core.Path.{_≡_};
 ghost use mathlib.Core.Bool.{not, _&&_};
 ghost use mathlib.Core.List.{List, _∷_};
@@ -46,9 +46,16 @@ fn wrote_in(row: u32, slot: usize) -> bool
 }
 
 // The newest change before the last one that wrote a record of the mark and hour which begins with the head.
-fn written_before(log: &[u8], rows: &[u32; CHANGES_MAX], n: usize, slot: usize, head: &[u8]) -> usize
+fn written_before(
+    log: &[u8],
+    rows: &[u32; CHANGES_MAX],
+    n: usize,
+    slot: usize,
+    head: &[u8],
+) -> usize
     requires { ⌜ Log (now log) (now rows) n ⌝ ∗ ⌜ 0 < n ⌝ }
-    ensures { λ r. ⌜ ((c : Change) (l : List Change) → Undoing (now (log .entry)) (now (rows .entry)) n slot (now (head .entry)) c l → Wrote (length l) (keyOf c) r l) ⌝ }
+    ensures { λ r. ⌜ ((c : Change) (l : List Change) → Undoing (now (log .entry)) (now (rows .entry)) n slot (now (head .entry)) c l
+        → Wrote (length l) (keyOf c) r l) ⌝ }
 {
     let mut i: usize = n - 1;
     while 0 < i {
@@ -68,7 +75,8 @@ fn written_before(log: &[u8], rows: &[u32; CHANGES_MAX], n: usize, slot: usize, 
 // The rows without the last of n changes: the record that it replaced or removed stands again. A filing did neither.
 fn restore(log: &[u8], rows: &mut [u32; CHANGES_MAX], n: usize)
     requires { ⌜ Log (now log) (now rows) n ⌝ ∗ ⌜ 0 < n ⌝ ∗ ⌜ length (now rows) ≡ 512 ⌝ }
-    ensures { λ _. ⌜ ((c : Change) (l : List Change) → Logged (now (log .entry)) (now (rows .entry)) n (c ∷ l) → Rows (now (rows .exit)) l l) × (length (now (rows .exit)) ≡ 512) ⌝ }
+    ensures { λ _. ⌜ ((c : Change) (l : List Change) → Logged (now (log .entry)) (now (rows .entry)) n (c ∷ l) → Rows (now (rows .exit)) l l)
+        × (length (now (rows .exit)) ≡ 512) ⌝ }
 {
     let row = rows[n - 1];
     if is_filing(kind_in(row)) {
@@ -97,7 +105,8 @@ impl Book {
         rec: &[u8],
     ) -> Done
         requires { ⌜ Checked self (now log) (now rows) ⌝ ∗ ⌜ Since self (now log) (view .key) from ⌝ ∗ ⌜ Viewing (now rec) view ⌝ }
-        ensures { λ r. ⌜ ((want : Wanted) → IsChange want (now (rec .entry)) view → Makes (listed (parse want (now (rec .entry)))) self (now (log .entry)) (view .key) r (now (log .exit)) (now (rows .exit))) ⌝ }
+        ensures { λ r. ⌜ ((want : Wanted) → IsChange want (now (rec .entry)) view
+            → Makes (listed (parse want (now (rec .entry)))) self (now (log .entry)) (view .key) r (now (log .exit)) (now (rows .exit))) ⌝ }
     {
         if self.closed {
             return Done {

@@ -1,6 +1,7 @@
 // The one pass over a book's used part.
-use crate::log::index::hour_slot;
+use crate::book::CHANGES_MAX;
 use crate::log::index::bucket_of;
+use crate::log::index::hour_slot;
 use crate::log::refusal::change_fault;
 use crate::log::rows::clear_row;
 use crate::log::rows::find_in;
@@ -12,7 +13,6 @@ use records::scan::View;
 use records::scan::is_record;
 use records::scan::kind_of;
 use records::scan::peek;
-use crate::book::CHANGES_MAX;
 ghost use mathlib.Core.Path.{_≡_};
 ghost use mathlib.Core.Bool.{cond};
 ghost use mathlib.Core.List.{[]};

@@ -1,4 +1,5 @@
 // The rows of a checked book: one number for each change, lent and never copied.
+use crate::book::CHANGES_MAX;
 use crate::log::index::hour_slot;
 use records::heads::record_head;
 use records::keys::Key;
@@ -9,7 +10,6 @@ use records::scan::View;
 use records::scan::kind_of;
 use records::scan::peek;
 use records::scan::starts;
-use crate::book::CHANGES_MAX;
 ghost use mathlib.Core.Path.{_≡_};
 ghost use mathlib.Core.Bool.{true, false, cond, not, _&&_};
 ghost use mathlib.Core.List.{List};
@@ -124,9 +124,17 @@ fn not_found() -> Seek
 }
 
 // The newest of the first `from` changes whose record stands, is of the mark and hour, and begins with the head.
-fn find_head(log: &[u8], rows: &[u32; CHANGES_MAX], n: usize, from: usize, bucket: usize, head: &[u8]) -> Seek
+fn find_head(
+    log: &[u8],
+    rows: &[u32; CHANGES_MAX],
+    n: usize,
+    from: usize,
+    bucket: usize,
+    head: &[u8],
+) -> Seek
     requires { ⌜ Log (now log) (now rows) n ⌝ ∗ ⌜ from ≤ n ⌝ }
-    ensures { λ r. ⌜ ((k : Key) (l : List Change) → Search (now (log .entry)) (now (rows .entry)) n from bucket (now (head .entry)) k l → Sought (now (rows .entry)) n k r l) ⌝ }
+    ensures { λ r. ⌜ ((k : Key) (l : List Change) → Search (now (log .entry)) (now (rows .entry)) n from bucket (now (head .entry)) k l
+        → Sought (now (rows .entry)) n k r l) ⌝ }
 {
     let mut i: usize = from;
     while 0 < i {
@@ -148,9 +156,16 @@ fn find_head(log: &[u8], rows: &[u32; CHANGES_MAX], n: usize, from: usize, bucke
 }
 
 // The record of a key by the first `from` changes: no later one has the key's number. The key is spelled once, and no record is read.
-pub(crate) fn find_in(log: &[u8], rows: &[u32; CHANGES_MAX], n: usize, from: usize, key: Key) -> Seek
+pub(crate) fn find_in(
+    log: &[u8],
+    rows: &[u32; CHANGES_MAX],
+    n: usize,
+    from: usize,
+    key: Key,
+) -> Seek
     requires { ⌜ Log (now log) (now rows) n ⌝ ∗ ⌜ from ≤ n ⌝ }
-    ensures { λ r. ⌜ ((l : List Change) → Logged (now (log .entry)) (now (rows .entry)) n l → key .hour < 32 → Padded (key .name) → latestOf (bucket key) l ≤ from → Sought (now (rows .entry)) n key r l) ⌝ }
+    ensures { λ r. ⌜ ((l : List Change) → Logged (now (log .entry)) (now (rows .entry)) n l → key .hour < 32 → Padded (key .name)
+        → latestOf (bucket key) l ≤ from → Sought (now (rows .entry)) n key r l) ⌝ }
 {
     if from == 0 {
         return not_found();

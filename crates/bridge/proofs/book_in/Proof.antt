@@ -1,6 +1,6 @@
 use borrow.Author.Tests.{lt-ltb, le-ltb}
-use Rattle.bridge.specs.Bridge.{bookIn}
 use borrow.Author.Needs.{needs}
+use Rattle.bridge.specs.Bridge.{bookIn}
 use Rattle.bridge.proofs.book_in.Statement.{statement}
 use Rattle.bridge.proofs.book_in.Tie as tie
 

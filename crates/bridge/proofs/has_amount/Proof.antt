@@ -27,7 +27,12 @@ returns-3 c =
     let c3 = c2 .before in
     let c4 = c3 .before in
     let c5 = c4 .before in
-    rw (sym ((c5 .begins-with) .ensures) ∙ (c4 .if1) .left, sym ((c3 .begins-with2) .ensures) ∙ (c2 .if2) .left, sym ((c .before .begins-with3) .ensures) ∙ (c .if3) .taken)
+    rw (
+      sym ((c5 .begins-with) .ensures) ∙ (c4 .if1) .left,
+      sym ((c3 .begins-with2) .ensures) ∙ (c2 .if2) .left,
+      sym ((c .before .begins-with3) .ensures) ∙
+          (c .if3) .taken,
+    )
 
 begins-with-requires-4 : tie.Need-begins-with-requires-4
 begins-with-requires-4 c κs = search needs
@@ -39,7 +44,12 @@ returns-4 c =
     let c4 = c3 .before in
     let c5 = c4 .before in
     let c6 = c5 .before in
-    rw (sym ((c6 .begins-with) .ensures) ∙ (c5 .if1) .left, sym ((c4 .begins-with2) .ensures) ∙ (c3 .if2) .left, sym ((c2 .begins-with3) .ensures) ∙ (c .before .if3) .left) ((c .begins-with4) .ensures)
+    rw (
+      sym ((c6 .begins-with) .ensures) ∙ (c5 .if1) .left,
+      sym ((c4 .begins-with2) .ensures) ∙ (c3 .if2) .left,
+      sym ((c2 .begins-with3) .ensures) ∙
+          (c .before .if3) .left,
+    ) ((c .begins-with4) .ensures)
 
 pub has-amount-spec : {M : Type 1} → statement M
 has-amount-spec =

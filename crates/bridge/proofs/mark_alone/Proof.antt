@@ -1,6 +1,6 @@
 use mathlib.Core.Path.{refl}
-use Rattle.bridge.proofs.Tell.{told-no}
 use borrow.Author.Needs.{needs}
+use Rattle.bridge.proofs.Tell.{told-no}
 use Rattle.bridge.proofs.mark_alone.Statement.{statement}
 use Rattle.bridge.proofs.mark_alone.Tie as tie
 

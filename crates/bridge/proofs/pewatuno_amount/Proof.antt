@@ -1,12 +1,12 @@
 use mathlib.Core.Path.{sym, ap, _∙_}
 use mathlib.Core.Bool.{Bool}
 use Prim.Native.Nat.{ℕ}
+use borrow.Author.Needs.{needs}
 use Rattle.laws.specs.Sums.{orElse}
 use Rattle.money.specs.laws.UnitLaws.{kept}
 use Rattle.money.specs.declared.units.Answer.{Answer}
 use Rattle.bridge.specs.Bridge.{filingNumber, hasAmount, amountIn, answerNumber, amountNumber, ticksTold}
 use Rattle.bridge.proofs.Tell.{if-no, ticks-if}
-use borrow.Author.Needs.{needs}
 use Rattle.bridge.proofs.pewatuno_amount.Statement.{statement}
 use Rattle.bridge.proofs.pewatuno_amount.Tie as tie
 
@@ -22,7 +22,8 @@ returns c =
     let c2 = c .before .before in
     let c5 = c2 .before .before .before in
     let e = (c .before .filing-fault) .ensures ∙ ap (λ (b : Bool). filingNumber ((c5 .args) .prices .now) b) ((c2 .begins-with) .ensures) in
-    let k = kept (orElse (filingNumber ((c5 .args) .bytes .now) (hasAmount ((c5 .args) .bytes .now))) (answerNumber (amountIn ((c5 .args) .prices .now) ((c5 .args) .bytes .now)))) e ((c .if1) .taken) in
+    let k = kept (orElse (filingNumber ((c5 .args) .bytes .now) (hasAmount ((c5 .args) .bytes .now)))
+    (answerNumber (amountIn ((c5 .args) .prices .now) ((c5 .args) .bytes .now)))) e ((c .if1) .taken) in
     (k, if-no _ _ k ((c .if1) .taken))
 
 has-amount-requires : tie.Need-has-amount-requires
@@ -43,7 +44,8 @@ returns-2 c =
     let f = (c .before .filing-fault2) .ensures ∙ ap (λ (b : Bool). filingNumber ((c8 .args) .bytes .now) b) ((c2 .has-amount) .ensures) in
     let k =
     kept (answerNumber (amountIn ((c8 .args) .prices .now) ((c8 .args) .bytes .now))) f ((c .if2) .taken)
-    ∙ ap (λ (n : ℕ). orElse n (orElse (filingNumber ((c8 .args) .bytes .now) (hasAmount ((c8 .args) .bytes .now))) (answerNumber (amountIn ((c8 .args) .prices .now) ((c8 .args) .bytes .now))))) (sym ((c3 .if1) .left) ∙ e) in
+    ∙ ap (λ (n : ℕ). orElse n (orElse (filingNumber ((c8 .args) .bytes .now) (hasAmount ((c8 .args) .bytes .now)))
+    (answerNumber (amountIn ((c8 .args) .prices .now) ((c8 .args) .bytes .now))))) (sym ((c3 .if1) .left) ∙ e) in
     (k, if-no _ _ k ((c .if2) .taken))
 
 amount-of-requires : tie.Need-amount-of-requires
@@ -71,11 +73,13 @@ returns-3 c =
     let k =
     (c .before .tell-amount) .ensures .0 ∙ ap (λ (a : Answer). answerNumber a) ((c2 .amount-of) .ensures)
     ∙ ap (λ (n : ℕ). orElse n (answerNumber (amountIn ((c12 .args) .prices .now) ((c12 .args) .bytes .now)))) (sym ((c4 .if2) .left) ∙ f)
-    ∙ ap (λ (n : ℕ). orElse n (orElse (filingNumber ((c12 .args) .bytes .now) (hasAmount ((c12 .args) .bytes .now))) (answerNumber (amountIn ((c12 .args) .prices .now) ((c12 .args) .bytes .now))))) (sym ((c7 .if1) .left) ∙ e) in
+    ∙ ap (λ (n : ℕ). orElse n (orElse (filingNumber ((c12 .args) .bytes .now) (hasAmount ((c12 .args) .bytes .now)))
+    (answerNumber (amountIn ((c12 .args) .prices .now) ((c12 .args) .bytes .now))))) (sym ((c7 .if1) .left) ∙ e) in
     let a = (c2 .amount-of) .ensures in (
       k,
       (c .before .tell-amount) .ensures .1 ∙ ap (λ (x : Answer). ticksTold x ((c12 .args) .amounts .now)) a
-          ∙ ticks-if (amountIn ((c12 .args) .prices .now) ((c12 .args) .bytes .now)) ((c12 .args) .amounts .now) (sym k ∙ (c .before .tell-amount) .ensures .0 ∙ ap (λ (x : Answer). answerNumber x) a),
+          ∙ ticks-if (amountIn ((c12 .args) .prices .now) ((c12 .args) .bytes .now)) ((c12 .args) .amounts .now)
+          (sym k ∙ (c .before .tell-amount) .ensures .0 ∙ ap (λ (x : Answer). answerNumber x) a),
     )
 
 pub pewatuno-amount-spec : {M : Type 1} → statement M

@@ -1,9 +1,9 @@
 use mathlib.Core.Path.{ap, _∙_}
+use borrow.Author.Needs.{needs}
 use Rattle.book.specs.Register.{Reply, ask, countOf, stepOf}
 use Rattle.book.specs.Meaning.{outcome}
 use Rattle.book.specs.Replies.{replied}
 use Rattle.bridge.specs.Bridge.{asked, sizesTold}
-use borrow.Author.Needs.{needs}
 use Rattle.bridge.proofs.pewatuno_count.Statement.{statement}
 use Rattle.bridge.proofs.pewatuno_count.Tie as tie
 
@@ -30,7 +30,8 @@ returns c =
     let c4 = c3 .before in
     let c6 = c4 .before .before in
     let c11 = c6 .before .before .before .before .before in
-    let p = (c3 .count-of) .ensures .answer ∙ (λ i. outcome (stepOf (ask (countOf ((c11 .args) .mark .now) ((c4 .hour-of) .ensures i)))) ((c6 .book-in) .ensures i) ((c11 .args) .lent .now) .answer) in
+    let p = (c3 .count-of) .ensures .answer ∙ (λ i. outcome (stepOf (ask (countOf ((c11 .args) .mark .now) ((c4 .hour-of) .ensures i))))
+    ((c6 .book-in) .ensures i) ((c11 .args) .lent .now) .answer) in
     ((c2 .tell-said) .ensures .0 ∙ ap (λ (r : Reply). replied r) p, (c2 .tell-said) .ensures .1 ∙ ap (λ (r : Reply). sizesTold r ((c11 .args) .sizes .now)) p)
 
 pub pewatuno-count-spec : {M : Type 1} → statement M

@@ -1,9 +1,9 @@
 use mathlib.Core.Path.{ap, _∙_}
+use borrow.Author.Needs.{needs}
 use Rattle.book.specs.Register.{Reply, ask, failureCharge, stepOf}
 use Rattle.book.specs.Meaning.{outcome}
 use Rattle.book.specs.Replies.{replied}
 use Rattle.bridge.specs.Bridge.{asked, amountsTold}
-use borrow.Author.Needs.{needs}
 use Rattle.bridge.proofs.pewatuno_failure_charge.Statement.{statement}
 use Rattle.bridge.proofs.pewatuno_failure_charge.Tie as tie
 
@@ -29,8 +29,13 @@ returns c =
     let c3 = c2 .before in
     let c5 = c3 .before .before in
     let c10 = c5 .before .before .before .before .before in
-    let p = (c2 .failure-charge) .ensures .answer ∙ (λ i. outcome (stepOf (ask (failureCharge ((c10 .args) .mark .now) ((c3 .hour-of) .ensures i) ((c10 .args) .name .now)))) ((c5 .book-in) .ensures i) ((c10 .args) .lent .now) .answer) in
-    ((c .before .tell-amounts) .ensures .0 ∙ ap (λ (r : Reply). replied r) p, (c .before .tell-amounts) .ensures .1 ∙ ap (λ (r : Reply). amountsTold r ((c10 .args) .amounts .now)) p)
+    let p = (c2 .failure-charge) .ensures .answer ∙ (λ i. outcome
+    (stepOf (ask (failureCharge ((c10 .args) .mark .now) ((c3 .hour-of) .ensures i) ((c10 .args) .name .now)))) ((c5 .book-in) .ensures i)
+    ((c10 .args) .lent .now) .answer) in (
+      (c .before .tell-amounts) .ensures .0 ∙ ap (λ (r : Reply). replied r) p,
+      (c .before .tell-amounts) .ensures .1 ∙ ap
+          (λ (r : Reply). amountsTold r ((c10 .args) .amounts .now)) p,
+    )
 
 pub pewatuno-failure-charge-spec : {M : Type 1} → statement M
 pewatuno-failure-charge-spec =

@@ -1,9 +1,9 @@
 use mathlib.Core.Path.{ap, _∙_}
+use borrow.Author.Needs.{needs}
 use Rattle.book.specs.Register.{Reply, ask, freeBytes, stepOf}
 use Rattle.book.specs.Meaning.{outcome}
 use Rattle.book.specs.Replies.{replied}
 use Rattle.bridge.specs.Bridge.{asked, sizesTold}
-use borrow.Author.Needs.{needs}
 use Rattle.bridge.proofs.pewatuno_free.Statement.{statement}
 use Rattle.bridge.proofs.pewatuno_free.Tie as tie
 

@@ -1,9 +1,9 @@
 use mathlib.Core.Path.{ap, _∙_}
+use borrow.Author.Needs.{needs}
 use Rattle.book.specs.Register.{Reply, ask, hourGuarantees, stepOf}
 use Rattle.book.specs.Meaning.{outcome, guaranteesReply}
 use Rattle.book.specs.Replies.{replied}
 use Rattle.bridge.specs.Bridge.{bookIn, hourIn, asked, hourSizes, hourAmounts}
-use borrow.Author.Needs.{needs}
 use Rattle.bridge.proofs.pewatuno_guarantees.Statement.{statement}
 use Rattle.bridge.proofs.pewatuno_guarantees.Tie as tie
 

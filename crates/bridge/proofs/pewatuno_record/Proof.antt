@@ -1,9 +1,9 @@
 use mathlib.Core.Path.{ap, _∙_}
+use borrow.Author.Needs.{needs}
 use Rattle.book.specs.Register.{Reply, ask, recordOf, stepOf}
 use Rattle.book.specs.Meaning.{outcome}
 use Rattle.book.specs.Replies.{replied}
 use Rattle.bridge.specs.Bridge.{asked, sizesTold}
-use borrow.Author.Needs.{needs}
 use Rattle.bridge.proofs.pewatuno_record.Statement.{statement}
 use Rattle.bridge.proofs.pewatuno_record.Tie as tie
 
@@ -30,7 +30,9 @@ returns c =
     let c4 = c3 .before in
     let c6 = c4 .before .before in
     let c12 = c6 .before .before .before .before .before .before in
-    let p = (c3 .record-of) .ensures .answer ∙ (λ i. outcome (stepOf (ask (recordOf ((c12 .args) .mark .now) ((c4 .hour-of) .ensures i) ((c12 .args) .name .now)))) ((c6 .book-in) .ensures i) ((c12 .args) .lent .now) .answer) in
+    let p = (c3 .record-of) .ensures .answer ∙ (λ i. outcome
+    (stepOf (ask (recordOf ((c12 .args) .mark .now) ((c4 .hour-of) .ensures i) ((c12 .args) .name .now)))) ((c6 .book-in) .ensures i)
+    ((c12 .args) .lent .now) .answer) in
     ((c2 .tell-said) .ensures .0 ∙ ap (λ (r : Reply). replied r) p, (c2 .tell-said) .ensures .1 ∙ ap (λ (r : Reply). sizesTold r ((c12 .args) .sizes .now)) p)
 
 pub pewatuno-record-spec : {M : Type 1} → statement M

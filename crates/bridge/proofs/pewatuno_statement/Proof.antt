@@ -1,11 +1,11 @@
 use mathlib.Core.Path.{sym, ap, _∙_}
 use Prim.Native.Nat.{ℕ}
+use borrow.Author.Needs.{needs}
 use Rattle.book.specs.declared.book.Book.{Book}
 use Rattle.book.specs.Meaning.{load}
 use Rattle.statement.specs.Statement.{Outcome, outcomeOf}
 use Rattle.bridge.specs.Bridge.{stored, statementIn}
 use Rattle.bridge.proofs.Tell.{told-no}
-use borrow.Author.Needs.{needs}
 use Rattle.bridge.proofs.pewatuno_statement.Statement.{statement}
 use Rattle.bridge.proofs.pewatuno_statement.Tie as tie
 
@@ -27,8 +27,10 @@ returns c =
     let c3 = c .before .before .before in
     let c5 = c3 .before .before in
     let c10 = c5 .before .before .before .before .before in
-    let e = ap (λ (b : Book). outcomeOf (load b ((c10 .args) .lent .now)) ((c10 .args) .out .now)) ((c5 .book-in) .ensures) in
-    ((c3 .statement) .ensures .number ∙ ap (λ (o : Outcome). o .number) e, ((c3 .statement) .ensures .bytes ∙ ap (λ (o : Outcome). o .bytes) e, told-no _ _ _ ((c .if1) .taken)))
+    let e = ap (λ (b : Book). outcomeOf (load b ((c10 .args) .lent .now)) ((c10 .args) .out .now)) ((c5 .book-in) .ensures) in (
+      (c3 .statement) .ensures .number ∙ ap (λ (o : Outcome). o .number) e,
+      ((c3 .statement) .ensures .bytes ∙ ap (λ (o : Outcome). o .bytes) e, told-no _ _ _ ((c .if1) .taken)),
+    )
 
 set-requires : tie.Need-set-requires
 set-requires c κs = search needs

@@ -34,7 +34,8 @@ returns-2 c =
     let c4 = c2 .before .before in
     let c5 = c4 .before in
     let c6 = c5 .before in
-    rw (ne-eqb _ _ ((c6 .if1) .left), eq-eqb _ _ ((c5 .if2) .taken)) ((c2 .mark-alone) .ensures .0 ∙ (c4 .parse-take-back) .ensures, (refl, (c2 .mark-alone) .ensures .1))
+    rw (ne-eqb _ _ ((c6 .if1) .left), eq-eqb _ _ ((c5 .if2) .taken))
+    ((c2 .mark-alone) .ensures .0 ∙ (c4 .parse-take-back) .ensures, (refl, (c2 .mark-alone) .ensures .1))
 
 parse-close-requires : tie.Need-parse-close-requires
 parse-close-requires c κs = search needs
@@ -52,7 +53,8 @@ returns-3 c =
     let c5 = c4 .before in
     let c6 = c5 .before in
     let c7 = c6 .before in
-    rw (ne-eqb _ _ ((c7 .if1) .left), ne-eqb _ _ ((c6 .if2) .left), eq-eqb _ _ ((c5 .if3) .taken)) ((c2 .mark-alone2) .ensures .0 ∙ (c4 .parse-close) .ensures, (refl, (c2 .mark-alone2) .ensures .1))
+    rw (ne-eqb _ _ ((c7 .if1) .left), ne-eqb _ _ ((c6 .if2) .left), eq-eqb _ _ ((c5 .if3) .taken))
+    ((c2 .mark-alone2) .ensures .0 ∙ (c4 .parse-close) .ensures, (refl, (c2 .mark-alone2) .ensures .1))
 
 wanted-by-requires : tie.Need-wanted-by-requires
 wanted-by-requires c κs = search needs

@@ -1,5 +1,6 @@
 use mathlib.Core.Path.{ap, _∙_}
 use lib.ListN.{take}
+use borrow.Author.Needs.{needs}
 use Rattle.records.specs.Marks.{markBytes}
 use Rattle.records.specs.declared.marks.Mark.the-variants.{Im}
 use Rattle.records.specs.declared.names.Spelling.{Spelling}
@@ -7,7 +8,6 @@ use Rattle.book.specs.Register.{Reply, ask, recordOf, stepOf}
 use Rattle.book.specs.Meaning.{outcome}
 use Rattle.bridge.specs.Bridge.{importPlace}
 use Rattle.bridge.proofs.Tell.{fits}
-use borrow.Author.Needs.{needs}
 use Rattle.bridge.proofs.place_of.Statement.{statement}
 use Rattle.bridge.proofs.place_of.Tie as tie
 
@@ -41,7 +41,8 @@ returns c =
     let c5 = c .before .before .before .before .before in
     let c7 = c5 .before .before in
     let args = c7 .args in
-    let asked : Spelling → Reply = λ s. outcome (stepOf (ask (recordOf (markBytes Im) (args .hour) (take (s .len) (s .bytes))))) (args .b) (args .lent .now) .answer in
+    let asked : Spelling → Reply = λ s. outcome (stepOf (ask (recordOf (markBytes Im) (args .hour) (take (s .len) (s .bytes))))) (args .b)
+    (args .lent .now) .answer in
     (c .record-of) .ensures .answer ∙ ap asked ((c5 .spell-name) .ensures)
 
 pub place-of-spec : {M : Type 1} → statement M

@@ -1,7 +1,7 @@
 use mathlib.Core.Path.{ap, _∙_}
+use borrow.Author.Needs.{needs}
 use Rattle.book.specs.Register.{Reply}
 use Rattle.bridge.specs.Bridge.{placeTold}
-use borrow.Author.Needs.{needs}
 use Rattle.bridge.proofs.tell_credit.Statement.{statement}
 use Rattle.bridge.proofs.tell_credit.Tie as tie
 

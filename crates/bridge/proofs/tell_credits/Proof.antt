@@ -1,11 +1,11 @@
 use mathlib.Core.Path.{_≡_, refl, ap, _∙_}
 use Prim.Native.Nat.{_-_, _≤_}
 use lib.ListN.{length, take}
+use borrow.Author.Needs.{needs}
+use native.Mathlib.Omega.{arith}
 use Rattle.book.specs.Handed.{maxCredits}
 use Rattle.bridge.specs.Bridge.{creditsSizes}
 use Rattle.bridge.proofs.Tell.{Telling, none-told, one-told, all-told, unmapped}
-use borrow.Author.Needs.{needs}
-use native.Mathlib.Omega.{arith}
 use Rattle.bridge.proofs.tell_credits.Statement.{statement}
 use Rattle.bridge.proofs.tell_credits.Tie as tie
 

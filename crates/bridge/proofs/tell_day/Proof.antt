@@ -2,8 +2,8 @@ use mathlib.Core.Path.{refl, ap, _∙_}
 use mathlib.Core.List.{List}
 use lib.IntN.{ℤ}
 use borrow.Author.Tests.{eq-eqb, ne-eqb}
-use Rattle.bridge.specs.Bridge.{stored}
 use borrow.Author.Needs.{needs}
+use Rattle.bridge.specs.Bridge.{stored}
 use Rattle.bridge.proofs.tell_day.Statement.{statement}
 use Rattle.bridge.proofs.tell_day.Tie as tie
 
@@ -27,7 +27,8 @@ returns-2 c =
     let c4 = c .before .before .before .before in
     let c6 = c4 .before .before in
     let c7 = c6 .before in
-    rw (eq-eqb _ _ ((c6 .if1) .left)) (refl, (c .before .set-amount2) .ensures ∙ ap (λ (s : List ℤ). stored s 1 ((c7 .args) .d .reversal .0)) ((c4 .set-amount) .ensures))
+    rw (eq-eqb _ _ ((c6 .if1) .left))
+    (refl, (c .before .set-amount2) .ensures ∙ ap (λ (s : List ℤ). stored s 1 ((c7 .args) .d .reversal .0)) ((c4 .set-amount) .ensures))
 
 pub tell-day-spec : {M : Type 1} → statement M
 tell-day-spec =

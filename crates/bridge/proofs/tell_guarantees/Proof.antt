@@ -5,11 +5,11 @@ use lib.IntN.{ℤ}
 use lib.ListN.{length, take}
 use lib.Seq.{length-take-le}
 use borrow.Author.Tests.{eq-eqb, ne-eqb}
+use borrow.Author.Needs.{needs}
+use native.Mathlib.Omega.{arith}
 use Rattle.book.specs.Handed.{maxCredits}
 use Rattle.bridge.specs.Bridge.{stored, creditsSizes, creditsAmounts}
 use Rattle.bridge.proofs.Tell.{unmapped}
-use borrow.Author.Needs.{needs}
-use native.Mathlib.Omega.{arith}
 use Rattle.bridge.proofs.tell_guarantees.Statement.{statement}
 use Rattle.bridge.proofs.tell_guarantees.Tie as tie
 
@@ -44,7 +44,8 @@ returns-2 c =
       (
         said .0
             ∙ ap (λ (k : ℕ). creditsSizes (args .b) (args .lent .now) (args .hour) 0 (take (a .n) (a .list)) (stored (args .sizes .now) 0 k)) (sym n),
-        said .1 ∙ ap (λ (s : List ℤ). creditsAmounts 0 (take (a .n) (a .list)) s) ((c .before .before .before .before .before .before .before .set-amount) .ensures),
+        said .1 ∙ ap (λ (s : List ℤ). creditsAmounts 0 (take (a .n) (a .list)) s)
+            ((c .before .before .before .before .before .before .before .set-amount) .ensures),
       ),
     )
 

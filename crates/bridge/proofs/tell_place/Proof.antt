@@ -1,8 +1,8 @@
 use mathlib.Core.Path.{ap, _∙_}
 use mathlib.Core.List.{List}
 use Prim.Native.Nat.{ℕ, _+_, _*_}
-use Rattle.bridge.specs.Bridge.{stored}
 use borrow.Author.Needs.{needs}
+use Rattle.bridge.specs.Bridge.{stored}
 use Rattle.bridge.proofs.tell_place.Statement.{statement}
 use Rattle.bridge.proofs.tell_place.Tie as tie
 

@@ -1,8 +1,8 @@
 use mathlib.Core.Path.{refl, ap, _∙_}
 use mathlib.Core.List.{List}
 use Prim.Native.Nat.{ℕ}
-use Rattle.bridge.specs.Bridge.{stored}
 use borrow.Author.Needs.{needs}
+use Rattle.bridge.specs.Bridge.{stored}
 use Rattle.bridge.proofs.tell_said.Statement.{statement}
 use Rattle.bridge.proofs.tell_said.Tie as tie
 

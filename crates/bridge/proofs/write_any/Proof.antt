@@ -1,11 +1,11 @@
 use mathlib.Core.Path.{refl, sym, ap, _∙_}
 use mathlib.Core.Bool.{cond, not}
+use borrow.Author.Needs.{needs}
 use Rattle.money.specs.laws.UnitLaws.{kept}
 use Rattle.records.specs.Changes.{isRecord, parse, parseAny, entryOf, putNumber}
 use Rattle.records.specs.declared.parse.Parsed.{Parsed}
 use Rattle.records.specs.declared.marks.Wanted.the-variants.{Any}
 use Rattle.bridge.proofs.Tell.{told-no, if-no}
-use borrow.Author.Needs.{needs}
 use Rattle.bridge.proofs.write_any.Statement.{statement}
 use Rattle.bridge.proofs.write_any.Tie as tie
 
@@ -19,8 +19,10 @@ returns : tie.Need-returns
 returns c =
     let c5 = c .before .before .before .before .before in
     let s = (c5 .args) .bytes .now in
-    let e = ap (λ (x : Parsed). x .number) ((c .before .parse-any) .ensures) in
-    (kept (cond (not (isRecord (entryOf (parseAny s) .view .act))) 0 (putNumber (parse Any s) 0 ((c5 .args) .out .now))) e ((c .if1) .taken), (if-no _ _ e ((c .if1) .taken), told-no _ _ _ ((c .if1) .taken)))
+    let e = ap (λ (x : Parsed). x .number) ((c .before .parse-any) .ensures) in (
+      kept (cond (not (isRecord (entryOf (parseAny s) .view .act))) 0 (putNumber (parse Any s) 0 ((c5 .args) .out .now))) e ((c .if1) .taken),
+      (if-no _ _ e ((c .if1) .taken), told-no _ _ _ ((c .if1) .taken)),
+    )
 
 is-record-requires : tie.Need-is-record-requires
 is-record-requires c κs = search needs

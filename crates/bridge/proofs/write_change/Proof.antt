@@ -1,8 +1,8 @@
 use mathlib.Core.Path.{sym, ap, _∙_}
+use borrow.Author.Needs.{needs}
 use Rattle.records.specs.declared.parse.Parsed.{Parsed}
 use Rattle.bridge.specs.Bridge.{stored}
 use Rattle.bridge.proofs.Tell.{told-no}
-use borrow.Author.Needs.{needs}
 use Rattle.bridge.proofs.write_change.Statement.{statement}
 use Rattle.bridge.proofs.write_change.Tie as tie
 
@@ -36,8 +36,10 @@ returns-2 c =
     let c4 = c2 .before .before in
     let c7 = c4 .before .before .before in
     let c10 = c7 .before .before .before in
-    let c14 = c10 .before .before .before .before in
-    (sym ((c4 .if1) .left) ∙ (c7 .put) .ensures .0, ((c7 .put) .ensures .1, (c2 .set) .ensures ∙ ap (λ (p : Parsed). stored ((c14 .args) .sizes .now) 0 (p .view .len)) ((c10 .parse-change) .ensures)))
+    let c14 = c10 .before .before .before .before in (
+      sym ((c4 .if1) .left) ∙ (c7 .put) .ensures .0,
+      ((c7 .put) .ensures .1, (c2 .set) .ensures ∙ ap (λ (p : Parsed). stored ((c14 .args) .sizes .now) 0 (p .view .len)) ((c10 .parse-change) .ensures)),
+    )
 
 pub write-change-spec : {M : Type 1} → statement M
 write-change-spec =

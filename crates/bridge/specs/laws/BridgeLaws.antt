@@ -68,4 +68,5 @@ beyond-asked q state lent b = ap (λ (x : Book). outcome (stepOf (ask q)) x lent
 -- an input: 16 where it holds a record, 0 for none, and nothing is taken
 pub beyond-feed : (state lent input : List ℕ) → Beyond state → feedIn state lent input ≡ feedOf mismatched (bookIn state) (length lent) input
 unfolding feedIn
-beyond-feed state lent input b = ap (λ (x : Load). feedOf x (bookIn state) (length lent) input) (ap (λ (x : Book). load x lent) (beyond state b) ∙ none-belong lent)
+beyond-feed state lent input b = ap (λ (x : Load). feedOf x (bookIn state) (length lent) input)
+    (ap (λ (x : Book). load x lent) (beyond state b) ∙ none-belong lent)

@@ -1,5 +1,5 @@
-use Rattle.demands.specs.laws.BesideLaws.{charges-by-key}
 use borrow.Author.Needs.{needs}
+use Rattle.demands.specs.laws.BesideLaws.{charges-by-key}
 use Rattle.demands.proofs.hour_charges.Statement.{statement}
 use Rattle.demands.proofs.hour_charges.Tie as tie
 

@@ -1,6 +1,6 @@
-use Rattle.demands.specs.laws.DemandLaws.{demanded}
 use borrow.Author.Tests.{eq-eqb, ne-eqb}
 use borrow.Author.Needs.{needs}
+use Rattle.demands.specs.laws.DemandLaws.{demanded}
 use Rattle.demands.proofs.make_change.Statement.{statement}
 use Rattle.demands.proofs.make_change.Tie as tie
 
@@ -52,7 +52,8 @@ returns-4 c =
     let c3 = c2 .before in
     let c4 = c3 .before in
     let c5 = c4 .before in
-    rw (ne-eqb _ _ ((c5 .if1) .left), ne-eqb _ _ ((c4 .if2) .left), ne-eqb _ _ ((c3 .if3) .left), eq-eqb _ _ ((c2 .if4) .taken)) (demanded _ _ _ _ _ _ ((c .take-back) .ensures))
+    rw (ne-eqb _ _ ((c5 .if1) .left), ne-eqb _ _ ((c4 .if2) .left), ne-eqb _ _ ((c3 .if3) .left), eq-eqb _ _ ((c2 .if4) .taken))
+    (demanded _ _ _ _ _ _ ((c .take-back) .ensures))
 
 close-requires : tie.Need-close-requires
 close-requires c κs = search needs
@@ -67,7 +68,8 @@ returns-5 c =
     let c4 = c3 .before in
     let c5 = c4 .before in
     let c6 = c5 .before in
-    rw (ne-eqb _ _ ((c6 .if1) .left), ne-eqb _ _ ((c5 .if2) .left), ne-eqb _ _ ((c4 .if3) .left), ne-eqb _ _ ((c3 .if4) .left), eq-eqb _ _ ((c2 .if5) .taken)) (demanded _ _ _ _ _ _ ((c .close) .ensures))
+    rw (ne-eqb _ _ ((c6 .if1) .left), ne-eqb _ _ ((c5 .if2) .left), ne-eqb _ _ ((c4 .if3) .left), ne-eqb _ _ ((c3 .if4) .left), eq-eqb _ _ ((c2 .if5) .taken))
+    (demanded _ _ _ _ _ _ ((c .close) .ensures))
 
 change-requires : tie.Need-change-requires
 change-requires c κs = search needs
@@ -83,7 +85,8 @@ returns-6 c =
     let c6 = c5 .before in
     let c7 = c6 .before in
     let c8 = c7 .before in
-    rw (ne-eqb _ _ ((c8 .if1) .left), ne-eqb _ _ ((c7 .if2) .left), ne-eqb _ _ ((c6 .if3) .left), ne-eqb _ _ ((c5 .if4) .left), ne-eqb _ _ ((c4 .if5) .left)) (demanded _ _ _ _ _ _ ((c2 .change) .ensures))
+    rw (ne-eqb _ _ ((c8 .if1) .left), ne-eqb _ _ ((c7 .if2) .left), ne-eqb _ _ ((c6 .if3) .left), ne-eqb _ _ ((c5 .if4) .left), ne-eqb _ _ ((c4 .if5) .left))
+    (demanded _ _ _ _ _ _ ((c2 .change) .ensures))
 
 pub make-change-spec : {M : Type 1} → statement M
 make-change-spec =

@@ -2,12 +2,12 @@ use mathlib.Core.Path.{ap, _∙_}
 use mathlib.Core.List.{List}
 use lib.IntN.{pos}
 use lib.ListN.{replicate}
+use borrow.Author.Needs.{needs}
 use Rattle.book.specs.Layer.{Name, noTicks}
 use Rattle.book.specs.Handed.{maxCredits, noAmount, creditsOf}
 use Rattle.book.specs.laws.HandedLaws.{pad-none}
 use Rattle.book.specs.declared.answers.NamedAmount.{NamedAmount}
 use Rattle.book.specs.declared.answers.Guarantees.{Guarantees}
-use borrow.Author.Needs.{needs}
 use Rattle.demands.proofs.no_guarantees.Statement.{statement}
 use Rattle.demands.proofs.no_guarantees.Tie as tie
 

@@ -1,6 +1,6 @@
-use Rattle.demands.specs.laws.DemandLaws.{demanded}
 use borrow.Author.Tests.{eq-eqb, ne-eqb}
 use borrow.Author.Needs.{needs}
+use Rattle.demands.specs.laws.DemandLaws.{demanded}
 use Rattle.demands.proofs.put_question.Statement.{statement}
 use Rattle.demands.proofs.put_question.Tie as tie
 

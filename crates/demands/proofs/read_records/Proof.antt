@@ -1,5 +1,5 @@
-use Rattle.demands.specs.laws.BesideLaws.{read-as-calls}
 use borrow.Author.Needs.{needs}
+use Rattle.demands.specs.laws.BesideLaws.{read-as-calls}
 use Rattle.demands.proofs.read_records.Statement.{statement}
 use Rattle.demands.proofs.read_records.Tie as tie
 

@@ -43,7 +43,8 @@ module _ (b : Book) (s : List ℕ) (l : List Change) (e : load b s ≡ belongs l
 
   day-is : (k : Key) → first (dayChecks (standing l) k) ≡ 0 → unitDayOf k (standing l) (priceOf (standing l)) ≡ unitDay (total k) (reversal (total k))
   unfolding unitDayOf
-  day-is k = go (every 24 (λ (j : ℕ). absent (unitAt k (standing l) j))) (every 24 (λ (j : ℕ). payable (unitAt k (standing l) j) (priceOf (standing l) (1 + j))))
+  day-is k = go (every 24 (λ (j : ℕ). absent (unitAt k (standing l) j)))
+      (every 24 (λ (j : ℕ). payable (unitAt k (standing l) j) (priceOf (standing l) (1 + j))))
     where
       go : (x y : Bool) → first ((x gives 11) ∷ (not y gives 15) ∷ []) ≡ 0
           → cond x (refused 11) (cond y (unitDay (total k) (reversal (total k))) (refused 15)) ≡ unitDay (total k) (reversal (total k))
@@ -66,7 +67,8 @@ module _ (b : Book) (s : List ℕ) (l : List Change) (e : load b s ≡ belongs l
     day = λ n k t f z b′ r s′ m.
         told-is (dayOf n) b′ r s′ m
         ∙ ap (λ (x : Asked). keyed x (λ (j : Key). unitDayOf j (standing l) (priceOf (standing l)))) f
-        ∙ day-is k (sym (ap (λ (x : Load). first (checksOver (ask (dayOf n)) (length s) (b .closed) x)) e ∙ ap (λ (x : Asked). first (keyFirst x (dayChecks (standing l)))) f) ∙ z);
+        ∙ day-is k (sym (ap (λ (x : Load). first (checksOver (ask (dayOf n)) (length s) (b .closed) x)) e ∙ ap
+        (λ (x : Asked). first (keyFirst x (dayChecks (standing l)))) f) ∙ z);
     failure = λ m h n k t f x u p q b′ r s′ w.
         told-is (failureCharge m h n) b′ r s′ w
         ∙ ap (λ (y : Asked). keyed y (λ (j : Key). chargeOf j (standing l) (priceOf (standing l)))) f
@@ -82,6 +84,7 @@ demand2 = record {
   amounts = amounts;
   back = λ want s c e rest. parse-fine want s c e .good rest;
   spelled = λ s v t e. spelled-back v (decoded-valid s v t e);
-  only = λ s c n e. let f = scan-got s c n e in ap (take n) (f .bytes) ∙ ap (λ (k : ℕ). take k (write c ++ drop n s)) (f .len) ∙ take-append-seam (write c) (drop n s);
+  only = λ s c n e. let f = scan-got s c n e in ap (take n) (f .bytes) ∙ ap (λ (k : ℕ). take k (write c ++ drop n s)) (f .len) ∙ take-append-seam (write c)
+      (drop n s);
   used = λ b s l e. let x = loaded-from b s l e in let p : x .list ≡ l = cc (x .is, e) in sym (x .bytes) ∙ ap writeAll p;
 }

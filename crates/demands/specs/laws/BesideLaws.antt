@@ -5,6 +5,7 @@ use mathlib.Core.List.{List, [], _∷_, _++_, map, append-assoc}
 use mathlib.Core.Bool.{Bool, true, cond}
 use native.Mathlib.Omega.{arith}
 use lib.ListN.{length, take, drop, replicate}
+use Rattle.laws.specs.Lists.{All}
 use Rattle.book.specs.Layer.{Change, HourPrices, Mark, Rec, askHourOf, sameHour}
 use Rattle.book.specs.laws.LayerLaws.{hour-parts}
 use Rattle.book.specs.ByName.{byName}
@@ -20,7 +21,6 @@ use Rattle.book.specs.laws.CallLaws.{Decided, decided-change}
 use Rattle.book.specs.laws.LoadLaws.{load-whole, loaded-valid}
 use Rattle.book.specs.laws.RegisterLaws.{New, valid-new, once-standing}
 use Rattle.book.specs.laws.StandLaws.{all-map, all-by-name, own-pick}
-use Rattle.laws.specs.Lists.{All}
 use Rattle.demands.specs.laws.ListLaws.{agreed}
 use Rattle.demands.specs.Beside.{changing, thenOthers, recordTurns, ending, afterInput, ReadAsCalls, AsAsked, ChargesByKey}
 
@@ -64,7 +64,8 @@ made (suc n) lent ts (b ∷ s) = go (made n lent (t ∷ ts) rest) (called (chang
           reg = ap run a ∙ w .reg;
           said = ap repliesOf a ∙ w .said
               ∙ ap (ending (f .number))
-              (ap (λ (x : List Reply). replicate (f .count) accepted ++ x) q ∙ one-later (f .count) (repliesOf ts) ∙ ap (λ (k : ℕ). replicate k accepted ++ repliesOf ts) (sym c));
+              (ap (λ (x : List Reply). replicate (f .count) accepted ++ x) q ∙ one-later (f .count) (repliesOf ts) ∙ ap
+              (λ (k : ℕ). replicate k accepted ++ repliesOf ts) (sym c));
         }
 
     go : Made (t ∷ ts) (recordTurns n lent (run (t ∷ ts)) rest) (fed n lent (run (t ∷ ts)) rest)
@@ -91,7 +92,8 @@ read-as-calls b s input r s′ f ts rs held σ h =
     let g : feeding (length s) (record { list = run ts .list; closed = b .closed }) input ≡ feeding (length s) (run ts) input =
     ap (λ (x : Bool). feeding (length s) (record { list = run ts .list; closed = x }) input) open-is in
     let m = made (length input) (length s) ts input in
-    let i : feeding (length s) (record { list = run ts .list; closed = b .closed }) input .reg ≡ run (afterInput ts (length s) input) = ap (λ (x : FeedReply). x .reg) g ∙ sym (m .reg) in
+    let i : feeding (length s) (record { list = run ts .list; closed = b .closed }) input .reg ≡ run (afterInput ts (length s) input) = ap
+    (λ (x : FeedReply). x .reg) g ∙ sym (m .reg) in
     record {
       book = e .book ∙ ap bookOf i;
       used = subst (λ (x : Reg). take (length (writeAll (x .list))) s′ ≡ writeAll (x .list)) i (e .bytes);

@@ -53,7 +53,8 @@ record-judged g lent (filed r) =
     go false false true true false = refl
     go false false true true true = tt
 record-judged g lent (corrected r) =
-    go (g .closed) (stands (r .key) (standing (g .list))) (ltb (length (g .list)) 512) (leb (length (writeAll (g .list)) + length (write (corrected r))) (capped lent))
+    go (g .closed) (stands (r .key) (standing (g .list))) (ltb (length (g .list)) 512)
+    (leb (length (writeAll (g .list)) + length (write (corrected r))) (capped lent))
   where
     go : (a b d e : Bool) → Judged (first ((a gives 9) ∷ (not b gives 11) ∷ (not d gives 13) ∷ (not e gives 13) ∷ []))
         (cond a (answered (refused 9)) (judged (corrected r) g (cond b (cond d (cond e 0 13) 13) 11)))
@@ -84,7 +85,8 @@ listed-judged want s lent g = go (parse want s) refl
 back-judged : (m lent : ℕ) (g : Reg) → Judged (first (backChecks g m)) (takenBack m lent g)
 back-judged m lent g = go m (g .closed) (g .list)
   where
-    go : (n : ℕ) (b : Bool) (l : List Change) → Judged (first (backChecks (record { list = l; closed = b }) n)) (unless-closed n (record { list = l; closed = b }) (shorter b l))
+    go : (n : ℕ) (b : Bool) (l : List Change) → Judged (first (backChecks (record { list = l; closed = b }) n))
+        (unless-closed n (record { list = l; closed = b }) (shorter b l))
     go zero true l = refl
     go zero false [] = refl
     go zero false (c ∷ l) = tt
@@ -102,7 +104,8 @@ close-judged m lent g = go m (g .closed)
 any-judged : (s : List ℕ) (lent : ℕ) (g : Reg) → Judged (first (callChecks (change s) lent g)) (stepOf (change s) lent g)
 any-judged s lent g = go (begins takeBackBytes s) (begins closeBytes s)
   where
-    go : (a b : Bool) → Judged (first (cond a (backChecks g (bareTakeBack s)) (cond b (closeChecks g (bareClose s)) (read (parse Any s) (recordChecks g lent)))))
+    go : (a b : Bool) → Judged
+        (first (cond a (backChecks g (bareTakeBack s)) (cond b (closeChecks g (bareClose s)) (read (parse Any s) (recordChecks g lent)))))
         (cond a (takenBack (bareTakeBack s)) (cond b (closing (bareClose s)) (listed (parse Any s))) lent g)
     go true b = back-judged (bareTakeBack s) lent g
     go false true = close-judged (bareClose s) lent g
@@ -110,7 +113,8 @@ any-judged s lent g = go (begins takeBackBytes s) (begins closeBytes s)
 
 -- ---- questions
 
-keyed-told : (x : Asked) → ((n : ℕ) → x ≡ bad n → 0 < n) → (f : Key → Reply) (cs : Key → List Check) → ((k : Key) → Told (first (cs k)) (f k)) → Told (first (keyFirst x cs)) (keyed x f)
+keyed-told : (x : Asked) → ((n : ℕ) → x ≡ bad n → 0 < n) → (f : Key → Reply) (cs : Key → List Check) → ((k : Key) → Told (first (cs k)) (f k)) → Told
+    (first (keyFirst x cs)) (keyed x f)
 keyed-told (bad zero) h f cs t = absurd (omega (arith, h zero refl))
 keyed-told (bad (suc n)) h f cs t = refl
 keyed-told (got k rest) h f cs t = t k
@@ -139,7 +143,8 @@ module _ (lent : ℕ) (g : Reg) where
   unfolding unitDayOf
   day-told k = go (every 24 (λ (j : ℕ). absent (unitAt k rs j))) (every 24 (λ (j : ℕ). payable (unitAt k rs j) (priceOf rs (1 + j))))
     where
-      go : (a b : Bool) → Told (first ((a gives 11) ∷ (not b gives 15) ∷ [])) (cond a (refused 11) (cond b (unitDay (dayTotal k rs (priceOf rs)) (reversal (dayTotal k rs (priceOf rs)))) (refused 15)))
+      go : (a b : Bool) → Told (first ((a gives 11) ∷ (not b gives 15) ∷ []))
+          (cond a (refused 11) (cond b (unitDay (dayTotal k rs (priceOf rs)) (reversal (dayTotal k rs (priceOf rs)))) (refused 15)))
       go true b = refl
       go false true = tt
       go false false = refl
@@ -163,7 +168,8 @@ module _ (lent : ℕ) (g : Reg) where
 
 -- ---- demand 1
 
-step-of : (call : Call) (b : Book) (s : List ℕ) (b′ : Book) (r : Reply) (s′ : List ℕ) → Meets call b s b′ r s′ → (st : Step) → stepped (stepOf call) b s (load b s) ≡ st
+step-of : (call : Call) (b : Book) (s : List ℕ) (b′ : Book) (r : Reply) (s′ : List ℕ) → Meets call b s b′ r s′ → (st : Step) → stepped (stepOf call) b s
+    (load b s) ≡ st
     → (b′ ≡ leaving b s st .book) × (r ≡ leaving b s st .answer) × (take (length (leaving b s st .kept)) s′ ≡ leaving b s st .kept)
 unfolding outcome
 step-of call b s b′ r s′ m st e = (
@@ -207,7 +213,8 @@ module _ (call : Call) (b : Book) (s : List ℕ) (b′ : Book) (r : Reply) (s′
     next-valid h f =
         let x = loaded-from b s l e in
         let p : x .list ≡ l = cc (x .is, e) in
-        subst (λ (st : Step). Valid (after st g .list)) (called-long call (length s) g (subst (λ (y : List Change). length (writeAll y) ≤ length s) p (omega (arith, x .within, x .size))) ∙ f)
+        subst (λ (st : Step). Valid (after st g .list))
+        (called-long call (length s) g (subst (λ (y : List Change). length (writeAll y) ≤ length s) p (omega (arith, x .within, x .size))) ∙ f)
         (called-valid call (length s) g (loaded-valid b s l e))
 
     taken : (h : Reg) → stepOf call (length s) g ≡ becomes h → Taken call b s b′ r s′
@@ -223,7 +230,8 @@ module _ (call : Call) (b : Book) (s : List ℕ) (b′ : Book) (r : Reply) (s′
           holds = ap (λ (x : Book). load x s′) (w .0) ∙ load-whole h s′ (next-valid h f) (w .2);
         }
 
-    changed : (Taken call b s b′ r s′ → Done call b s b′ r s′) → Judged (first (callChecks call (length s) g)) (stepOf call (length s) g) → Verdict (first (callChecks call (length s) g))
+    changed : (Taken call b s b′ r s′ → Done call b s b′ r s′) → Judged (first (callChecks call (length s) g)) (stepOf call (length s) g) → Verdict
+        (first (callChecks call (length s) g))
     changed d = go (first (callChecks call (length s) g)) (stepOf call (length s) g) refl
       where
         go : (n : ℕ) (st : Step) → stepOf call (length s) g ≡ st → Judged n st → Verdict n
@@ -234,7 +242,8 @@ module _ (call : Call) (b : Book) (s : List ℕ) (b′ : Book) (r : Reply) (s′
 module _ (b : Book) (s : List ℕ) (b′ : Book) (r : Reply) (s′ : List ℕ) where
   question-verdict : (q : Question) (m : Meets (ask q) b s b′ r s′) (l : List Change) → load b s ≡ belongs l → (n : ℕ)
       → Told n (answer q (length s) (record { list = l; closed = b .closed })) → Verdict (ask q) b s b′ r s′ m n
-  question-verdict q m l e n t = go n t (kept (ask q) b s b′ r s′ m (answer q (length s) (record { list = l; closed = b .closed })) (ap (stepped (stepOf (ask q)) b s) e))
+  question-verdict q m l e n t = go n t
+      (kept (ask q) b s b′ r s′ m (answer q (length s) (record { list = l; closed = b .closed })) (ap (stepped (stepOf (ask q)) b s) e))
     where
       go : (n : ℕ) → Told n (answer q (length s) (record { list = l; closed = b .closed }))
           → (r ≡ answer q (length s) (record { list = l; closed = b .closed })) × (b′ ≡ b) × (s′ ≡ s) → Verdict (ask q) b s b′ r s′ m n
@@ -244,12 +253,16 @@ module _ (b : Book) (s : List ℕ) (b′ : Book) (r : Reply) (s′ : List ℕ) w
   list-verdict : (call : Call) (m : Meets call b s b′ r s′) (l : List Change) (e : load b s ≡ belongs l)
       → Verdict call b s b′ r s′ m (first (callChecks call (length s) (record { list = l; closed = b .closed })))
   list-verdict (file c) m l e = changed (file c) b s b′ r s′ m l e (λ x. x) (listed-judged (Only File) c (length s) (record { list = l; closed = b .closed }))
-  list-verdict (correct c) m l e = changed (correct c) b s b′ r s′ m l e (λ x. x) (listed-judged (Only Correct) c (length s) (record { list = l; closed = b .closed }))
-  list-verdict (withdraw c) m l e = changed (withdraw c) b s b′ r s′ m l e (λ x. x) (listed-judged (Only Withdraw) c (length s) (record { list = l; closed = b .closed }))
-  list-verdict (takeBack c) m l e = changed (takeBack c) b s b′ r s′ m l e (λ x. x) (back-judged (bareTakeBack c) (length s) (record { list = l; closed = b .closed }))
+  list-verdict (correct c) m l e = changed (correct c) b s b′ r s′ m l e (λ x. x)
+      (listed-judged (Only Correct) c (length s) (record { list = l; closed = b .closed }))
+  list-verdict (withdraw c) m l e = changed (withdraw c) b s b′ r s′ m l e (λ x. x)
+      (listed-judged (Only Withdraw) c (length s) (record { list = l; closed = b .closed }))
+  list-verdict (takeBack c) m l e = changed (takeBack c) b s b′ r s′ m l e (λ x. x)
+      (back-judged (bareTakeBack c) (length s) (record { list = l; closed = b .closed }))
   list-verdict (close c) m l e = changed (close c) b s b′ r s′ m l e (λ x. x) (close-judged (bareClose c) (length s) (record { list = l; closed = b .closed }))
   list-verdict (change c) m l e = changed (change c) b s b′ r s′ m l e (λ x. x) (any-judged c (length s) (record { list = l; closed = b .closed }))
-  list-verdict (ask q) m l e = question-verdict q m l e (first (questionChecks q (standing l))) (question-told (length s) (record { list = l; closed = b .closed }) q)
+  list-verdict (ask q) m l e = question-verdict q m l e (first (questionChecks q (standing l)))
+      (question-told (length s) (record { list = l; closed = b .closed }) q)
 
   -- the theorem: for every call, book and bytes
   pub demand1 : (call : Call) → Meets call b s b′ r s′ → Demand1 call b s b′ r s′

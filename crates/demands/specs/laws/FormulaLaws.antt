@@ -44,7 +44,8 @@ q-two d u a s = ap max0 ((λ i. minℤ (pos-dif d i -ℤ pos-dif u i -ℤ pos-di
 
 q-three : (d u a b s : ℕ) → max0 (minℤ (pos d -ℤ pos u -ℤ pos a -ℤ pos b) (pos s)) ≡ min (d - u - a - b) s
 q-three d u a b s =
-    ap max0 ((λ i. minℤ (pos-dif d i -ℤ pos-dif u i -ℤ pos-dif a i -ℤ pos-dif b i) (pos-dif s i)) ∙ less) ∙ max0-dif (min d (s + u + a + b)) (u + a + b) ∙ omega arith
+    ap max0 ((λ i. minℤ (pos-dif d i -ℤ pos-dif u i -ℤ pos-dif a i -ℤ pos-dif b i) (pos-dif s i)) ∙ less) ∙ max0-dif (min d (s + u + a + b)) (u + a + b) ∙ omega
+    arith
   where
     less : minℤ (dif d 0 -ℤ dif u 0 -ℤ dif a 0 -ℤ dif b 0) (dif s 0) ≡ dif (min d (s + u + a + b)) (u + a + b)
     less = simp ints (omega arith)
@@ -52,7 +53,8 @@ q-three d u a b s =
 -- ---- the formulas
 
 pub formulas : Formulas
-unfolding cost fullPairs creditTicks profits precedes upTo counted exported offset C1 C2 C3 C4 shortfall arranged congestion component4 unitTicks hourAmount interval lesser
+unfolding cost fullPairs creditTicks profits precedes upTo counted exported offset C1 C2 C3 C4 shortfall arranged congestion component4 unitTicks hourAmount
+    interval lesser
 formulas = record {
   costs = λ o q. refl;
   credit = λ r p. refl;

@@ -39,7 +39,8 @@ listed-moves (fine c) lent g = go (g .closed)
 taken-moves : (m lent : ℕ) (g : Reg) → Moves (g .list) (after (takenBack m lent g) g .list)
 taken-moves m lent g = go m (g .closed) (g .list)
   where
-    go : (n : ℕ) (b : Bool) (l : List Change) → Moves l (after (unless-closed n (record { list = l; closed = b }) (shorter b l)) (record { list = l; closed = b }) .list)
+    go : (n : ℕ) (b : Bool) (l : List Change) → Moves l
+        (after (unless-closed n (record { list = l; closed = b }) (shorter b l)) (record { list = l; closed = b }) .list)
     go zero true l = stays
     go zero false [] = stays
     go zero false (c ∷ l) = back c
@@ -48,7 +49,8 @@ taken-moves m lent g = go m (g .closed) (g .list)
 closing-moves : (m lent : ℕ) (g : Reg) → Moves (g .list) (after (closing m lent g) g .list)
 closing-moves m lent g = go m (g .closed)
   where
-    go : (n : ℕ) (b : Bool) → Moves (g .list) (after (unless-closed n (record { list = g .list; closed = b }) (becomes (record { list = g .list; closed = true }))) g .list)
+    go : (n : ℕ) (b : Bool) → Moves (g .list)
+        (after (unless-closed n (record { list = g .list; closed = b }) (becomes (record { list = g .list; closed = true }))) g .list)
     go zero true = stays
     go zero false = stays
     go (suc n) b = stays
@@ -84,7 +86,8 @@ made-by (t ∷ ts) n h = go (λ m k. made-by ts m k) (run ts .list) (run (t ∷ 
     Before : Type 0
     Before = (m : ℕ) → m < length (run ts .list) → Moment ts m
 
-    later : (m : ℕ) → Moment ts m → drop m (run ts .list) ≡ drop n (run (t ∷ ts) .list) → drop (suc m) (run ts .list) ≡ drop (suc n) (run (t ∷ ts) .list) → Moment (t ∷ ts) n
+    later : (m : ℕ) → Moment ts m → drop m (run ts .list) ≡ drop n (run (t ∷ ts) .list) → drop (suc m) (run ts .list) ≡ drop (suc n) (run (t ∷ ts) .list) →
+        Moment (t ∷ ts) n
     later m w e f = record { before = w .before; by = w .by; earlier = since t (w .earlier); made = w .made ∙ e; list = w .list ∙ f }
 
     deeper : Before → (a : List Change) (c : Change) → run ts .list ≡ a → run (t ∷ ts) .list ≡ c ∷ a → (j : ℕ) → n ≡ j → Moment (t ∷ ts) n
@@ -99,14 +102,16 @@ made-by (t ∷ ts) n h = go (λ m k. made-by ts m k) (run ts .list) (run (t ∷ 
     go : Before → (a b : List Change) → Moves a b → run ts .list ≡ a → run (t ∷ ts) .list ≡ b → Moment (t ∷ ts) n
     go ih a b stays e f = later n (ih n (omega (arith, ap length (e ∙ sym f)))) (ap (drop n) (e ∙ sym f)) (ap (drop (suc n)) (e ∙ sym f))
     go ih a b (longer c) e f = deeper ih a c e f n refl
-    go ih a b (back c) e f = later (suc n) (ih (suc n) (omega (arith, ap length e, ap length f))) (ap (drop (suc n)) e ∙ ap (drop n) (sym f)) (ap (drop (suc (suc n))) e ∙ ap (drop (suc n)) (sym f))
+    go ih a b (back c) e f = later (suc n) (ih (suc n) (omega (arith, ap length e, ap length f))) (ap (drop (suc n)) e ∙ ap (drop n) (sym f))
+        (ap (drop (suc (suc n))) e ∙ ap (drop (suc n)) (sym f))
 
 -- ---- what the questions answer
 
 afterwards : {ts : List Turn} {rs : List Reply} {b : Book} {held : List ℕ} → Agrees ts rs b held → Afterwards ts b held
 afterwards {ts} {rs} {b} {held} a = record {
   found = λ m h n k t e s w b′ r s′ x.
-      subst⁻¹ (Shows (pick k (standing (run ts .list))) held) (a .questions (recordOf m h n) s w b′ r s′ x ∙ ap (λ (y : Asked). keyed y (λ j. placeOf j (run ts .list))) e) (a .finds k);
+      subst⁻¹ (Shows (pick k (standing (run ts .list))) held)
+      (a .questions (recordOf m h n) s w b′ r s′ x ∙ ap (λ (y : Asked). keyed y (λ j. placeOf j (run ts .list))) e) (a .finds k);
   reached = a .reached;
   free = λ s w b′ r s′ x. a .questions freeBytes s w b′ r s′ x;
   amounts = λ s w.
@@ -130,7 +135,8 @@ again : (ts us : List Turn) (n : ℕ) → n ≤ length (run ts .list) → run us
 again ts us zero h e = ap standing e
 again ts us (suc n) h e = let w = made-by ts n (omega arith) in record { moment = w; stand = ap standing (e ∙ sym (w .list)) }
 
-pub backed : {ts : List Turn} {rs : List Reply} {b : Book} {held : List ℕ} (σ : Session ts rs b held) {n : ℕ} {us : List Turn} {qs : List Reply} {d : Book} {kept : List ℕ}
+pub backed : {ts : List Turn} {rs : List Reply} {b : Book} {held : List ℕ} (σ : Session ts rs b held) {n : ℕ} {us : List Turn} {qs : List Reply} {d : Book}
+    {kept : List ℕ}
     → b .closed ≡ false → n ≤ length (run ts .list) → Undo σ n us qs d kept → (qs ≡ replicate n accepted ++ rs) × StandAgain ts us n × Afterwards us d kept
 backed {ts} σ {n} {us} op le u =
     let h = holding σ in

@@ -65,7 +65,12 @@ module _ (lent : ℕ) (g : Reg) (enough : length (writeAll (g .list)) ≤ lent) 
   listed-fits (fine c) = open-or (g .closed)
     where
       taken : (n : ℕ) → refusal (g .list) lent c ≡ n → Fits lent (judged c g n)
-      taken zero e = omega (arith, length-append (writeAll (g .list)) (write c), room-fits (length (g .list)) (length (writeAll (g .list))) (length (write c)) lent (refusal-room (g .list) lent c e))
+      taken zero e = omega (
+        arith,
+        length-append (writeAll (g .list)) (write c),
+        room-fits (length (g .list)) (length (writeAll (g .list))) (length (write c))
+            lent (refusal-room (g .list) lent c e),
+      )
       taken (suc n) e = tt
 
       open-or : (b : Bool) → Fits lent (cond b (answered (refused 9)) (judged c g (refusal (g .list) lent c)))
@@ -141,7 +146,8 @@ kept-fits g s (becomes k) f = f
 -- ---- every list of turns is a session
 
 module _ {ts : List Turn} {rs : List Reply} (g : Reg) (v : Valid (g .list)) (σ : Session ts rs (bookOf g) (writeAll (g .list))) (call : Call) (lent : ℕ) where
-  one-more : Session (record { call = call; lent = lent } ∷ ts) (reply (called call lent g) ∷ rs) (bookOf (after (called call lent g) g)) (writeAll (after (called call lent g) g .list))
+  one-more : Session (record { call = call; lent = lent } ∷ ts) (reply (called call lent g) ∷ rs) (bookOf (after (called call lent g) g))
+      (writeAll (after (called call lent g) g .list))
   one-more =
       let w = writeAll (g .list) in
       let s = lending lent w in
@@ -160,7 +166,8 @@ module _ {ts : List Turn} {rs : List Reply} (g : Reg) (v : Valid (g .list)) (σ 
       let eh : take (x .book .used) (s′ ++ drop (length s) w) ≡ writeAll (after st g .list) =
       ap (λ (y : After). take (y .book .used) (s′ ++ drop (length s) w)) o
       ∙ held-is g s s′ st (m .size) h (subst (λ (y : After). take (length (y .kept)) s′ ≡ y .kept) o (m .bytes)) in
-      subst (λ (n : ℕ). Session (record { call = call; lent = n } ∷ ts) (reply (called call n g) ∷ rs) (bookOf (after (called call n g) g)) (writeAll (after (called call n g) g .list))) len
+      subst (λ (n : ℕ). Session (record { call = call; lent = n } ∷ ts) (reply (called call n g) ∷ rs) (bookOf (after (called call n g) g))
+      (writeAll (after (called call n g) g .list))) len
       (subst (λ (q : List ℕ). Session (record { call = call; lent = length s } ∷ ts) (reply st ∷ rs) (bookOf (after st g)) q) eh
       (subst (λ (b : Book). Session (record { call = call; lent = length s } ∷ ts) (reply st ∷ rs) b (take (x .book .used) (s′ ++ drop (length s) w))) eb
       (subst (λ (r : Reply). Session (record { call = call; lent = length s } ∷ ts) (r ∷ rs) (x .book) (take (x .book .used) (s′ ++ drop (length s) w))) er τ)))
@@ -199,7 +206,8 @@ possible g v call lent =
     let h : take (length w) s ≡ take (length s) w = lending-left lent w ∙ ap (λ (n : ℕ). take n w) (sym (lending-length lent w)) in
     let x = outcome (stepOf call) (bookOf g) s in
     let o : x ≡ leaving (bookOf g) s (called call (length s) g) = outcome-is call g s v h in
-    let f : length (x .kept) ≤ length s = subst (λ (y : After). length (y .kept) ≤ length s) (sym o) (kept-fits g s (called call (length s) g) (called-fits call (length s) g)) in
+    let f : length (x .kept) ≤ length s = subst (λ (y : After). length (y .kept) ≤ length s) (sym o)
+    (kept-fits g s (called call (length s) g) (called-fits call (length s) g)) in
     record {
       s = s;
       len = lending-length lent w;

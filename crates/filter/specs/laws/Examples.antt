@@ -8,6 +8,7 @@ use Prim.Native.String.{String}
 use lib.ListN.{length, take}
 use Rattle.laws.specs.Ints.{minℤ, maxℤ}
 use Rattle.laws.specs.Sums.{Σℤ, Σℕ, every, firstOf}
+use Rattle.laws.specs.Text.{bytes}
 use Rattle.money.specs.Units.{rowOf, pricesOk, quantitiesOk, withinOk, centsOf}
 use Rattle.money.specs.Offers.{numbersOk, orderOk, offerFault, fullPairs, cost, costAnswer}
 use Rattle.money.specs.Guarantee.{profits, creditAnswer}
@@ -37,7 +38,6 @@ use Rattle.statement.specs.Lines.{whenBytes, kindBytes, nameBytes as lineName, 
 use Rattle.statement.specs.Statement.{hourOf, unitOf, hoursTo, eachUnit, statementLines, statementOf}
 use Rattle.statement.specs.Refusal.{refusalLine}
 use Rattle.statement.specs.laws.Examples as statement
-use Rattle.laws.specs.Text.{bytes}
 use Rattle.filter.specs.Output.{outputBy, outputOf}
 use Rattle.filter.specs.laws.Replies.{sameReply}
 
@@ -127,7 +127,8 @@ whole =
     -- (P) 001's hour: "total $410 without a start"
     ∷ prints (priced 7 3000 3000 ++ ran) "DD PCG G1 410.00\nDD REV G1 0.00\n"
     -- (P) "002's import charge is 0, its export charge $5,000"
-    ∷ prints (priced 1 0 9000 ++ (of "FI" 1 "A" (failed 1000 900 10000 10000) ++ (priced 2 0 70000 ++ of "FE" 2 "A" (failed 2000 1500 90000 80000)))) "01 IFC A 0.00\n02 EFC A 5000.00\n"
+    ∷ prints (priced 1 0 9000 ++ (of "FI" 1 "A" (failed 1000 900 10000 10000) ++ (priced 2 0 70000 ++ of "FE" 2 "A" (failed 2000 1500 90000 80000))))
+    "01 IFC A 0.00\n02 EFC A 5000.00\n"
     -- nothing; prices only; a price that lacks, in an hour and for a unit
     ∷ prints [] ""
     ∷ prints pr ""
@@ -145,5 +146,13 @@ abbrev pub cases : List Case
 cases = whole ++ (map tells register.examples ++ (map reads records.cases ++ (map amounts money.cases ++ map shows statement.cases)))
 
 pub examples : all cases ≡ true
-unfolding outputBy refusalLine settled fed firstRecord called run refusal stands count standing writeAll without sameHour same limitOf parse parseAny bare write headBytes nameBytes entry change head mark markAmong rest hour byte nameFor bodyFor nameField some decodeName nameUpTo one escaped hexVal visible taken layout hourPrices import export schedules reserveRows lists unit failure many pair pairs listFrom price quantity amount word statementOf statementLines hoursTo hourOf eachUnit unitOf textOf lineBytes whenBytes twoDigits kindBytes lineName spell spellByte unreserved digit figure sign dollars number decimal digits centsOf placeOf guaranteesOf byName inOrder priceOf pick chargesOf unitDayOf dayTotal atHour namesOf addName exported creditTicks unitTicks chargeTicks rowOf offset precedes upTo counted sameName sameBytes nameBefore profits cost fullPairs Σℤ Σℕ minℤ maxℤ every costAnswer offerFault numbersOk orderOk creditAnswer pricesOk quantitiesOk withinOk offsetAnswer ratesOk entriesFault faultAt freshName entryFault nameOk firstOf shortfall arranged congestion component4 C1 C2 C3 C4 interval hourAmount reserveFault reservesNumbersOk numbersFine withinFine listsFault unitFault intervalFault charge failureOk
+unfolding outputBy refusalLine settled fed firstRecord called run refusal stands count standing writeAll without sameHour same limitOf parse parseAny bare write
+    headBytes nameBytes entry change head mark markAmong rest hour byte nameFor bodyFor nameField some decodeName nameUpTo one escaped hexVal visible taken
+    layout hourPrices import export schedules reserveRows lists unit failure many pair pairs listFrom price quantity amount word statementOf statementLines
+    hoursTo hourOf eachUnit unitOf textOf lineBytes whenBytes twoDigits kindBytes lineName spell spellByte unreserved digit figure sign dollars number decimal
+    digits centsOf placeOf guaranteesOf byName inOrder priceOf pick chargesOf unitDayOf dayTotal atHour namesOf addName exported creditTicks unitTicks
+    chargeTicks rowOf offset precedes upTo counted sameName sameBytes nameBefore profits cost fullPairs Σℤ Σℕ minℤ maxℤ every costAnswer offerFault numbersOk
+    orderOk creditAnswer pricesOk quantitiesOk withinOk offsetAnswer ratesOk entriesFault faultAt freshName entryFault nameOk firstOf shortfall arranged
+    congestion component4 C1 C2 C3 C4 interval hourAmount reserveFault reservesNumbersOk numbersFine withinFine listsFault unitFault intervalFault charge
+    failureOk
 examples = refl

@@ -75,7 +75,8 @@ module _ (lent : ℕ) where
       go (suc zero) e h = w .cut e
       go (suc (suc n)) e h = absurd (omega arith)
 
-  module _ (s p : List ℕ) (r : Reading) (log input : List ℕ) (x : Stands s r log input) (space : List ℕ) (q : take (r .held + length p) space ≡ take (r .held) input ++ p) where
+  module _ (s p : List ℕ) (r : Reading) (log input : List ℕ) (x : Stands s r log input) (space : List ℕ)
+      (q : take (r .held + length p) space ≡ take (r .held) input ++ p) where
     -- nothing more is read
     still : isOver r ≡ true → (r′ : Reading) (log′ input′ : List ℕ) → Stays r log space r′ log′ input′ → Stands (s ++ p) r′ log′ input′
     still o r′ log′ input′ y =
@@ -117,14 +118,16 @@ module _ (lent : ℕ) where
       same-reg = ap (λ (b : Book). record { list = reached s .reg .list; closed = b .closed }) (x .book)
 
       -- they are the beginning of a record
-      held-on : waits (atHand r (length p) space) ≡ true → (r′ : Reading) (log′ input′ : List ℕ) → Waits r log space (length p) r′ log′ input′ → Stands (s ++ p) r′ log′ input′
+      held-on : waits (atHand r (length p) space) ≡ true → (r′ : Reading) (log′ input′ : List ℕ) → Waits r log space (length p) r′ log′ input′ → Stands (s ++ p)
+          r′ log′ input′
       held-on u r′ log′ input′ y =
           let g = reached s in
           let used : length (writeAll (g .reg .list)) ≤ lent = omega (arith, loaded-size (r .book) log (g .reg .list) (x .loaded), x .size) in
           let f : reached (s ++ p) ≡ later (g .count) (g .taken) (stopped (g .reg) 1) =
           all ∙ ap (later (g .count) (g .taken)) (feeding-early lent (g .reg) t (sym (ap waits at-hand) ∙ u) used) in
           let k : reached (s ++ p) .taken ≡ g .taken = ap (λ (a : FeedReply). a .taken) f ∙ omega arith in
-          let l : t ≡ drop (reached (s ++ p) .taken) (s ++ p) = sym (drop-append-le (g .taken) s p (stops lent fresh s .within)) ∙ ap (λ (n : ℕ). drop n (s ++ p)) (sym k) in
+          let l : t ≡ drop (reached (s ++ p) .taken) (s ++ p) = sym (drop-append-le (g .taken) s p (stops lent fresh s .within)) ∙ ap
+          (λ (n : ℕ). drop n (s ++ p)) (sym k) in
           let h : r′ .held ≡ length (atHand r (length p) space) = ap (λ (a : Reading). a .held) (y .reading) in
           record {
             size = ap length (y .kept) ∙ x .size;
@@ -141,7 +144,8 @@ module _ (lent : ℕ) where
           let g = y .fed in
           let f = feeding lent (reached s .reg) t in
           let m : Feeds (r .book) log t g log′ = subst (λ (l : List ℕ). Feeds (r .book) log l g log′) at-hand (y .feeds) in
-          let same : feeding (length log) (record { list = reached s .reg .list; closed = r .book .closed }) t ≡ f = (λ i. feeding (x .size i) (same-reg i) t) in
+          let same : feeding (length log) (record { list = reached s .reg .list; closed = r .book .closed }) t ≡ f =
+          (λ i. feeding (x .size i) (same-reg i) t) in
           let w : Ends f log g log′ = subst (λ (a : FeedReply). Ends a log g log′) same (m .together (reached s .reg .list) (x .loaded)) in
           let z : r′ ≡ readOn r g (drop (g .taken) t) = y .reading ∙ ap (λ (l : List ℕ). readOn r g (drop (g .taken) l)) at-hand in
           let l : drop (g .taken) t ≡ drop (reached (s ++ p) .taken) (s ++ p) = ap (λ (n : ℕ). drop n t) (w .taken) ∙ rest-is in
@@ -152,20 +156,24 @@ module _ (lent : ℕ) where
             book = ap (λ (a : Reading). a .book) z ∙ w .book ∙ ap (λ (a : FeedReply). bookOf (a .reg)) (sym all);
             loaded = ap (λ (a : Reading). load (a .book) log′) z ∙ feeds-again (r .book) log t g log′ (reached s .reg .list) (x .loaded) m
                 ∙ ap (λ (a : FeedReply). belongs (a .reg .list)) same ∙ ap (λ (a : FeedReply). belongs (a .reg .list)) (sym all);
-            count = ap (λ (a : Reading). a .count) z ∙ (λ j. counted (x .count j + w .count j)) ∙ counted-more (reached s .count) (f .count) ∙ ap (λ (a : FeedReply). counted (a .count)) (sym all);
+            count = ap (λ (a : Reading). a .count) z ∙ (λ j. counted (x .count j + w .count j)) ∙ counted-more (reached s .count) (f .count) ∙ ap
+                (λ (a : FeedReply). counted (a .count)) (sym all);
             number = ap (λ (a : Reading). a .number) z ∙ w .number ∙ ap (λ (a : FeedReply). a .number) (sym all);
             held = λ e. h ∙ ap length l;
-            bytes = λ e. ap (λ (n : ℕ). take n input′) h ∙ ap (take (length (drop (g .taken) t))) i ∙ put-first space (drop (g .taken) t) (short (g .taken)) ∙ l;
+            bytes = λ e. ap (λ (n : ℕ). take n input′) h ∙ ap (take (length (drop (g .taken) t))) i ∙ put-first space (drop (g .taken) t) (short (g .taken)) ∙
+                l;
           }
         where
           short : (k : ℕ) → length (drop k t) ≤ length space
           short k = omega (arith, length-drop k t, ap length at-hand, length-take (r .held + length p) space)
 
-  stands-next : (s p : List ℕ) (r : Reading) (log input : List ℕ) → Stands s r log input → (space : List ℕ) → take (r .held + length p) space ≡ take (r .held) input ++ p
+  stands-next : (s p : List ℕ) (r : Reading) (log input : List ℕ) → Stands s r log input → (space : List ℕ) → take (r .held + length p) space ≡ take (r .held)
+      input ++ p
       → (r′ : Reading) (log′ input′ : List ℕ) → ReadsOn r log space (length p) r′ log′ input′ → Stands (s ++ p) r′ log′ input′
   stands-next s p r log input x space q r′ log′ input′ m = go (isOver r) refl (waits (atHand r (length p) space)) refl (m .reads)
     where
-      go : (b : Bool) → isOver r ≡ b → (w : Bool) → waits (atHand r (length p) space) ≡ w → Reads b w r log space (length p) r′ log′ input′ → Stands (s ++ p) r′ log′ input′
+      go : (b : Bool) → isOver r ≡ b → (w : Bool) → waits (atHand r (length p) space) ≡ w → Reads b w r log space (length p) r′ log′ input′ → Stands (s ++ p) r′
+          log′ input′
       go true o w u y = still s p r log input x space q o r′ log′ input′ y
       go false o true u y = held-on s p r log input x space q o u r′ log′ input′ y
       go false o false u y = more s p r log input x space q o r′ log′ input′ y
@@ -212,7 +220,8 @@ module _ (t : List Change → List ℕ) (longest : ℕ) where
     unfolding outputBy
     text-is = go (reached 65535 s .number) refl ∙ sym (ap (printedBy t) (settled-is s))
       where
-        go : (n : ℕ) → reached 65535 s .number ≡ n → textIn t r (reached 65535 s .reg .list) ≡ printedBy t (verdict (reached 65535 s .reg) (reached 65535 s .count) n)
+        go : (n : ℕ) → reached 65535 s .number ≡ n → textIn t r (reached 65535 s .reg .list) ≡ printedBy t
+            (verdict (reached 65535 s .reg) (reached 65535 s .count) n)
         go zero e = rw (x .number ∙ e)
         go (suc n) e =
             let k = stops 65535 fresh s in
@@ -226,7 +235,8 @@ module _ (t : List Change → List ℕ) (longest : ℕ) where
           l : List Change
           l = reached 65535 s .reg .list
 
-          go : (b : Bool) → cond b (fitted (t l) lent) (fitted (refusalLine (ordinal r) (r .number)) lent) ≡ fitted (cond b (t l) (refusalLine (ordinal r) (r .number))) lent
+          go : (b : Bool) → cond b (fitted (t l) lent) (fitted (refusalLine (ordinal r) (r .number)) lent) ≡ fitted
+              (cond b (t l) (refusalLine (ordinal r) (r .number))) lent
           go true = refl
           go false = refl
 
@@ -235,11 +245,17 @@ module _ (t : List Change → List ℕ) (longest : ℕ) where
           let p : printing t r (load (r .book) log) lent ≡ fitted (outputBy t s) lent = printing-is ∙ ap (λ (y : List ℕ). fitted y lent) text-is in
           let n : length (outputBy t s) ≤ longest = subst (λ (y : List ℕ). length y ≤ longest) text-is (m .most (reached 65535 s .reg .list) (x .loaded)) in
           let f : Fits (outputBy t s) lent left w =
-          record { number = m .number ∙ ap (λ (o : Outcome). o .number) p; len = m .len ∙ ap (λ (o : Outcome). o .len) p; bytes = m .bytes ∙ ap (λ (o : Outcome). o .bytes) p } in
+          record {
+            number = m .number ∙ ap (λ (o : Outcome). o .number) p;
+            len = m .len ∙ ap (λ (o : Outcome). o .len) p;
+            bytes = m .bytes ∙ ap
+                (λ (o : Outcome). o .bytes) p;
+          } in
           record { fits = f; most = n; whole = λ k. front-is (outputBy t s) lent left w f (omega arith) }
 
   -- the theorem, of a program that prints the text t: for every list of pieces, from a fresh book over 65,535 bytes, what is written at the end is the output of the whole input
-  pub every-input : {ps : List (List ℕ)} {r : Reading} {log input : List ℕ} → Run ps r log input → length log ≡ 65535 → length (inputOf ps) < 18446744073709551616
+  pub every-input : {ps : List (List ℕ)} {r : Reading} {log input : List ℕ} → Run ps r log input → length log ≡ 65535 → length (inputOf ps) <
+      18446744073709551616
       → (lent left : List ℕ) (w : Written) → Prints t longest r (load (r .book) log) lent left w → Settles t longest (inputOf ps) lent left w
   every-input {ps} {r} {log} {input} run e h lent left w m =
       settles (inputOf ps) r log input (subst (λ (n : ℕ). Stands n (inputOf ps) r log input) e (stands run)) h lent left w m

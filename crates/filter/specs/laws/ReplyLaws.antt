@@ -78,7 +78,8 @@ whole-is (charge t) = refl
 
 pub same-reply : (a b : Reply) → sameReply a b ≡ true → a ≡ b
 same-reply a b e =
-    let x = and-true (eqb (parts a .kind) (parts b .kind)) (sameNumbers (parts a .numbers) (parts b .numbers) && sameNamed (parts a .named) (parts b .named)) e in
+    let x = and-true (eqb (parts a .kind) (parts b .kind)) (sameNumbers (parts a .numbers) (parts b .numbers) && sameNamed (parts a .named) (parts b .named))
+    e in
     let y = and-true (sameNumbers (parts a .numbers) (parts b .numbers)) (sameNamed (parts a .named) (parts b .named)) (x .1) in
     let k = eqb-true (parts a .kind) (parts b .kind) (x .0) in
     let n = numbers-are (parts a .numbers) (parts b .numbers) (y .0) in

@@ -90,17 +90,30 @@ pub adds-no : (n : ℕ) (h : Sheet) (t : Tally) (r : Tallied) (k : ℕ) → Few 
 adds-no n h t r k f w e z = (w .0 ∙ e, (subst Few (sym (w .1)) f, λ q. absurd (z (sym (w .0) ∙ q))))
 
 pub adds-price : (t : Tally) (at : ℕ) → Few t → t .priced ≡ false
-    → Adds (cond (t .priced) 10 0) (withPrice at (sheetOf t)) t (record { number = 0; tally = record { priced = true; price = at; imports = t .imports; exports = t .exports } })
+    → Adds (cond (t .priced) 10 0) (withPrice at (sheetOf t)) t
+    (record { number = 0; tally = record { priced = true; price = at; imports = t .imports; exports = t .exports } })
 adds-price t at f e = (sym (ap (λ (b : Bool). cond b 10 0) e), (record { imports = f .imports; exports = f .exports }, λ q. refl))
 
 pub adds-import : (t : Tally) (s : Spot) (d : Placed) → Few t → Puts (t .imports) s d
     → Adds (placedNumber (s .name) (spots (t .imports))) (withImport s (sheetOf t)) t
     (record { number = d .number; tally = record { priced = t .priced; price = t .price; imports = d .places; exports = t .exports } })
-adds-import t s d f w =
-    (w .0, (record { imports = w .1 .0; exports = f .exports }, λ q. ap (λ (x : List Spot). record { priced = t .priced; price = t .price; imports = x; exports = spots (t .exports) }) (w .1 .1 q)))
+adds-import t s d f w = (
+  w .0,
+  (
+    record { imports = w .1 .0; exports = f .exports },
+    λ q. ap
+        (λ (x : List Spot). record { priced = t .priced; price = t .price; imports = x; exports = spots (t .exports) }) (w .1 .1 q),
+  ),
+)
 
 pub adds-export : (t : Tally) (s : Spot) (d : Placed) → Few t → Puts (t .exports) s d
     → Adds (placedNumber (s .name) (spots (t .exports))) (withExport s (sheetOf t)) t
     (record { number = d .number; tally = record { priced = t .priced; price = t .price; imports = t .imports; exports = d .places } })
-adds-export t s d f w =
-    (w .0, (record { imports = f .imports; exports = w .1 .0 }, λ q. ap (λ (x : List Spot). record { priced = t .priced; price = t .price; imports = spots (t .imports); exports = x }) (w .1 .1 q)))
+adds-export t s d f w = (
+  w .0,
+  (
+    record { imports = f .imports; exports = w .1 .0 },
+    λ q. ap
+        (λ (x : List Spot). record { priced = t .priced; price = t .price; imports = spots (t .imports); exports = x }) (w .1 .1 q),
+  ),
+)

@@ -7,6 +7,7 @@ use native.Mathlib.Omega.{arith}
 use lib.Dec.{eqb, ltb, leb}
 use lib.ListN.{length, drop}
 use borrow.Author.Tests.{eq-eqb, ne-eqb, eqb-true, ltb-true, lt-ltb, le-leb, le-ltb}
+use Rattle.money.specs.declared.names.Name.{Name}
 use Rattle.records.specs.Amounts.{sameName}
 use Rattle.records.specs.Reading.{got}
 use Rattle.records.specs.Names.{emptyName}
@@ -21,7 +22,6 @@ use Rattle.records.specs.declared.marks.Mark.{Mark}
 use Rattle.records.specs.declared.marks.Mark.the-variants.{Pr, Im, Ex, Gh, Fi, Fe}
 use Rattle.records.specs.declared.marks.Kind.the-variants.{File}
 use Rattle.records.specs.declared.marks.Wanted.the-variants.{Only}
-use Rattle.money.specs.declared.names.Name.{Name}
 use Rattle.book.specs.declared.amounts.places.Spot.{Spot}
 use Rattle.book.specs.tables.Places.{putSpot}
 use Rattle.book.specs.Register.{writeAll, standing, stands, count, spaceFault, refusal}
@@ -133,7 +133,8 @@ module _ (s : List ℕ) (l : List Change) (h : Sheet) (r : Rec) (g : Good (filed
       eq-orders w = eq-eqb (order n) (order m) w
 
   -- an import or an export
-  placed-is : (m : Mark) → k .mark ≡ m → (xs : List Spot) → Each (Stood s) xs (byName (hourKey m (k .hour)) rs) → refusal l 65535 (filed r) ≡ placedNumber (k .name) xs
+  placed-is : (m : Mark) → k .mark ≡ m → (xs : List Spot) → Each (Stood s) xs (byName (hourKey m (k .hour)) rs) → refusal l 65535 (filed r) ≡ placedNumber
+      (k .name) xs
   placed-is m e xs w =
       filing-refused l r room-is (among (k .name) xs) (ltb (length xs) 16)
       (stands-named k (hourKey m (k .hour)) (mine m e) rs ∙ sym (among-named (k .name) w))
@@ -142,7 +143,8 @@ module _ (s : List ℕ) (l : List Change) (h : Sheet) (r : Rec) (g : Good (filed
   priced-is : k .mark ≡ Pr → refusal l 65535 (filed r) ≡ cond (h .priced) 10 0
   priced-is e =
       let q = price-key (k .hour) r g (mine Pr e) in
-      let st : stands k rs ≡ h .priced = ap (λ (x : Key). stands x rs) (sym q) ∙ stands-pick (hourKey Pr (k .hour)) rs ∙ sym (priced-found s (h .priced) (h .price) (pick (hourKey Pr (k .hour)) rs) (b .price)) in
+      let st : stands k rs ≡ h .priced = ap (λ (x : Key). stands x rs) (sym q) ∙ stands-pick (hourKey Pr (k .hour)) rs ∙ sym
+      (priced-found s (h .priced) (h .price) (pick (hourKey Pr (k .hour)) rs) (b .price)) in
       by-test (h .priced)
       (λ t. filing-refused l r room-is true (ltb (count k rs) (limitOf k)) (st ∙ t) refl ∙ sym (ap (λ (x : Bool). cond x 10 0) t))
       (λ t.
@@ -176,16 +178,21 @@ module _ (s : List ℕ) (l : List Change) (h : Sheet) (r : Rec) (g : Good (filed
         → Each (Stood s) xs (byName (hourKey n (k .hour)) (standing (filed r ∷ l)))
     others m n e q xs = subst (Each (Stood s) xs) (sym (filing-named l r (hourKey n (k .hour)) false (not-mine m n e q)))
 
-    one-more : (m : Mark) → k .mark ≡ m → (xs : List Spot) → Each (Stood s) xs (byName (hourKey m (k .hour)) rs) → Each (Stood s) (putSpot spot xs) (byName (hourKey m (k .hour)) (standing (filed r ∷ l)))
-    one-more m e xs w = subst (Each (Stood s) (putSpot spot xs)) (sym (filing-named l r (hourKey m (k .hour)) true (mine m e))) (each-put (λ x r p. p .name) spot r stood w)
+    one-more : (m : Mark) → k .mark ≡ m → (xs : List Spot) → Each (Stood s) xs (byName (hourKey m (k .hour)) rs) → Each (Stood s) (putSpot spot xs)
+        (byName (hourKey m (k .hour)) (standing (filed r ∷ l)))
+    one-more m e xs w = subst (Each (Stood s) (putSpot spot xs)) (sym (filing-named l r (hourKey m (k .hour)) true (mine m e)))
+        (each-put (λ x r p. p .name) spot r stood w)
 
-    same-price : (m : Mark) → k .mark ≡ m → eqb (order Pr) (order m) ≡ false → Priced s (h .priced) (h .price) (pick (hourKey Pr (k .hour)) (standing (filed r ∷ l)))
+    same-price : (m : Mark) → k .mark ≡ m → eqb (order Pr) (order m) ≡ false → Priced s (h .priced) (h .price)
+        (pick (hourKey Pr (k .hour)) (standing (filed r ∷ l)))
     same-price m e q =
-        subst (Priced s (h .priced) (h .price)) (sym (filing-picked l r (hourKey Pr (k .hour)) false (same-by (hourKey Pr (k .hour)) k false (not-mine m Pr e q)))) (b .price)
+        subst (Priced s (h .priced) (h .price))
+        (sym (filing-picked l r (hourKey Pr (k .hour)) false (same-by (hourKey Pr (k .hour)) k false (not-mine m Pr e q)))) (b .price)
 
     new-price : k .mark ≡ Pr → Priced s true at (pick (hourKey Pr (k .hour)) (standing (filed r ∷ l)))
     new-price e =
-        subst (Priced s true at) (sym (filing-picked l r (hourKey Pr (k .hour)) true (ap (same (hourKey Pr (k .hour))) (sym (price-key (k .hour) r g (mine Pr e))) ∙ same-refl (hourKey Pr (k .hour)))))
+        subst (Priced s true at) (sym (filing-picked l r (hourKey Pr (k .hour)) true
+        (ap (same (hourKey Pr (k .hour))) (sym (price-key (k .hour) r g (mine Pr e))) ∙ same-refl (hourKey Pr (k .hour)))))
         (refl, record { inside = stood .inside; name = sym (price-name r g e); rest = stood .rest; front = stood .front })
 
     has-room : (xs : List Spot) → placedNumber (k .name) xs ≡ 0 → length xs < 16
@@ -203,7 +210,8 @@ module _ (s : List ℕ) (l : List Change) (h : Sheet) (r : Rec) (g : Good (filed
     pub stepped : Booked s (k .hour) (filed r ∷ l) (adding (k .mark) (record { name = k .name; start = at }) h)
     stepped = go (k .mark) refl o (sym added-is ∙ z)
       where
-        go : (m : Mark) → k .mark ≡ m → ofHour m ≡ true → addNumber m (k .name) h ≡ 0 → Booked s (k .hour) (filed r ∷ l) (adding m (record { name = k .name; start = at }) h)
+        go : (m : Mark) → k .mark ≡ m → ofHour m ≡ true → addNumber m (k .name) h ≡ 0 → Booked s (k .hour) (filed r ∷ l)
+            (adding m (record { name = k .name; start = at }) h)
         go Pr e o q = record {
           valid = filing-valid l r g z (b .valid);
           hour = hour-then;

@@ -50,13 +50,38 @@ module _ (n : ℕ) (q : ℕ → ℕ) (t : ℕ) (le : ℕ → ℕ → Bool)
       on (p k)
       (λ e. ⊎-elim
       (λ u. ⊎-elim
-      (λ x. inl (record { m = u .m; below = omega (arith, u .below); there = u .there; above = λ j h y. last-or j k h (λ z. subst (λ (i : ℕ). le i (u .m) ≡ true) (sym z) x) (λ z. u .above j z y) }))
-      (λ x. inl (record { m = k; below = omega arith; there = e; above = λ j h y. last-or j k h (λ z. subst (λ (i : ℕ). le i k ≡ true) (sym z) (self k (omega arith))) (λ z. tran j (u .m) k (omega arith) (omega (arith, u .below)) (omega arith) (u .above j z y) x) }))
+      (λ x. inl (record {
+        m = u .m;
+        below = omega (arith, u .below);
+        there = u .there;
+        above = λ j h y. last-or j k h
+            (λ z. subst (λ (i : ℕ). le i (u .m) ≡ true) (sym z) x) (λ z. u .above j z y);
+      }))
+      (λ x. inl (record {
+        m = k;
+        below = omega arith;
+        there = e;
+        above = λ j h y. last-or j k h
+            (λ z. subst (λ (i : ℕ). le i k ≡ true) (sym z) (self k (omega arith)))
+            (λ z. tran j (u .m) k (omega arith) (omega (arith, u .below)) (omega arith) (u .above j z y) x);
+      }))
       (tot k (u .m) (omega arith) (omega (arith, u .below))))
-      (λ f. inl (record { m = k; below = omega arith; there = e; above = λ j h y. last-or j k h (λ z. subst (λ (i : ℕ). le i k ≡ true) (sym z) (self k (omega arith))) (λ z. never (sym y ∙ f j z)) }))
+      (λ f. inl (record {
+        m = k;
+        below = omega arith;
+        there = e;
+        above = λ j h y. last-or j k h
+            (λ z. subst (λ (i : ℕ). le i k ≡ true) (sym z) (self k (omega arith))) (λ z. never (sym y ∙ f j z));
+      }))
       (top p k (omega arith)))
       (λ e. ⊎-elim
-      (λ u. inl (record { m = u .m; below = omega (arith, u .below); there = u .there; above = λ j h y. last-or j k h (λ z. never (sym y ∙ ap p z ∙ e)) (λ z. u .above j z y) }))
+      (λ u. inl (record {
+        m = u .m;
+        below = omega (arith, u .below);
+        there = u .there;
+        above = λ j h y. last-or j k h (λ z. never (sym y ∙ ap p z ∙ e))
+            (λ z. u .above j z y);
+      }))
       (λ f. inr (λ j h. last-or j k h (λ z. ap p z ∙ e) (f j)))
       (top p k (omega arith)))
 
@@ -86,7 +111,8 @@ module _ (n : ℕ) (q : ℕ → ℕ) (t : ℕ) (le : ℕ → ℕ → Bool)
     greatest = Σℕ-ext n _ _ (λ j h. ap (λ (b : Bool). cond b (q j) 0) (same j h))
       where
         same : (j : ℕ) → j < n → le j (u .m) ≡ p j
-        same j h = on (p j) (λ y. u .above j h y ∙ sym y) (λ y. on (le j (u .m)) (λ z. never (sym (cl (u .m) j (u .below) h (u .there) z) ∙ y)) (λ z. z ∙ sym y))
+        same j h = on (p j) (λ y. u .above j h y ∙ sym y)
+            (λ y. on (le j (u .m)) (λ z. never (sym (cl (u .m) j (u .below) h (u .there) z) ∙ y)) (λ z. z ∙ sym y))
 
     closed : Closed (less p (u .m))
     closed i j hi hj e k =
@@ -132,7 +158,8 @@ less-true x y h = on (ltZ x y) (λ e. e) (λ e. absurd (<ℤ-irrefl (back x y x 
     back = by₃ _ (λ a a′ b b′ c c′. simp ints (omega arith))
 
 module _ (a b : Import) where
-  first-cases : precedes a b ≡ true → (a .credit .0 <ℤ b .credit .0) ⊎ ((a .credit .0 ≡ b .credit .0) × (nameBefore (decodedBytes (a .name)) (decodedBytes (b .name)) ≡ true))
+  first-cases : precedes a b ≡ true → (a .credit .0 <ℤ b .credit .0) ⊎
+      ((a .credit .0 ≡ b .credit .0) × (nameBefore (decodedBytes (a .name)) (decodedBytes (b .name)) ≡ true))
   unfolding precedes
   first-cases e = go (ltZ x y) (ltZ y x) refl refl e
     where
@@ -162,7 +189,9 @@ first-trans : (a b c : Import) → precedes a b ≡ true → precedes b c ≡ tr
 first-trans a b c e f =
     ⊎-elim
     (λ x. ⊎-elim (λ y. first-lt a c (lt-both _ _ _ x y)) (λ y. first-lt a c (subst (λ (z : ℤ). a .credit .0 <ℤ z) (y .0) x)) (first-cases b c f))
-    (λ x. ⊎-elim (λ y. first-lt a c (subst (λ (z : ℤ). z <ℤ c .credit .0) (sym (x .0)) y)) (λ y. first-eq a c (x .0 ∙ y .0) (name-trans (decodedBytes (a .name)) (decodedBytes (b .name)) (decodedBytes (c .name)) (x .1) (y .1))) (first-cases b c f))
+    (λ x. ⊎-elim (λ y. first-lt a c (subst (λ (z : ℤ). z <ℤ c .credit .0) (sym (x .0)) y))
+    (λ y. first-eq a c (x .0 ∙ y .0) (name-trans (decodedBytes (a .name)) (decodedBytes (b .name)) (decodedBytes (c .name)) (x .1) (y .1)))
+    (first-cases b c f))
     (first-cases a b e)
 
 first-self : (a : Import) → precedes a a ≡ true → ⊥
@@ -174,7 +203,8 @@ first-tri a b =
     (λ e. on (ltZ (b .credit .0) (a .credit .0)) (λ f. inr (inr (first-lt b a (lt-true _ _ f))))
     (λ f.
     let w : a .credit .0 ≡ b .credit .0 = ≤ℤ-antisym _ _ (lt-false _ _ f) (lt-false _ _ e) in
-    ⊎-elim (λ r. inl (first-eq a b w r)) (λ r. ⊎-elim (λ z. inr (inl z)) (λ z. inr (inr (first-eq b a (sym w) z))) r) (name-tri (decodedBytes (a .name)) (decodedBytes (b .name)))))
+    ⊎-elim (λ r. inl (first-eq a b w r)) (λ r. ⊎-elim (λ z. inr (inl z)) (λ z. inr (inr (first-eq b a (sym w) z))) r)
+    (name-tri (decodedBytes (a .name)) (decodedBytes (b .name)))))
 
 -- ---- a list with distinct names
 pub record Distinct (n : ℕ) (es : List Import) : Type 0 where
@@ -204,11 +234,13 @@ module _ (n : ℕ) (es : List Import) (d : Distinct n es) where
   cancelled ts k =
       cancelled-all n (λ i. mqsi (E i) k) (quantityAt ts k) le
       (λ i h. le-same i i (same-of (E i .name) (E i .name) refl))
-      (λ i j hi hj e f. by-case i j e (λ x. by-case j i f (λ y. absurd (first-self (E i) (first-trans (E i) (E j) (E i) x y))) (λ y. sym (d .differ j i hj hi y))) (d .differ i j hi hj))
+      (λ i j hi hj e f. by-case i j e
+      (λ x. by-case j i f (λ y. absurd (first-self (E i) (first-trans (E i) (E j) (E i) x y))) (λ y. sym (d .differ j i hj hi y))) (d .differ i j hi hj))
       (λ i j l hi hj hl e f. by-case i j e
       (λ x. by-case j l f (λ y. le-first i l (first-trans (E i) (E j) (E l) x y)) (λ y. subst (λ (m : ℕ). le i m ≡ true) (d .differ j l hj hl y) e))
       (λ x. subst (λ (m : ℕ). le m l ≡ true) (sym (d .differ i j hi hj x)) f))
-      (λ i j hi hj. ⊎-elim (λ x. inl (le-first i j x)) (λ x. ⊎-elim (λ y. inl (le-same i j (same-of (E i .name) (E j .name) y))) (λ y. inr (le-first j i y)) x) (first-tri (E i) (E j)))
+      (λ i j hi hj. ⊎-elim (λ x. inl (le-first i j x)) (λ x. ⊎-elim (λ y. inl (le-same i j (same-of (E i .name) (E j .name) y))) (λ y. inr (le-first j i y)) x)
+      (first-tri (E i) (E j)))
 
 -- a list that is not refused has distinct names
 pub distinct-of : (n : ℕ) (ps : List Price) (es : List Import) → entriesFault n ps es ≡ 0 → Distinct n es
@@ -217,7 +249,9 @@ distinct-of n ps es h = record { differ = λ i j hi hj e. by i j hi hj e (decLt 
   where
     fresh : (i j : ℕ) → i < n → j < i → sameName (entry es i .name) (entry es j .name) ≡ true → ⊥
     fresh i j hi l e =
-        let f = every-at i (λ j. not (sameName (entry es i .name) (entry es j .name))) (passes (freshName es i) 9 0 (neither (entryFault ps (entry es i)) (unless (freshName es i) 10 0) (firstOf-zero n (faultAt ps es) h i hi) .1) .0) j l in
+        let f = every-at i (λ j. not (sameName (entry es i .name) (entry es j .name)))
+        (passes (freshName es i) 9 0 (neither (entryFault ps (entry es i)) (unless (freshName es i) 10 0) (firstOf-zero n (faultAt ps es) h i hi) .1) .0) j
+        l in
         never (sym f ∙ ap (λ (b : Bool). not b) e)
 
     back : (i j : ℕ) → sameName (entry es i .name) (entry es j .name) ≡ true → sameName (entry es j .name) (entry es i .name) ≡ true

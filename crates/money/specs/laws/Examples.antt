@@ -113,7 +113,8 @@ unit d r u a k s rt = record {
 }
 
 abbrev hour001 : UnitHour
-hour001 = unit 600 400 500 400 600 (record { prices = flat (pos 600); schedules = level 100; offer = one (pos 100) 100 }) (offered 4 (pos 2300 ∷ pos 2300 ∷ pos 3000 ∷ pos 4000 ∷ []) (100 ∷ 300 ∷ 500 ∷ 600 ∷ []))
+hour001 = unit 600 400 500 400 600 (record { prices = flat (pos 600); schedules = level 100; offer = one (pos 100) 100 })
+    (offered 4 (pos 2300 ∷ pos 2300 ∷ pos 3000 ∷ pos 4000 ∷ []) (100 ∷ 300 ∷ 500 ∷ 600 ∷ []))
 
 abbrev scenario3 : UnitHour
 scenario3 = unit 400 500 300 500 600 none (offered 5 (pos 2300 ∷ pos 2300 ∷ pos 3000 ∷ pos 4500 ∷ pos 5500 ∷ []) (100 ∷ 300 ∷ 400 ∷ 500 ∷ 600 ∷ []))
@@ -127,7 +128,8 @@ idle = unit 600 0 0 0 600 none ahead
 
 -- ---- 002's failures
 abbrev failed : ℕ → ℕ → ℤ → ℤ → Failure
-failed d p da pd = record { «day_ahead_quantity» = quantity d; «pre_dispatch_quantity» = quantity p; «day_ahead_price» = price da; «pre_dispatch_price» = price pd }
+failed d p da pd = record
+    { «day_ahead_quantity» = quantity d; «pre_dispatch_quantity» = quantity p; «day_ahead_price» = price da; «pre_dispatch_price» = price pd }
 
 -- twelve equal intervals
 abbrev twelfth : ℕ → Answer
@@ -178,5 +180,7 @@ cases =
     ∷ []
 
 pub examples : all cases ≡ true
-unfolding costAnswer offerFault numbersOk orderOk every cost fullPairs Σℤ Σℕ creditAnswer pricesOk quantitiesOk withinOk profits minℤ maxℤ offsetAnswer ratesOk entriesFault faultAt freshName entryFault nameOk firstOf offset counted upTo precedes sameName sameBytes nameBefore centsOf shortfall arranged congestion component4 C1 C2 C3 C4 interval hourAmount reserveFault reservesNumbersOk numbersFine withinFine listsFault unitFault intervalFault charge failureOk
+unfolding costAnswer offerFault numbersOk orderOk every cost fullPairs Σℤ Σℕ creditAnswer pricesOk quantitiesOk withinOk profits minℤ maxℤ offsetAnswer ratesOk
+    entriesFault faultAt freshName entryFault nameOk firstOf offset counted upTo precedes sameName sameBytes nameBefore centsOf shortfall arranged congestion
+    component4 C1 C2 C3 C4 interval hourAmount reserveFault reservesNumbersOk numbersFine withinFine listsFault unitFault intervalFault charge failureOk
 examples = refl

@@ -32,7 +32,13 @@ sound-of f pd e =
     let b = and-true (quantityOk (f .«day_ahead_quantity»)) _ (a .1) in
     let c = and-true (quantityOk (f .«pre_dispatch_quantity»)) (priceOk ahead && priceOk later) (b .1) in
     let d = and-true (priceOk ahead) (priceOk later) (c .1) in
-    record { market = price-in pd (a .0); day-ahead-quantity = leb-true _ _ (b .0); day-ahead-price = price-in ahead (d .0); pre-dispatch-price = price-in later (d .1) }
+    record {
+      market = price-in pd (a .0);
+      day-ahead-quantity = leb-true _ _ (b .0);
+      day-ahead-price = price-in ahead (d .0);
+      pre-dispatch-price = price-in later
+          (d .1);
+    }
 
 -- and the other way: parts in range pass
 pub failure-fine : (f : Failure) (pd : Price) → priceOk pd ≡ true → quantityOk (f .«day_ahead_quantity») ≡ true → quantityOk (f .«pre_dispatch_quantity») ≡ true

@@ -29,7 +29,8 @@ module _ (o : Offer) (ps : List Price) (q : ℕ → ℕ) (r : Ready o ps q) wher
   pub profit-size : (k : ℕ) → k < intervals → natAbs (profit o (priceAt ps k) (q k)) ≤ 440000000000
   profit-size k l =
       let w = r .within k l in
-      sub-within (priceAt ps k *ℤ pos (q k)) (cost o (q k)) (abs-mul-pos (priceAt ps k) (q k) {A = 200000} {B = 100000} (r .prices k l) (in-range o (q k) (r .good) w)) (spends o (q k) (r .good) w)
+      sub-within (priceAt ps k *ℤ pos (q k)) (cost o (q k))
+      (abs-mul-pos (priceAt ps k) (q k) {A = 200000} {B = 100000} (r .prices k l) (in-range o (q k) (r .good) w)) (spends o (q k) (r .good) w)
 
   pub some-size : (n : ℕ) → n ≤ intervals → natAbs (Σℤ n (λ k. profit o (priceAt ps k) (q k))) ≤ 5280000000000
   some-size n l = omega (arith, Σℤ-within 440000000000 n (λ k. profit o (priceAt ps k) (q k)) (λ j k. profit-size j (omega arith)))
@@ -65,7 +66,8 @@ module _ {o : Offer} {ps : List Price} {q : ℕ → ℕ} (ready : Ready o ps q) 
   pub profits-room : {sum : ℤ} {k : ℕ} → Summed intervals (interval-profit o ps q) sum k → Moderate sum
   profits-room {k = k} u = rw (u .so-far) (omega (arith, some-size o ps q ready k (u .upto)))
 
-pub profits-all : (o : Offer) (ps : List Price) (q : ℕ → ℕ) {sum : ℤ} {k : ℕ} → Summed intervals (interval-profit o ps q) sum k → intervals ≤ k → sum ≡ profits o ps q
+pub profits-all : (o : Offer) (ps : List Price) (q : ℕ → ℕ) {sum : ℤ} {k : ℕ} → Summed intervals (interval-profit o ps q) sum k → intervals ≤ k → sum ≡ profits
+    o ps q
 unfolding profits
 profits-all o ps q u h = summed-all u h
 
@@ -77,7 +79,8 @@ unfolding profits
 credit-ext o ps q q′ h = ap (λ (z : ℤ). negℤ (minℤ (pos 0) z)) (Σℤ-ext intervals _ _ (λ k l. ap (λ (x : ℕ). profit o (priceAt ps k) x) (h k l)))
 
 -- a credit that no check refuses
-pub credit-given : (o : Offer) (ps : List Price) (qs : List Quantity) → pricesOk ps ≡ true → quantitiesOk qs ≡ true → offerFault o ≡ 0 → withinOk qs (lastQ o) ≡ true
+pub credit-given : (o : Offer) (ps : List Price) (qs : List Quantity) → pricesOk ps ≡ true → quantitiesOk qs ≡ true → offerFault o ≡ 0 → withinOk qs (lastQ o) ≡
+    true
     → creditAnswer o ps qs ≡ Amount (record { 0 = credit o ps (quantityAt qs) })
 unfolding creditAnswer
 credit-given o ps qs a b c d = ap (λ (n : ℕ). answer n (credit o ps (quantityAt qs))) none

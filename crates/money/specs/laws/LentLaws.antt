@@ -28,7 +28,8 @@ use Rattle.money.specs.Offers.{maxPairs}
 module _ (n : ℕ) (es es′ : List Import) (same : (i : ℕ) → i < n → entry es i ≡ entry es′ i) (ps : List Price) (ts : List Quantity) where
   adj-front : (i : ℕ) → i < n → (k : ℕ) → adj n es ts i k ≡ adj n es′ ts i k
   adj-front i l k =
-      let r = Σℕ-ext n (λ j. counted (entry es j) (entry es i) k) (λ j. counted (entry es′ j) (entry es′ i) k) (λ j h. (λ x. counted (same j h x) (same i l x) k)) in
+      let r = Σℕ-ext n (λ j. counted (entry es j) (entry es i) k) (λ j. counted (entry es′ j) (entry es′ i) k)
+      (λ j h. (λ x. counted (same j h x) (same i l x) k)) in
       (λ x. min (mqsi (same i l x) k) (r x - quantityAt ts k))
 
   offset-front : offset n es ps ts ≡ offset n es′ ps ts
@@ -42,7 +43,8 @@ module _ (n : ℕ) (es es′ : List Import) (same : (i : ℕ) → i < n → entr
   fault-front : (i : ℕ) → i < n → faultAt ps es i ≡ faultAt ps es′ i
   unfolding faultAt freshName
   fault-front i l =
-      let f = every-ext i (λ j. not (sameName (entry es i .name) (entry es j .name))) (λ j. not (sameName (entry es′ i .name) (entry es′ j .name))) (λ j h. (λ x. not (sameName (same i l x .name) (same j (omega arith) x .name)))) in
+      let f = every-ext i (λ j. not (sameName (entry es i .name) (entry es j .name))) (λ j. not (sameName (entry es′ i .name) (entry es′ j .name)))
+      (λ j h. (λ x. not (sameName (same i l x .name) (same j (omega arith) x .name)))) in
       (λ x. orElse (entryFault ps (same i l x)) (unless (f x) 10 0))
 
   pub answer-front : offsetAnswer n es ps ts ≡ offsetAnswer n es′ ps ts
@@ -100,7 +102,8 @@ kept (e ∷ es) s h l =
       new = at (foldOf s′ es) (k .old (s .count) (omega arith) ∙ getD-set-same (s .entries) (s .count) e noImport (omega arith)) (k .new);
     })
   where
-    at : (t : Taken) → entry (t .entries) (s .count) ≡ e → ((j : ℕ) → j < length es → entry (t .entries) (s .count + 1 + j) ≡ entry es j) → (j : ℕ) → j < suc (length es) → entry (t .entries) (s .count + j) ≡ entry (e ∷ es) j
+    at : (t : Taken) → entry (t .entries) (s .count) ≡ e → ((j : ℕ) → j < length es → entry (t .entries) (s .count + 1 + j) ≡ entry es j) → (j : ℕ) → j < suc
+        (length es) → entry (t .entries) (s .count + j) ≡ entry (e ∷ es) j
     at t f g zero m = subst (λ (i : ℕ). entry (t .entries) i ≡ e) (omega arith) f
     at t f g (suc j) m = subst (λ (i : ℕ). entry (t .entries) i ≡ entry es j) (omega arith) (g j (omega arith))
 

@@ -17,7 +17,8 @@ use Rattle.money.specs.Names.{decodedBytes, nameBefore, sameBytes, sameN
 
 -- a name of more than its twelve places has twelve bytes
 pub take-used : (xs : List ℕ) (n : ℕ) → length xs ≡ 12 → take n xs ≡ take (min n 12) xs
-take-used xs n h = below-or n 12 (λ l. let e : min n 12 ≡ n = omega arith in rw e) (λ l. let e : min n 12 ≡ 12 = omega arith in rw e (take-all n xs (omega arith) ∙ sym (take-all 12 xs (omega arith))))
+take-used xs n h = below-or n 12 (λ l. let e : min n 12 ≡ n = omega arith in rw e)
+    (λ l. let e : min n 12 ≡ 12 = omega arith in rw e (take-all n xs (omega arith) ∙ sym (take-all 12 xs (omega arith))))
 
 -- the loop at byte i: what is left decides
 pub record Alike (xs ys : List ℕ) (m n i : ℕ) : Type 0 where
@@ -52,7 +53,8 @@ module _ {xs ys : List ℕ} {m n i : ℕ} (hx : m ≤ length xs) (hy : n ≤ len
 
     pub alike-more : getD ys i 0 < getD xs i 0 → false ≡ nameBefore (take m xs) (take n ys)
     unfolding nameBefore
-    alike-more h = sym (a .left ∙ rw (split xs m i hx l, split ys n i hy k, le-ltb (getD xs i 0) (getD ys i 0) (omega arith), lt-ltb (getD ys i 0) (getD xs i 0) h))
+    alike-more h = sym
+        (a .left ∙ rw (split xs m i hx l, split ys n i hy k, le-ltb (getD xs i 0) (getD ys i 0) (omega arith), lt-ltb (getD ys i 0) (getD xs i 0) h))
 
     pub alike-on : getD ys i 0 ≤ getD xs i 0 → getD xs i 0 ≤ getD ys i 0 → Alike xs ys m n (i + 1)
     unfolding nameBefore
@@ -169,9 +171,11 @@ name-trans xs (y ∷ ys) [] e f = never (sym f)
 name-trans [] (y ∷ ys) (z ∷ zs) e f = refl
 name-trans (x ∷ xs) (y ∷ ys) (z ∷ zs) e f =
     ⊎-elim
-    (λ a. ⊎-elim (λ b. lex-lt x z (nameBefore xs zs) (omega arith)) (λ b. let w = b .0 in lex-lt x z (nameBefore xs zs) (omega arith)) (lex-cases y z (nameBefore ys zs) f))
+    (λ a. ⊎-elim (λ b. lex-lt x z (nameBefore xs zs) (omega arith)) (λ b. let w = b .0 in lex-lt x z (nameBefore xs zs) (omega arith))
+    (lex-cases y z (nameBefore ys zs) f))
     (λ a. let v = a .0 in
-    ⊎-elim (λ b. lex-lt x z (nameBefore xs zs) (omega arith)) (λ b. let w = b .0 in lex-eq x z (nameBefore xs zs) (omega arith) (name-trans xs ys zs (a .1) (b .1))) (lex-cases y z (nameBefore ys zs) f))
+    ⊎-elim (λ b. lex-lt x z (nameBefore xs zs) (omega arith))
+    (λ b. let w = b .0 in lex-eq x z (nameBefore xs zs) (omega arith) (name-trans xs ys zs (a .1) (b .1))) (lex-cases y z (nameBefore ys zs) f))
     (lex-cases x y (nameBefore xs ys) e)
 
 pub name-tri : (xs ys : List ℕ) → (nameBefore xs ys ≡ true) ⊎ ((xs ≡ ys) ⊎ (nameBefore ys xs ≡ true))

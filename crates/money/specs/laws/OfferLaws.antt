@@ -41,13 +41,16 @@ module _ (o : Offer) (good : Good o) where
 
 module _ (o : Offer) where
   -- if the pairs below s are full, and the others not
-  pub cost-cut : (q s : ℕ) → s ≤ o .count → ((j : ℕ) → j < s → Q o j ≤ q) → ((j : ℕ) → s ≤ j → j < o .count → q < Q o j) → cost o q ≡ Σℤ s (piece o) +ℤ partPair o q s
+  pub cost-cut : (q s : ℕ) → s ≤ o .count → ((j : ℕ) → j < s → Q o j ≤ q) → ((j : ℕ) → s ≤ j → j < o .count → q < Q o j) → cost o q ≡ Σℤ s (piece o) +ℤ partPair
+      o q s
   unfolding cost fullPairs
   cost-cut q s l full over =
       let f : ℕ → ℤ = λ i. cond (leb (Q o i) q) (piece o i) (pos 0) in
       let g : ℕ → ℕ = λ i. cond (leb (Q o i) q) 1 0 in
-      let a : Σℤ (o .count) f ≡ Σℤ s (piece o) = Σℤ-cut (o .count) s f l (λ j h k. rw (lt-leb (Q o j) q (over j h k))) ∙ Σℤ-ext s f (piece o) (λ j h. rw (le-leb (Q o j) q (full j h))) in
-      let b : Σℕ (o .count) g ≡ s = Σℕ-cut (o .count) s g l (λ j h k. rw (lt-leb (Q o j) q (over j h k))) ∙ Σℕ-ones s g (λ j h. rw (le-leb (Q o j) q (full j h))) in
+      let a : Σℤ (o .count) f ≡ Σℤ s (piece o) = Σℤ-cut (o .count) s f l (λ j h k. rw (lt-leb (Q o j) q (over j h k))) ∙ Σℤ-ext s f (piece o)
+      (λ j h. rw (le-leb (Q o j) q (full j h))) in
+      let b : Σℕ (o .count) g ≡ s = Σℕ-cut (o .count) s g l (λ j h k. rw (lt-leb (Q o j) q (over j h k))) ∙ Σℕ-ones s g
+      (λ j h. rw (le-leb (Q o j) q (full j h))) in
       (λ i. a i +ℤ partPair o q (b i))
 
 -- ---- the walk: at pair i, with acc for the pairs before, which all stay below q
@@ -116,10 +119,12 @@ module _ (o : Offer) (q : ℕ) (good : Good o) (within : q ≤ lastQ o) where
 
         by : Dec (q ≡ Q o i) → r ≡ cost o q
         by (no n) =
-            let c = cost-cut o q i (omega (arith, w .below)) (λ j k. omega (arith, w .past j k)) (λ j k l. last-or i j (omega arith) (λ x. subst (λ (y : ℕ). q < Q o y) x (omega arith)) (λ x. omega (arith, mono o good i j l x))) in
+            let c = cost-cut o q i (omega (arith, w .below)) (λ j k. omega (arith, w .past j k))
+            (λ j k l. last-or i j (omega arith) (λ x. subst (λ (y : ℕ). q < Q o y) x (omega arith)) (λ x. omega (arith, mono o good i j l x))) in
             here ∙ sym (c ∙ rw (lt-ltb i (o .count) (w .below)))
         by (yes y) =
-            let c = cost-cut o q (suc i) (w .below) (λ j k. last-or j i k (λ x. rw x (omega arith)) (λ x. omega (arith, w .past j x))) (λ j k l. omega (arith, mono o good i j l k)) in
+            let c = cost-cut o q (suc i) (w .below) (λ j k. last-or j i k (λ x. rw x (omega arith)) (λ x. omega (arith, w .past j x)))
+            (λ j k l. omega (arith, mono o good i j l k)) in
             let z : r ≡ Σℤ i (piece o) +ℤ piece o i = here ∙ (λ k. Σℤ i (piece o) +ℤ P o i *ℤ pos (y k - before o i)) in
             z ∙ sym (c ∙ rw (rest (P o (suc i)) (suc i) (Q o i) y) (+ℤ-idr _))
 
@@ -205,14 +210,16 @@ module _ {o : Offer} {costs : List Ticks} {acc : ℤ} {last i : ℕ} (good : Goo
     from = rw add-one;
     sum = rw (Σℤ-more, ← s .sum, ← s .from) (k ∙ ap (λ (z : ℤ). acc +ℤ z) e);
     so-far = λ j h. last-or j i (omega arith)
-        (λ q. subst (λ (n : ℕ). ticksAt (set costs i v) n ≡ Σℤ n (piece o)) (sym q) (ap (λ (x : Ticks). x .0) (getD-set-same costs i v (record { 0 = pos 0 }) (omega (arith, s .long, good .most))) ∙ f ∙ s .sum))
+        (λ q. subst (λ (n : ℕ). ticksAt (set costs i v) n ≡ Σℤ n (piece o)) (sym q)
+        (ap (λ (x : Ticks). x .0) (getD-set-same costs i v (record { 0 = pos 0 }) (omega (arith, s .long, good .most))) ∙ f ∙ s .sum))
         (λ q. ap (λ (x : Ticks). x .0) (getD-set-other costs i j v (record { 0 = pos 0 }) (λ z. omega arith)) ∙ s .so-far j q);
   }
 
 -- the walk that finds a pair, with what the pairs before it cost
 module _ {o : Offer} {q : ℕ} (good : Good o) (within : q ≤ lastQ o) {last i : ℕ} (w : Walk o q (Σℤ i (piece o)) last i) where
   pub found-on : Q o i < q → Walk o q (Σℤ (i + 1) (piece o)) (Q o i) (i + 1)
-  found-on h = next o q good within (Σℤ i (piece o)) last i w (Σℤ (i + 1) (piece o)) h (Σℤ-more i (piece o) ∙ (λ k. Σℤ i (piece o) +ℤ P o i *ℤ pos (Q o i - sym (w .from) k)))
+  found-on h = next o q good within (Σℤ i (piece o)) last i w (Σℤ (i + 1) (piece o)) h
+      (Σℤ-more i (piece o) ∙ (λ k. Σℤ i (piece o) +ℤ P o i *ℤ pos (Q o i - sym (w .from) k)))
 
   pub found : {b t r : ℤ} → b ≡ Σℤ i (piece o) → q ≤ Q o i → t ≡ P o i *ℤ pos (q - last) → r ≡ b +ℤ t → r ≡ cost o q
   found {t = t} d h e k = walked good within w h e (k ∙ ap (λ (z : ℤ). z +ℤ t) d)

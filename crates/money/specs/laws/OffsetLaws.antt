@@ -72,10 +72,12 @@ module _ {n : ℕ} {es : List Import} {i : ℕ} {sums : List Quantity} {j : ℕ}
         Σℕ-within 100000 j (λ a. counted (entry es a) (entry es i) k) (λ a h. counted-size (entry es a) (entry es i) k (s .each a (omega arith)) m),
       )
 
-  pub reached-more : {row : List Quantity} → ((k : ℕ) → k < intervals → quantityAt row k ≡ quantityAt sums k + counted (entry es j) (entry es i) k) → Reached n es i row (j + 1)
+  pub reached-more : {row : List Quantity} → ((k : ℕ) → k < intervals → quantityAt row k ≡ quantityAt sums k + counted (entry es j) (entry es i) k) → Reached n
+      es i row (j + 1)
   reached-more g = record { upto = omega arith; so-far = λ k m. omega (arith, g k m, r .so-far k m, Σℕ-more j (λ a. counted (entry es a) (entry es i) k)) }
 
-pub reached-all : {n : ℕ} {es : List Import} {i : ℕ} {sums : List Quantity} {j : ℕ} → Reached n es i sums j → n ≤ j → (k : ℕ) → k < intervals → quantityAt sums k ≡ reach n es i k
+pub reached-all : {n : ℕ} {es : List Import} {i : ℕ} {sums : List Quantity} {j : ℕ} → Reached n es i sums j → n ≤ j → (k : ℕ) → k < intervals → quantityAt sums
+    k ≡ reach n es i k
 reached-all {n = n} {es = es} {i = i} {j = j} r h k m = let e : j ≡ n = omega (arith, r .upto) in r .so-far k m ∙ ap (λ (a : ℕ). reach a es i k) e
 
 -- ---- the offset
@@ -88,20 +90,24 @@ module _ (ps : List Price) (ts : List Quantity) {n : ℕ} {es : List Import} (s 
   adj-ready {i = i} l h = record { good = s .each i l .good; prices = rates; within = λ k m. omega (arith, h k m, s .each i l .within k m) }
 
   gives-size : (i : ℕ) → i < n → natAbs (gives n es ps ts i) ≤ 10560000000000
-  gives-size i l = sub-within (entry es i .credit .0) (credit (entry es i .offer) ps (adj n es ts i)) (s .each i l .small) (credit-size _ _ _ (adj-ready {q = adj n es ts i} {i = i} l (λ k m. refl)))
+  gives-size i l = sub-within (entry es i .credit .0) (credit (entry es i .offer) ps (adj n es ts i)) (s .each i l .small)
+      (credit-size _ _ _ (adj-ready {q = adj n es ts i} {i = i} l (λ k m. refl)))
 
   module _ {sum : ℤ} {i : ℕ} (r : Summed n (gives n es ps ts) sum i) where
     pub offsets-room : Moderate sum
-    offsets-room = rw (r .so-far) (omega (arith, r .upto, s .most, Σℤ-within 10560000000000 i (gives n es ps ts) (λ j h. gives-size j (omega (arith, r .upto)))))
+    offsets-room = rw (r .so-far)
+        (omega (arith, r .upto, s .most, Σℤ-within 10560000000000 i (gives n es ps ts) (λ j h. gives-size j (omega (arith, r .upto)))))
 
-    module _ {q : ℕ → ℕ} {x d : ℤ} (l : i < n) (row : (k : ℕ) → k < intervals → q k ≡ adj n es ts i k) (e : x ≡ credit (entry es i .offer) ps q) (g : d ≡ entry es i .credit .0 -ℤ x) where
+    module _ {q : ℕ → ℕ} {x d : ℤ} (l : i < n) (row : (k : ℕ) → k < intervals → q k ≡ adj n es ts i k) (e : x ≡ credit (entry es i .offer) ps q)
+        (g : d ≡ entry es i .credit .0 -ℤ x) where
       pub gives-is : d ≡ gives n es ps ts i
       gives-is = g ∙ ap (λ (z : ℤ). entry es i .credit .0 -ℤ z) (e ∙ credit-ext (entry es i .offer) ps q (adj n es ts i) row)
 
       pub gives-room : Moderate d
       gives-room = rw gives-is (omega (arith, gives-size i l))
 
-pub offsets-all : (n : ℕ) (es : List Import) (ps : List Price) (ts : List Quantity) {sum : ℤ} {i : ℕ} → Summed n (gives n es ps ts) sum i → n ≤ i → sum ≡ offset n es ps ts
+pub offsets-all : (n : ℕ) (es : List Import) (ps : List Price) (ts : List Quantity) {sum : ℤ} {i : ℕ} → Summed n (gives n es ps ts) sum i → n ≤ i → sum ≡ offset
+    n es ps ts
 unfolding offset
 offsets-all n es ps ts r h = summed-all r h ∙ Σℤ-sub n (λ j. entry es j .credit .0) (λ j. credit (entry es j .offer) ps (adj n es ts j))
 
@@ -123,19 +129,23 @@ listed-of n ps es m r h = record { most = m; each = λ i l. sound-of ps (entry e
 
 pub rates-of : (ps : List Price) (ts : List Quantity) → ratesOk ps ts ≡ true → Rates ps
 unfolding ratesOk
-rates-of ps ts h = λ k l. price-in (getD ps k noPrice) (and-true (priceOk (getD ps k noPrice)) (totalOk (getD ts k noQuantity)) (every-at intervals (rateOk ps ts) h k l) .0)
+rates-of ps ts h = λ k l. price-in (getD ps k noPrice)
+    (and-true (priceOk (getD ps k noPrice)) (totalOk (getD ts k noQuantity)) (every-at intervals (rateOk ps ts) h k l) .0)
 
 -- ---- totals, and a list that no check refuses
 -- a row more, where no total comes to more than it may
-pub totals-more : (ts ms : List Quantity) (f : ℕ → ℕ) → ((k : ℕ) → k < intervals → quantityAt ts k ≡ f k) → ((k : ℕ) → k < intervals → f k + quantityAt ms k ≤ maxTotal)
+pub totals-more : (ts ms : List Quantity) (f : ℕ → ℕ) → ((k : ℕ) → k < intervals → quantityAt ts k ≡ f k) →
+    ((k : ℕ) → k < intervals → f k + quantityAt ms k ≤ maxTotal)
     → totalsWith ts ms ≡ rowOf 0 intervals (λ (k : ℕ). f k + quantityAt ms k)
 unfolding totalsWith
 totals-more ts ms f h m =
-    row-same intervals (λ (k : ℕ). min (quantityAt ts k + quantityAt ms k) (maxTotal + 1)) (λ (k : ℕ). f k + quantityAt ms k) (λ k l. omega (arith, h k l, m k l))
+    row-same intervals (λ (k : ℕ). min (quantityAt ts k + quantityAt ms k) (maxTotal + 1)) (λ (k : ℕ). f k + quantityAt ms k)
+    (λ k l. omega (arith, h k l, m k l))
 
 pub rates-ok : (ps : List Price) (ts : List Quantity) → pricesOk ps ≡ true → ((k : ℕ) → k < intervals → quantityAt ts k ≤ maxTotal) → ratesOk ps ts ≡ true
 unfolding ratesOk pricesOk
-rates-ok ps ts h m = every-yes intervals (rateOk ps ts) (λ k l. rw (every-at intervals (λ k. priceOk (getD ps k noPrice)) h k l, le-leb (quantityAt ts k) maxTotal (m k l)))
+rates-ok ps ts h m = every-yes intervals (rateOk ps ts)
+    (λ k l. rw (every-at intervals (λ k. priceOk (getD ps k noPrice)) h k l, le-leb (quantityAt ts k) maxTotal (m k l)))
 
 -- an entry of which each part is in order
 pub entry-fine : (ps : List Price) (e : Import) → nameOk (e .name) ≡ true → quantitiesOk (e .quantities) ≡ true → offerFault (e .offer) ≡ 0

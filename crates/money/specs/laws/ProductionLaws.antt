@@ -128,9 +128,11 @@ pub shortfall-is : (o : Offer) (p : ℤ) (noload q : ℕ) {l t r : ℤ} → l �
 unfolding shortfall
 shortfall-is o p noload q e f g = g ∙ (λ i. e i +ℤ f i)
 
-shortfall-size : (o : Offer) (p : ℤ) (noload q : ℕ) → Good o → q ≤ lastQ o → natAbs p ≤ 200000 → noload ≤ 100000000 → natAbs (shortfall o p noload q) ≤ 441000000000
+shortfall-size : (o : Offer) (p : ℤ) (noload q : ℕ) → Good o → q ≤ lastQ o → natAbs p ≤ 200000 → noload ≤ 100000000 → natAbs (shortfall o p noload q) ≤
+    441000000000
 unfolding shortfall
-shortfall-size o p noload q good within rate small = add-within (cost o q -ℤ p *ℤ pos q) (running noload q) (loss-size o q good within p rate) (running-size noload q small)
+shortfall-size o p noload q good within rate small = add-within (cost o q -ℤ p *ℤ pos q) (running noload q) (loss-size o q good within p rate)
+    (running-size noload q small)
 
 -- ---- C2: the cost between two quantities, in two offers
 module _ (o : Offer) (b a : ℕ) (good : Good o) (upper : b ≤ lastQ o) (lower : a ≤ lastQ o) where
@@ -148,7 +150,8 @@ pub arranged-is : (da rt : Offer) (b a : ℕ) {x y r : ℤ} → x ≡ cost da b 
 unfolding arranged
 arranged-is da rt b a e f g = g ∙ (λ i. e i -ℤ f i)
 
-arranged-size : (da rt : Offer) (b a : ℕ) → Good da → Good rt → b ≤ lastQ da → a ≤ lastQ da → b ≤ lastQ rt → a ≤ lastQ rt → natAbs (arranged da rt b a) ≤ 1680000000000
+arranged-size : (da rt : Offer) (b a : ℕ) → Good da → Good rt → b ≤ lastQ da → a ≤ lastQ da → b ≤ lastQ rt → a ≤ lastQ rt → natAbs (arranged da rt b a) ≤
+    1680000000000
 unfolding arranged
 arranged-size da rt b a g g′ h k h′ k′ = sub-within (cost da b -ℤ cost da a) (cost rt b -ℤ cost rt a) (step-size da b a g h k) (step-size rt b a g′ h′ k′)
 
@@ -163,7 +166,8 @@ module _ (o : Offer) (p : ℤ) (b a : ℕ) where
 
   congestion-size : Good o → b ≤ lastQ o → a ≤ lastQ o → natAbs p ≤ 200000 → natAbs (congestion o p b a) ≤ 880000000000
   unfolding congestion
-  congestion-size g h k r = rw (← apart (cost o b) (cost o a) p (pos b) (pos a)) (sub-within (cost o b -ℤ p *ℤ pos b) (cost o a -ℤ p *ℤ pos a) (loss-size o b g h p r) (loss-size o a g k p r))
+  congestion-size g h k r = rw (← apart (cost o b) (cost o a) p (pos b) (pos a))
+      (sub-within (cost o b -ℤ p *ℤ pos b) (cost o a -ℤ p *ℤ pos a) (loss-size o b g h p r) (loss-size o a g k p r))
 
 -- ---- C4
 pub last-none : (o : Offer) → o .count < 1 → lastQ o ≡ 0
@@ -227,7 +231,11 @@ module _ {h : UnitHour} {ps : List Price} (ready : UnitReady h ps) where
     unfolding C1
     C1-small =
         let w = ready .ahead-within k l in
-        omega (arith, shortfall-size (h .aheadoffer) (priceAt ps k) (h .noload .0) (min (D h k) (min (R h k) (A h k))) (ready .ahead) (omega arith) (ready .rates k l) (ready .noload))
+        omega (
+          arith,
+          shortfall-size (h .aheadoffer) (priceAt ps k) (h .noload .0) (min (D h k) (min (R h k) (A h k))) (ready .ahead) (omega arith)
+              (ready .rates k l) (ready .noload),
+        )
 
     pub C2-small : Small (C2 h ps k)
     unfolding C2
@@ -235,13 +243,21 @@ module _ {h : UnitHour} {ps : List Price} (ready : UnitReady h ps) where
         let w = ready .ahead-within k l in
         let v = ready .real-within k l in
         let b = min (D h k) (K h k) in
-        omega (arith, arranged-size (h .aheadoffer) (h .realoffer) b (min b (max (R h k) (A h k))) (ready .ahead) (ready .real) (omega arith) (omega arith) (omega arith) (omega arith))
+        omega (
+          arith,
+          arranged-size (h .aheadoffer) (h .realoffer) b (min b (max (R h k) (A h k))) (ready .ahead) (ready .real) (omega arith) (omega arith)
+              (omega arith) (omega arith),
+        )
 
     pub C3-small : Small (C3 h ps k)
     unfolding C3
     C3-small =
         let w = ready .real-within k l in
-        omega (arith, congestion-size (h .realoffer) (priceAt ps k) (min (R h k) (D h k)) (min (U h k) (D h k)) (ready .real) (omega arith) (omega arith) (ready .rates k l))
+        omega (
+          arith,
+          congestion-size (h .realoffer) (priceAt ps k) (min (R h k) (D h k)) (min (U h k) (D h k)) (ready .real) (omega arith) (omega arith)
+              (ready .rates k l),
+        )
 
     pub C4-small : Small (C4 h ps k)
     unfolding C4 component4
@@ -290,12 +306,15 @@ pub profits-moderate : {o : Offer} {ps : List Price} {q : ℕ → ℕ} → Ready
 profits-moderate {o} {ps} {q} r e = rw e (omega (arith, profits-size o ps q r))
 
 -- the difference of two
-pub two-profits : {o : Offer} {ps : List Price} {q q′ : ℕ → ℕ} → Ready o ps q → Ready o ps q′ → {x y z : ℤ} → x ≡ profits o ps q → y ≡ profits o ps q′ → z ≡ x -ℤ y → Moderate z
-two-profits {o} {ps} {q} {q′} r r′ e f g = rw (g ∙ (λ i. e i -ℤ f i)) (omega (arith, sub-within (profits o ps q) (profits o ps q′) (profits-size o ps q r) (profits-size o ps q′ r′)))
+pub two-profits : {o : Offer} {ps : List Price} {q q′ : ℕ → ℕ} → Ready o ps q → Ready o ps q′ → {x y z : ℤ} → x ≡ profits o ps q → y ≡ profits o ps q′ → z ≡ x
+    -ℤ y → Moderate z
+two-profits {o} {ps} {q} {q′} r r′ e f g = rw (g ∙ (λ i. e i -ℤ f i))
+    (omega (arith, sub-within (profits o ps q) (profits o ps q′) (profits-size o ps q r) (profits-size o ps q′ r′)))
 
 -- speed no-load
 pub runs-room : (noload : ℕ) (m : ℕ → ℕ) → noload ≤ 100000000 → {sum : ℤ} {k : ℕ} → Summed intervals (λ j. running noload (m j)) sum k → Moderate sum
-runs-room noload m small {k = k} u = rw (u .so-far) (omega (arith, u .upto, Σℤ-within 1000000000 k (λ j. running noload (m j)) (λ j l. running-size noload (m j) small)))
+runs-room noload m small {k = k} u = rw (u .so-far)
+    (omega (arith, u .upto, Σℤ-within 1000000000 k (λ j. running noload (m j)) (λ j l. running-size noload (m j) small)))
 
 pub runs-moderate : (noload : ℕ) (m : ℕ → ℕ) → noload ≤ 100000000 → {x : ℤ} → x ≡ Σℤ intervals (λ j. running noload (m j)) → Moderate x
 runs-moderate noload m small e = runs-room noload m small (record { upto = omega arith; so-far = e })
@@ -304,7 +323,8 @@ turned : (n v c : ℤ) → n -ℤ (v -ℤ c) ≡ c -ℤ v +ℤ n
 turned = by₃ _ (λ a a′ b b′ c c′. simp ints (omega arith))
 
 -- C1 is the speed no-load less the profits
-pub sum1-is : (da : Offer) (ps : List Price) (noload : ℕ) (d r a m : ℕ → ℕ) → ((k : ℕ) → k < intervals → m k ≡ min (d k) (min (r k) (a k))) → {n p x : ℤ} → n ≡ Σℤ intervals (λ k. running noload (m k)) → p ≡ profits da ps m → x ≡ n -ℤ p
+pub sum1-is : (da : Offer) (ps : List Price) (noload : ℕ) (d r a m : ℕ → ℕ) → ((k : ℕ) → k < intervals → m k ≡ min (d k) (min (r k) (a k))) → {n p x : ℤ} → n ≡
+    Σℤ intervals (λ k. running noload (m k)) → p ≡ profits da ps m → x ≡ n -ℤ p
     → x ≡ Σℤ intervals (λ k. component1 da (priceAt ps k) noload (d k) (r k) (a k))
 unfolding profits shortfall
 sum1-is da ps noload d r a m h e f g =
@@ -332,7 +352,8 @@ profits-differ : (o : Offer) (ps : List Price) (from to : ℕ → ℕ) {x y s : 
 unfolding profits
 profits-differ o ps from to e f g = g ∙ (λ i. e i -ℤ f i) ∙ sym (Σℤ-sub intervals (λ k. profit o (priceAt ps k) (from k)) (λ k. profit o (priceAt ps k) (to k)))
 
-pub sum2-is : (da rt : Offer) (ps : List Price) (d r a c to from : ℕ → ℕ) → ((k : ℕ) → k < intervals → to k ≡ min (d k) (c k)) → ((k : ℕ) → k < intervals → from k ≡ min (to k) (max (r k) (a k)))
+pub sum2-is : (da rt : Offer) (ps : List Price) (d r a c to from : ℕ → ℕ) → ((k : ℕ) → k < intervals → to k ≡ min (d k) (c k)) →
+    ((k : ℕ) → k < intervals → from k ≡ min (to k) (max (r k) (a k)))
     → {x y z w s t n : ℤ} → x ≡ profits da ps from → y ≡ profits da ps to → z ≡ profits rt ps from → w ≡ profits rt ps to → s ≡ x -ℤ y → t ≡ z -ℤ w → n ≡ s -ℤ t
     → n ≡ Σℤ intervals (λ k. component2 da rt (d k) (r k) (a k) (c k))
 sum2-is da rt ps d r a c to from h h′ e f e′ f′ g g′ m =
@@ -349,7 +370,8 @@ congestion-by rt p b a = swap (p *ℤ pos a) (cost rt a) (p *ℤ pos b) (cost rt
     swap : (v c w d : ℤ) → (v -ℤ c) -ℤ (w -ℤ d) ≡ (d -ℤ w) -ℤ (c -ℤ v)
     swap = by₄ _ (λ a a′ b b′ c c′ d d′. simp ints (omega arith))
 
-pub sum3-is : (rt : Offer) (ps : List Price) (d r u to from : ℕ → ℕ) → ((k : ℕ) → k < intervals → to k ≡ min (r k) (d k)) → ((k : ℕ) → k < intervals → from k ≡ min (u k) (d k))
+pub sum3-is : (rt : Offer) (ps : List Price) (d r u to from : ℕ → ℕ) → ((k : ℕ) → k < intervals → to k ≡ min (r k) (d k)) →
+    ((k : ℕ) → k < intervals → from k ≡ min (u k) (d k))
     → {x y n : ℤ} → x ≡ profits rt ps from → y ≡ profits rt ps to → n ≡ x -ℤ y → n ≡ Σℤ intervals (λ k. component3 rt (priceAt ps k) (d k) (r k) (u k))
 sum3-is rt ps d r u to from h h′ e f g =
     profits-differ rt ps from to e f g
@@ -363,7 +385,8 @@ reserved s left k = reserveNet s k (min (left k) (S s k))
 module _ {s : Reserve} (u : Usable s) (left : ℕ → ℕ) where
   pub reserve-none : s .offer .count < 1 → pos 0 ≡ Σℤ intervals (reserved s left)
   unfolding Σℤ
-  reserve-none h = sym (Σℤ-cut intervals 0 (reserved s left) zero-le (λ k a l. sym (idle u k (min (left k) (S s k)) (omega (arith, u .within k l, last-none (s .offer) h)))))
+  reserve-none h = sym
+      (Σℤ-cut intervals 0 (reserved s left) zero-le (λ k a l. sym (idle u k (min (left k) (S s k)) (omega (arith, u .within k l, last-none (s .offer) h)))))
 
   module _ (q : ℕ → ℕ) (row : (k : ℕ) → k < intervals → q k ≡ min (left k) (S s k)) where
     pub reserve-ready : 1 ≤ s .offer .count → Ready (s .offer) (s .prices) q
@@ -371,7 +394,8 @@ module _ {s : Reserve} (u : Usable s) (left : ℕ → ℕ) where
 
     pub reserve-is : {x : ℤ} → x ≡ profits (s .offer) (s .prices) q → x ≡ Σℤ intervals (reserved s left)
     unfolding profits
-    reserve-is e = e ∙ Σℤ-ext intervals (λ k. profit (s .offer) (priceAt (s .prices) k) (q k)) (reserved s left) (λ k l. ap (λ (n : ℕ). reserveNet s k n) (row k l))
+    reserve-is e = e ∙ Σℤ-ext intervals (λ k. profit (s .offer) (priceAt (s .prices) k) (q k)) (reserved s left)
+        (λ k l. ap (λ (n : ℕ). reserveNet s k n) (row k l))
 
   reserve-size : natAbs (Σℤ intervals (reserved s left)) ≤ 5280000000000
   reserve-size = Σℤ-within 440000000000 intervals (reserved s left) (λ k l. net-size u k (min (left k) (S s k)) l (omega (arith, u .within k l)))
@@ -379,14 +403,18 @@ module _ {s : Reserve} (u : Usable s) (left : ℕ → ℕ) where
   pub reserve-room : {x : ℤ} → x ≡ Σℤ intervals (reserved s left) → Moderate x
   reserve-room e = rw e (omega (arith, reserve-size))
 
-pub two-reserves : {s s′ : Reserve} → Usable s → Usable s′ → (left left′ : ℕ → ℕ) {x y z : ℤ} → x ≡ Σℤ intervals (reserved s left) → y ≡ Σℤ intervals (reserved s′ left′) → z ≡ x +ℤ y → Moderate z
-two-reserves {s} {s′} u u′ left left′ e f g = rw (g ∙ (λ i. e i +ℤ f i)) (omega (arith, add-within (Σℤ intervals (reserved s left)) (Σℤ intervals (reserved s′ left′)) (reserve-size u left) (reserve-size u′ left′)))
+pub two-reserves : {s s′ : Reserve} → Usable s → Usable s′ → (left left′ : ℕ → ℕ) {x y z : ℤ} → x ≡ Σℤ intervals (reserved s left) → y ≡ Σℤ intervals
+    (reserved s′ left′) → z ≡ x +ℤ y → Moderate z
+two-reserves {s} {s′} u u′ left left′ e f g = rw (g ∙ (λ i. e i +ℤ f i))
+    (omega (arith, add-within (Σℤ intervals (reserved s left)) (Σℤ intervals (reserved s′ left′)) (reserve-size u left) (reserve-size u′ left′)))
 
-pub sum4-is : (r1 r2 r3 : Reserve) (d u l1 l2 l3 : ℕ → ℕ) → ((k : ℕ) → k < intervals → l1 k ≡ d k - u k) → ((k : ℕ) → k < intervals → l2 k ≡ l1 k - S r1 k) → ((k : ℕ) → k < intervals → l3 k ≡ l2 k - S r2 k)
+pub sum4-is : (r1 r2 r3 : Reserve) (d u l1 l2 l3 : ℕ → ℕ) → ((k : ℕ) → k < intervals → l1 k ≡ d k - u k) → ((k : ℕ) → k < intervals → l2 k ≡ l1 k - S r1 k) →
+    ((k : ℕ) → k < intervals → l3 k ≡ l2 k - S r2 k)
     → {x y z s n : ℤ} → x ≡ Σℤ intervals (reserved r1 l1) → y ≡ Σℤ intervals (reserved r2 l2) → z ≡ Σℤ intervals (reserved r3 l3) → s ≡ x +ℤ y → n ≡ s +ℤ z
     → n ≡ Σℤ intervals (λ k. component4 r1 r2 r3 k (d k) (u k))
 sum4-is r1 r2 r3 d u l1 l2 l3 a b c e f g h m =
-    m ∙ (λ i. h i +ℤ g i) ∙ (λ i. e i +ℤ f i +ℤ Σℤ intervals (reserved r3 l3)) ∙ (λ i. sym (Σℤ-add intervals (reserved r1 l1) (reserved r2 l2)) i +ℤ Σℤ intervals (reserved r3 l3))
+    m ∙ (λ i. h i +ℤ g i) ∙ (λ i. e i +ℤ f i +ℤ Σℤ intervals (reserved r3 l3)) ∙
+    (λ i. sym (Σℤ-add intervals (reserved r1 l1) (reserved r2 l2)) i +ℤ Σℤ intervals (reserved r3 l3))
     ∙ sym (Σℤ-add intervals (λ k. reserved r1 l1 k +ℤ reserved r2 l2 k) (reserved r3 l3))
     ∙ Σℤ-ext intervals (λ k. reserved r1 l1 k +ℤ reserved r2 l2 k +ℤ reserved r3 l3 k) (λ k. component4 r1 r2 r3 k (d k) (u k))
     (λ k l. component4-is r1 r2 r3 k (d k) (u k) (a k l) (b k l) (c k l) refl refl refl refl refl refl refl refl)
@@ -401,16 +429,20 @@ sum-size f h = Σℤ-within 2000000000000 intervals f h
 pub sum-room : (f : ℕ → ℤ) {x : ℤ} → ((k : ℕ) → k < intervals → Small (f k)) → x ≡ Σℤ intervals f → Moderate x
 sum-room f h e = rw e (omega (arith, sum-size f h))
 
-pub two-sums : (f g : ℕ → ℤ) {x y s : ℤ} → ((k : ℕ) → k < intervals → Small (f k)) → ((k : ℕ) → k < intervals → Small (g k)) → x ≡ Σℤ intervals f → y ≡ Σℤ intervals g → s ≡ x +ℤ y → Moderate s
+pub two-sums : (f g : ℕ → ℤ) {x y s : ℤ} → ((k : ℕ) → k < intervals → Small (f k)) → ((k : ℕ) → k < intervals → Small (g k)) → x ≡ Σℤ intervals f → y ≡ Σℤ
+    intervals g → s ≡ x +ℤ y → Moderate s
 two-sums f g h k e e′ m = rw (m ∙ (λ i. e i +ℤ e′ i)) (omega (arith, add-within (Σℤ intervals f) (Σℤ intervals g) (sum-size f h) (sum-size g k)))
 
-pub hour-is : (h : UnitHour) (ps : List Price) {x y z w s t n : ℤ} → x ≡ Σℤ intervals (C1 h ps) → y ≡ Σℤ intervals (C2 h ps) → z ≡ Σℤ intervals (C3 h ps) → w ≡ Σℤ intervals (C4 h ps)
+pub hour-is : (h : UnitHour) (ps : List Price) {x y z w s t n : ℤ} → x ≡ Σℤ intervals (C1 h ps) → y ≡ Σℤ intervals (C2 h ps) → z ≡ Σℤ intervals (C3 h ps) → w ≡
+    Σℤ intervals (C4 h ps)
     → s ≡ x +ℤ y → t ≡ z +ℤ w → n ≡ s -ℤ t → n ≡ hourAmount h ps
 unfolding hourAmount interval
 hour-is h ps a b c d e f g =
-    g ∙ (λ i. e i -ℤ f i) ∙ (λ i. (a i +ℤ b i) -ℤ (c i +ℤ d i)) ∙ (λ i. sym (Σℤ-add intervals (C1 h ps) (C2 h ps)) i -ℤ sym (Σℤ-add intervals (C3 h ps) (C4 h ps)) i)
+    g ∙ (λ i. e i -ℤ f i) ∙ (λ i. (a i +ℤ b i) -ℤ (c i +ℤ d i)) ∙
+    (λ i. sym (Σℤ-add intervals (C1 h ps) (C2 h ps)) i -ℤ sym (Σℤ-add intervals (C3 h ps) (C4 h ps)) i)
     ∙ sym (Σℤ-sub intervals (λ k. C1 h ps k +ℤ C2 h ps k) (λ k. C3 h ps k +ℤ C4 h ps k))
-    ∙ Σℤ-ext intervals (λ k. (C1 h ps k +ℤ C2 h ps k) -ℤ (C3 h ps k +ℤ C4 h ps k)) (interval h ps) (λ k l. parts (C1 h ps k) (C2 h ps k) (C3 h ps k) (C4 h ps k))
+    ∙ Σℤ-ext intervals (λ k. (C1 h ps k +ℤ C2 h ps k) -ℤ (C3 h ps k +ℤ C4 h ps k)) (interval h ps)
+    (λ k l. parts (C1 h ps k) (C2 h ps k) (C3 h ps k) (C4 h ps k))
 
 -- ---- what the checks tell
 module _ (s : Reserve) (e : reserveFault s ≡ 0) where
@@ -484,7 +516,8 @@ unit-of h ps e =
     let w = and-true (withinOk (h .ahead) (lastQ (h .aheadoffer))) _ (passes (withinFine h) 6 0 (o .1) .0) in
     let v = and-true (withinOk (h .ahead) (lastQ (h .realoffer))) _ (w .1) in
     let x = and-true (withinOk (h .spinning .schedules) (lastQ (h .spinning .offer))) _ (v .1) in
-    let y = and-true (withinOk (h .nonspinning .schedules) (lastQ (h .nonspinning .offer))) (withinOk (h .thirty .schedules) (lastQ (h .thirty .offer))) (x .1) in
+    let y = and-true (withinOk (h .nonspinning .schedules) (lastQ (h .nonspinning .offer))) (withinOk (h .thirty .schedules) (lastQ (h .thirty .offer)))
+    (x .1) in
     let lists = lists-of h (o .0) in
     record {
       rates = prices-of ps (p .0);
@@ -525,18 +558,22 @@ reserve-empty s e w =
 
 module _ (h : UnitHour) where
   pub numbers-fine : h .startup .0 ≤ maxCents → h .noload .0 ≤ maxCents
-      → quantitiesOk (h .ahead) ≡ true → quantitiesOk (h .constrained) ≡ true → quantitiesOk (h .unconstrained) ≡ true → quantitiesOk (h .metered) ≡ true → quantitiesOk (h .capacity) ≡ true
+      → quantitiesOk (h .ahead) ≡ true → quantitiesOk (h .constrained) ≡ true → quantitiesOk (h .unconstrained) ≡ true → quantitiesOk (h .metered) ≡ true →
+      quantitiesOk (h .capacity) ≡ true
       → reserveNumbersOk (h .spinning) ≡ true → reserveNumbersOk (h .nonspinning) ≡ true → reserveNumbersOk (h .thirty) ≡ true → numbersFine h ≡ true
   unfolding numbersFine reservesNumbersOk
   numbers-fine a b c d e f g x y z =
       (λ i. le-leb (h .startup .0) maxCents a i && (le-leb (h .noload .0) maxCents b i && (c i && (d i && (e i && (f i && (g i && (x i && (y i && z i)))))))))
 
-  pub lists-fine : offerFault (h .aheadoffer) ≡ 0 → offerFault (h .realoffer) ≡ 0 → reserveFault (h .spinning) ≡ 0 → reserveFault (h .nonspinning) ≡ 0 → reserveFault (h .thirty) ≡ 0 → listsFault h ≡ 0
+  pub lists-fine : offerFault (h .aheadoffer) ≡ 0 → offerFault (h .realoffer) ≡ 0 → reserveFault (h .spinning) ≡ 0 → reserveFault (h .nonspinning) ≡ 0 →
+      reserveFault (h .thirty) ≡ 0 → listsFault h ≡ 0
   unfolding listsFault
   lists-fine a b c d e = (λ i. orElse (a i) (orElse (b i) (orElse (c i) (orElse (d i) (e i)))))
 
-  pub within-fine : withinOk (h .ahead) (lastQ (h .aheadoffer)) ≡ true → withinOk (h .ahead) (lastQ (h .realoffer)) ≡ true → withinOk (h .spinning .schedules) (lastQ (h .spinning .offer)) ≡ true
-      → withinOk (h .nonspinning .schedules) (lastQ (h .nonspinning .offer)) ≡ true → withinOk (h .thirty .schedules) (lastQ (h .thirty .offer)) ≡ true → withinFine h ≡ true
+  pub within-fine : withinOk (h .ahead) (lastQ (h .aheadoffer)) ≡ true → withinOk (h .ahead) (lastQ (h .realoffer)) ≡ true → withinOk (h .spinning .schedules)
+      (lastQ (h .spinning .offer)) ≡ true
+      → withinOk (h .nonspinning .schedules) (lastQ (h .nonspinning .offer)) ≡ true → withinOk (h .thirty .schedules) (lastQ (h .thirty .offer)) ≡ true →
+      withinFine h ≡ true
   unfolding withinFine
   within-fine a b c d e = (λ i. a i && (b i && (c i && (d i && e i))))
 

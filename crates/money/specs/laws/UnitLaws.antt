@@ -167,7 +167,8 @@ opposite = by₂ _ (λ a a′ b b′. simp (ints, dif-abs) (omega arith))
 pub cents-near : (t : ℤ) → natAbs (centsOf t *ℤ pos 120 -ℤ t) ≤ 60
 unfolding centsOf
 cents-near (pos n) = near ((n + 60) / 120 * 120) n (omega arith) (omega arith)
-cents-near (negsuc n) = rw (neg-* (pos ((suc n + 60) / 120)) (pos 120), opposite (pos ((suc n + 60) / 120 * 120)) (pos (suc n))) (near ((suc n + 60) / 120 * 120) (suc n) (omega arith) (omega arith))
+cents-near (negsuc n) = rw (neg-* (pos ((suc n + 60) / 120)) (pos 120), opposite (pos ((suc n + 60) / 120 * 120)) (pos (suc n)))
+    (near ((suc n + 60) / 120 * 120) (suc n) (omega arith) (omega arith))
 
 pub cents-half : (n : ℕ) → centsOf (pos (n * 120 + 60)) ≡ pos (suc n)
 unfolding centsOf
@@ -201,7 +202,8 @@ filled-more {row = row} {f = f} {k = k} {v = v} r l e = record {
   upto = omega arith;
   long = simp length-set (r .long);
   so-far = λ j h. last-or j k (omega arith)
-      (λ q. subst (λ (i : ℕ). quantityAt (set row k v) i ≡ f i) (sym q) (ap (λ (x : Quantity). x .0) (getD-set-same row k v noQuantity (omega (arith, r .long))) ∙ e))
+      (λ q. subst (λ (i : ℕ). quantityAt (set row k v) i ≡ f i) (sym q)
+      (ap (λ (x : Quantity). x .0) (getD-set-same row k v noQuantity (omega (arith, r .long))) ∙ e))
       (λ q. ap (λ (x : Quantity). x .0) (getD-set-other row k j v noQuantity (λ z. omega arith)) ∙ r .so-far j q);
 }
 

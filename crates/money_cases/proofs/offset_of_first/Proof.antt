@@ -127,7 +127,8 @@ module _ {M : Type 1} (𝓤 : URA M) (H : Heap 𝓤) (A : Atoms 𝓤) where
   cut (suc k) [] b o = emp∗ 𝓤 (emp 𝓤)
   cut (suc k) (x ∷ xs) b o =
       let p = o + mem T.the-row .size in
-      via 𝓤 _ (monoR 𝓤 ⟦ partAt T.the-row fullShare x b o ⟧ (cut k xs b p)) (assoc′ 𝓤 ⟦ partAt T.the-row fullShare x b o ⟧ ⟦ entries (take k xs) b p ⟧ ⟦ others k xs b p ⟧)
+      via 𝓤 _ (monoR 𝓤 ⟦ partAt T.the-row fullShare x b o ⟧ (cut k xs b p))
+      (assoc′ 𝓤 ⟦ partAt T.the-row fullShare x b o ⟧ ⟦ entries (take k xs) b p ⟧ ⟦ others k xs b p ⟧)
 
   joined : (k : ℕ) (xs : List Import) (b o : ℕ) → ent 𝓤 (sep 𝓤 ⟦ entries (take k xs) b o ⟧ ⟦ others k xs b o ⟧) ⟦ entries xs b o ⟧
   unfolding others
@@ -135,14 +136,16 @@ module _ {M : Type 1} (𝓤 : URA M) (H : Heap 𝓤) (A : Atoms 𝓤) where
   joined (suc k) [] b o = fst∗ 𝓤 (emp 𝓤) (emp 𝓤)
   joined (suc k) (x ∷ xs) b o =
       let p = o + mem T.the-row .size in
-      via 𝓤 _ (assoc∗ 𝓤 ⟦ partAt T.the-row fullShare x b o ⟧ ⟦ entries (take k xs) b p ⟧ ⟦ others k xs b p ⟧) (monoR 𝓤 ⟦ partAt T.the-row fullShare x b o ⟧ (joined k xs b p))
+      via 𝓤 _ (assoc∗ 𝓤 ⟦ partAt T.the-row fullShare x b o ⟧ ⟦ entries (take k xs) b p ⟧ ⟦ others k xs b p ⟧)
+      (monoR 𝓤 ⟦ partAt T.the-row fullShare x b o ⟧ (joined k xs b p))
 
 module _ {M : Type 1} (𝓤 : URA M) (H : Heap 𝓤) (A : Atoms 𝓤) (heap : Memory → SProp 𝓤) (run : Routine → Fun 𝓤) where
   -- the contract that the proof cites
   abbrev Offset : Contract 𝓤
   Offset = tripleOf 𝓤 H A offset.signature (offset.spec 𝓤 H A heap run)
 
-module _ {M : Type 1} (𝓤 : URA M) (H : Heap 𝓤) (A : Atoms 𝓤) (W : Given 𝓤 H A) (heap : Memory → SProp 𝓤) (run : Routine → Fun 𝓤) (k : ℕ) (ys : List Import) (ps : List Price) (ts : List Quantity) where
+module _ {M : Type 1} (𝓤 : URA M) (H : Heap 𝓤) (A : Atoms 𝓤) (W : Given 𝓤 H A) (heap : Memory → SProp 𝓤) (run : Routine → Fun 𝓤) (k : ℕ) (ys : List Import)
+    (ps : List Price) (ts : List Quantity) where
   abbrev at : Vals self.signature tt
   at = (vint w64 k ∷ [], (machT ys ∷ [], (machP ps ∷ [], (machQ ts ∷ [], tt))))
 
@@ -167,10 +170,12 @@ module _ {M : Type 1} (𝓤 : URA M) (H : Heap 𝓤) (A : Atoms 𝓤) (W : Given
   abbrev refT : Ty
   refT = tyRef erased imm (pointee (RT .written))
 
-  exits : IsN k → IsT ys → IsP ps → IsQ ts → (r : Answer) (u : Val) → r ≡ offsetAnswer k (take k ys) ps ts → Is N.the-row r (u ∷ []) → ent 𝓤 (⋆ 𝓤 H A []) (Post u)
+  exits : IsN k → IsT ys → IsP ps → IsQ ts → (r : Answer) (u : Val) → r ≡ offsetAnswer k (take k ys) ps ts → Is N.the-row r (u ∷ []) → ent 𝓤 (⋆ 𝓤 H A [])
+      (Post u)
   exits gk gt gp gq r u e gr =
       qed W [] ∵
-      suffices ! _ (ends-at 𝓤 H A self.ended stayed (self.clauses 𝓤 H A heap run) W ((tt, tt, tt, (k, (ys, (ps, (ts, tt)))), at), tt) u r (tt, (tt, (tt, (tt, tt)))) (tt, (tt, (tt, (tt, tt))))) $ says ! e $
+      suffices ! _ (ends-at 𝓤 H A self.ended stayed (self.clauses 𝓤 H A heap run) W ((tt, tt, tt, (k, (ys, (ps, (ts, tt)))), at), tt) u r
+      (tt, (tt, (tt, (tt, tt)))) (tt, (tt, (tt, (tt, tt))))) $ says ! e $
       owned ! N.the-row (Is N.the-row) (EL.makes N.the-type N′.the-plain 𝓤 H A) r _ gr $
       nothing ! $ owned ! RQ (Is RQ) (array-makes 𝓤 H A W Q.the-row (LL.makes Q.the-type Q′.the-plain 𝓤 H A) 12) ts _ gq $ fjoin ! $
       owned ! RP (Is RP) (array-makes 𝓤 H A W P.the-row (LL.makes P.the-type P′.the-plain 𝓤 H A) 12) ps _ gp $ fjoin ! $
@@ -212,10 +217,12 @@ module _ {M : Type 1} (𝓤 : URA M) (H : Heap 𝓤) (A : Atoms 𝓤) (W : Given
         -- [what the arguments own; the token]
         nothing ! $ move ! (2 ∷ 0 ∷ []) $ join ! $ join ! $ frame ! $ done !
 
-    said : (r : Answer) → ent 𝓤 (ensured 𝓤 H A offset.ended (offset.clauses 𝓤 H A heap run) (α ∷ [], tt) (x, (ps, (ts, tt))) tt r) (fact 𝓤 (r ≡ offsetAnswer (length xs) xs ps ts))
+    said : (r : Answer) → ent 𝓤 (ensured 𝓤 H A offset.ended (offset.clauses 𝓤 H A heap run) (α ∷ [], tt) (x, (ps, (ts, tt))) tt r)
+        (fact 𝓤 (r ≡ offsetAnswer (length xs) xs ps ts))
     said r = exE 𝓤 _ (λ ws. snd∗ 𝓤 (sem 𝓤 H A (lasts offset.ended (α ∷ [], tt) (x, (ps, (ts, tt))) ws)) (fact 𝓤 (r ≡ offsetAnswer (length xs) xs ps ts)))
 
-  module _ (𝓣 : Tables 𝓤 H) (fm : FmC 𝓤 H (W .laws) (𝓣 .C)) (known : Triple 𝓤 (𝓣 .C #offset) (Offset 𝓤 H A heap run)) (within : k ≤ 17) (gk : IsN k) (gt : IsT ys) (gp : IsP ps) (gq : IsQ ts) (l₀ l₁ l₂ l₃ l₄ l₅ l₆ l₇ : ℕ) where
+  module _ (𝓣 : Tables 𝓤 H) (fm : FmC 𝓤 H (W .laws) (𝓣 .C)) (known : Triple 𝓤 (𝓣 .C #offset) (Offset 𝓤 H A heap run)) (within : k ≤ 17) (gk : IsN k)
+      (gt : IsT ys) (gp : IsP ps) (gq : IsQ ts) (l₀ l₁ l₂ l₃ l₄ l₅ l₆ l₇ : ℕ) where
     abbrev C : Calls 𝓤 H
     C = 𝓣 .C
 
@@ -228,40 +235,52 @@ module _ {M : Type 1} (𝓤 : URA M) (H : Heap 𝓤) (A : Atoms 𝓤) (W : Given
     abbrev Entered : List (Item 𝓤)
     Entered = ‵ (froom slice l₇ 0) ∷ ‵ (fdies slice l₇) ∷ ‵ (froom refT l₆ 0) ∷ ‵ (fdies refT l₆) ∷ ‵ (froom tyT l₅ 0) ∷ ‵ (fdies tyT l₅)
         ∷ ‵ (fat fullShare tyQ l₄ 0 (machQ ts)) ∷ ‵ (fdies tyQ l₄) ∷ ‵ (fat fullShare tyP l₃ 0 (machP ps)) ∷ ‵ (fdies tyP l₃)
-        ∷ ‵ (fat fullShare tyT l₂ 0 (machT ys)) ∷ ‵ (fdies tyT l₂) ∷ ‵ (fat fullShare word l₁ 0 (vint w64 k)) ∷ ‵ (fdies word l₁) ∷ ‵ (froom N′.mir l₀ 0) ∷ ‵ (fdies N′.mir l₀) ∷ []
+        ∷ ‵ (fat fullShare tyT l₂ 0 (machT ys)) ∷ ‵ (fdies tyT l₂) ∷ ‵ (fat fullShare word l₁ 0 (vint w64 k)) ∷ ‵ (fdies word l₁) ∷ ‵ (froom N′.mir l₀ 0) ∷ ‵
+        (fdies N′.mir l₀) ∷ []
 
     began : Sq W Entered (runs C Λ En mirs.t-1 (atRet En Post))
     began =
-        assigns ! (of-opd ! (load ! (from ! (stop !)) (look ! 10 refl))) (from ! (stop !)) (init ! 4 refl (array-lawful 𝓤 H A W T.the-row (LL.lawful T.the-type T′.the-laws 𝓤 H A W) 17 .typed ys (machT ys ∷ []) gt .0)) $
+        assigns ! (of-opd ! (load ! (from ! (stop !)) (look ! 10 refl))) (from ! (stop !))
+        (init ! 4 refl (array-lawful 𝓤 H A W T.the-row (LL.lawful T.the-type T′.the-laws 𝓤 H A W) 17 .typed ys (machT ys ∷ []) gt .0)) $
         assigns ! (addr ! (from ! (stop !))) (from ! (stop !)) (init ! 2 refl (tt, tt)) $
-        assigns ! (agg ! (and-then ! (load ! (from ! (stop !)) (look ! 2 refl)) (and-then ! (load ! (from ! (stop !)) (look ! 12 refl)) (no-more !)))) (from ! (stop !)) (init ! 0 refl (tt, (tt, (record { fits = lt-of-le-of-lt within (lit< tt) }, tt)))) $
+        assigns ! (agg ! (and-then ! (load ! (from ! (stop !)) (look ! 2 refl)) (and-then ! (load ! (from ! (stop !)) (look ! 12 refl)) (no-more !))))
+        (from ! (stop !)) (init ! 0 refl (tt, (tt, (record { fits = lt-of-le-of-lt within (lit< tt) }, tt)))) $
         -- the array is laid out, and its first entries are lent for a lifetime that is made here
         move ! (4 ∷ []) $ use1 W (‵ (arr-parts (shares T.the-row) 17 .part fullShare ys l₅ 0)) (laid gt l₅) $ fsplit ! $ feqL ! (λ e.
         let t : length xs ≡ k = length-take-le k ys (subst (λ (j : ℕ). k ≤ j) (sym e) within) in
         use1 W (‵ (entries xs l₅ 0) ⊛ ‵ (others k ys l₅ 0)) (cut 𝓤 H A k ys l₅ 0) $ split ! $ feqI ! ℕ (length xs) (length xs) refl $ fjoin ! $
         lft-new ! tt (λ α. move ! (1 ∷ []) $
         use1 W (later (some (λ (γ : GName). ‵ (Held α l₅ γ) ⊛ ‵ (flent (α ∷ []) (arr-parts (shares T.the-row) (length xs) .part fullShare xs l₅ 0)))))
-        (lends-shr-slice 𝓤 H A W T.the-row (named 0) (α ∷ []) fullShare xs l₅ 0 (room (length xs) (subst (λ (j : ℕ). j ≤ 17) (sym t) within))) $ await ! tt $ pick ! (λ γ. split ! $
+        (lends-shr-slice 𝓤 H A W T.the-row (named 0) (α ∷ []) fullShare xs l₅ 0 (room (length xs) (subst (λ (j : ℕ). j ≤ 17) (sym t) within))) $ await ! tt $
+        pick ! (λ γ. split ! $
         -- [the list; what is lent; the token; the others; _7; …]
         move ! (2 ∷ 0 ∷ []) $ use2 W (raw (Offset 𝓤 H A heap run .pre (to-offset α l₅ γ))) (goes α l₅ γ gp gq) $
         rewrite ! 3 (λ (m : ℕ). ‵ (fat fullShare slice l₇ 0 (sliceVal (l₅, 0) m))) (sym t) refl $
-        calls-at ! fm (Offset 𝓤 H A heap run) known (to-offset α l₅ γ) (and-then ! (load ! (from ! (stop !)) (look ! 3 refl)) (and-then ! (load ! (from ! (stop !)) (look ! 10 refl)) (and-then ! (load ! (from ! (stop !)) (look ! 8 refl)) (no-more !)))) (λ u.
-        use1 W (later (some (λ (r : Answer). ((‵ (flft (α ∷ []) fullShare) ⊛ ‵ ftrue) ⊛ ‵ (N.the-row .own r (u ∷ []))) ⊛ raw (ensured 𝓤 H A offset.ended (offset.clauses 𝓤 H A heap run) (α ∷ [], tt) (x α l₅ γ, (ps, (ts, tt))) tt r)))) (id⊢ 𝓤 _) $ await ! tt $ pick ! (λ r.
-        split ! $ move ! (1 ∷ []) $ use1 W (raw (fact 𝓤 (r ≡ offsetAnswer (length xs) xs ps ts))) (said α l₅ γ r) $ heard ! (r ≡ offsetAnswer (length xs) xs ps ts) (λ told. split ! $ move ! (1 ∷ []) $
+        calls-at ! fm (Offset 𝓤 H A heap run) known (to-offset α l₅ γ) (and-then ! (load ! (from ! (stop !)) (look ! 3 refl))
+        (and-then ! (load ! (from ! (stop !)) (look ! 10 refl)) (and-then ! (load ! (from ! (stop !)) (look ! 8 refl)) (no-more !)))) (λ u.
+        use1 W (later (some (λ (r : Answer). ((‵ (flft (α ∷ []) fullShare) ⊛ ‵ ftrue) ⊛ ‵ (N.the-row .own r (u ∷ []))) ⊛ raw
+        (ensured 𝓤 H A offset.ended (offset.clauses 𝓤 H A heap run) (α ∷ [], tt) (x α l₅ γ, (ps, (ts, tt))) tt r)))) (id⊢ 𝓤 _) $ await ! tt $ pick ! (λ r.
+        split ! $ move ! (1 ∷ []) $ use1 W (raw (fact 𝓤 (r ≡ offsetAnswer (length xs) xs ps ts))) (said α l₅ γ r) $ heard !
+        (r ≡ offsetAnswer (length xs) xs ps ts) (λ told. split ! $ move ! (1 ∷ []) $
         -- [the result; the token; what is lent; the others; _7; …; _0; …]
         peeks ! N.the-row (Is N.the-row) (shows 𝓤 H A N.the-row) r (u ∷ []) (λ is.
         land ! (from ! (stop !)) (init ! 17 refl (EL.lawful N.the-type N′.the-laws 𝓤 H A W tt .typed r _ is .0)) $
         -- the lifetime is over: the array is the function's own again
         move ! (1 ∷ []) $ split ! $ lft-end ! tt $ move ! (0 ∷ 3 ∷ []) $ lent-back ! tt $ fsplit ! $ feqL ! (λ _.
-        move ! (0 ∷ 3 ∷ []) $ use2 W (‵ (entries ys l₅ 0)) (joined 𝓤 H A k ys l₅ 0) $ feqI ! ℕ (length ys) 17 e $ fjoin ! $ use1 W (‵ (froom tyT l₅ 0)) (left l₅) $
-        returns ! (look ! 16 refl) $ forget ! 3 refl $ forget ! 5 refl $ forget ! 8 refl $ forget ! 10 refl $ forget ! 12 refl $ forget ! 14 refl $ forget ! 16 refl $
-        move ! (16 ∷ 17 ∷ []) $ free1 ! $ move ! (14 ∷ 15 ∷ []) $ free1 ! $ move ! (12 ∷ 13 ∷ []) $ free1 ! $ move ! (10 ∷ 11 ∷ []) $ free1 ! $ move ! (8 ∷ 9 ∷ []) $ free1 ! $ move ! (0 ∷ 7 ∷ []) $ free1 ! $ move ! (4 ∷ 5 ∷ []) $ free1 ! $ move ! (2 ∷ 3 ∷ []) $ free1 ! $ free0 ! $
+        move ! (0 ∷ 3 ∷ []) $ use2 W (‵ (entries ys l₅ 0)) (joined 𝓤 H A k ys l₅ 0) $ feqI ! ℕ (length ys) 17 e $ fjoin ! $ use1 W (‵ (froom tyT l₅ 0))
+        (left l₅) $
+        returns ! (look ! 16 refl) $ forget ! 3 refl $ forget ! 5 refl $ forget ! 8 refl $ forget ! 10 refl $ forget ! 12 refl $ forget ! 14 refl $ forget ! 16
+        refl $
+        move ! (16 ∷ 17 ∷ []) $ free1 ! $ move ! (14 ∷ 15 ∷ []) $ free1 ! $ move ! (12 ∷ 13 ∷ []) $ free1 ! $ move ! (10 ∷ 11 ∷ []) $ free1 ! $ move !
+        (8 ∷ 9 ∷ []) $ free1 ! $ move ! (0 ∷ 7 ∷ []) $ free1 ! $ move ! (4 ∷ 5 ∷ []) $ free1 ! $ move ! (2 ∷ 3 ∷ []) $ free1 ! $ free0 ! $
         keep ! [] $ by ! (exits gk gt gp gq r u (told ∙ ap (λ (j : ℕ). offsetAnswer j xs ps ts) t) is)))))))))
 
   walk : (𝓣 : Tables 𝓤 H) → FmC 𝓤 H (W .laws) (𝓣 .C) → Triple 𝓤 (𝓣 .C #offset) (Offset 𝓤 H A heap run) → IsN k → IsT ys → IsP ps → IsQ ts
-      → ent 𝓤 (sep 𝓤 (onEntry 𝓤 H A self.signature tt tt (k, (ys, (ps, (ts, tt)))) at) (fact 𝓤 (k ≤ 17))) (WpFn 𝓤 H (𝓣 .C) (𝓣 .Λ) code.function (vint w64 k ∷ machT ys ∷ machP ps ∷ machQ ts ∷ []) Post)
+      → ent 𝓤 (sep 𝓤 (onEntry 𝓤 H A self.signature tt tt (k, (ys, (ps, (ts, tt)))) at) (fact 𝓤 (k ≤ 17)))
+      (WpFn 𝓤 H (𝓣 .C) (𝓣 .Λ) code.function (vint w64 k ∷ machT ys ∷ machP ps ∷ machQ ts ∷ []) Post)
   walk 𝓣 fm known gk gt gp gq =
-      qed W (raw (onEntry 𝓤 H A self.signature tt tt (k, (ys, (ps, (ts, tt)))) at) ∷ raw (fact 𝓤 (k ≤ 17)) ∷ []) ∵ move ! (1 ∷ []) $ heard ! (k ≤ 17) (λ within. keep ! [] $
+      qed W (raw (onEntry 𝓤 H A self.signature tt tt (k, (ys, (ps, (ts, tt)))) at) ∷ raw (fact 𝓤 (k ≤ 17)) ∷ []) ∵ move ! (1 ∷ []) $ heard ! (k ≤ 17)
+      (λ within. keep ! [] $
       enter ! (𝓣 .C) (𝓣 .Λ) code.function (vint w64 k ∷ machT ys ∷ machP ps ∷ machQ ts ∷ []) _ $
       alloc1 ! (λ l₀. alloc1 ! (λ l₁. alloc1 ! (λ l₂. alloc1 ! (λ l₃. alloc1 ! (λ l₄. alloc1 ! (λ l₅. alloc1 ! (λ l₆. alloc1 ! (λ l₇. alloc0 ! $ params1 ! $
       pass1 ! (init ! 12 refl (tt, record { fits = lt-of-le-of-lt within (lit< tt) })) $
@@ -270,15 +289,37 @@ module _ {M : Type 1} (𝓤 : URA M) (H : Heap 𝓤) (A : Atoms 𝓤) (W : Given
       pass1 ! (init ! 6 refl (array-lawful 𝓤 H A W Q.the-row (LL.lawful Q.the-type Q′.the-laws 𝓤 H A W) 12 .typed ts (machQ ts ∷ []) gq .0)) $ pass0 ! $
       began 𝓣 fm known within gk gt gp gq l₀ l₁ l₂ l₃ l₄ l₅ l₆ l₇)))))))))
 
-module _ {M : Type 1} (𝓤 : URA M) (H : Heap 𝓤) (A : Atoms 𝓤) (W : Given 𝓤 H A) (heap : Memory → SProp 𝓤) (run : Routine → Fun 𝓤) (𝓣 : Tables 𝓤 H) (known : Triple 𝓤 (𝓣 .C #offset) (Offset 𝓤 H A heap run)) where
+module _ {M : Type 1} (𝓤 : URA M) (H : Heap 𝓤) (A : Atoms 𝓤) (W : Given 𝓤 H A) (heap : Memory → SProp 𝓤) (run : Routine → Fun 𝓤) (𝓣 : Tables 𝓤 H)
+    (known : Triple 𝓤 (𝓣 .C #offset) (Offset 𝓤 H A heap run)) where
   self-walks : Walks 𝓤 H A self.ended stayed (WpFn 𝓤 H (𝓣 .C) (𝓣 .Λ) code.function) (self.clauses 𝓤 H A heap run)
   self-walks = walked 𝓤 H A self.ended stayed (self.clauses 𝓤 H A heap run) (WpFn 𝓤 H (𝓣 .C) (𝓣 .Λ) code.function)
-      (λ κs. (uint-vals w64, (array-vals (LL.vals T.the-type T′.the-laws), (array-vals (LL.vals P.the-type P′.the-laws), (array-vals (LL.vals Q.the-type Q′.the-laws), tt)))))
-      (λ κs. (uint-tells w64, (array-tells T.the-row (LL.vals T.the-type T′.the-laws) (LL.tells T.the-type T′.the-laws) 17, (array-tells P.the-row (LL.vals P.the-type P′.the-laws) (LL.tells P.the-type P′.the-laws) 12, (array-tells Q.the-row (LL.vals Q.the-type Q′.the-laws) (LL.tells Q.the-type Q′.the-laws) 12, tt)))))
-      (λ κs qs bounds a g are. walk 𝓤 H A W heap run (a .0) (a .1 .0) (a .1 .1 .0) (a .1 .1 .1 .0) 𝓣 (fmOf 𝓤 H (W .laws) 𝓣) known (are .0) (are .1 .0) (are .1 .1 .0) (are .1 .1 .1 .0))
+      (λ κs. (
+        uint-vals w64,
+        (array-vals (LL.vals T.the-type T′.the-laws), (array-vals (LL.vals P.the-type P′.the-laws), (array-vals (LL.vals Q.the-type Q′.the-laws), tt))),
+      ))
+      (λ κs. (
+        uint-tells w64,
+        (
+          array-tells T.the-row (LL.vals T.the-type T′.the-laws) (LL.tells T.the-type T′.the-laws) 17,
+          (
+            array-tells P.the-row
+                (LL.vals P.the-type P′.the-laws) (LL.tells P.the-type P′.the-laws) 12,
+            (array-tells Q.the-row (LL.vals Q.the-type Q′.the-laws) (LL.tells Q.the-type Q′.the-laws) 12, tt),
+          ),
+        ),
+      ))
+      (λ κs qs bounds a g are. walk 𝓤 H A W heap run (a .0) (a .1 .0) (a .1 .1 .0) (a .1 .1 .1 .0) 𝓣 (fmOf 𝓤 H (W .laws) 𝓣) known (are .0) (are .1 .0)
+      (are .1 .1 .0) (are .1 .1 .1 .0))
 
   self-meets : Meets 𝓤 H A self.signature (WpFn 𝓤 H (𝓣 .C) (𝓣 .Λ) code.function) (self.spec 𝓤 H A heap run)
-  self-meets = walk-meets 𝓤 H A self.ended stayed W (goes-none 𝓤 H A W 0 (λ _. usize) yes (λ κs x f. refl), (goes-none 𝓤 H A W 0 (λ _. RT) yes (λ κs x f. refl), (goes-none 𝓤 H A W 0 (λ _. RP) yes (λ κs x f. refl), (goes-none 𝓤 H A W 0 (λ _. RQ) yes (λ κs x f. refl), tt)))) (self.clauses 𝓤 H A heap run) (WpFn 𝓤 H (𝓣 .C) (𝓣 .Λ) code.function) (WpFn-mono 𝓤 H (W .laws) 𝓣 code.function) self-walks
+  self-meets = walk-meets 𝓤 H A self.ended stayed W (
+    goes-none 𝓤 H A W 0 (λ _. usize) yes (λ κs x f. refl),
+    (
+      goes-none 𝓤 H A W 0 (λ _. RT) yes (λ κs x f. refl),
+      (goes-none 𝓤 H A W 0 (λ _. RP) yes (λ κs x f. refl), (goes-none 𝓤 H A W 0 (λ _. RQ) yes (λ κs x f. refl), tt)),
+    ),
+  ) (self.clauses 𝓤 H A heap run) (WpFn 𝓤 H
+      (𝓣 .C) (𝓣 .Λ) code.function) (WpFn-mono 𝓤 H (W .laws) 𝓣 code.function) self-walks
 
 pub offset-of-first-spec : {M : Type 1} → stated.statement M
 unfolding code.routine tablesOf

@@ -67,14 +67,16 @@ module _ (s : List ℕ) (k : Kind) (x : Key) where
   body-at : (b : ℕ) (f : End) → b ≤ length s → EndIn s f → shown s f tt ≡ layoutFor k (x .mark) (from s b) → Body s (At b) f k x
   unfolding taken
   body-at b (No j) h i e = record {
-    value = sym (ap (λ r. r >>= λ y v. got (made k x y) v) (body-taken k (x .mark) (from s b) ∙ ap (λ r. r >>= λ y t. got (take (length (from s b) - length t) (from s b)) t) (sym e)));
+    value = sym (ap (λ r. r >>= λ y v. got (made k x y) v)
+        (body-taken k (x .mark) (from s b) ∙ ap (λ r. r >>= λ y t. got (take (length (from s b) - length t) (from s b)) t) (sym e)));
     placed = tt;
   }
   body-at b (At n) h i e =
       let q = at-place b n h i e in
       record {
         value = ap (λ r. r >>= λ y v. got (made k x y) v) (q .1 ∙ sym (body-taken k (x .mark) (from s b)));
-        placed = record { low = q .0; high = i; own = body-own k x (from s b) (take (n - b) (from s b)) (from s n) (body-taken k (x .mark) (from s b) ∙ sym (q .1)) };
+        placed = record
+            { low = q .0; high = i; own = body-own k x (from s b) (take (n - b) (from s b)) (from s n) (body-taken k (x .mark) (from s b) ∙ sym (q .1)) };
       }
 
   body-no : (j : ℕ) (f : End) → _≡_ {A = Res Unit} (shown s f tt) (bad j) → Body s (No j) f k x
@@ -103,8 +105,10 @@ change-is s want h o n f a b c d =
       value =
           q .value
           ∙ sym (first s (h .end) (record { kind = h .kind; mark = h .mark }) (head want s) (λ g t. rest g t) a
-          ∙ next s (h .end) (o .end) (o .hour) hour (λ p t. nameFor (h .kind) (h .mark) t >>= λ m u. bodyFor (h .kind) (h .mark) u >>= λ y v. got (made (h .kind) (record { mark = h .mark; hour = p; name = m }) y) v) b
-          ∙ next s (o .end) (n .end) (n .name) (nameFor (h .kind) (h .mark)) (λ m u. bodyFor (h .kind) (h .mark) u >>= λ y v. got (made (h .kind) (record { mark = h .mark; hour = o .hour; name = m }) y) v) (c .value));
+          ∙ next s (h .end) (o .end) (o .hour) hour (λ p t. nameFor (h .kind) (h .mark) t >>= λ m u. bodyFor (h .kind) (h .mark) u >>= λ y v. got
+          (made (h .kind) (record { mark = h .mark; hour = p; name = m }) y) v) b
+          ∙ next s (o .end) (n .end) (n .name) (nameFor (h .kind) (h .mark))
+          (λ m u. bodyFor (h .kind) (h .mark) u >>= λ y v. got (made (h .kind) (record { mark = h .mark; hour = o .hour; name = m }) y) v) (c .value));
       placed = q .placed;
       few = c .few;
     }

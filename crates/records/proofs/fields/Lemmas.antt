@@ -7,6 +7,9 @@ use native.Mathlib.Numerals.{add-one, towards-suc}
 use lib.ListN.{length, take, drop, getD, length-drop}
 use lib.Seq.{drop-cons, take-suc-set, take-all}
 use lib.ListN.{drop-of-length-le, set}
+use mathlib.Core.Bool.{Bool, true, false}
+use mathlib.Core.List.{append-assoc, append-nil}
+use native.Mathlib.Nat.{sub-zero}
 use Rattle.money.specs.Units.{priceOk, quantityOk, priceRead, quantityRead}
 use Rattle.money.specs.declared.units.Price.{Price}
 use Rattle.money.specs.declared.units.Quantity.{Quantity}
@@ -14,9 +17,6 @@ use Rattle.money.specs.declared.units.PriceRead.the-variants as price-variants
 use Rattle.money.specs.declared.units.QuantityRead.the-variants as quantity-variants
 use Rattle.records.specs.Reading.{Res, Reader, bad, got, _>>=_, byte, from, many}
 use Rattle.records.specs.Numbers.{word, le32, signed, price, quantity}
-use mathlib.Core.Bool.{Bool, true, false}
-use mathlib.Core.List.{append-assoc, append-nil}
-use native.Mathlib.Nat.{sub-zero}
 
 word-short : (l : List ℕ) → length l < 4 → word l ≡ bad 1
 unfolding word
@@ -47,7 +47,13 @@ pub word-at : (s : List ℕ) (at : ℕ) → at ≤ length s → 4 ≤ length s -
 unfolding from word
 word-at s at h k =
     simp towards-suc
-    (rw (drop-cons s at 0 (omega arith), drop-cons s (suc at) 0 (omega arith), drop-cons s (suc (suc at)) 0 (omega arith), drop-cons s (suc (suc (suc at))) 0 (omega arith)))
+    (rw (
+      drop-cons s at 0 (omega arith),
+      drop-cons s (suc at) 0 (omega arith),
+      drop-cons s (suc (suc at)) 0 (omega arith),
+      drop-cons s (suc (suc (suc at))) 0
+          (omega arith),
+    ))
 
 -- values already read, in front of what is still to be read
 abbrev pub before : {A : Type 0} → List A → Res (List A) → Res (List A)

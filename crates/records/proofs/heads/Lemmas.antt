@@ -30,7 +30,8 @@ pub head-key-is : (s : List ℕ) (h : HeadRead) (o : HourField) (n : NameRead) �
     → Named s (then s (o .end) (nameFor (h .kind) (h .mark))) n → headKey s ≡ shown s (n .end) (record { mark = h .mark; hour = o .hour; name = n .name })
 unfolding headKey
 head-key-is s h o n a b c =
-    first s (h .end) (record { kind = h .kind; mark = h .mark }) (head Any s) (λ g t. hour t >>= λ p u. nameFor (g .kind) (g .mark) u >>= λ m v. got (record { mark = g .mark; hour = p; name = m }) v) a
+    first s (h .end) (record { kind = h .kind; mark = h .mark }) (head Any s)
+    (λ g t. hour t >>= λ p u. nameFor (g .kind) (g .mark) u >>= λ m v. got (record { mark = g .mark; hour = p; name = m }) v) a
     ∙ next s (h .end) (o .end) (o .hour) hour (λ p u. nameFor (h .kind) (h .mark) u >>= λ m v. got (record { mark = h .mark; hour = p; name = m }) v) b
     ∙ next s (o .end) (n .end) (n .name) (nameFor (h .kind) (h .mark)) (λ m v. got (record { mark = h .mark; hour = o .hour; name = m }) v) (c .value)
     ∙ last s (n .end) (record { mark = h .mark; hour = o .hour; name = n .name })

@@ -78,7 +78,8 @@ offer-is n ps qs h p q =
     let e : length ps ≡ length qs = a ∙ sym b in
     let l : length (take n (zip ps qs)) ≡ n = length-take-le n (zip ps qs) (omega (arith, length-zip ps qs e)) in
     let x : ps ≡ pad noPrice 20 (map (λ (x : Price × Quantity). x .0) (take n (zip ps qs))) = p .behind ∙ ap (pad noPrice 20) (sym (zip-left n ps qs e)) in
-    let y : qs ≡ pad noQuantity 20 (map (λ (x : Price × Quantity). x .1) (take n (zip ps qs))) = q .behind ∙ ap (pad noQuantity 20) (sym (zip-right n ps qs e)) in
+    let y : qs ≡ pad noQuantity 20 (map (λ (x : Price × Quantity). x .1) (take n (zip ps qs))) = q .behind ∙ ap (pad noQuantity 20)
+    (sym (zip-right n ps qs e)) in
     λ i. record { count = sym l i; prices = x i; quantities = y i }
 
 -- all n pairs are in
@@ -90,6 +91,7 @@ pairs-all {s} {n} {at₀} {i} {at} {ps} {qs} h l m k p q =
     let x = offer-is n ps qs k (rw e at p) (rw e at q) in
     ap (λ o. got o (from s at)) x ∙ ap (λ r. r >>= λ xs t. got (offerOf xs) t) (filled-first h l m)
 
-pub pairs-bad : {s : List ℕ} {n at₀ i at k : ℕ} {xs : List (Price × Quantity)} → Filled pair s n at₀ xs i at → i < n → pair (from s at) ≡ bad k → bad k ≡ pairs n (from s at₀)
+pub pairs-bad : {s : List ℕ} {n at₀ i at k : ℕ} {xs : List (Price × Quantity)} → Filled pair s n at₀ xs i at → i < n → pair (from s at) ≡ bad k → bad k ≡ pairs
+    n (from s at₀)
 unfolding pairs
 pairs-bad h l e = ap (λ r. r >>= λ xs t. got (offerOf xs) t) (filled-bad h l e)

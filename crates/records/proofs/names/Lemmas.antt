@@ -6,15 +6,15 @@ use native.Mathlib.Omega.{arith}
 use native.Mathlib.Numerals.{add-one, towards-suc}
 use lib.ListN.{length, take, getD, drop-of-length-le}
 use lib.Seq.{drop-cons}
-use Rattle.records.specs.Reading.{Res, bad, got, _>>=_, from}
-use Rattle.money.specs.declared.names.Name.{Name}
-use Rattle.records.specs.Names.{one, upTo, nameFrom, storedName}
-use Rattle.records.specs.laws.ReaderLaws.{bad-got}
-use Rattle.records.proofs.lists.Lemmas.{Padded}
 use lib.ListN.{set}
 use lib.Seq.{take-suc-set, length-take-le}
 use native.Mathlib.Nat.{sub-zero}
 use mathlib.Core.List.{append-nil}
+use Rattle.money.specs.declared.names.Name.{Name}
+use Rattle.records.specs.Reading.{Res, bad, got, _>>=_, from}
+use Rattle.records.specs.Names.{one, upTo, nameFrom, storedName}
+use Rattle.records.specs.laws.ReaderLaws.{bad-got}
+use Rattle.records.proofs.lists.Lemmas.{Padded}
 use Rattle.records.proofs.fields.Lemmas.{before, before-before, before-none}
 
 pub at-end : (s : List ℕ) (at : ℕ) → length s ≤ at → from s at ≡ []

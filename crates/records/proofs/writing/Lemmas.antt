@@ -10,18 +10,18 @@ use lib.Dec.{eqb}
 use lib.ListN.{length, take, drop, getD, set, length-append, length-take, drop-of-length-le}
 use lib.Seq.{take-suc, drop-cons, take-all, length-take-le, take-at}
 use borrow.Author.Tests.{le-leb, lt-leb, ne-eqb, eq-eqb}
+use Rattle.money.specs.Names.{sameName}
+use Rattle.money.specs.declared.names.Name.{Name}
 use Rattle.records.specs.Reading.{bad, got, _>>=_, from}
 use Rattle.records.specs.Names.{spell, bytesOf}
 use Rattle.records.specs.Marks.{hasName, order}
 use Rattle.records.specs.laws.MarkLaws.{mark-two}
 use Rattle.records.specs.Changes.{changeView, put, putNumber, putBytes, Change, kind, keyOf, bodyOf, number, made, leadBytes, noName, nameBytes, headBytes, bodyFor, change, write, Input, fine, fault, whole, parse, seen, unseen, begins, written, scan, viewOf, parsedOf}
-use Rattle.money.specs.Names.{sameName}
 use Rattle.records.specs.Keys.{same, sameHour}
 use Rattle.records.specs.tables.Inner.{Wrote, HeadIs, changeShown, Placed, Stands, ReadIs}
 use Rattle.records.specs.declared.fields.End.the-variants.{At, No}
 use Rattle.records.proofs.writing.Putting.{wrote-one, wrote-then, wrote-length}
 use Rattle.records.specs.laws.PutLaws.{put-whole}
-use Rattle.money.specs.declared.names.Name.{Name}
 use Rattle.records.proofs.names.Lemmas.{at-end, at-next}
 use Rattle.records.specs.laws.NameLaws.{spell-length}
 use Rattle.records.specs.declared.marks.Mark.{Mark}
@@ -41,7 +41,8 @@ use Rattle.records.proofs.changes.Lemmas.{body-own, length-from}
 
 -- ---- copying
 
-pub copy-more : (d e s : List ℕ) (at i : ℕ) → i < length s → Wrote d e at (at + i) (take i s) → Wrote d (set e (at + i) (getD s i 0)) at (at + (i + 1)) (take (i + 1) s)
+pub copy-more : (d e s : List ℕ) (at i : ℕ) → i < length s → Wrote d e at (at + i) (take i s) → Wrote d (set e (at + i) (getD s i 0)) at (at + (i + 1))
+    (take (i + 1) s)
 copy-more d e s at i h w =
     let n : at + i + 1 ≡ at + (i + 1) = omega arith in
     rw (add-one i, take-suc s i 0 h) (rw (n, add-one i) at (wrote-then w (wrote-one e (at + i) (getD s i 0))))
@@ -145,7 +146,8 @@ write-made File x y e = refl
 write-made Correct x y e = refl
 write-made Withdraw x y e = ap (λ l. headBytes Withdraw x ++ l) e
 
-made-view : (k : Kind) (x : Key) (y : List ℕ) (n : ℕ) → _≡_ {A = View} (record { act = Record (kind (made k x y)); key = keyOf (made k x y); len = n }) (record { act = Record k; key = x; len = n })
+made-view : (k : Kind) (x : Key) (y : List ℕ) (n : ℕ) → _≡_ {A = View} (record { act = Record (kind (made k x y)); key = keyOf (made k x y); len = n })
+    (record { act = Record k; key = x; len = n })
 made-view File x y n = refl
 made-view Correct x y n = refl
 made-view Withdraw x y n = refl
@@ -186,9 +188,11 @@ module _ (s : List ℕ) (want : Wanted) (n : ℕ) (c : Read) (h : Full s want n 
   parse-fine l = rw (h .value, at-end s n l)
 
   full-view : (m : ℕ) → m ≡ length (headBytes (c .kind) (c .key))
-      → _≡_ {A = View} (record { act = Record (c .kind); key = c .key; len = m + (n - c .body) }) (record { act = Record (kind (readOf s n c)); key = keyOf (readOf s n c); len = length (write (readOf s n c)) })
+      → _≡_ {A = View} (record { act = Record (c .kind); key = c .key; len = m + (n - c .body) })
+      (record { act = Record (kind (readOf s n c)); key = keyOf (readOf s n c); len = length (write (readOf s n c)) })
   full-view m e =
-      (λ i. record { act = Record (c .kind); key = c .key; len = sym (full-length m e) i }) ∙ sym (made-view (c .kind) (c .key) _ (length (write (readOf s n c))))
+      (λ i. record { act = Record (c .kind); key = c .key; len = sym (full-length m e) i }) ∙ sym
+      (made-view (c .kind) (c .key) _ (length (write (readOf s n c))))
 
   pub view-full : (m : ℕ) → m ≡ length (headBytes (c .kind) (c .key))
       → got (record { act = Record (c .kind); key = c .key; len = m + (n - c .body) }) (from s n) ≡ changeView (change want s)
@@ -198,14 +202,16 @@ module _ (s : List ℕ) (want : Wanted) (n : ℕ) (c : Read) (h : Full s want n 
 begins-body : (s : List ℕ) (d : Change) (y v : List ℕ) → bodyOf d ≡ y → s ≡ headBytes (kind d) (keyOf d) ++ (y ++ v) → begins (write d) s ≡ true
 unfolding write
 begins-body s d y v q w =
-    ap₂ (λ l m. begins (headBytes (kind d) (keyOf d) ++ l) m) q (w ∙ sym (append-assoc (headBytes (kind d) (keyOf d)) y v)) ∙ begins-append (headBytes (kind d) (keyOf d) ++ y) v
+    ap₂ (λ l m. begins (headBytes (kind d) (keyOf d) ++ l) m) q (w ∙ sym (append-assoc (headBytes (kind d) (keyOf d)) y v)) ∙ begins-append
+    (headBytes (kind d) (keyOf d) ++ y) v
 
 begins-yes : (s : List ℕ) (d : Change) (t : List ℕ) → change Any s ≡ got d t → begins (headBytes (kind d) (keyOf d)) s ≡ true → begins (write d) s ≡ true
 begins-yes s d t f b =
     let hd : List ℕ = headBytes (kind d) (keyOf d) in
     let u : List ℕ = drop (length hd) s in
     let w : s ≡ hd ++ u = begins-true hd s b in
-    let r : (bodyFor (kind d) (keyOf d .mark) u >>= λ y v. got (made (kind d) (keyOf d) y) v) ≡ got d t = sym (head-read d (change-kept Any s d t f) u) ∙ sym (ap (change Any) w) ∙ f in
+    let r : (bodyFor (kind d) (keyOf d .mark) u >>= λ y v. got (made (kind d) (keyOf d) y) v) ≡ got d t = sym (head-read d (change-kept Any s d t f) u) ∙ sym
+    (ap (change Any) w) ∙ f in
     let x = bind-got (bodyFor (kind d) (keyOf d .mark) u) (λ y v. got (made (kind d) (keyOf d) y) v) d t r in
     let p : made (kind d) (keyOf d) (x .0) ≡ d = cc (x .3) in
     let q : bodyOf d ≡ x .0 = ap bodyOf (sym p) ∙ body-own (kind d) (keyOf d) u (x .0) (x .1) (x .2) in
@@ -218,7 +224,8 @@ module _ (s : List ℕ) (n : ℕ) (c : Read) (h : Full s Any n c) where
   unfolding scan
   peek-yes m e b =
       let g = begins-yes s (readOf s n c) (from s n) (h .value) (ap (λ l. begins l s) (made-kind (c .kind) (c .key) _) ∙ b) in
-      full-view s Any n c h m e ∙ sym (ap (λ r. viewOf (written s r)) (h .value) ∙ ap (λ t. viewOf (cond t (seen (readOf s n c) (length (write (readOf s n c)))) unseen)) g)
+      full-view s Any n c h m e ∙ sym
+      (ap (λ r. viewOf (written s r)) (h .value) ∙ ap (λ t. viewOf (cond t (seen (readOf s n c) (length (write (readOf s n c)))) unseen)) g)
 
   pub peek-no : begins (headBytes (c .kind) (c .key)) s ≡ false → viewOf unseen ≡ viewOf (scan s)
   unfolding scan
@@ -244,7 +251,8 @@ module _ (i : Input Change) (at : ℕ) (d : List ℕ) where
       let f = lt-leb (at + length (write c)) (length d) h in
       (sym (ap (λ j. putNumber j at d) e ∙ ap (λ b. cond b 0 13) f), sym (ap (λ j. putBytes j at d) e ∙ ap (λ b. cond b (put d at (write c)) d) f))
 
-  pub put-done : (c : Change) (g : List ℕ) → i ≡ fine c → at + length (write c) ≤ length d → g ≡ put d at (write c) → (0 ≡ putNumber i at d) × (g ≡ putBytes i at d)
+  pub put-done : (c : Change) (g : List ℕ) → i ≡ fine c → at + length (write c) ≤ length d → g ≡ put d at (write c) → (0 ≡ putNumber i at d) ×
+      (g ≡ putBytes i at d)
   put-done c g e h w =
       let f = le-leb (at + length (write c)) (length d) h in
       (sym (ap (λ j. putNumber j at d) e ∙ ap (λ b. cond b 0 13) f), w ∙ sym (ap (λ j. putBytes j at d) e ∙ ap (λ b. cond b (put d at (write c)) d) f))
@@ -275,10 +283,12 @@ head-fits {k} {x} {h} e = omega (arith, head-part e, length-take (h .len) (h .by
 pub first-fits : (at m k n t : ℕ) → t ≡ m → at ≤ n → m + k ≤ n - at → at + t ≤ n
 first-fits at m k n t e h l = omega arith
 
-pub rest-fits : {d e : List ℕ} {at next : ℕ} {xs : List ℕ} → Wrote d e at next xs → (m k : ℕ) (ys : List ℕ) → length xs ≡ m → at ≤ length d → m + k ≤ length d - at → next + length (take k ys) ≤ length e
+pub rest-fits : {d e : List ℕ} {at next : ℕ} {xs : List ℕ} → Wrote d e at next xs → (m k : ℕ) (ys : List ℕ) → length xs ≡ m → at ≤ length d → m + k ≤ length d -
+    at → next + length (take k ys) ≤ length e
 rest-fits {d} {e} {at} {next} {xs} w m k ys l h f = omega (arith, w .after, wrote-length w, length-take k ys)
 
-pub both-put : (s : List ℕ) (want : Wanted) (n : ℕ) (c : Read) → Full s want n c → {d e g : List ℕ} {at m r : ℕ} (hd : List ℕ) → hd ≡ headBytes (c .kind) (c .key)
+pub both-put : (s : List ℕ) (want : Wanted) (n : ℕ) (c : Read) → Full s want n c → {d e g : List ℕ} {at m r : ℕ} (hd : List ℕ) → hd ≡ headBytes (c .kind)
+    (c .key)
     → Wrote d e at m hd → Wrote e g m r (take (n - c .body) (drop (c .body) s)) → g ≡ put d at (write (readOf s n c))
 unfolding from
 both-put s want n c h {d} {e} {g} {at} {m} {r} hd q w v =

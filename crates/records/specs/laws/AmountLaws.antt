@@ -75,7 +75,8 @@ pub entry-view : (r : Rec) (p : HourPrices) (u : List ℕ) → Good (filed r) �
     → offsetEntryIn (write (filed r) ++ u) p ≡ record { number = 0; entry = offsetEntry p r }
 entry-view r p u g e f =
     ap (λ (x : Res Name). entryAnswer (x >>= λ n t. import t >>= λ i v. given (creditFor i p) (entryFrom n i) v)) (written-ahead import Im view-import r e g u)
-    ∙ ap (λ (x : Res Import). entryAnswer (x >>= λ i v. given (creditFor i p) (entryFrom (r .key .name) i) v)) (body-view import Im view-import r e g u noImport)
+    ∙ ap (λ (x : Res Import). entryAnswer (x >>= λ i v. given (creditFor i p) (entryFrom (r .key .name) i) v))
+    (body-view import Im view-import r e g u noImport)
     ∙ ap (λ (a : Answer). entryAnswer (given a (entryFrom (r .key .name) (importOf r)) u)) (credit-amount r p g e f)
 
 -- ---- an export
@@ -101,7 +102,8 @@ unit-sound h p u f =
     unit-fine h (p .emp) (f .emp)
     (numbers-fine h (u .startup) (u .noload) (u .ahead) (u .constrained) (u .unconstrained) (u .metered) (u .capacity)
     (numbers-sound (h .spinning) (u .spinning)) (numbers-sound (h .nonspinning) (u .nonspinning)) (numbers-sound (h .thirty) (u .thirty)))
-    (lists-fine h (u .aheadoffer) (u .realoffer) (reserve-sound (h .spinning) (u .spinning)) (reserve-sound (h .nonspinning) (u .nonspinning)) (reserve-sound (h .thirty) (u .thirty)))
+    (lists-fine h (u .aheadoffer) (u .realoffer) (reserve-sound (h .spinning) (u .spinning)) (reserve-sound (h .nonspinning) (u .nonspinning))
+    (reserve-sound (h .thirty) (u .thirty)))
     (within-fine h (u .inahead) (u .inreal) (u .spinning .inside) (u .nonspinning .inside) (u .thirty .inside))
 
 module _ (r : Rec) (p : HourPrices) (g : Good (filed r)) (e : r .key .mark ≡ Gh) (f : PricesFit p) where
@@ -115,7 +117,8 @@ module _ (r : Rec) (p : HourPrices) (g : Good (filed r)) (e : r .key .mark ≡ G
 
 -- ---- a failure
 
-pub charge-amount : (r : Rec) (p : HourPrices) → Good (filed r) → isFailure (r .key .mark) ≡ true → PricesFit p → chargeOf r p ≡ Amount (record { 0 = chargeTicks r p })
+pub charge-amount : (r : Rec) (p : HourPrices) → Good (filed r) → isFailure (r .key .mark) ≡ true → PricesFit p → chargeOf r p ≡ Amount
+    (record { 0 = chargeTicks r p })
 unfolding chargeTicks
 charge-amount r p g h f = ⊎-elim by-import by-export (failure-mark (r .key .mark) h)
   where
@@ -126,18 +129,21 @@ charge-amount r p g h f = ⊎-elim by-import by-export (failure-mark (r .key .ma
     by-import : r .key .mark ≡ Fi → Charged (r .key .mark)
     by-import e =
         let s = standing-failed-import r g e in
-        subst⁻¹ Charged e (import-charged (failureOf r) (p .pd) (failure-fine (failureOf r) (p .pd) (f .pd) (s .day-ahead-quantity) (s .pre-dispatch-quantity) (s .day-ahead-price) (s .pre-dispatch-price)))
+        subst⁻¹ Charged e (import-charged (failureOf r) (p .pd)
+        (failure-fine (failureOf r) (p .pd) (f .pd) (s .day-ahead-quantity) (s .pre-dispatch-quantity) (s .day-ahead-price) (s .pre-dispatch-price)))
 
     by-export : r .key .mark ≡ Fe → Charged (r .key .mark)
     by-export e =
         let s = standing-failed-export r g e in
-        subst⁻¹ Charged e (export-charged (failureOf r) (p .pd) (failure-fine (failureOf r) (p .pd) (f .pd) (s .day-ahead-quantity) (s .pre-dispatch-quantity) (s .day-ahead-price) (s .pre-dispatch-price)))
+        subst⁻¹ Charged e (export-charged (failureOf r) (p .pd)
+        (failure-fine (failureOf r) (p .pd) (f .pd) (s .day-ahead-quantity) (s .pre-dispatch-quantity) (s .day-ahead-price) (s .pre-dispatch-price)))
 
 -- the same in bytes that begin with the record as it was filed
 pub charge-written : (r : Rec) (p : HourPrices) (u : List ℕ) → Good (filed r) → isFailure (r .key .mark) ≡ true → PricesFit p
     → chargeIn (r .key .mark) (write (filed r) ++ u) p ≡ Amount (record { 0 = chargeTicks r p })
 charge-written r p u g h f =
-    ⊎-elim (λ e. subst⁻¹ Same e (failed-import-charge r g u e p)) (λ e. subst⁻¹ Same e (failed-export-charge r g u e p)) (failure-mark (r .key .mark) h) ∙ charge-amount r p g h f
+    ⊎-elim (λ e. subst⁻¹ Same e (failed-import-charge r g u e p)) (λ e. subst⁻¹ Same e (failed-export-charge r g u e p)) (failure-mark (r .key .mark) h) ∙
+    charge-amount r p g h f
   where
     Same : Mark → Type 0
     Same m = chargeIn m (write (filed r) ++ u) p ≡ chargeOf r p

@@ -8,6 +8,7 @@ use native.Mathlib.Omega.{arith}
 use lib.Dec.{ltb, leb, eqb}
 use lib.ListN.{length, take, drop, length-append}
 use borrow.Author.Tests.{eq-eqb, eqb-true}
+use Rattle.money.specs.declared.names.Name.{Name}
 use Rattle.records.specs.Reading.{Res, bad, got, _>>=_, check, byte, some}
 use Rattle.records.specs.Numbers.{between, hour}
 use Rattle.records.specs.Names.{decodeName, upTo, one, escaped, hexVal, visible, spell, bytesOf, nameField, nameFrom}
@@ -15,7 +16,6 @@ use Rattle.records.specs.Marks.{is, listing, markAmong, mark, markBytes,
 use Rattle.records.specs.laws.MarkLaws.{mark-two}
 use Rattle.records.specs.Layouts.{layout}
 use Rattle.records.specs.Changes.{Rec, Change, filed, corrected, withdrawn, keyOf, kind, isRecord, bodyOf, made, Head, allowed, inside, head, nameless, nameFor, bodyFor, rest, change, leadBytes, noName, nameBytes, headBytes, write, fine, fault, whole, parse, Scan, seen, unseen, begins, written, scan, Good, bare, viewOf}
-use Rattle.money.specs.declared.names.Name.{Name}
 use Rattle.records.specs.laws.NameLaws.{take-pad, field-again, field-spelled}
 use Rattle.records.specs.declared.marks.Mark.{Mark}
 use Rattle.records.specs.declared.marks.Mark.the-variants.{Pr, Im, Ex, Gh, Fi, Fe}
@@ -140,12 +140,25 @@ pub record Parts (h : Head) (s : List ℕ) (c : Change) (t : List ℕ) : Type 0 
 pub rest-parts : (h : Head) (s : List ℕ) (c : Change) (t : List ℕ) → rest h s ≡ got c t → Parts h s c t
 unfolding rest
 rest-parts h s c t e =
-    let x = bind-got (hour s) (λ o t. nameFor (h .kind) (h .mark) t >>= λ n u. bodyFor (h .kind) (h .mark) u >>= λ b v. got (made (h .kind) (record { mark = h .mark; hour = o; name = n }) b) v) c t e in
-    let y = bind-got (nameFor (h .kind) (h .mark) (x .1)) (λ n u. bodyFor (h .kind) (h .mark) u >>= λ b v. got (made (h .kind) (record { mark = h .mark; hour = x .0; name = n }) b) v) c t (x .3) in
+    let x = bind-got (hour s) (λ o t. nameFor (h .kind) (h .mark) t >>= λ n u. bodyFor (h .kind) (h .mark) u >>= λ b v. got
+    (made (h .kind) (record { mark = h .mark; hour = o; name = n }) b) v) c t e in
+    let y = bind-got (nameFor (h .kind) (h .mark) (x .1))
+    (λ n u. bodyFor (h .kind) (h .mark) u >>= λ b v. got (made (h .kind) (record { mark = h .mark; hour = x .0; name = n }) b) v) c t (x .3) in
     let z = bind-got (bodyFor (h .kind) (h .mark) (y .1)) (λ b v. got (made (h .kind) (record { mark = h .mark; hour = x .0; name = y .0 }) b) v) c t (y .3) in
     let p : made (h .kind) (record { mark = h .mark; hour = x .0; name = y .0 }) (z .0) ≡ c = cc (z .3) in
     let q : z .1 ≡ t = cc (z .3) in
-    record { hour-of = x .0; after-hour = x .1; name-of = y .0; after-name = y .1; body = z .0; hour-is = x .2; name-is = y .2; body-is = z .2 ∙ ap (got (z .0)) q; is = sym p }
+    record {
+      hour-of = x .0;
+      after-hour = x .1;
+      name-of = y .0;
+      after-name = y .1;
+      body = z .0;
+      hour-is = x .2;
+      name-is = y .2;
+      body-is = z .2 ∙ ap (got (z .0))
+          q;
+      is = sym p;
+    }
 
 -- only a filing makes a filed record
 pub filed-made : (k : Kind) (x : Key) (b : List ℕ) (r : Rec) → filed r ≡ made k x b → (k ≡ File) × (r ≡ record { key = x; body = b })
@@ -158,7 +171,8 @@ rest-kept h s c t e =
     let x = rest-parts h s c t e in (
       subst Kept (sym (x .is))
           (kept-made (h .kind) (h .mark) (x .hour-of) (x .name-of) (x .body) (hour-again s (x .hour-of) (x .after-hour) (x .hour-is))
-          (name-again (h .kind) (h .mark) (x .after-hour) (x .name-of) (x .after-name) (x .name-is)) (body-again (h .kind) (h .mark) (x .after-name) (x .body) t (x .body-is))),
+          (name-again (h .kind) (h .mark) (x .after-hour) (x .name-of) (x .after-name) (x .name-is))
+          (body-again (h .kind) (h .mark) (x .after-name) (x .body) t (x .body-is))),
       ap kind (x .is) ∙ made-kind (h .kind) (record { mark = h .mark; hour = x .hour-of; name = x .name-of }) (x .body),
     )
   where
@@ -224,7 +238,8 @@ pub scan-got : (s : List ℕ) (c : Change) (n : ℕ) → scan s ≡ seen c n →
 unfolding scan
 scan-got s c n = go (change Any s) refl
   where
-    go2 : (d : Change) (t : List ℕ) → change Any s ≡ got d t → (b : Bool) → begins (write d) s ≡ b → cond b (seen d (length (write d))) unseen ≡ seen c n → Found s c n
+    go2 : (d : Change) (t : List ℕ) → change Any s ≡ got d t → (b : Bool) → begins (write d) s ≡ b → cond b (seen d (length (write d))) unseen ≡ seen c n →
+        Found s c n
     go2 d t q true f e =
         let p : d ≡ c = cc in
         let l : length (write d) ≡ n = cc in
@@ -254,7 +269,8 @@ head-kind want [] h t e = absurd (bad-got e)
 head-kind want (a ∷ []) h t e = absurd (bad-got e)
 head-kind want (a ∷ b ∷ s) h t e = go (is (67 ∷ 79 ∷ []) a b) (is (87 ∷ 68 ∷ []) a b) e
   where
-    go : (p q : Bool) → cond p (inside want Correct s) (cond q (inside want Withdraw s) (inside want File (a ∷ b ∷ s))) ≡ got h t → allowed want (h .kind) ≡ true
+    go : (p q : Bool) → cond p (inside want Correct s) (cond q (inside want Withdraw s) (inside want File (a ∷ b ∷ s))) ≡ got h t → allowed want (h .kind) ≡
+        true
     go true q f = inside-kind want Correct s h t f
     go false true f = inside-kind want Withdraw s h t f
     go false false f = inside-kind want File (a ∷ b ∷ s) h t f
@@ -340,11 +356,15 @@ counted-upTo n = record { above = go n }
     go zero [] k e = absurd (bad-got (sym e))
     go zero (x ∷ s) k e = let q : 4 ≡ k = cc in omega arith
     go (suc n) [] k e = absurd (bad-got (sym e))
-    go (suc n) (x ∷ s) k e = counted-bind one (λ v t. upTo n t >>= λ vs u. got (v ∷ vs) u) counted-one (λ v. counted-bind (upTo n) _ (record { above = go n }) (λ vs. counted-got (v ∷ vs))) .above (x ∷ s) k e
+    go (suc n) (x ∷ s) k e = counted-bind one (λ v t. upTo n t >>= λ vs u. got (v ∷ vs) u) counted-one
+        (λ v. counted-bind (upTo n) _ (record { above = go n }) (λ vs. counted-got (v ∷ vs))) .above (x ∷ s) k e
 
 counted-some : (n : ℕ) → Counted (some n)
 unfolding some
-counted-some n = record { above = λ s k e. counted-check (leb n (length s)) 1 (λ u. got (take n s) (drop n s)) (omega arith) (record { above = λ u j f. absurd (bad-got (sym f)) }) .above s k e }
+counted-some n = record {
+  above = λ s k e. counted-check (leb n (length s)) 1 (λ u. got (take n s) (drop n s)) (omega arith)
+      (record { above = λ u j f. absurd (bad-got (sym f)) }) .above s k e;
+}
 
 pub counted-decode : Counted decodeName
 unfolding decodeName
@@ -366,7 +386,8 @@ counted-name k m = counted-cond (hasName m) _ (nameless k) (counted-bind nameFie
     less : (k : Kind) → Counted (nameless k)
     less File = counted-got (nameFrom [])
     less Correct = counted-got (nameFrom [])
-    less Withdraw = counted-bind byte _ (lawful-byte .counted) (λ n. counted-check (eqb n 0) 4 (λ t. got (nameFrom []) t) (omega arith) (counted-got (nameFrom [])))
+    less Withdraw = counted-bind byte _ (lawful-byte .counted)
+        (λ n. counted-check (eqb n 0) 4 (λ t. got (nameFrom []) t) (omega arith) (counted-got (nameFrom [])))
 
 counted-body : (k : Kind) (m : Mark) → Counted (bodyFor k m)
 unfolding bodyFor

@@ -72,11 +72,14 @@ name-less k m s n t = go (hasName m)
 rest-less : (h : Head) (s : List ℕ) (c : Change) (t : List ℕ) → rest h s ≡ got c t → length t ≤ length s
 unfolding rest
 rest-less h s c t e =
-    let x = bind-got (hour s) (λ o t. nameFor (h .kind) (h .mark) t >>= λ n u. bodyFor (h .kind) (h .mark) u >>= λ b v. got (made (h .kind) (record { mark = h .mark; hour = o; name = n }) b) v) c t e in
-    let y = bind-got (nameFor (h .kind) (h .mark) (x .1)) (λ n u. bodyFor (h .kind) (h .mark) u >>= λ b v. got (made (h .kind) (record { mark = h .mark; hour = x .0; name = n }) b) v) c t (x .3) in
+    let x = bind-got (hour s) (λ o t. nameFor (h .kind) (h .mark) t >>= λ n u. bodyFor (h .kind) (h .mark) u >>= λ b v. got
+    (made (h .kind) (record { mark = h .mark; hour = o; name = n }) b) v) c t e in
+    let y = bind-got (nameFor (h .kind) (h .mark) (x .1))
+    (λ n u. bodyFor (h .kind) (h .mark) u >>= λ b v. got (made (h .kind) (record { mark = h .mark; hour = x .0; name = n }) b) v) c t (x .3) in
     let z = bind-got (bodyFor (h .kind) (h .mark) (y .1)) (λ b v. got (made (h .kind) (record { mark = h .mark; hour = x .0; name = y .0 }) b) v) c t (y .3) in
     let p : z .1 ≡ t = cc (z .3) in
-    let l : length (y .1) ≡ length (z .0) + length t = ap length (body-rest (h .kind) (h .mark) (y .1) (z .0) (z .1) (z .2)) ∙ length-append (z .0) (z .1) ∙ ap (λ w. length (z .0) + length w) p in
+    let l : length (y .1) ≡ length (z .0) + length t = ap length (body-rest (h .kind) (h .mark) (y .1) (z .0) (z .1) (z .2)) ∙ length-append (z .0) (z .1) ∙ ap
+    (λ w. length (z .0) + length w) p in
     omega (arith, hour-less s (x .0) (x .1) (x .2), name-less (h .kind) (h .mark) (x .1) (y .0) (y .1) (y .2))
 
 -- two bytes are taken, whatever marks are looked for
@@ -108,7 +111,8 @@ head-two want [] h t e = absurd (bad-got e)
 head-two want (a ∷ []) h t e = absurd (bad-got e)
 head-two want (a ∷ b ∷ s) h t e = go (is (leadBytes Correct) a b) (is (leadBytes Withdraw) a b) e
   where
-    go : (p q : Bool) → cond p (inside want Correct s) (cond q (inside want Withdraw s) (inside want File (a ∷ b ∷ s))) ≡ got h t → 2 + length t ≤ length (a ∷ b ∷ s)
+    go : (p q : Bool) → cond p (inside want Correct s) (cond q (inside want Withdraw s) (inside want File (a ∷ b ∷ s))) ≡ got h t → 2 + length t ≤ length
+        (a ∷ b ∷ s)
     go true q f = omega (arith, inside-two want Correct s h t f)
     go false true f = omega (arith, inside-two want Withdraw s h t f)
     go false false f = inside-two want File (a ∷ b ∷ s) h t f
@@ -149,7 +153,8 @@ entry-got (a ∷ b ∷ s) x t e = go (is takeBackBytes a b) (is closeBytes a b) 
           good = λ d h. let v : changed c ≡ changed d = w ∙ h in let z : c ≡ d = cc in rw (← z) (change-good Any (a ∷ b ∷ s) c u q);
         }
 
-    go : (p q : Bool) → cond p (got takingBack s) (cond q (got closing s) (change Any (a ∷ b ∷ s) >>= λ c t. got (changed c) t)) ≡ got x t → Ahead (a ∷ b ∷ s) x t
+    go : (p q : Bool) → cond p (got takingBack s) (cond q (got closing s) (change Any (a ∷ b ∷ s) >>= λ c t. got (changed c) t)) ≡ got x t → Ahead (a ∷ b ∷ s) x
+        t
     go true q f = bare-mark takingBack (λ c h. let z : _≡_ {A = ℕ} 0 1 = cc in omega arith) f
     go false true f = bare-mark closing (λ c h. let z : _≡_ {A = ℕ} 0 1 = cc in omega arith) f
     go false false f = one (change Any (a ∷ b ∷ s)) refl f

@@ -139,5 +139,7 @@ cases =
     ∷ []
 
 all-hold : allHold cases ≡ true
-unfolding parse parseAny change entry head mark markAmong rest hour byte nameFor bodyFor nameField some decodeName upTo one escaped hexVal visible taken layout hourPrices import export schedules reserveRows lists unit failure many pair pairs listFrom price quantity amount word spell spellByte unreserved digit write headBytes nameBytes offerFault numbersOk orderOk withinOk every sameBytes
+unfolding parse parseAny change entry head mark markAmong rest hour byte nameFor bodyFor nameField some decodeName upTo one escaped hexVal visible taken layout
+    hourPrices import export schedules reserveRows lists unit failure many pair pairs listFrom price quantity amount word spell spellByte unreserved digit write
+    headBytes nameBytes offerFault numbersOk orderOk withinOk every sameBytes
 all-hold = refl

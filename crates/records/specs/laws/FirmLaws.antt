@@ -95,7 +95,8 @@ firm-quantity = firm-bind word _ firm-word (λ u. firm-check (quantityOk (record
 
 firm-price : Firm price
 unfolding price
-firm-price = firm-bind word _ firm-word (λ u. firm-check (priceOk (record { 0 = signed u })) 5 (λ t. got (record { 0 = signed u }) t) (omega arith) (firm-got _))
+firm-price = firm-bind word _ firm-word
+    (λ u. firm-check (priceOk (record { 0 = signed u })) 5 (λ t. got (record { 0 = signed u }) t) (omega arith) (firm-got _))
 
 firm-amount : (most : ℕ) → Firm (amount most)
 unfolding amount
@@ -143,7 +144,8 @@ firm-schedules : Firm schedules
 unfolding schedules
 firm-schedules =
     firm-bind (amount maxCents) _ (firm-amount maxCents) (λ su. firm-bind (amount maxCents) _ (firm-amount maxCents) (λ nl.
-    firm-bind (many 12 quantity) _ rows (λ d. firm-bind (many 12 quantity) _ rows (λ r. firm-bind (many 12 quantity) _ rows (λ u. firm-bind (many 12 quantity) _ rows (λ a. firm-bind (many 12 quantity) _ rows (λ k. firm-got _)))))))
+    firm-bind (many 12 quantity) _ rows (λ d. firm-bind (many 12 quantity) _ rows
+    (λ r. firm-bind (many 12 quantity) _ rows (λ u. firm-bind (many 12 quantity) _ rows (λ a. firm-bind (many 12 quantity) _ rows (λ k. firm-got _)))))))
 
 firm-reserve : Firm reserveRows
 unfolding reserveRows
@@ -153,19 +155,22 @@ firm-lists : (s1 s2 s3 : List Quantity) → Firm (lists s1 s2 s3)
 unfolding lists
 firm-lists s1 s2 s3 =
     firm-bind (listFrom 1) _ (firm-list 1) (λ da. firm-bind (listFrom 1) _ (firm-list 1) (λ rt.
-    firm-bind (listFrom (fewest s1)) _ (firm-list (fewest s1)) (λ l1. firm-bind (listFrom (fewest s2)) _ (firm-list (fewest s2)) (λ l2. firm-bind (listFrom (fewest s3)) _ (firm-list (fewest s3)) (λ l3. firm-got _)))))
+    firm-bind (listFrom (fewest s1)) _ (firm-list (fewest s1)) (λ l1. firm-bind (listFrom (fewest s2)) _ (firm-list (fewest s2))
+    (λ l2. firm-bind (listFrom (fewest s3)) _ (firm-list (fewest s3)) (λ l3. firm-got _)))))
 
 firm-unit : Firm unit
 unfolding unit
 firm-unit =
-    firm-bind schedules _ firm-schedules (λ h. firm-bind reserveRows _ firm-reserve (λ w1. firm-bind reserveRows _ firm-reserve (λ w2. firm-bind reserveRows _ firm-reserve (λ w3.
+    firm-bind schedules _ firm-schedules
+    (λ h. firm-bind reserveRows _ firm-reserve (λ w1. firm-bind reserveRows _ firm-reserve (λ w2. firm-bind reserveRows _ firm-reserve (λ w3.
     firm-bind (lists (w1 .schedules) (w2 .schedules) (w3 .schedules)) _ (firm-lists (w1 .schedules) (w2 .schedules) (w3 .schedules)) (λ l.
     firm-check (allWithin l (h .ahead) (w1 .schedules) (w2 .schedules) (w3 .schedules)) 7 _ (omega arith) (firm-got _))))))
 
 firm-failure : Firm failure
 unfolding failure
 firm-failure =
-    firm-bind quantity _ firm-quantity (λ x. firm-bind quantity _ firm-quantity (λ y. firm-bind price _ firm-price (λ p. firm-bind price _ firm-price (λ q. firm-got _))))
+    firm-bind quantity _ firm-quantity
+    (λ x. firm-bind quantity _ firm-quantity (λ y. firm-bind price _ firm-price (λ p. firm-bind price _ firm-price (λ q. firm-got _))))
 
 firm-skip : {A : Type 0} (f : Reader A) → Firm f → Firm (skip f)
 firm-skip f h = firm-bind f _ h (λ x. firm-got tt)
@@ -181,7 +186,8 @@ firm-layout Fe = firm-skip failure firm-failure
 
 firm-taken : (f : Reader Unit) → Firm f → Firm (taken f)
 unfolding taken
-firm-taken f h = record { lawful = record { local = record { reads = again }; counted = counted-taken f (h .lawful .counted) }; stays = λ s u j e n. go s u j (f s) refl e n }
+firm-taken f h = record
+    { lawful = record { local = record { reads = again }; counted = counted-taken f (h .lawful .counted) }; stays = λ s u j e n. go s u j (f s) refl e n }
   where
     again : (s b t : List ℕ) → taken f s ≡ got b t → Part (taken f) s b t
     again s b t e = let k = taken-got f (h .lawful) s b t e in record { part = b; whole = k .bytes; again = k .again }
@@ -196,7 +202,11 @@ firm-taken f h = record { lawful = record { local = record { reads = again }; co
 
 firm-some : (n : ℕ) → Firm (some n)
 unfolding some
-firm-some n = record { lawful = record { local = record { reads = again }; counted = record { above = λ s k e. above s k (leb n (length s)) e } }; stays = λ s u j e m. go s u j (leb n (length s)) e m }
+firm-some n = record {
+  lawful = record { local = record { reads = again }; counted = record { above = λ s k e. above s k (leb n (length s)) e } };
+  stays = λ s u
+      j e m. go s u j (leb n (length s)) e m;
+}
   where
     again : (s b t : List ℕ) → some n s ≡ got b t → Part (some n) s b t
     again s b t e =
@@ -284,14 +294,16 @@ firm-mark : Firm mark
 unfolding mark
 firm-mark = firm-two mark refl (λ a. refl) mark-behind
 
-firm-inside : (want : Wanted) (k : Kind) (f : Reader Mark) → Firm f → Firm {A = Head} (λ s. check (allowed want k) 2 (f s >>= λ m t. got (record { kind = k; mark = m }) t))
+firm-inside : (want : Wanted) (k : Kind) (f : Reader Mark) → Firm f → Firm {A = Head}
+    (λ s. check (allowed want k) 2 (f s >>= λ m t. got (record { kind = k; mark = m }) t))
 firm-inside want k f h = firm-check (allowed want k) 2 _ (omega arith) (firm-bind f _ h (λ m. firm-got _))
 
 head-behind : (want : Wanted) (a b : ℕ) → Firm (λ s. head want (a ∷ b ∷ s))
 unfolding head
 head-behind want a b =
     firm-cond (is (leadBytes Correct) a b) (inside want Correct) _ (firm-inside want Correct mark firm-mark)
-    (firm-cond (is (leadBytes Withdraw) a b) (inside want Withdraw) _ (firm-inside want Withdraw mark firm-mark) (firm-inside want File (λ s. mark (a ∷ b ∷ s)) (mark-behind a b)))
+    (firm-cond (is (leadBytes Withdraw) a b) (inside want Withdraw) _ (firm-inside want Withdraw mark firm-mark)
+    (firm-inside want File (λ s. mark (a ∷ b ∷ s)) (mark-behind a b)))
 
 firm-rest : (h : Head) → Firm (rest h)
 unfolding rest
@@ -352,7 +364,8 @@ pub record Ends (s : List ℕ) (c : Change) (t : List ℕ) : Type 0 where
   pub whole : s ≡ front ++ (bodyOf c ++ t)
 
 ends-behind : (p s u : List ℕ) (c : Change) (t : List ℕ) → s ≡ p ++ u → Ends u c t → Ends s c t
-ends-behind p s u c t e x = record { front = p ++ x .front; whole = e ∙ ap (λ (l : List ℕ). p ++ l) (x .whole) ∙ sym (append-assoc p (x .front) (bodyOf c ++ t)) }
+ends-behind p s u c t e x = record
+    { front = p ++ x .front; whole = e ∙ ap (λ (l : List ℕ). p ++ l) (x .whole) ∙ sym (append-assoc p (x .front) (bodyOf c ++ t)) }
 
 ends-made : (k : Kind) (x : Key) (s b t : List ℕ) (c : Change) → bodyFor k (x .mark) s ≡ got b t → made k x b ≡ c → Ends s c t
 unfolding bodyFor
@@ -367,8 +380,10 @@ ends-made k x s b t c e m =
 ends-rest : (h : Head) (s : List ℕ) (c : Change) (t : List ℕ) → rest h s ≡ got c t → Ends s c t
 unfolding rest
 ends-rest h s c t e =
-    let x = bind-got (hour s) (λ o t. nameFor (h .kind) (h .mark) t >>= λ n u. bodyFor (h .kind) (h .mark) u >>= λ b v. got (made (h .kind) (record { mark = h .mark; hour = o; name = n }) b) v) c t e in
-    let y = bind-got (nameFor (h .kind) (h .mark) (x .1)) (λ n u. bodyFor (h .kind) (h .mark) u >>= λ b v. got (made (h .kind) (record { mark = h .mark; hour = x .0; name = n }) b) v) c t (x .3) in
+    let x = bind-got (hour s) (λ o t. nameFor (h .kind) (h .mark) t >>= λ n u. bodyFor (h .kind) (h .mark) u >>= λ b v. got
+    (made (h .kind) (record { mark = h .mark; hour = o; name = n }) b) v) c t e in
+    let y = bind-got (nameFor (h .kind) (h .mark) (x .1))
+    (λ n u. bodyFor (h .kind) (h .mark) u >>= λ b v. got (made (h .kind) (record { mark = h .mark; hour = x .0; name = n }) b) v) c t (x .3) in
     let z = bind-got (bodyFor (h .kind) (h .mark) (y .1)) (λ b v. got (made (h .kind) (record { mark = h .mark; hour = x .0; name = y .0 }) b) v) c t (y .3) in
     let k : Key = record { mark = h .mark; hour = x .0; name = y .0 } in
     let p : made (h .kind) k (z .0) ≡ c = cc (z .3) in
@@ -416,7 +431,8 @@ entry-bad s j e = record { no-back = back (begins takeBackBytes s) refl; no-clos
     unread (a ∷ []) f = let p : 1 ≡ j = cc in ap fault p
     unread (a ∷ b ∷ s) f = two (is takeBackBytes a b) (is closeBytes a b) f
       where
-        two : (p q : Bool) → cond p (got takingBack s) (cond q (got closing s) (change Any (a ∷ b ∷ s) >>= λ c t. got (changed c) t)) ≡ bad j → parse Any (a ∷ b ∷ s) ≡ fault j
+        two : (p q : Bool) → cond p (got takingBack s) (cond q (got closing s) (change Any (a ∷ b ∷ s) >>= λ c t. got (changed c) t)) ≡ bad j → parse Any
+            (a ∷ b ∷ s) ≡ fault j
         two true q g = absurd (bad-got (sym g))
         two false true g = absurd (bad-got (sym g))
         two false false g = one (a ∷ b ∷ s) (change Any (a ∷ b ∷ s)) refl g

@@ -44,7 +44,8 @@ sound-any f = record { holds = λ s a t e. tt }
 sound-got : {A : Type 0} (P : A → Type 0) (a : A) → P a → Sound (λ s. got a s) P
 sound-got P a p = record { holds = λ s b t e. subst P (got-same e) p }
 
-sound-bind : {A B : Type 0} (f : Reader A) (g : A → Reader B) (P : A → Type 0) (Q : B → Type 0) → Sound f P → ((a : A) → P a → Sound (g a) Q) → Sound (λ s. f s >>= g) Q
+sound-bind : {A B : Type 0} (f : Reader A) (g : A → Reader B) (P : A → Type 0) (Q : B → Type 0) → Sound f P → ((a : A) → P a → Sound (g a) Q) → Sound
+    (λ s. f s >>= g) Q
 sound-bind f g P Q h i = record {
   holds = λ s b t e. let x = bind-got (f s) g b t e in i (x .0) (h .holds s (x .0) (x .1) (x .2)) .holds (x .1) b t (x .3);
 }
@@ -59,13 +60,15 @@ price-sound : Sound price (λ p. priceOk p ≡ true)
 unfolding price
 price-sound =
     sound-bind word _ (λ u. Unit) (λ p. priceOk p ≡ true) (sound-any word) (λ u x.
-    sound-check (priceOk (record { 0 = signed u })) 5 (λ t. got (record { 0 = signed u }) t) (λ p. priceOk p ≡ true) (λ h. sound-got (λ p. priceOk p ≡ true) (record { 0 = signed u }) h))
+    sound-check (priceOk (record { 0 = signed u })) 5 (λ t. got (record { 0 = signed u }) t) (λ p. priceOk p ≡ true)
+    (λ h. sound-got (λ p. priceOk p ≡ true) (record { 0 = signed u }) h))
 
 quantity-sound : Sound quantity (λ q. quantityOk q ≡ true)
 unfolding quantity
 quantity-sound =
     sound-bind word _ (λ u. Unit) (λ q. quantityOk q ≡ true) (sound-any word) (λ u x.
-    sound-check (quantityOk (record { 0 = u })) 5 (λ t. got (record { 0 = u }) t) (λ q. quantityOk q ≡ true) (λ h. sound-got (λ q. quantityOk q ≡ true) (record { 0 = u }) h))
+    sound-check (quantityOk (record { 0 = u })) 5 (λ t. got (record { 0 = u }) t) (λ q. quantityOk q ≡ true)
+    (λ h. sound-got (λ q. quantityOk q ≡ true) (record { 0 = u }) h))
 
 amount-sound : (most : ℕ) → Sound (amount most) (λ v. v ≤ most)
 unfolding amount
@@ -91,7 +94,8 @@ many-sound : {A : Type 0} (f : Reader A) (P : A → Type 0) → Sound f P → (n
 unfolding many
 many-sound f P h zero = sound-got (Each P 0) [] (record { long = refl; each = λ d i l. absurd (not-suc-le-zero l) })
 many-sound f P h (suc n) =
-    sound-bind f _ P (Each P (suc n)) h (λ v p. sound-bind (many n f) _ (Each P n) (Each P (suc n)) (many-sound f P h n) (λ vs e. sound-got (Each P (suc n)) (v ∷ vs) (each-more P n v vs p e)))
+    sound-bind f _ P (Each P (suc n)) h
+    (λ v p. sound-bind (many n f) _ (Each P n) (Each P (suc n)) (many-sound f P h n) (λ vs e. sound-got (Each P (suc n)) (v ∷ vs) (each-more P n v vs p e)))
 
 prices-sound : Sound (many 12 price) (λ ps. pricesOk ps ≡ true)
 prices-sound = record {
@@ -117,7 +121,8 @@ record ListFits (lo : ℕ) (o : Offer) : Type 0 where
 pairs-sound : (n : ℕ) → Sound (pairs n) (λ o. o .count ≡ n)
 unfolding pairs
 pairs-sound n =
-    sound-bind (many n pair) _ (Each (λ x. Unit) n) (λ o. o .count ≡ n) (many-sound pair (λ x. Unit) (sound-any pair) n) (λ xs e. sound-got (λ o. o .count ≡ n) (offerOf xs) (e .long))
+    sound-bind (many n pair) _ (Each (λ x. Unit) n) (λ o. o .count ≡ n) (many-sound pair (λ x. Unit) (sound-any pair) n)
+    (λ xs e. sound-got (λ o. o .count ≡ n) (offerOf xs) (e .long))
 
 ruled : (o : Offer) → listOk o ≡ true → Listed o
 ruled o = go (eqb (o .count) 0) refl
@@ -149,7 +154,8 @@ pub record PricesFit (p : HourPrices) : Type 0 where
 hour-prices-sound : Sound hourPrices PricesFit
 unfolding hourPrices
 hour-prices-sound =
-    sound-bind (many 12 price) _ (λ ps. pricesOk ps ≡ true) PricesFit prices-sound (λ es h. sound-bind price _ (λ p. priceOk p ≡ true) PricesFit price-sound (λ p k.
+    sound-bind (many 12 price) _ (λ ps. pricesOk ps ≡ true) PricesFit prices-sound
+    (λ es h. sound-bind price _ (λ p. priceOk p ≡ true) PricesFit price-sound (λ p k.
     sound-got PricesFit (record { emp = es; pd = p }) (record { emp = h; pd = k })))
 
 pub record ImportFits (i : Import) : Type 0 where
@@ -160,13 +166,16 @@ pub record ImportFits (i : Import) : Type 0 where
 import-sound : Sound import ImportFits
 unfolding import
 import-sound =
-    sound-bind (many 12 quantity) _ (λ qs. quantitiesOk qs ≡ true) ImportFits row-sound (λ qs h. sound-bind (listFrom 1) _ (ListFits 1) ImportFits (list-sound 1) (λ o k.
-    sound-check (within o qs) 7 _ ImportFits (λ e. sound-got ImportFits (record { mqsi = qs; offer = o }) (record { mqsi = h; offer = listed-full o k; inside = e }))))
+    sound-bind (many 12 quantity) _ (λ qs. quantitiesOk qs ≡ true) ImportFits row-sound
+    (λ qs h. sound-bind (listFrom 1) _ (ListFits 1) ImportFits (list-sound 1) (λ o k.
+    sound-check (within o qs) 7 _ ImportFits
+    (λ e. sound-got ImportFits (record { mqsi = qs; offer = o }) (record { mqsi = h; offer = listed-full o k; inside = e }))))
 
 export-sound : Sound export (λ x. quantitiesOk (x .mqsw) ≡ true)
 unfolding export
 export-sound =
-    sound-bind (many 12 quantity) _ (λ qs. quantitiesOk qs ≡ true) (λ x. quantitiesOk (x .mqsw) ≡ true) row-sound (λ qs h. sound-got (λ x. quantitiesOk (x .mqsw) ≡ true) (record { mqsw = qs }) h)
+    sound-bind (many 12 quantity) _ (λ qs. quantitiesOk qs ≡ true) (λ x. quantitiesOk (x .mqsw) ≡ true) row-sound
+    (λ qs h. sound-got (λ x. quantitiesOk (x .mqsw) ≡ true) (record { mqsw = qs }) h)
 
 pub record FailureFits (f : Failure) : Type 0 where
   pub day-ahead-quantity : quantityOk (f .«day_ahead_quantity») ≡ true
@@ -177,7 +186,8 @@ pub record FailureFits (f : Failure) : Type 0 where
 failure-sound : Sound failure FailureFits
 unfolding failure
 failure-sound =
-    sound-bind quantity _ (λ q. quantityOk q ≡ true) FailureFits quantity-sound (λ x a. sound-bind quantity _ (λ q. quantityOk q ≡ true) FailureFits quantity-sound (λ y b.
+    sound-bind quantity _ (λ q. quantityOk q ≡ true) FailureFits quantity-sound
+    (λ x a. sound-bind quantity _ (λ q. quantityOk q ≡ true) FailureFits quantity-sound (λ y b.
     sound-bind price _ (λ p. priceOk p ≡ true) FailureFits price-sound (λ p c. sound-bind price _ (λ p. priceOk p ≡ true) FailureFits price-sound (λ q d.
     sound-got FailureFits (record { «day_ahead_quantity» = x; «pre_dispatch_quantity» = y; «day_ahead_price» = p; «pre_dispatch_price» = q })
     (record { day-ahead-quantity = a; pre-dispatch-quantity = b; day-ahead-price = c; pre-dispatch-price = d })))))
@@ -223,9 +233,11 @@ unfolding schedules
 schedules-sound =
     sound-bind (amount maxCents) _ (λ v. v ≤ maxCents) SchedulesFit (amount-sound maxCents) (λ su x1.
     sound-bind (amount maxCents) _ (λ v. v ≤ maxCents) SchedulesFit (amount-sound maxCents) (λ nl x2.
-    sound-bind (many 12 quantity) _ RowOk SchedulesFit row-sound (λ d x3. sound-bind (many 12 quantity) _ RowOk SchedulesFit row-sound (λ r x4. sound-bind (many 12 quantity) _ RowOk SchedulesFit row-sound (λ u x5.
+    sound-bind (many 12 quantity) _ RowOk SchedulesFit row-sound
+    (λ d x3. sound-bind (many 12 quantity) _ RowOk SchedulesFit row-sound (λ r x4. sound-bind (many 12 quantity) _ RowOk SchedulesFit row-sound (λ u x5.
     sound-bind (many 12 quantity) _ RowOk SchedulesFit row-sound (λ a x6. sound-bind (many 12 quantity) _ RowOk SchedulesFit row-sound (λ k x7.
-    sound-got SchedulesFit (record { startup = record { 0 = su }; noload = record { 0 = nl }; ahead = d; constrained = r; unconstrained = u; metered = a; capacity = k })
+    sound-got SchedulesFit
+    (record { startup = record { 0 = su }; noload = record { 0 = nl }; ahead = d; constrained = r; unconstrained = u; metered = a; capacity = k })
     (record { startup = x1; noload = x2; ahead = x3; constrained = x4; unconstrained = x5; metered = x6; capacity = x7 }))))))))
 
 record RowsFit (w : ReserveRows) : Type 0 where
@@ -286,10 +298,12 @@ unit-sound : Sound unit UnitFits
 unfolding unit
 unit-sound =
     sound-bind schedules _ SchedulesFit UnitFits schedules-sound (λ h a.
-    sound-bind reserveRows _ RowsFit UnitFits rows-sound (λ w1 b. sound-bind reserveRows _ RowsFit UnitFits rows-sound (λ w2 c. sound-bind reserveRows _ RowsFit UnitFits rows-sound (λ w3 d.
+    sound-bind reserveRows _ RowsFit UnitFits rows-sound
+    (λ w1 b. sound-bind reserveRows _ RowsFit UnitFits rows-sound (λ w2 c. sound-bind reserveRows _ RowsFit UnitFits rows-sound (λ w3 d.
     sound-bind (lists (w1 .schedules) (w2 .schedules) (w3 .schedules)) _ ListsFit UnitFits (lists-sound (w1 .schedules) (w2 .schedules) (w3 .schedules)) (λ l k.
     sound-check (allWithin l (h .ahead) (w1 .schedules) (w2 .schedules) (w3 .schedules)) 7 _ UnitFits (λ e.
-    sound-got UnitFits (unitOf h (reserveOf w1 (l .spinning)) (reserveOf w2 (l .nonspinning)) (reserveOf w3 (l .thirty)) (l .ahead) (l .real)) (unit-made h w1 w2 w3 l a b c d k e)))))))
+    sound-got UnitFits (unitOf h (reserveOf w1 (l .spinning)) (reserveOf w2 (l .nonspinning)) (reserveOf w3 (l .thirty)) (l .ahead) (l .real))
+    (unit-made h w1 w2 w3 l a b c d k e)))))))
 
 -- ---- records that stand
 

@@ -61,19 +61,23 @@ fine-valid n p h =
     record {
       some = omega (arith, leb-true 1 (n .len) (and-left (leb 1 (n .len)) (leb (n .len) 12) a), l);
       few = omega (arith, leb-true (n .len) 12 (and-right (leb 1 (n .len)) (leb (n .len) 12) a), l);
-      seen = fine-visible (bytesOf n) (λ i q. ap nameByteOk (getD-take (n .len) (n .bytes) i 0 (omega arith)) ∙ every-at (n .len) f (and-right sized (every (n .len) f) h) i (omega arith));
+      seen = fine-visible (bytesOf n)
+          (λ i q. ap nameByteOk (getD-take (n .len) (n .bytes) i 0 (omega arith)) ∙ every-at (n .len) f (and-right sized (every (n .len) f) h) i (omega arith));
     }
 
 unnamed : (n : Name) → Padded n → n .len ≡ 0 → emptyName ≡ n
 unnamed n p z = sym (ap (λ (m : ℕ). nameFrom (take m (n .bytes))) z) ∙ p
 
-name-read : (m : Mark) (n : Name) → Padded n → cond (hasName m) (nameOk n) (eqb (n .len) 0) ≡ true → (u : List ℕ) → nameFor File m (nameBytes File m n ++ u) ≡ got n u
+name-read : (m : Mark) (n : Name) → Padded n → cond (hasName m) (nameOk n) (eqb (n .len) 0) ≡ true → (u : List ℕ) → nameFor File m (nameBytes File m n ++ u) ≡
+    got n u
 unfolding nameFor nameBytes
 name-read m n p h u = go (hasName m) h
   where
     go : (b : Bool) → cond b (nameOk n) (eqb (n .len) 0) ≡ true
-        → cond b (nameField (cond b (length (spell (bytesOf n)) ∷ spell (bytesOf n)) [] ++ u) >>= λ v t. got (nameFrom v) t) (got emptyName (cond b (length (spell (bytesOf n)) ∷ spell (bytesOf n)) [] ++ u)) ≡ got n u
-    go true e = ap (λ (r : Res (List ℕ)). r >>= λ v t. got (nameFrom v) t) (field-again (bytesOf n) (spelled-back (bytesOf n) (fine-valid n p e)) u) ∙ ap (λ (x : Name). got x u) p
+        → cond b (nameField (cond b (length (spell (bytesOf n)) ∷ spell (bytesOf n)) [] ++ u) >>= λ v t. got (nameFrom v) t)
+        (got emptyName (cond b (length (spell (bytesOf n)) ∷ spell (bytesOf n)) [] ++ u)) ≡ got n u
+    go true e = ap (λ (r : Res (List ℕ)). r >>= λ v t. got (nameFrom v) t) (field-again (bytesOf n) (spelled-back (bytesOf n) (fine-valid n p e)) u) ∙ ap
+        (λ (x : Name). got x u) p
     go false e = ap (λ (x : Name). got x u) (unnamed n p (eqb-true (n .len) 0 e))
 
 hour-read : (h : ℕ) → between 1 24 h ≡ true → (u : List ℕ) → hour (h ∷ u) ≡ got h u
@@ -118,7 +122,8 @@ module _ (k : Key) (p : Padded (k .name)) (r : Rec) (g : Good (filed r)) (t : Li
       go false e f = absurd (true≢false (sym f ∙ none-begins r t))
       go true e f =
           let u = drop (length (headBytes File k)) (write (filed r) ++ t) in
-          let one : got k u ≡ got (r .key) (r .body ++ t) = sym (ok-read k p e u) ∙ sym (ap headKey (begins-true (headBytes File k) (write (filed r) ++ t) f)) ∙ head-written (filed r) g t in
+          let one : got k u ≡ got (r .key) (r .body ++ t) = sym (ok-read k p e u) ∙ sym (ap headKey (begins-true (headBytes File k) (write (filed r) ++ t) f)) ∙
+          head-written (filed r) g t in
           subst (λ (x : Key). same k x ≡ true) (got-value one) (same-refl k)
 
   same-headed : same k (r .key) ≡ true → begins (recordHead k) (write (filed r) ++ t) ≡ true

@@ -38,7 +38,8 @@ good-hour c g =
 pub same-at : (k j : Key) (h : ℕ) → same (atHour k h) j ≡ (sameName k j && eqb h (j .hour))
 unfolding same sameHour sameName atHour
 same-at k j h =
-    go (eqb (order (k .mark)) (order (j .mark))) (eqb h (j .hour)) (names.sameName (k .name) (j .name)) (eqb (k .hour) (k .hour)) (eq-eqb (k .hour) (k .hour) refl)
+    go (eqb (order (k .mark)) (order (j .mark))) (eqb h (j .hour)) (names.sameName (k .name) (j .name)) (eqb (k .hour) (k .hour))
+    (eq-eqb (k .hour) (k .hour) refl)
   where
     go : (a b c d : Bool) → d ≡ true → ((a && b) && c) ≡ (((a && d) && c) && b)
     go true true true true e = refl

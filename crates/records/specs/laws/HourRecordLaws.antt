@@ -87,7 +87,8 @@ pub price-name : (r : Rec) → Good (filed r) → r .key .mark ≡ Pr → r .key
 unfolding nameFor
 price-name r g e =
     let s = nameBytes File (r .key .mark) (r .key .name) in
-    let q : nameFor File Pr (s ++ []) ≡ got (r .key .name) [] = subst (λ (m : Mark). nameFor File m (s ++ []) ≡ got (r .key .name) []) e (good-kept (filed r) g .name-back []) in
+    let q : nameFor File Pr (s ++ []) ≡ got (r .key .name) [] = subst (λ (m : Mark). nameFor File m (s ++ []) ≡ got (r .key .name) []) e
+    (good-kept (filed r) g .name-back []) in
     let p : emptyName ≡ r .key .name = cc in
     sym p
 

@@ -41,7 +41,8 @@ parts-hour a b m h = simp (eq-eqb (order (a .mark)) (order (b .mark)) m, eq-eqb 
 pub sameHour-same : (a b : Key) → sameHour a b ≡ true → (x : Key) → sameHour a x ≡ sameHour b x
 unfolding sameHour
 sameHour-same a b h x =
-    ap₂ (λ (m n : ℕ). eqb m (order (x .mark)) && eqb n (x .hour)) (eqb-true (order (a .mark)) (order (b .mark)) (and-left _ _ h)) (eqb-true (a .hour) (b .hour) (and-right (eqb (order (a .mark)) (order (b .mark))) _ h))
+    ap₂ (λ (m n : ℕ). eqb m (order (x .mark)) && eqb n (x .hour)) (eqb-true (order (a .mark)) (order (b .mark)) (and-left _ _ h))
+    (eqb-true (a .hour) (b .hour) (and-right (eqb (order (a .mark)) (order (b .mark))) _ h))
 
 -- ---- keys are the same exactly when mark, hour and decoded name are: whatever stands behind the name's bytes
 pub record Alike (a b : Key) : Type 0 where
@@ -123,8 +124,10 @@ name-asked k m n = go (hasName m)
         let p : emptyName ≡ n = cc (y .1) in
         ap (λ x. got x []) p
 
-    go : (b : Bool) → cond b (storedName (nameField (cond b (length (spell (bytesOf n)) ∷ spell (bytesOf n)) (noName k) ++ []))) (nameless k (cond b (length (spell (bytesOf n)) ∷ spell (bytesOf n)) (noName k) ++ [])) ≡ got n []
-        → cond b (storedName (decodeName (cond b (spell (bytesOf n)) []))) (check (eqb (length (cond b (spell (bytesOf n)) [])) 0) 4 (got emptyName [])) ≡ got n []
+    go : (b : Bool) → cond b (storedName (nameField (cond b (length (spell (bytesOf n)) ∷ spell (bytesOf n)) (noName k) ++ [])))
+        (nameless k (cond b (length (spell (bytesOf n)) ∷ spell (bytesOf n)) (noName k) ++ [])) ≡ got n []
+        → cond b (storedName (decodeName (cond b (spell (bytesOf n)) []))) (check (eqb (length (cond b (spell (bytesOf n)) [])) 0) 4 (got emptyName [])) ≡ got n
+        []
     go true f =
         let s : List ℕ = length (spell (bytesOf n)) ∷ (spell (bytesOf n) ++ []) in
         let x = bind-got (nameField s) (λ v t. got (nameFrom v) t) n [] f in
@@ -185,7 +188,8 @@ from-fault x h ns k = go x (between 1 24 h)
     name m (bad j) q e = askName-fault m ns k (q ∙ (let p : j ≡ k = cc in ap bad p))
     name m (got n u) q e = absurd (bad-got (sym e))
 
-    go : (r : Res Mark) (b : Bool) → ((j : ℕ) → r ≡ bad j → 0 < j) → _≡_ {A = Res Key} (r >>= λ m t. check b 3 (askName m ns >>= λ n u. got (record { mark = m; hour = h; name = n }) [])) (bad k) → 0 < k
+    go : (r : Res Mark) (b : Bool) → ((j : ℕ) → r ≡ bad j → 0 < j) → _≡_ {A = Res Key}
+        (r >>= λ m t. check b 3 (askName m ns >>= λ n u. got (record { mark = m; hour = h; name = n }) [])) (bad k) → 0 < k
     go (bad j) b i e = i k (let p : j ≡ k = cc in ap bad p)
     go (got m t) true i e = name m (askName m ns) refl e
     go (got m t) false i e = bad-is 3 k (omega arith) e
@@ -237,12 +241,14 @@ pub own-unnamed : (r : Rec) → Good (filed r) → hasName (r .key .mark) ≡ fa
 unfolding askName
 own-unnamed r g h =
     sym (got-value
-    (sym (λ i. cond (h i) (storedName (decodeName (cond (h i) (spell (bytesOf (r .key .name))) []))) (check (eqb (length (cond (h i) (spell (bytesOf (r .key .name))) [])) 0) 4 (got emptyName []))) ∙ name-own r g))
+    (sym (λ i. cond (h i) (storedName (decodeName (cond (h i) (spell (bytesOf (r .key .name))) [])))
+    (check (eqb (length (cond (h i) (spell (bytesOf (r .key .name))) [])) 0) 4 (got emptyName []))) ∙ name-own r g))
 
 -- a name that stands is the one that its written spelling decodes to
 pub own-name : (r : Rec) → Good (filed r) → hasName (r .key .mark) ≡ true → storedName (decodeName (spell (bytesOf (r .key .name)))) ≡ got (r .key .name) []
 unfolding askName
-own-name r g h = sym (λ i. cond (h i) (storedName (decodeName (cond (h i) (spell (bytesOf (r .key .name))) []))) (check (eqb (length (cond (h i) (spell (bytesOf (r .key .name))) [])) 0) 4 (got emptyName []))) ∙ name-own r g
+own-name r g h = sym (λ i. cond (h i) (storedName (decodeName (cond (h i) (spell (bytesOf (r .key .name))) [])))
+    (check (eqb (length (cond (h i) (spell (bytesOf (r .key .name))) [])) 0) 4 (got emptyName []))) ∙ name-own r g
 
 -- and it may stand
 pub record Decoded (n : Name) : Type 0 where
@@ -314,7 +320,8 @@ hour-asked m h k t e = sym (got-value (check-got (between 1 24 h) 3 (got (record
 
 pub unit-marked : (ns : List ℕ) (k : Key) (t : List ℕ) → askUnit ns ≡ got k t → k .mark ≡ Gh
 unfolding askUnit
-unit-marked ns k t e = let x = bind-got (storedName (decodeName ns)) (λ n u. got (record { mark = Gh; hour = 1; name = n }) []) k t e in ap (λ (y : Key). y .mark) (sym (got-value (x .3)))
+unit-marked ns k t e = let x = bind-got (storedName (decodeName ns)) (λ n u. got (record { mark = Gh; hour = 1; name = n }) []) k t e in ap
+    (λ (y : Key). y .mark) (sym (got-value (x .3)))
 
 pub failure-marked : (ms : List ℕ) (h : ℕ) (ns : List ℕ) (k : Key) (t : List ℕ) → askFailure ms h ns ≡ got k t → isFailure (k .mark) ≡ true
 unfolding askFrom askFailureMark

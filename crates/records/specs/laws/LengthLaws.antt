@@ -117,11 +117,13 @@ brief-many (suc k) n f h =
 -- no number but 1 is 1
 brief-quantity : Brief 4 quantity
 unfolding quantity
-brief-quantity = brief-bind 4 0 word _ brief-word (λ u. brief-check 0 (quantityOk (record { 0 = u })) 5 (λ t. got (record { 0 = u }) t) (λ z. omega arith) (λ h. brief-got _))
+brief-quantity = brief-bind 4 0 word _ brief-word
+    (λ u. brief-check 0 (quantityOk (record { 0 = u })) 5 (λ t. got (record { 0 = u }) t) (λ z. omega arith) (λ h. brief-got _))
 
 brief-price : Brief 4 price
 unfolding price
-brief-price = brief-bind 4 0 word _ brief-word (λ u. brief-check 0 (priceOk (record { 0 = signed u })) 5 (λ t. got (record { 0 = signed u }) t) (λ z. omega arith) (λ h. brief-got _))
+brief-price = brief-bind 4 0 word _ brief-word
+    (λ u. brief-check 0 (priceOk (record { 0 = signed u })) 5 (λ t. got (record { 0 = signed u }) t) (λ z. omega arith) (λ h. brief-got _))
 
 brief-amount : (most : ℕ) → Brief 4 (amount most)
 unfolding amount
@@ -169,7 +171,8 @@ brief-prices = brief-bind 48 4 (many 12 price) _ prices (λ es. brief-bind 4 0 p
 
 brief-import : Brief 209 import
 unfolding import
-brief-import = brief-bind 48 161 (many 12 quantity) _ rows (λ qs. brief-bind 161 0 (listFrom 1) _ (brief-list 1) (λ o. brief-check 0 (within o qs) 7 _ (λ z. omega arith) (λ e. brief-got _)))
+brief-import = brief-bind 48 161 (many 12 quantity) _ rows
+    (λ qs. brief-bind 161 0 (listFrom 1) _ (brief-list 1) (λ o. brief-check 0 (within o qs) 7 _ (λ z. omega arith) (λ e. brief-got _)))
 
 brief-export : Brief 48 export
 unfolding export
@@ -196,14 +199,16 @@ brief-lists s1 s2 s3 =
 brief-unit : Brief 1341 unit
 unfolding unit
 brief-unit =
-    brief-bind 248 1093 schedules _ brief-schedules (λ h. brief-bind 96 997 reserveRows _ brief-reserve (λ w1. brief-bind 96 901 reserveRows _ brief-reserve (λ w2. brief-bind 96 805 reserveRows _ brief-reserve (λ w3.
+    brief-bind 248 1093 schedules _ brief-schedules (λ h. brief-bind 96 997 reserveRows _ brief-reserve
+    (λ w1. brief-bind 96 901 reserveRows _ brief-reserve (λ w2. brief-bind 96 805 reserveRows _ brief-reserve (λ w3.
     brief-bind 805 0 (lists (w1 .schedules) (w2 .schedules) (w3 .schedules)) _ (brief-lists (w1 .schedules) (w2 .schedules) (w3 .schedules)) (λ l.
     brief-check 0 (allWithin l (h .ahead) (w1 .schedules) (w2 .schedules) (w3 .schedules)) 7 _ (λ z. omega arith) (λ e. brief-got _))))))
 
 brief-failure : Brief 16 failure
 unfolding failure
 brief-failure =
-    brief-bind 4 12 quantity _ brief-quantity (λ x. brief-bind 4 8 quantity _ brief-quantity (λ y. brief-bind 4 4 price _ brief-price (λ p. brief-bind 4 0 price _ brief-price (λ q. brief-got _))))
+    brief-bind 4 12 quantity _ brief-quantity
+    (λ x. brief-bind 4 8 quantity _ brief-quantity (λ y. brief-bind 4 4 price _ brief-price (λ p. brief-bind 4 0 price _ brief-price (λ q. brief-got _))))
 
 brief-skip : {A : Type 0} (n : ℕ) (f : Reader A) → Brief n f → Brief n (skip f)
 brief-skip n f h = brief-more (n + 0) n (skip f) (omega arith) (brief-bind n 0 f _ h (λ x. brief-got tt))
@@ -262,7 +267,8 @@ judged-escaped = record { four = go }
     go [] k e = let p : 4 ≡ k = cc in sym p
     go (h ∷ []) k e = let p : 4 ≡ k = cc in sym p
     go (h ∷ l ∷ s) k e =
-        judged-check (ltb (hexVal h) 16) _ k (judged-check (ltb (hexVal l) 16) _ k (judged-check (visible (16 * hexVal h + hexVal l)) _ k (not-bad (16 * hexVal h + hexVal l) s k))) e
+        judged-check (ltb (hexVal h) 16) _ k
+        (judged-check (ltb (hexVal l) 16) _ k (judged-check (visible (16 * hexVal h + hexVal l)) _ k (not-bad (16 * hexVal h + hexVal l) s k))) e
 
 judged-one : Judged one
 unfolding one
@@ -284,7 +290,8 @@ judged-up-to n = record { four = go n }
     then n v k (bad j) h e = let p : j ≡ k = cc in h (ap bad p)
     then n v k (got vs u) h e = absurd (bad-got (sym e))
 
-    first : (n k : ℕ) (s : List ℕ) (r : Res ℕ) → one s ≡ r → ((t : List ℕ) → upTo n t ≡ bad k → k ≡ 4) → (r >>= λ v t. upTo n t >>= λ vs u. got (v ∷ vs) u) ≡ bad k → k ≡ 4
+    first : (n k : ℕ) (s : List ℕ) (r : Res ℕ) → one s ≡ r → ((t : List ℕ) → upTo n t ≡ bad k → k ≡ 4) → (r >>= λ v t. upTo n t >>= λ vs u. got (v ∷ vs) u) ≡
+        bad k → k ≡ 4
     first n k s (bad j) q ih e = let p : j ≡ k = cc in judged-one .four s k (q ∙ ap bad p)
     first n k s (got v t) q ih e = then n v k (upTo n t) (ih t) e
 
@@ -318,7 +325,8 @@ brief-name k m = brief-cond 37 (hasName m) _ (nameless k) (brief-bind 37 0 nameF
     less : (k : Kind) → Brief 37 (nameless k)
     less File = brief-more 0 37 _ (omega arith) (brief-got emptyName)
     less Correct = brief-more 0 37 _ (omega arith) (brief-got emptyName)
-    less Withdraw = brief-more 1 37 _ (omega arith) (brief-bind 1 0 byte _ brief-byte (λ n. brief-check 0 (eqb n 0) 4 (λ t. got emptyName t) (λ z. omega arith) (λ e. brief-got emptyName)))
+    less Withdraw = brief-more 1 37 _ (omega arith)
+        (brief-bind 1 0 byte _ brief-byte (λ n. brief-check 0 (eqb n 0) 4 (λ t. got emptyName t) (λ z. omega arith) (λ e. brief-got emptyName)))
 
 -- ---- changes
 
@@ -375,7 +383,8 @@ brief-mark : Brief 2 mark
 unfolding mark
 brief-mark = brief-two 0 mark refl (λ a. refl) mark-behind
 
-brief-inside : (n : ℕ) (want : Wanted) (k : Kind) (f : Reader Mark) → Brief n f → Brief {A = Head} (n + 0) (λ s. check (allowed want k) 2 (f s >>= λ m t. got (record { kind = k; mark = m }) t))
+brief-inside : (n : ℕ) (want : Wanted) (k : Kind) (f : Reader Mark) → Brief n f → Brief {A = Head} (n + 0)
+    (λ s. check (allowed want k) 2 (f s >>= λ m t. got (record { kind = k; mark = m }) t))
 brief-inside n want k f h = brief-check (n + 0) (allowed want k) 2 _ (λ z. omega arith) (λ e. brief-bind n 0 f _ h (λ m. brief-got _))
 
 head-behind : (want : Wanted) (a b : ℕ) → Brief 2 (λ s. head want (a ∷ b ∷ s))
@@ -397,7 +406,8 @@ brief-entry =
     brief-two 1381 entry refl (λ a. refl) (λ a b.
     brief-cond 1381 (is takeBackBytes a b) (λ s. got takingBack s) _ (brief-more 0 1381 _ (omega arith) (brief-got takingBack))
     (brief-cond 1381 (is closeBytes a b) (λ s. got closing s) _ (brief-more 0 1381 _ (omega arith) (brief-got closing))
-    (brief-bind 1381 0 (λ s. change Any (a ∷ b ∷ s)) _ (brief-bind 2 1379 (λ s. head Any (a ∷ b ∷ s)) _ (head-behind Any a b) (λ h. brief-rest h)) (λ c. brief-got (changed c)))))
+    (brief-bind 1381 0 (λ s. change Any (a ∷ b ∷ s)) _ (brief-bind 2 1379 (λ s. head Any (a ∷ b ∷ s)) _ (head-behind Any a b) (λ h. brief-rest h))
+    (λ c. brief-got (changed c)))))
 
 -- a record that ends early is shorter than the longest one
 pub entry-early : (s : List ℕ) → entry s ≡ bad 1 → length s < 1383

@@ -79,12 +79,14 @@ module _ (k : Key) where
     head-own = head-same (record { mark = k .mark; hour = r .key .hour; name = k .name }) p r g t
 
     own : begins (recordHead (atHour k (r .key .hour))) all ≡ sameName k (r .key)
-    own = head-own ∙ same-at k (r .key) (r .key .hour) ∙ ap (λ (b : Bool). sameName k (r .key) && b) (eq-eqb (r .key .hour) (r .key .hour) refl) ∙ and-yes (sameName k (r .key))
+    own = head-own ∙ same-at k (r .key) (r .key .hour) ∙ ap (λ (b : Bool). sameName k (r .key) && b) (eq-eqb (r .key .hour) (r .key .hour) refl) ∙ and-yes
+        (sameName k (r .key))
 
     -- behind mark and hour
     behind : begins (headBytes File (atHour k (r .key .hour))) all ≡ begins (nameBytes File (k .mark) (k .name)) (drop 3 all)
     unfolding headBytes atHour write
-    behind = ap (λ (x : Mark). begins (markBytes (k .mark) ++ (h ∷ part)) (whole x)) mk ∙ go (k .mark) ∙ sym (ap (λ (x : Mark). begins part (drop 3 (whole x))) mk)
+    behind = ap (λ (x : Mark). begins (markBytes (k .mark) ++ (h ∷ part)) (whole x)) mk ∙ go (k .mark) ∙ sym
+        (ap (λ (x : Mark). begins part (drop 3 (whole x))) mk)
       where
         h : ℕ
         h = r .key .hour
@@ -110,7 +112,8 @@ module _ (k : Key) where
     -- by the head of the key in the first hour
     pub name-same : 3 ≤ length (recordHead (atHour k 1)) → begins (drop 3 (recordHead (atHour k 1))) (drop 3 all) ≡ sameName k (r .key)
     name-same le = on nameable
-        (λ y. ap (λ (z : List ℕ). begins (drop 3 z) (drop 3 all)) (head-at 1 refl true y) ∙ ap (λ (z : List ℕ). begins z (drop 3 all)) (name-part 1) ∙ sym behind
+        (λ y. ap (λ (z : List ℕ). begins (drop 3 z) (drop 3 all)) (head-at 1 refl true y) ∙ ap (λ (z : List ℕ). begins z (drop 3 all)) (name-part 1) ∙ sym
+        behind
         ∙ sym (ap (λ (z : List ℕ). begins z all) (head-at (r .key .hour) in-day true y)) ∙ own)
         (λ y. absurd (omega (arith, le, ap length (head-at 1 refl false y))))
 

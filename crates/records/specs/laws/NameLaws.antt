@@ -69,7 +69,15 @@ one-spelled x t v = go (unreserved x) refl
     go false e =
         let l : x < 256 = visible-below x v in
         let d : 16 * (x / 16) + x % 16 ≡ x = omega arith in
-        rw (e, hexVal-digit (x / 16) (omega arith), hexVal-digit (x % 16) (omega arith), lt-ltb (x / 16) 16 (omega arith), lt-ltb (x % 16) 16 (omega arith), d, v)
+        rw (
+          e,
+          hexVal-digit (x / 16) (omega arith),
+          hexVal-digit (x % 16) (omega arith),
+          lt-ltb (x / 16) 16 (omega arith),
+          lt-ltb (x % 16) 16 (omega arith),
+          d,
+          v,
+        )
 
 -- every byte of a list is one that a name may hold
 abbrev pub Visible : List ℕ → Type 0

@@ -144,11 +144,13 @@ lawful-many (suc n) f h = lawful-bind f _ h (λ v. lawful-bind (many n f) _ (law
 
 pub lawful-quantity : Lawful quantity
 unfolding quantity
-lawful-quantity = lawful-bind word _ lawful-word (λ u. lawful-check (quantityOk (record { 0 = u })) 5 (λ t. got (record { 0 = u }) t) (omega arith) (lawful-got _))
+lawful-quantity = lawful-bind word _ lawful-word
+    (λ u. lawful-check (quantityOk (record { 0 = u })) 5 (λ t. got (record { 0 = u }) t) (omega arith) (lawful-got _))
 
 pub lawful-price : Lawful price
 unfolding price
-lawful-price = lawful-bind word _ lawful-word (λ u. lawful-check (priceOk (record { 0 = signed u })) 5 (λ t. got (record { 0 = signed u }) t) (omega arith) (lawful-got _))
+lawful-price = lawful-bind word _ lawful-word
+    (λ u. lawful-check (priceOk (record { 0 = signed u })) 5 (λ t. got (record { 0 = signed u }) t) (omega arith) (lawful-got _))
 
 pub lawful-amount : (most : ℕ) → Lawful (amount most)
 unfolding amount
@@ -193,7 +195,8 @@ lawful-schedules : Lawful schedules
 unfolding schedules
 lawful-schedules =
     lawful-bind (amount maxCents) _ (lawful-amount maxCents) (λ su. lawful-bind (amount maxCents) _ (lawful-amount maxCents) (λ nl.
-    lawful-bind (many 12 quantity) _ rows (λ d. lawful-bind (many 12 quantity) _ rows (λ r. lawful-bind (many 12 quantity) _ rows (λ u. lawful-bind (many 12 quantity) _ rows (λ a. lawful-bind (many 12 quantity) _ rows (λ k. lawful-got _)))))))
+    lawful-bind (many 12 quantity) _ rows (λ d. lawful-bind (many 12 quantity) _ rows (λ r. lawful-bind (many 12 quantity) _ rows
+    (λ u. lawful-bind (many 12 quantity) _ rows (λ a. lawful-bind (many 12 quantity) _ rows (λ k. lawful-got _)))))))
 
 lawful-reserve : Lawful reserveRows
 unfolding reserveRows
@@ -203,19 +206,22 @@ lawful-lists : (s1 s2 s3 : List Quantity) → Lawful (lists s1 s2 s3)
 unfolding lists
 lawful-lists s1 s2 s3 =
     lawful-bind (listFrom 1) _ (lawful-list 1) (λ da. lawful-bind (listFrom 1) _ (lawful-list 1) (λ rt.
-    lawful-bind (listFrom (fewest s1)) _ (lawful-list (fewest s1)) (λ l1. lawful-bind (listFrom (fewest s2)) _ (lawful-list (fewest s2)) (λ l2. lawful-bind (listFrom (fewest s3)) _ (lawful-list (fewest s3)) (λ l3. lawful-got _)))))
+    lawful-bind (listFrom (fewest s1)) _ (lawful-list (fewest s1)) (λ l1. lawful-bind (listFrom (fewest s2)) _ (lawful-list (fewest s2))
+    (λ l2. lawful-bind (listFrom (fewest s3)) _ (lawful-list (fewest s3)) (λ l3. lawful-got _)))))
 
 pub lawful-unit : Lawful unit
 unfolding unit
 lawful-unit =
-    lawful-bind schedules _ lawful-schedules (λ h. lawful-bind reserveRows _ lawful-reserve (λ w1. lawful-bind reserveRows _ lawful-reserve (λ w2. lawful-bind reserveRows _ lawful-reserve (λ w3.
+    lawful-bind schedules _ lawful-schedules
+    (λ h. lawful-bind reserveRows _ lawful-reserve (λ w1. lawful-bind reserveRows _ lawful-reserve (λ w2. lawful-bind reserveRows _ lawful-reserve (λ w3.
     lawful-bind (lists (w1 .schedules) (w2 .schedules) (w3 .schedules)) _ (lawful-lists (w1 .schedules) (w2 .schedules) (w3 .schedules)) (λ l.
     lawful-check (allWithin l (h .ahead) (w1 .schedules) (w2 .schedules) (w3 .schedules)) 7 _ (omega arith) (lawful-got _))))))
 
 pub lawful-failure : Lawful failure
 unfolding failure
 lawful-failure =
-    lawful-bind quantity _ lawful-quantity (λ x. lawful-bind quantity _ lawful-quantity (λ y. lawful-bind price _ lawful-price (λ p. lawful-bind price _ lawful-price (λ q. lawful-got _))))
+    lawful-bind quantity _ lawful-quantity
+    (λ x. lawful-bind quantity _ lawful-quantity (λ y. lawful-bind price _ lawful-price (λ p. lawful-bind price _ lawful-price (λ q. lawful-got _))))
 
 pub lawful-skip : {A : Type 0} (f : Reader A) → Lawful f → Lawful (skip f)
 lawful-skip f h = lawful-bind f _ h (λ x. lawful-got tt)

@@ -36,11 +36,13 @@ module _ (r : Rec) (s t : List ℕ) (q : change (Only File) s ≡ got (filed r) 
       let p = rest-parts h (x .1) (filed r) t (x .3) in
       let k = filed-made (h .kind) (record { mark = h .mark; hour = p .hour-of; name = p .name-of }) (p .body) r (p .is) in
       let w : h ≡ record { kind = File; mark = m } = (λ i. record { kind = k .0 i; mark = (ap (λ (y : Rec). y .key .mark) (sym (k .1)) ∙ e) i }) in
-      let n : nameFor File m (p .after-hour) ≡ got (p .name-of) (p .after-name) = subst (λ (g : Head). nameFor (g .kind) (g .mark) (p .after-hour) ≡ got (p .name-of) (p .after-name)) w (p .name-is) in
+      let n : nameFor File m (p .after-hour) ≡ got (p .name-of) (p .after-name) = subst
+      (λ (g : Head). nameFor (g .kind) (g .mark) (p .after-hour) ≡ got (p .name-of) (p .after-name)) w (p .name-is) in
       let there : ahead m s ≡ got (p .name-of) (p .after-name) =
       ap (λ (z : Res Head). z >>= λ h t. check (sameMark (h .mark) m) 2 (hour t >>= λ o u. nameFor File m u)) (x .2 ∙ ap (λ (g : Head). got g (x .1)) w)
       ∙ rw (eq-eqb (order m) (order m) refl, p .hour-is, n) in
-      there ∙ ap (got (p .name-of)) (body-rest (h .kind) (h .mark) (p .after-name) (p .body) t (p .body-is)) ∙ ap (λ (y : Rec). got (y .key .name) (y .body ++ t)) (sym (k .1))
+      there ∙ ap (got (p .name-of)) (body-rest (h .kind) (h .mark) (p .after-name) (p .body) t (p .body-is)) ∙ ap
+      (λ (y : Rec). got (y .key .name) (y .body ++ t)) (sym (k .1))
 
   good : Good (filed r)
   good = change-good (Only File) s (filed r) t q
@@ -55,7 +57,8 @@ module _ (r : Rec) (s t : List ℕ) (q : change (Only File) s ≡ got (filed r) 
   pub read-entry : r .key .mark ≡ Im → (p : HourPrices) → PricesFit p → offsetEntryIn s p ≡ record { number = 0; entry = offsetEntry p r }
   read-entry e p f =
       ap (λ (x : Res Name). entryAnswer (x >>= λ n t. import t >>= λ i v. given (creditFor i p) (entryFrom n i) v)) (read-ahead Im e)
-      ∙ ap (λ (x : Res Import). entryAnswer (x >>= λ i v. given (creditFor i p) (entryFrom (r .key .name) i) v)) (body-view import Im view-import r e good t noImport)
+      ∙ ap (λ (x : Res Import). entryAnswer (x >>= λ i v. given (creditFor i p) (entryFrom (r .key .name) i) v))
+      (body-view import Im view-import r e good t noImport)
       ∙ ap (λ (a : Answer). entryAnswer (given a (entryFrom (r .key .name) (importOf r)) t)) (credit-amount r p good e f)
 
   pub read-totals : r .key .mark ≡ Ex → (ts : List Quantity) → totalsWithIn s ts ≡ record { number = 0; totals = totalsWith ts (exportOf r .mqsw) }

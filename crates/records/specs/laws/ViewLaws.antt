@@ -4,16 +4,16 @@ use mathlib.Core.List.{List, [], _∷_, _++_, append-assoc, append-nil}
 use Prim.Native.Nat.{ℕ}
 use borrow.Author.Tests.{eq-eqb}
 use native.Mathlib.Omega.{arith}
+use Rattle.money.specs.Production.{hourAnswer}
+use Rattle.money.specs.declared.production.UnitHour.{UnitHour}
+use Rattle.money.specs.declared.failure.Failure.{Failure}
+use Rattle.money.specs.declared.names.Name.{Name}
 use Rattle.records.specs.Reading.{Res, got, Reader, _>>=_}
 use Rattle.records.specs.Numbers.{hour}
 use Rattle.records.specs.Marks.{markBytes, markAmong, mark, order, sameMark, isFailure}
 use Rattle.records.specs.Layouts.{hourPrices, import, export, unit, failure, skip, layout, taken}
 use Rattle.records.specs.Changes.{Rec, filed, head, nameBytes, bodyFor, headBytes, write, Good}
 use Rattle.records.specs.Views.{valueOr, pricesOf, importOf, exportOf, unitHourOf, failureOf, noPrices, noImport, noExport, noUnit, noFailure, ahead, viewed, viewedFailure, pricesIn}
-use Rattle.money.specs.Production.{hourAnswer}
-use Rattle.money.specs.declared.production.UnitHour.{UnitHour}
-use Rattle.money.specs.declared.failure.Failure.{Failure}
-use Rattle.money.specs.declared.names.Name.{Name}
 use Rattle.records.specs.Amounts.{amountFrom, creditFor, creditOf, creditIn, unitAmountOf, unitAmountIn, chargeFor, chargeOf, chargeIn}
 use Rattle.records.specs.declared.layouts.HourPrices.{HourPrices}
 use Rattle.records.specs.declared.layouts.Import.{Import}
@@ -54,7 +54,8 @@ unfolding layout
 view-failed-export = record { lawful = lawful-failure; same = λ s. refl }
 
 -- a record's fields, read where a change begins with it
-pub rec-view : {A : Type 0} (f : Reader A) (m : Mark) → Layout f m → (r : Rec) → r .key .mark ≡ m → Kept (filed r) → (u : List ℕ) → Viewed f (r .body ++ u) (r .body) u
+pub rec-view : {A : Type 0} (f : Reader A) (m : Mark) → Layout f m → (r : Rec) → r .key .mark ≡ m → Kept (filed r) → (u : List ℕ) → Viewed f (r .body ++ u)
+    (r .body) u
 unfolding bodyFor
 rec-view f m l r e h u =
     taken-view f (l .lawful) (r .body ++ u) (r .body) u
@@ -152,7 +153,8 @@ module _ (r : Rec) (g : Good (filed r)) (u : List ℕ) where
 counted-ahead : (m : Mark) → Counted (ahead m)
 unfolding ahead
 counted-ahead m =
-    counted-bind (head (Only File)) _ (counted-head (Only File)) (λ h. counted-check (sameMark (h .mark) m) 2 _ (omega arith) (counted-bind hour _ counted-hour (λ o. counted-name File m)))
+    counted-bind (head (Only File)) _ (counted-head (Only File))
+    (λ h. counted-check (sameMark (h .mark) m) 2 _ (omega arith) (counted-bind hour _ counted-hour (λ o. counted-name File m)))
 
 pub counted-viewed : {A : Type 0} (m : Mark) (f : Reader A) → Counted f → Counted (viewed m f)
 unfolding viewed

@@ -42,7 +42,12 @@ right-view want s c e =
     let sizes : length s ≡ length (x .front) + length (bodyOf c) = ap length all ∙ length-append (x .front) (bodyOf c) in
     let n : length s - (length (write c) - length hd) ≡ length (x .front) = omega (arith, size, sizes) in
     record {
-      is = rw (le-leb (keyOf c .name .len) 12 (good-few c (change-good want s c [] e)), le-leb (length hd) (length (write c)) (omega (arith, size)), le-leb (length (write c) - length hd) (length s) (omega (arith, size, sizes))) refl;
+      is = rw (
+        le-leb (keyOf c .name .len) 12 (good-few c (change-good want s c [] e)),
+        le-leb (length hd) (length (write c)) (omega (arith, size)),
+        le-leb
+            (length (write c) - length hd) (length s) (omega (arith, size, sizes)),
+      ) refl;
       bytes = ap (λ l. hd ++ l) (ap₂ drop n all ∙ drop-at (x .front) (bodyOf c) (length (x .front)) refl);
       len = refl;
     }
@@ -63,11 +68,14 @@ viewed-put want s v e at d = go (parse want s) refl e
   where
     both : (c : Change) (v : View) → Right v s c → (viewedNumber v at s d ≡ putNumber (fine c) at d) × (viewedBytes v at s d ≡ putBytes (fine c) at d)
     both c v x = (
-      ap (λ (b : Bool). cond b (cond (leb (at + v .len) (length d)) 0 noSpace) markUnknown) (x .is) ∙ ap (λ (n : ℕ). cond (leb (at + n) (length d)) 0 noSpace) (x .len),
-      ap (λ (b : Bool). cond b (cond (leb (at + v .len) (length d)) (put d at (viewWritten v s)) d) d) (x .is) ∙ (λ i. cond (leb (at + x .len i) (length d)) (put d at (x .bytes i)) d),
+      ap (λ (b : Bool). cond b (cond (leb (at + v .len) (length d)) 0 noSpace) markUnknown) (x .is) ∙ ap (λ (n : ℕ). cond (leb (at + n) (length d)) 0 noSpace)
+          (x .len),
+      ap (λ (b : Bool). cond b (cond (leb (at + v .len) (length d)) (put d at (viewWritten v s)) d) d) (x .is) ∙
+          (λ i. cond (leb (at + x .len i) (length d)) (put d at (x .bytes i)) d),
     )
 
-    go : (i : Input Change) → parse want s ≡ i → parsedOf i ≡ record { number = 0; view = v } → (viewedNumber v at s d ≡ putNumber i at d) × (viewedBytes v at s d ≡ putBytes i at d)
+    go : (i : Input Change) → parse want s ≡ i → parsedOf i ≡ record { number = 0; view = v } → (viewedNumber v at s d ≡ putNumber i at d) ×
+        (viewedBytes v at s d ≡ putBytes i at d)
     go (fine c) q f =
         let w : viewOf (seen c (length (write c))) ≡ v = ap (λ (p : Parsed). p .view) f in
         both c v (subst (λ (x : View). Right x s c) w (parse-right want s c q))
@@ -121,7 +129,8 @@ apart-of (a ∷ b ∷ s) x e = go (is takeBackBytes a b) refl (is closeBytes a b
         let v = is-both m n a b h in
         ((λ i. v .0 i ∷ v .1 i ∷ w .0 i), w .1)
 
-    read : (r : Res Change) → change Any (a ∷ b ∷ s) ≡ r → is takeBackBytes a b ≡ false → is closeBytes a b ≡ false → whole (r >>= λ c t. got (changed c) t) ≡ fine x → Apart (a ∷ b ∷ s) x
+    read : (r : Res Change) → change Any (a ∷ b ∷ s) ≡ r → is takeBackBytes a b ≡ false → is closeBytes a b ≡ false → whole (r >>= λ c t. got (changed c) t) ≡
+        fine x → Apart (a ∷ b ∷ s) x
     read (bad k) q h i f = absurd (let z : _≡_ {A = ℕ} 0 1 = cc in omega arith)
     read (got d t) q h i f =
         let w = nothing-left (changed d) x t f in
@@ -187,7 +196,8 @@ module _ (s : List ℕ) where
       by-close takingBack z = absurd (let y : _≡_ {A = ℕ} 0 1 = cc in omega arith)
       by-close closing z = refl
 
-      by-change : (x : Entry) → Apart (take (length s - length t) s) x → (entryView x .act ≡ TakeBack → ⊥) → (entryView x .act ≡ Close → ⊥) → Alone (take (length s - length t) s) (entryView x)
+      by-change : (x : Entry) → Apart (take (length s - length t) s) x → (entryView x .act ≡ TakeBack → ⊥) → (entryView x .act ≡ Close → ⊥) → Alone
+          (take (length s - length t) s) (entryView x)
       by-change (changed c) y a b = y .alone c refl
       by-change takingBack y a b = absurd (a refl)
       by-change closing y a b = absurd (b refl)

@@ -1,8 +1,8 @@
 use mathlib.Core.Path.{sym}
 use Prim.Native.Nat.{ℕ}
 use lib.Seq.{length-take-le}
-use Rattle.settle.specs.laws.SettleLaws.{printed-short}
 use borrow.Author.Needs.{needs}
+use Rattle.settle.specs.laws.SettleLaws.{printed-short}
 use Rattle.settle.proofs.run.Statement.{statement}
 use Rattle.settle.proofs.run.Tie as tie
 

@@ -1,8 +1,8 @@
 use mathlib.Core.Path.{_∙_}
 use Prim.Native.Nat.{ℕ}
 use lib.ListN.{length-replicate}
-use Rattle.settle.specs.laws.SettleLaws.{printed}
 use borrow.Author.Needs.{needs}
+use Rattle.settle.specs.laws.SettleLaws.{printed}
 use Rattle.settle.proofs.settle_input.Statement.{statement}
 use Rattle.settle.proofs.settle_input.Tie as tie
 

@@ -75,7 +75,8 @@ cases =
     -- the longest line
     ∷ takes (line 24 Pcg "////////////" (negsuc 9223372036854775807)) 66
     -- (P) hour 5 from the book's answers
-    ∷ hour 5 (guarantees (named "A/B" (pos 1200000) ∷ named "C" (pos 480000) ∷ []) (pos 1080000)) (charged []) (charged []) "05 IOG A%2FB 100.00\n05 IOG C 40.00\n05 OFF - 90.00\n"
+    ∷ hour 5 (guarantees (named "A/B" (pos 1200000) ∷ named "C" (pos 480000) ∷ []) (pos 1080000)) (charged []) (charged [])
+    "05 IOG A%2FB 100.00\n05 IOG C 40.00\n05 OFF - 90.00\n"
     -- an offset of 0 is printed where imports stand, and nowhere else; `IFC` before `EFC`, whatever the names
     ∷ hour 1 (guarantees (named "A" (pos 0) ∷ []) (pos 0)) (charged []) (charged []) "01 IOG A 0.00\n01 OFF - 0.00\n"
     ∷ hour 2 (guarantees [] (pos 0)) (charged (named "Z" (pos 120) ∷ [])) (charged (named "A" (pos 0) ∷ [])) "02 IFC Z 0.01\n02 EFC A 0.00\n"
@@ -91,5 +92,6 @@ cases =
     ∷ []
 
 pub examples : all cases ≡ true
-unfolding textOf lineBytes whenBytes twoDigits kindBytes nameBytes nameOk every spell spellByte unreserved digit figure sign dollars number decimal digits centsOf sameBytes
+unfolding textOf lineBytes whenBytes twoDigits kindBytes nameBytes nameOk every spell spellByte unreserved digit figure sign dollars number decimal digits
+    centsOf sameBytes
 examples = refl

@@ -147,7 +147,8 @@ figure-length k z h = go (isNumber k) refl
 -- the longest line has 66 bytes
 pub line-length : (l : Line) → Fits64 (l .cents .0) → length (lineBytes l) ≤ 66
 unfolding lineBytes
-line-length l h = simp length-append (omega (arith, when-length (l .hour), kind-length (l .kind), name-length (l .name), figure-length (l .kind) (l .cents .0) h))
+line-length l h = simp length-append
+    (omega (arith, when-length (l .hour), kind-length (l .kind), name-length (l .name), figure-length (l .kind) (l .cents .0) h))
 
 pub text-none : textOf [] ≡ []
 unfolding textOf

@@ -48,8 +48,12 @@ loop-less c = search needs
 loop-again : tie.Need-loop-again Inv-loop μ-loop
 loop-again c =
     let l = (c .before .before .before .before .before .before .before .before .before .before .before .before .loop) .inv in
-    let r = (c .before .before .before .before .before .before .before .read-behind) .ensures in
-    (reached-more (l .0) (search needs) ((c .before .before .before .before .before .before .before .before .before .before .if1) .taken) (r .0 ∙ l .1) (r .1) ((c .before .before .before .take-in) .ensures), search needs, search needs)
+    let r = (c .before .before .before .before .before .before .before .read-behind) .ensures in (
+      reached-more (l .0) (search needs) ((c .before .before .before .before .before .before .before .before .before .before .if1) .taken) (r .0 ∙ l .1) (r .1)
+          ((c .before .before .before .take-in) .ensures),
+      search needs,
+      search needs,
+    )
 
 same-length : tie.Need-same-length Inv-loop μ-loop
 same-length c = search needs

@@ -8,13 +8,13 @@ use lib.Dec.{eqb}
 use lib.IntN.{ℤ, pos, negsuc}
 use lib.ListN.{length, take, drop, length-drop, length-append}
 use lib.Seq.{take-add, length-take-le}
-use Rattle.io.specs.Counts.{clamped}
 use Rattle.filter.specs.Reading.{isOver, ReadsOn}
 use Rattle.filter.specs.Program.{inputOf, Run, start, next}
 use Rattle.filter.specs.laws.OutputLaws.{held-short}
 use Rattle.filter.specs.declared.reading.Reading.{Reading}
 use Rattle.stdin.specs.Rounds.{brought, Rounds, none, round, ReadAll}
 use Rattle.stdin.specs.declared.Input.{Input}
+use Rattle.io.specs.Counts.{clamped}
 
 pub apart : {A : Type 0} {b : Bool} → b ≡ true → b ≡ false → A
 apart t f = absurd (let z : _≡_ {A = ℕ} 0 1 = cc in omega arith)
@@ -31,7 +31,8 @@ right-false false true e = apart refl (sym e)
 -- where there may be more to read, no refusal stands
 pub more-open : {ps : List (List ℕ)} {i : Input} {log bytes : List ℕ} → Rounds ps i log bytes → i .more ≡ true → isOver (i .reading) ≡ false
 more-open (none log bytes e) m = refl
-more-open (round {ps} {i} before o got lent e f i′ log′ bytes′ t) m = right-false (not (eqb (brought got (i .reading) lent) 0)) (isOver (i′ .reading)) (sym (t .more) ∙ m)
+more-open (round {ps} {i} before o got lent e f i′ log′ bytes′ t) m = right-false (not (eqb (brought got (i .reading) lent) 0)) (isOver (i′ .reading))
+    (sym (t .more) ∙ m)
 
 -- the rounds are a run over what the reads brought, and this is less than 2^64 bytes
 record Brings (ps : List (List ℕ)) (i : Input) (log bytes : List ℕ) : Type 0 where

@@ -68,7 +68,8 @@ filled-none s u t =
     }
 
 -- the values below i, and that of i
-pub set-below : {A : Type 0} (xs : List A) (d x : A) (f : ℕ → A) (i : ℕ) → i < length xs → ((j : ℕ) → j < i → getD xs j d ≡ f j) → x ≡ f i → (j : ℕ) → j < i + 1 → getD (set xs i x) j d ≡ f j
+pub set-below : {A : Type 0} (xs : List A) (d x : A) (f : ℕ → A) (i : ℕ) → i < length xs → ((j : ℕ) → j < i → getD xs j d ≡ f j) → x ≡ f i → (j : ℕ) → j < i + 1
+    → getD (set xs i x) j d ≡ f j
 set-below xs d x f i fits h e j lt =
     last-or j i (omega arith)
     (λ q. ap (λ (m : ℕ). getD (set xs i x) m d) q ∙ getD-set-same xs i x d fits ∙ e ∙ ap f (sym q))
@@ -82,8 +83,10 @@ module _ {s : List ℕ} {u : Day} {t : PriceTable} {ts : List Ticks} {ss : List 
         all-ticks = length-set ts j (r .ticks) ∙ h .all-ticks;
         all-starts = length-set ss j (r .start) ∙ h .all-starts;
         parts = record {
-          ticks = set-below ts noTicks (r .ticks) (λ (i : ℕ). partOf s (placeIn u i) (priceFor t i) .ticks) j (omega (arith, h .all-ticks)) (h .parts .ticks) (ap (λ (x : UnitPart). x .ticks) e);
-          starts = set-below ss noStart (r .start) (λ (i : ℕ). partOf s (placeIn u i) (priceFor t i) .start) j (omega (arith, h .all-starts)) (h .parts .starts) (ap (λ (x : UnitPart). x .start) e);
+          ticks = set-below ts noTicks (r .ticks) (λ (i : ℕ). partOf s (placeIn u i) (priceFor t i) .ticks) j (omega (arith, h .all-ticks)) (h .parts .ticks)
+              (ap (λ (x : UnitPart). x .ticks) e);
+          starts = set-below ss noStart (r .start) (λ (i : ℕ). partOf s (placeIn u i) (priceFor t i) .start) j (omega (arith, h .all-starts)) (h .parts .starts)
+              (ap (λ (x : UnitPart). x .start) e);
         };
       }
 
@@ -136,7 +139,8 @@ module _ {s : List ℕ} {l : List Change} (o : Begun s l) (k : Key) (u : Day) (d
 
 -- ---- the question
 
-pub unit-astray : (b : Book) (s name : List ℕ) → load b s ≡ mismatched → (d : UnitDay) → d ≡ unitDayFrom (refused 16) → Meets (ask (dayOf name)) b s b (dayReply d) s
+pub unit-astray : (b : Book) (s name : List ℕ) → load b s ≡ mismatched → (d : UnitDay) → d ≡ unitDayFrom (refused 16) → Meets (ask (dayOf name)) b s b
+    (dayReply d) s
 unit-astray b s name e d ed = subst (λ (y : Reply). Meets (ask (dayOf name)) b s b y s) (sym (ap dayReply ed)) (leaves-16 (stepOf (ask (dayOf name))) b s e)
 
 module _ (b : Book) (s name : List ℕ) (x : Loaded b s) (r : KeyAnswer) (e : r ≡ keyAnswer (askUnit name)) where
@@ -147,7 +151,8 @@ module _ (b : Book) (s name : List ℕ) (x : Loaded b s) (r : KeyAnswer) (e : r 
   unit-meets y h = leaves-answered _ b s y (step-is (stepOf (ask (dayOf name))) b s x ∙ ap answered h)
 
   pub unit-wrong : (r .number ≡ 0 → ⊥) → (d : UnitDay) → d ≡ unitDayFrom (refused (r .number)) → Meets (ask (dayOf name)) b s b (dayReply d) s
-  unit-wrong z d ed = subst (λ (y : Reply). Meets (ask (dayOf name)) b s b y s) (sym (ap dayReply ed ∙ day-refused (r .number) z)) (unit-meets (refused (r .number)) (go (askUnit name) e))
+  unit-wrong z d ed = subst (λ (y : Reply). Meets (ask (dayOf name)) b s b y s) (sym (ap dayReply ed ∙ day-refused (r .number) z))
+      (unit-meets (refused (r .number)) (go (askUnit name) e))
     where
       go : (a : Asked) → r ≡ keyAnswer a → keyed a unit-reply ≡ refused (r .number)
       go (got k t) q = absurd (z (ap (λ (y : KeyAnswer). y .number) q))

@@ -46,7 +46,8 @@ spot-inside {s = s} {p = p} w long i lt d =
     subst (λ (x : Spot). x .start ≤ length s) (getD-same (p .at) i noSpot d (omega (arith, w .few))) (w .each i lt)
 
 module _ {s : List ℕ} {m : Mark} {q : HourPrices} {p : Places} {ticks : List Ticks} {i : ℕ} (c : Charging s m q p ticks i) (w : Inside s p) where
-  pub charging-more : length (p .at) ≡ 16 → i < p .n → (d : Spot) (t : Ticks) → t ≡ chargeAtSpot s m q (getD (p .at) i d) → Charging s m q p (set ticks i t) (i + 1)
+  pub charging-more : length (p .at) ≡ 16 → i < p .n → (d : Spot) (t : Ticks) → t ≡ chargeAtSpot s m q (getD (p .at) i d) → Charging s m q p (set ticks i t)
+      (i + 1)
   charging-more long lt d t e = record {
     long = length-set ticks i t ∙ c .long;
     upto = omega arith;
@@ -67,7 +68,8 @@ pub record Passed (s rows : List ℕ) (n : ℕ) (m : Mark) (h : ℕ) (p : Places
   pub long : length (p .at) ≡ 16
 
 pub passed : {s rows : List ℕ} {n h : ℕ} {m : Mark} {k : Key} {p : Places} → k ≡ hourKey m h
-    → ((l : List Change) → Logged s rows n l → take (p .n) (p .at) ≡ map (spotOf l) (byName k (standing l))) × (p .n ≤ 16) → length (p .at) ≡ 16 → Passed s rows n m h p
+    → ((l : List Change) → Logged s rows n l → take (p .n) (p .at) ≡ map (spotOf l) (byName k (standing l))) × (p .n ≤ 16) → length (p .at) ≡ 16 → Passed s rows
+    n m h p
 passed e w long = record { are = λ l g. w .0 l g ∙ ap (λ (x : Key). map (spotOf l) (byName x (standing l))) e; few = w .1; long = long }
 
 pub key-low : {m : Mark} {h : ℕ} {k : Key} → k ≡ hourKey m h → h < 32 → k .hour < 32
@@ -78,7 +80,8 @@ module _ {s rows : List ℕ} {n h : ℕ} {m : Mark} {p : Places} (w : Passed s r
   passed-inside o = inside (begun (o .logged)) (hourKey m h) p (w .are (o .list) (o .logged)) (w .few) (w .long)
 
   pub passed-size : {l : List Change} → Logged s rows n l → length (byName (hourKey m h) (standing l)) ≡ p .n
-  passed-size {l} g = sym (length-map (byName (hourKey m h) (standing l)) (spotOf l)) ∙ ap length (sym (w .are l g)) ∙ length-take-le (p .n) (p .at) (omega (arith, w .few, w .long))
+  passed-size {l} g = sym (length-map (byName (hourKey m h) (standing l)) (spotOf l)) ∙ ap length (sym (w .are l g)) ∙ length-take-le (p .n) (p .at)
+      (omega (arith, w .few, w .long))
 
 -- ---- of a key: f is what was sought
 
@@ -87,11 +90,13 @@ module _ {s rows : List ℕ} {n : ℕ} {k : Key} {f : Seek} (ef : Finds s rows n
   key-absent h l g q = charge-absent (begun g) k q (sym (sought ef wk l g .found) ∙ h)
 
   module _ (hf : f .found ≡ true) {p : HourPrice} where
-    pub key-unpriced : p .known ≡ false → (l : List Change) → Logged s rows n l → (q : ℕ → HourPricing) → PriceIs (q (k .hour)) p → refused 15 ≡ chargeOf k (standing l) q
+    pub key-unpriced : p .known ≡ false → (l : List Change) → Logged s rows n l → (q : ℕ → HourPricing) → PriceIs (q (k .hour)) p → refused 15 ≡ chargeOf k
+        (standing l) q
     key-unpriced h l g q w = charge-unpriced (begun g) k q (sym (sought ef wk l g .found) ∙ hf) (unknown-unpriced w h)
 
     pub key-charged : p .known ≡ true → (t : Answer) → t ≡ chargeIn (k .mark) (drop (f .start) s) (p .prices)
-        → (l : List Change) → Logged s rows n l → isFailure (k .mark) ≡ true → (q : ℕ → HourPricing) → PriceIs (q (k .hour)) p → chargeReply t ≡ chargeOf k (standing l) q
+        → (l : List Change) → Logged s rows n l → isFailure (k .mark) ≡ true → (q : ℕ → HourPricing) → PriceIs (q (k .hour)) p → chargeReply t ≡ chargeOf k
+        (standing l) q
     key-charged h t et l g b q w =
         let a = sought ef wk l g in
         ap chargeReply (et ∙ ap (λ (x : ℕ). chargeIn (k .mark) (drop x s) (p .prices)) (a .start hf))
@@ -100,7 +105,8 @@ module _ {s rows : List ℕ} {n : ℕ} {k : Key} {f : Seek} (ef : Finds s rows n
 -- ---- of a mark and hour: p are the places of its failures
 
 module _ {s rows : List ℕ} {n h : ℕ} {m : Mark} {p : Places} (w : Passed s rows n m h p) where
-  pub hour-absent : p .n ≡ 0 → {r : ChargesReply} → r ≡ noCharges 0 → (l : List Change) → Logged s rows n l → (q : ℕ → HourPricing) → r ≡ chargesOf (hourKey m h) (standing l) q
+  pub hour-absent : p .n ≡ 0 → {r : ChargesReply} → r ≡ noCharges 0 → (l : List Change) → Logged s rows n l → (q : ℕ → HourPricing) → r ≡ chargesOf
+      (hourKey m h) (standing l) q
   hour-absent z er l g q = er ∙ charges-absent (begun g) m h q (passed-size w g ∙ z)
 
   module _ (some : p .n ≡ 0 → ⊥) where
@@ -116,17 +122,20 @@ module _ {s rows : List ℕ} {n h : ℕ} {m : Mark} {p : Places} (w : Passed s r
         → charged (namedOf (take (p .n) (p .at)) (take (p .n) ts)) ≡ chargesOf (hourKey m h) (standing l) q
     hour-charged {v} e ts et l g b q y =
         let a = w .are l g in
-        ap charged (ap₂ namedOf a (et ∙ ap (chargesIn s m (v .prices)) a)) ∙ charges-found (begun g) m h q b (not-none g) (v .prices) (y .fits e) (known-priced y e)
+        ap charged (ap₂ namedOf a (et ∙ ap (chargesIn s m (v .prices)) a)) ∙ charges-found (begun g) m h q b (not-none g) (v .prices) (y .fits e)
+        (known-priced y e)
 
 -- ---- the answers of the book
 
 module _ (b : Book) (s mark : List ℕ) (h : ℕ) (name : List ℕ) (x : Loaded b s) (r : KeyAnswer) (e : r ≡ keyAnswer (askFailure mark h name)) where
-  failure-step : (f : Reply) → answered f ≡ stepOf (ask (failureCharge mark h name)) (length s) (record { list = x .list; closed = b .closed }) → Meets (ask (failureCharge mark h name)) b s b f s
+  failure-step : (f : Reply) → answered f ≡ stepOf (ask (failureCharge mark h name)) (length s) (record { list = x .list; closed = b .closed }) → Meets
+      (ask (failureCharge mark h name)) b s b f s
   failure-step f q = leaves-answered _ b s f (step-is (stepOf (ask (failureCharge mark h name))) b s x ∙ sym q)
 
   pub failure-wrong : (r .number ≡ 0 → ⊥) → Meets (ask (failureCharge mark h name)) b s b (refused (r .number)) s
   failure-wrong z =
-      failure-step (refused (r .number)) (ap answered (sym (keyed-wrong (askFailure mark h name) (λ (k : Key). chargeOf k (standing (x .list)) (priceOf (standing (x .list)))) r e z)))
+      failure-step (refused (r .number))
+      (ap answered (sym (keyed-wrong (askFailure mark h name) (λ (k : Key). chargeOf k (standing (x .list)) (priceOf (standing (x .list)))) r e z)))
 
   pub failure-asked : r .number ≡ 0 → isFailure (r .key .mark) ≡ true
   failure-asked z = go (askFailure mark h name) refl e
@@ -135,9 +144,11 @@ module _ (b : Book) (s mark : List ℕ) (h : ℕ) (name : List ℕ) (x : Loaded 
       go (got k t) q w = ap (λ (y : KeyAnswer). isFailure (y .key .mark)) w ∙ failure-marked mark h name k t q
       go (bad n) q w = absurd (omega (arith, askFailure-fault mark h name n q, sym (ap (λ (y : KeyAnswer). y .number) w) ∙ z))
 
-  pub failure-at : r .number ≡ 0 → (f : Reply) → f ≡ chargeOf (r .key) (standing (x .list)) (priceOf (standing (x .list))) → Meets (ask (failureCharge mark h name)) b s b f s
+  pub failure-at : r .number ≡ 0 → (f : Reply) → f ≡ chargeOf (r .key) (standing (x .list)) (priceOf (standing (x .list))) → Meets
+      (ask (failureCharge mark h name)) b s b f s
   failure-at z f ef =
-      failure-step f (ap answered (ef ∙ sym (keyed-right (askFailure mark h name) (λ (k : Key). chargeOf k (standing (x .list)) (priceOf (standing (x .list)))) r (askFailure-fault mark h name) e z)))
+      failure-step f (ap answered (ef ∙ sym (keyed-right (askFailure mark h name) (λ (k : Key). chargeOf k (standing (x .list)) (priceOf (standing (x .list))))
+      r (askFailure-fault mark h name) e z)))
 
 -- the hour of a question that is not refused
 pub hour-low : (m : Mark) (h : ℕ) (r : KeyAnswer) → r ≡ keyAnswer (askHourOf m h) → r .number ≡ 0 → h < 32

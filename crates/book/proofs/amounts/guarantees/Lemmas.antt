@@ -7,8 +7,9 @@ use native.Mathlib.Omega.{arith}
 use lib.ListN.{length, take, getD, length-map}
 use lib.Seq.{getD-take, length-take-le}
 use lib.IntN.{pos}
-use Rattle.records.specs.Amounts.{noImport}
+use borrow.Author.Tests.{ne-eqb}
 use Rattle.money.specs.declared.units.Answer.the-variants.{Amount, Refused}
+use Rattle.records.specs.Amounts.{noImport}
 use Rattle.book.specs.Layer.{Key, KeyAnswer, Rec, Change, Asked, got, bad, askHourOf, keyAnswer, Im, Ex, HourPrices, Quantity, Ticks, Import, offset, offsetAnswer, offsetEntry}
 use Rattle.book.specs.laws.LayerLaws.{hour-asked, askHourOf-fault, answer-front}
 use Rattle.book.specs.declared.answers.NamedAmount.{NamedAmount}
@@ -30,7 +31,6 @@ use Rattle.book.specs.laws.WorkedLaws.{here, entries-are, totals-are, na
 use Rattle.book.specs.laws.LoadLaws.{Loaded}
 use Rattle.book.proofs.book.Lemmas.{step-is, leaves-answered, keyed-wrong}
 use Rattle.book.proofs.amounts.failures.Lemmas.{Passed, passed-size}
-use borrow.Author.Tests.{ne-eqb}
 
 -- the offset of the sixteen places is that of the entries
 pub worked-offset : (s : List ℕ) (is es : Places) (p : HourPrices) → Workable s p (spots is) (spots es) → is .n ≤ 16 → length (is .at) ≡ 16
@@ -38,7 +38,8 @@ pub worked-offset : (s : List ℕ) (is es : Places) (p : HourPrices) → Workabl
     → offsetAnswer (is .n) entries (p .emp) ts ≡ Amount (record { 0 = offset (length (spots is)) (entriesIn s p (spots is)) (p .emp) (totalsIn s (spots es)) })
 worked-offset s is es p w few long entries e ts f =
     let n : length (spots is) ≡ is .n = length-take-le (is .n) (is .at) (omega arith) in
-    answer-front (is .n) entries (entriesIn s p (spots is)) (λ i h. sym (getD-take (is .n) entries i noImport h) ∙ ap (λ (x : List Import). getD x i noImport) e) (p .emp) ts
+    answer-front (is .n) entries (entriesIn s p (spots is))
+    (λ i h. sym (getD-take (is .n) entries i noImport h) ∙ ap (λ (x : List Import). getD x i noImport) e) (p .emp) ts
     ∙ ap₂ (λ (k : ℕ) (x : List Quantity). offsetAnswer k (entriesIn s p (spots is)) (p .emp) x) (sym n) f
     ∙ w .sound
 
@@ -70,14 +71,16 @@ module _ {s rows : List ℕ} {n h : ℕ} {i : Places} (wi : Passed s rows n Im h
   hour-none z l g q = no-imports (byName (hourKey Im h) (standing l)) (passed-size wi g ∙ z) (q h) (byName (hourKey Ex h) (standing l))
 
   module _ (some : i .n ≡ 0 → ⊥) {p : HourPrice} where
-    pub hour-unpriced : p .known ≡ false → (l : List Change) → Logged s rows n l → (q : ℕ → HourPricing) → PriceIs (q h) p → refused 15 ≡ guaranteesOf (standing l) q h
+    pub hour-unpriced : p .known ≡ false → (l : List Change) → Logged s rows n l → (q : ℕ → HourPricing) → PriceIs (q h) p → refused 15 ≡ guaranteesOf
+        (standing l) q h
     unfolding guaranteesOf
     hour-unpriced t l g q w =
         some-unpriced (byName (hourKey Im h) (standing l)) (λ e. some (sym (passed-size wi g) ∙ e)) (byName (hourKey Ex h) (standing l))
         ∙ sym (ap (λ (x : HourPricing). guaranteesAt x (byName (hourKey Im h) (standing l)) (byName (hourKey Ex h) (standing l))) (unknown-unpriced w t))
 
     -- e are the places of its exports
-    module _ {e : Places} (we : Passed s rows n Ex h e) (t : p .known ≡ true) (l : List Change) (g : Logged s rows n l) (q : ℕ → HourPricing) (w : PriceIs (q h) p) where
+    module _ {e : Places} (we : Passed s rows n Ex h e) (t : p .known ≡ true) (l : List Change) (g : Logged s rows n l) (q : ℕ → HourPricing)
+        (w : PriceIs (q h) p) where
       abbrev ps : HourPrices
       ps = p .prices
 
@@ -108,7 +111,8 @@ module _ {s rows : List ℕ} {n h : ℕ} {i : Places} (wi : Passed s rows n Im h
       hour-worked f =
           f workable
           ∙ (λ j. guarantees (namedOf (wi .are l g j) (map entryCredit (entries-so j))) (offset (count-so j) (entries-so j) (ps .emp) (totals-so j)))
-          ∙ ap (λ (y : List NamedAmount). guarantees y (offset (length imports) (map (offsetEntry ps) imports) (ps .emp) (totalsOf exports))) (named-are l ps imports)
+          ∙ ap (λ (y : List NamedAmount). guarantees y (offset (length imports) (map (offsetEntry ps) imports) (ps .emp) (totalsOf exports)))
+          (named-are l ps imports)
           ∙ priced-some ps imports exports (λ z. some (sym (passed-size wi g) ∙ z))
           ∙ sym (ap (λ (x : HourPricing). guaranteesAt x imports exports) (known-priced w t))
 
@@ -127,7 +131,8 @@ module _ (b : Book) (s : List ℕ) (h : ℕ) (x : Loaded b s) (r : KeyAnswer) (e
   pub hour-wrong : (y : Reply) → y ≡ noGuarantees (r .number) → (r .number ≡ 0 → ⊥) → Meets (ask (hourGuarantees h)) b s b y s
   hour-wrong y ey z = hour-meets y (keyed-wrong (askHourOf Im h) hour-reply r e z ∙ sym (no-guarantees-for (r .number) z) ∙ sym ey)
 
-  pub hour-right : r .number ≡ 0 → (y : Reply) → y ≡ guaranteesOf (standing (x .list)) (priceOf (standing (x .list))) h → Meets (ask (hourGuarantees h)) b s b y s
+  pub hour-right : r .number ≡ 0 → (y : Reply) → y ≡ guaranteesOf (standing (x .list)) (priceOf (standing (x .list))) h → Meets (ask (hourGuarantees h)) b s b y
+      s
   hour-right z y ey = hour-meets y (go (askHourOf Im h) refl e)
     where
       go : (a : Asked) → askHourOf Im h ≡ a → r ≡ keyAnswer a → keyed a hour-reply ≡ y

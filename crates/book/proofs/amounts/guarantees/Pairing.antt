@@ -45,7 +45,8 @@ naming-more {size} {p} {ticks} {row} {i} n h few = record {
   long = length-set row i v ∙ n .long;
   upto = omega arith;
   each = λ j l. last-or j i (let m : j < suc i = omega arith in m)
-      (λ z. subst (λ (k : ℕ). getD (set row i v) k noAmount ≡ pairOf (getD (p .at) k noSpot) (getD ticks k noTicks)) (sym z) (getD-set-same row i v noAmount (omega (arith, n .long))))
+      (λ z. subst (λ (k : ℕ). getD (set row i v) k noAmount ≡ pairOf (getD (p .at) k noSpot) (getD ticks k noTicks)) (sym z)
+      (getD-set-same row i v noAmount (omega (arith, n .long))))
       (λ m. getD-set-other row i j v noAmount (λ z. omega arith) ∙ n .each j m);
   behind = drop-set-lt (i + 1) row i v (omega arith) ∙ sym (drop-drop 1 i row) ∙ ap (drop 1) (n .behind) ∙ drop-drop 1 i (pad noAmount size []);
 }
@@ -72,7 +73,8 @@ record Whole (size n : ℕ) (row : List NamedAmount) : Type 0 where
   count : length (take n row) ≡ n
   blank : row ≡ pad noAmount size (take n row)
 
-naming-whole : {size : ℕ} {p : Places} {ticks : List Ticks} {row : List NamedAmount} {i : ℕ} → Naming size p ticks row i → p .n ≤ i → p .n ≤ size → Whole size (p .n) row
+naming-whole : {size : ℕ} {p : Places} {ticks : List Ticks} {row : List NamedAmount} {i : ℕ} → Naming size p ticks row i → p .n ≤ i → p .n ≤ size → Whole size
+    (p .n) row
 naming-whole {size} {p} {ticks} {row} {i} n h few =
     let all : i ≡ p .n = omega (arith, n .upto) in
     let behind = subst (λ (k : ℕ). drop k row ≡ drop k (pad noAmount size [])) all (n .behind) in

@@ -9,10 +9,10 @@ use lib.ListN.{length, take, drop, getD, set, replicate, length-set, length-appe
 use lib.Seq.{drop-drop, take-nil, length-take-le, getD-set-same, getD-set-other}
 use lib.Dec.{eqb}
 use borrow.Author.Tests.{eq-eqb, ne-eqb, eqb-true, eqb-false, le-leb, lt-leb}
+use Rattle.records.specs.declared.writing.HeadOut.{HeadOut}
 use Rattle.book.specs.Layer.{Key, Change, filed, keyOf, kindOf, write, begins, order, same, sameName, atHour}
 use Rattle.book.specs.tables.LayerTables.{recordHead}
 use Rattle.book.specs.laws.LayerLaws.{Padded, good-hour, same-at, at-hour, same-alike, hour-parts, parts-hour, name-same, name-none, write-long}
-use Rattle.records.specs.declared.writing.HeadOut.{HeadOut}
 use Rattle.book.specs.declared.amounts.hours.HourPlace.{HourPlace}
 use Rattle.book.specs.Register.{writeAll, standing}
 use Rattle.book.specs.ByName.{sameMark}
@@ -42,11 +42,14 @@ pub record Timed {A : Type 0} (pick : Key → Bool) (v : ℕ → A) (none : List
 
 pub timed-start : {A : Type 0} (pick : Key → Bool) (v : ℕ → A) (none : List A) (s rows : List ℕ) (n : ℕ) → Timed pick v none s rows n 0 none
 unfolding gather
-timed-start pick v none s rows n = record { is = λ l g. ap (gather (byHour pick v none) l) (sym (drop-of-length-le l {i = n - 0} (omega (arith, g .ruled .count)))) }
+timed-start pick v none s rows n = record
+    { is = λ l g. ap (gather (byHour pick v none) l) (sym (drop-of-length-le l {i = n - 0} (omega (arith, g .ruled .count)))) }
 
-pub timed-end : {A : Type 0} {pick : Key → Bool} {v : ℕ → A} {none : List A} {s rows : List ℕ} {n i : ℕ} {row : List A} → Timed pick v none s rows n i row → n ≤ i
+pub timed-end : {A : Type 0} {pick : Key → Bool} {v : ℕ → A} {none : List A} {s rows : List ℕ} {n i : ℕ} {row : List A} → Timed pick v none s rows n i row → n ≤
+    i
     → (l : List Change) → Logged s rows n l → row ≡ gather (byHour pick v none) l l
-timed-end {pick = pick} {v = v} {none = none} {n = n} {i = i} h le l g = let w : n - i ≡ 0 = omega arith in h .is l g ∙ ap (λ (m : ℕ). gather (byHour pick v none) l (drop m l)) w
+timed-end {pick = pick} {v = v} {none = none} {n = n} {i = i} h le l g = let w : n - i ≡ 0 = omega arith in h .is l g ∙ ap
+    (λ (m : ℕ). gather (byHour pick v none) l (drop m l)) w
 
 -- the change of a row, whether it is picked, and its hour where it is
 module _ {s rows : List ℕ} {n i : ℕ} (lt : i < n) {l : List Change} (g : Logged s rows n l) where
@@ -62,20 +65,31 @@ module _ {s rows : List ℕ} {n i : ℕ} (lt : i < n) {l : List Change} (g : Log
   abbrev pub hourOf : (Key → Bool) → ℕ
   hourOf pick = cond (pick (keyOf turned) && lives) (keyOf turned .hour) 0
 
-module _ {A : Type 0} {pick : Key → Bool} {v : ℕ → A} {none : List A} {s rows : List ℕ} {n i : ℕ} {row : List A} (h : Timed pick v none s rows n i row) (lt : i < n)
+module _ {A : Type 0} {pick : Key → Bool} {v : ℕ → A} {none : List A} {s rows : List ℕ} {n i : ℕ} {row : List A} (h : Timed pick v none s rows n i row)
+    (lt : i < n)
     {hr : ℕ} (told : (l : List Change) (g : Logged s rows n l) → hr ≡ hourOf lt g pick) where
   next : (l : List Change) (g : Logged s rows n l)
-      → gather (byHour pick v none) l (drop (n - (i + 1)) l) ≡ cond (pick (keyOf (turned lt g)) && lives lt g) (set row (keyOf (turned lt g) .hour - 1) (v (begun-at lt g + leadLength (kindOf (turned lt g))))) row
+      → gather (byHour pick v none) l (drop (n - (i + 1)) l) ≡ cond (pick (keyOf (turned lt g)) && lives lt g)
+      (set row (keyOf (turned lt g) .hour - 1) (v (begun-at lt g + leadLength (kindOf (turned lt g))))) row
   unfolding gather
   next l g = ap (gather (byHour pick v none) l) (ruled-at (g .ruled) lt .rest)
-      ∙ ap (λ (y : List A). cond (pick (keyOf (turned lt g)) && lives lt g) (set y (keyOf (turned lt g) .hour - 1) (v (begun-at lt g + leadLength (kindOf (turned lt g))))) y) (sym (h .is l g))
+      ∙ ap (λ (y : List A). cond (pick (keyOf (turned lt g)) && lives lt g)
+      (set y (keyOf (turned lt g) .hour - 1) (v (begun-at lt g + leadLength (kindOf (turned lt g))))) y) (sym (h .is l g))
 
   pub timed-skip : hr ≡ 0 → Timed pick v none s rows n (i + 1) row
-  timed-skip z = record { is = λ l g. sym (next l g ∙ ap (λ (b : Bool). cond b (set row (keyOf (turned lt g) .hour - 1) (v (begun-at lt g + leadLength (kindOf (turned lt g))))) row) (missed l g)) }
+  timed-skip z = record {
+    is = λ l g. sym (next l g ∙ ap
+        (λ (b : Bool). cond b (set row (keyOf (turned lt g) .hour - 1) (v (begun-at lt g + leadLength (kindOf (turned lt g))))) row) (missed l g));
+  }
     where
       missed : (l : List Change) (g : Logged s rows n l) → (pick (keyOf (turned lt g)) && lives lt g) ≡ false
       missed l g = by-test (pick (keyOf (turned lt g)) && lives lt g)
-          (λ t. absurd (omega (arith, good-hour (turned lt g) (ruled-good (g .ruled) lt) .0, sym (ap (λ (b : Bool). cond b (keyOf (turned lt g) .hour) 0) t) ∙ sym (told l g) ∙ z)))
+          (λ t. absurd (omega (
+            arith,
+            good-hour (turned lt g) (ruled-good (g .ruled) lt) .0,
+            sym (ap (λ (b : Bool). cond b (keyOf (turned lt g) .hour) 0) t) ∙
+                sym (told l g) ∙ z,
+          )))
           (λ t. t)
 
   pub timed-put : (hr ≡ 0 → ⊥) → {x : ℕ} → x ≡ rowPlace (getD rows i 0) → (y : A) → y ≡ v x → Timed pick v none s rows n (i + 1) (set row (hr - 1) y)
@@ -87,7 +101,8 @@ module _ {A : Type 0} {pick : Key → Bool} {v : ℕ → A} {none : List A} {s r
   }
     where
       hit : (l : List Change) (g : Logged s rows n l) → (pick (keyOf (turned lt g)) && lives lt g) ≡ true
-      hit l g = by-test (pick (keyOf (turned lt g)) && lives lt g) (λ t. t) (λ t. absurd (z (told l g ∙ ap (λ (b : Bool). cond b (keyOf (turned lt g) .hour) 0) t)))
+      hit l g = by-test (pick (keyOf (turned lt g)) && lives lt g) (λ t. t)
+          (λ t. absurd (z (told l g ∙ ap (λ (b : Bool). cond b (keyOf (turned lt g) .hour) 0) t)))
 
       hour-is : (l : List Change) (g : Logged s rows n l) → hr ≡ keyOf (turned lt g) .hour
       hour-is l g = told l g ∙ ap (λ (b : Bool). cond b (keyOf (turned lt g) .hour) 0) (hit l g)
@@ -114,9 +129,19 @@ module _ {s rows : List ℕ} {n i : ℕ} (lt : i < n) {l : List Change} (g : Log
   mark-within : (m : ℕ) → (rowLive there && eqb (rowSlot there / 32) m) ≡ true → rowPlace there + 3 ≤ length s
   mark-within m t =
       let sn = ruled-seen (g .ruled) lt in
-      let w = written-at g (turned lt g) (ruled-good (g .ruled) lt) (begun-at lt g) (sym (sn .live) ∙ and-left (rowLive there) (eqb (rowSlot there / 32) m) t) in
+      let w = written-at g (turned lt g) (ruled-good (g .ruled) lt) (begun-at lt g)
+      (sym (sn .live) ∙ and-left (rowLive there) (eqb (rowSlot there / 32) m) t) in
       let at = w .at in
-      omega (arith, sn .place, at .inside, ap length (at .bytes), length-drop (begun-at lt g + leadLength (kindOf (turned lt g))) s, length-append (write (filed (w .what))) (at .rest), write-long (w .what))
+      omega (
+        arith,
+        sn .place,
+        at .inside,
+        ap length (at .bytes),
+        length-drop (begun-at lt g + leadLength (kindOf (turned lt g))) s,
+        length-append
+            (write (filed (w .what))) (at .rest),
+        write-long (w .what),
+      )
 
   pub name-fits : (m : ℕ) (name : List ℕ) {hr : ℕ} → hr ≡ nameHour m name s there → (hr ≡ 0 → ⊥) → hr - 1 < 24
   name-fits m name {hr} e z =
@@ -153,7 +178,8 @@ module _ {s rows : List ℕ} {n i : ℕ} (lt : i < n) {l : List Change} (g : Log
         let row-live = ruled-seen (g .ruled) lt .live in
         by-test (lives lt g)
         (λ live. by-test (sameMark k own)
-        (λ t. (λ j. cond (((row-live ∙ live) j && (mark-is k (w .mark) ∙ t) j) && name-there live (marks t) j) (slot-hour j) 0) ∙ sym (ap (λ (b : Bool). cond b (own .hour) 0) (ap (λ (b : Bool). sameName k own && b) live ∙ and-turned (sameName k own) true)))
+        (λ t. (λ j. cond (((row-live ∙ live) j && (mark-is k (w .mark) ∙ t) j) && name-there live (marks t) j) (slot-hour j) 0) ∙ sym
+        (ap (λ (b : Bool). cond b (own .hour) 0) (ap (λ (b : Bool). sameName k own && b) live ∙ and-turned (sameName k own) true)))
         (λ t. (λ j. cond (((row-live ∙ live) j && (mark-is k (w .mark) ∙ t) j) && begins name (drop (rowPlace there + 3) s)) (slot-hour j) 0)
         ∙ sym (ap (λ (a : Bool). cond (a && lives lt g) (own .hour) 0) (other-mark t))))
         (λ gone. (λ j. cond (((row-live ∙ gone) j && eqb (rowSlot there / 32) m) && begins name (drop (rowPlace there + 3) s)) (rowSlot there % 32) 0)
@@ -197,7 +223,8 @@ module _ {s rows : List ℕ} {n m : ℕ} {name : List ℕ} {i : ℕ} {hours : Li
 gathered-size : {A : Type 0} (pick : Key → Bool) (v : ℕ → A) (none : List A) (all l : List Change) → length (gather (byHour pick v none) all l) ≡ length none
 unfolding gather
 gathered-size pick v none all [] = refl
-gathered-size {A} pick v none all (c ∷ l) = go (pick (keyOf c) && liveAt (survey (keyOf c) all) (kindOf c) (length (writeAll l))) (gathered-size pick v none all l)
+gathered-size {A} pick v none all (c ∷ l) = go (pick (keyOf c) && liveAt (survey (keyOf c) all) (kindOf c) (length (writeAll l)))
+    (gathered-size pick v none all l)
   where
     t : List A
     t = gather (byHour pick v none) all l
@@ -222,8 +249,10 @@ hour-hit : (k : Key) (all l : List Change) → Valid l → (j : ℕ) → j < 24 
     → getD (gather (byHour (sameName k) placeAt (replicate 24 noPlace)) all l) j d ≡ hitPlace (gather (findPass (atHour k (1 + j))) all l)
 unfolding gather Valid
 hour-hit k all [] v j lt d = blank-at 24 j lt d
-hour-hit k all (c ∷ l) v j lt d = go (sameName k (keyOf c)) (liveAt (survey (keyOf c) all) (kindOf c) q) (eqb (1 + j) (keyOf c .hour)) refl (hour-hit k all l (v .2) j lt d)
-    ∙ sym (ap (λ (b : Bool). hitPlace (cond (b && liveAt (survey (keyOf c) all) (kindOf c) q) (record { found = true; start = x }) u)) (same-at k (keyOf c) (1 + j)))
+hour-hit k all (c ∷ l) v j lt d = go (sameName k (keyOf c)) (liveAt (survey (keyOf c) all) (kindOf c) q) (eqb (1 + j) (keyOf c .hour)) refl
+    (hour-hit k all l (v .2) j lt d)
+    ∙ sym (ap (λ (b : Bool). hitPlace (cond (b && liveAt (survey (keyOf c) all) (kindOf c) q) (record { found = true; start = x }) u))
+    (same-at k (keyOf c) (1 + j)))
   where
     q : ℕ
     q = length (writeAll l)
@@ -244,7 +273,8 @@ hour-hit k all (c ∷ l) v j lt d = go (sameName k (keyOf c)) (liveAt (survey (k
         → getD (cond (a && b) (set t (keyOf c .hour - 1) (placeAt x)) t) j d ≡ hitPlace (cond ((a && e) && b) (record { found = true; start = x }) u)
     go true true true ee ih =
         let p : j ≡ keyOf c .hour - 1 = omega (arith, eqb-true (1 + j) (keyOf c .hour) ee) in
-        ap (λ (m : ℕ). getD (set t (keyOf c .hour - 1) (placeAt x)) m d) p ∙ getD-set-same t (keyOf c .hour - 1) (placeAt x) d (omega (arith, gathered-size (sameName k) placeAt (replicate 24 noPlace) all l, p))
+        ap (λ (m : ℕ). getD (set t (keyOf c .hour - 1) (placeAt x)) m d) p ∙ getD-set-same t (keyOf c .hour - 1) (placeAt x) d
+        (omega (arith, gathered-size (sameName k) placeAt (replicate 24 noPlace) all l, p))
     go true true false ee ih =
         let p : (j ≡ keyOf c .hour - 1) → ⊥ = λ y. eqb-false (1 + j) (keyOf c .hour) ee (omega (arith, low)) in
         getD-set-other t (keyOf c .hour - 1) j (placeAt x) d p ∙ ih
@@ -258,10 +288,12 @@ found-place k l p e = go (survey k l .found) refl
   where
     go : (b : Bool) → survey k l .found ≡ b → PlaceIs k l p
     go true t =
-        let w : p ≡ hitPlace (record { found = true; start = survey k l .start }) = e ∙ ap (λ (b : Bool). hitPlace (cond b (record { found = true; start = survey k l .start }) (record { found = false; start = 0 }))) t in
+        let w : p ≡ hitPlace (record { found = true; start = survey k l .start }) = e ∙ ap
+        (λ (b : Bool). hitPlace (cond b (record { found = true; start = survey k l .start }) (record { found = false; start = 0 }))) t in
         record { known = ap (λ (y : HourPlace). y .known) w ∙ sym t; start = λ h. ap (λ (y : HourPlace). y .start) w }
     go false t =
-        let w : p ≡ noPlace = e ∙ ap (λ (b : Bool). hitPlace (cond b (record { found = true; start = survey k l .start }) (record { found = false; start = 0 }))) t in
+        let w : p ≡ noPlace = e ∙ ap
+        (λ (b : Bool). hitPlace (cond b (record { found = true; start = survey k l .start }) (record { found = false; start = 0 }))) t in
         record { known = ap (λ (y : HourPlace). y .known) w ∙ sym t; start = λ h. true≠false h (ap (λ (y : HourPlace). y .known) w) }
 
 pub dayed-end : {s rows : List ℕ} {n m : ℕ} {name : List ℕ} {i : ℕ} {hours : List HourPlace} → Dayed s rows n m name i hours → n ≤ i
@@ -269,14 +301,16 @@ pub dayed-end : {s rows : List ℕ} {n m : ℕ} {name : List ℕ} {i : ℕ} {hou
 dayed-end {hours = hours} h le k w l g = record {
   size = h .size;
   each = λ j lt d. found-place (atHour k (1 + j)) l (getD hours j d)
-      (ap (λ (t : List HourPlace). getD t j d) (timed-end (h .each k w) le l g) ∙ hour-hit k l l (g .ruled .valid) j lt d ∙ ap hitPlace (find-is (atHour k (1 + j)) l (g .ruled .valid)));
+      (ap (λ (t : List HourPlace). getD t j d) (timed-end (h .each k w) le l g) ∙ hour-hit k l l (g .ruled .valid) j lt d ∙ ap hitPlace
+      (find-is (atHour k (1 + j)) l (g .ruled .valid)));
 }
 
 -- ---- the key's mark and name, by the head of its first hour
 
 module _ (k : Key) (p : Padded (k .name)) {m : ℕ} (em : m ≡ order (k .mark)) where
   pub head-written-so : 3 ≤ length (recordHead (atHour k 1)) → {name : List ℕ} → name ≡ drop 3 (recordHead (atHour k 1)) → Written k m name
-  head-written-so le {name} en = record { mark = em; told = λ r g mk t. ap (λ (y : List ℕ). begins y (drop 3 (write (filed r) ++ t))) en ∙ name-same k p r g t mk le }
+  head-written-so le {name} en = record
+      { mark = em; told = λ r g mk t. ap (λ (y : List ℕ). begins y (drop 3 (write (filed r) ++ t))) en ∙ name-same k p r g t mk le }
 
 -- a part of the front is the front of a part
 front-part : {A : Type 0} (n m : ℕ) (xs : List A) → take m (drop n xs) ≡ drop n (take (n + m) xs)
@@ -298,7 +332,8 @@ module _ (k : Key) (h : HeadOut) (e : (take (h .len) (h .bytes) ≡ recordHead (
       front-part 3 (h .len - 3) (h .bytes) ∙ ap (λ (i : ℕ). drop 3 (take i (h .bytes))) m ∙ ap (drop 3) head-is
 
 -- no record can have the key
-pub day-none : (k : Key) → Padded (k .name) → length (recordHead (atHour k 1)) < 3 → {s rows : List ℕ} {n : ℕ} (l : List Change) → Logged s rows n l → DayIs k l (record { hours = replicate 24 noPlace })
+pub day-none : (k : Key) → Padded (k .name) → length (recordHead (atHour k 1)) < 3 → {s rows : List ℕ} {n : ℕ} (l : List Change) → Logged s rows n l → DayIs k l
+    (record { hours = replicate 24 noPlace })
 day-none k p short {s} l g = record {
   size = refl;
   each = λ j lt d. subst⁻¹ (PlaceIs (atHour k (1 + j)) l) (blank-at 24 j lt d) (record { known = sym (absent-at (1 + j)); start = λ h. true≠false h refl });
@@ -309,7 +344,8 @@ day-none k p short {s} l g = record {
         (λ t. let f = found-at (begun g) (atHour k h) t in
         let one : same (atHour k h) (f .what .key) ≡ true = pick-key (atHour k h) (standing l) (f .what) (f .picked) in
         let mk : f .what .key .mark ≡ k .mark = sym (f .mark) ∙ ap (λ (x : Key). x .mark) (at-hour k h) in
-        true≠false (and-left (sameName k (f .what .key)) (eqb h (f .what .key .hour)) (sym (same-at k (f .what .key) h) ∙ one)) (name-none k p (f .what) (f .at .good) (f .at .rest) mk short))
+        true≠false (and-left (sameName k (f .what .key)) (eqb h (f .what .key .hour)) (sym (same-at k (f .what .key) h) ∙ one))
+        (name-none k p (f .what) (f .at .good) (f .at .rest) mk short))
         (λ t. t)
 
 -- ---- the hour of a row
@@ -344,7 +380,9 @@ module _ (row m : ℕ) where
         go true false q = refl
         go false b q = refl
 
-    pub name-starts : {hr : ℕ} → hr ≡ markHour m row → (hr ≡ 0 → ⊥) → {b : Bool} → b ≡ begins name (drop (rowPlace row + 3) s) → (c : Bool) → b ≡ c → cond c hr 0 ≡ nameHour m name s row
+    pub name-starts : {hr : ℕ} → hr ≡ markHour m row → (hr ≡ 0 → ⊥) → {b : Bool} → b ≡ begins name (drop (rowPlace row + 3) s) → (c : Bool) → b ≡ c → cond c hr
+        0 ≡ nameHour m name s row
     name-starts {hr} e z {b} eb c ec =
         let t = hour-marked e z in
-        (λ j. cond c ((e ∙ ap (λ (y : Bool). cond y (rowSlot row % 32) 0) t) j) 0) ∙ sym (ap₂ (λ (x y : Bool). cond (x && y) (rowSlot row % 32) 0) t (sym eb ∙ ec))
+        (λ j. cond c ((e ∙ ap (λ (y : Bool). cond y (rowSlot row % 32) 0) t) j) 0) ∙ sym
+        (ap₂ (λ (x y : Bool). cond (x && y) (rowSlot row % 32) 0) t (sym eb ∙ ec))

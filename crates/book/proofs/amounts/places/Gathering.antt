@@ -46,9 +46,11 @@ gathered-start s rows n slot p e z = record {
 }
 
 module _ {s rows : List ℕ} {n slot i : ℕ} {p : Places} (h : Gathered s rows n slot i p) where
-  pub gathered-end : n ≤ i → (k : Key) → slot ≡ hourSlot k → k .hour < 32 → (l : List Change) → Logged s rows n l → spots p ≡ map (spotOf l) (byName k (standing l))
+  pub gathered-end : n ≤ i → (k : Key) → slot ≡ hourSlot k → k .hour < 32 → (l : List Change) → Logged s rows n l → spots p ≡ map (spotOf l)
+      (byName k (standing l))
   gathered-end le k ek hk l g =
-      let w : n - i ≡ 0 = omega arith in h .is l g k ek hk ∙ ap (λ (m : ℕ). gather (hourPass k) l (drop m l)) w ∙ hour-standing k l (valid-new l (g .ruled .valid))
+      let w : n - i ≡ 0 = omega arith in h .is l g k ek hk ∙ ap (λ (m : ℕ). gather (hourPass k) l (drop m l)) w ∙ hour-standing k l
+      (valid-new l (g .ruled .valid))
 
   module _ (lt : i < n) where
     turn : (l : List Change) → Logged s rows n l → (k : Key) → slot ≡ hourSlot k → k .hour < 32
@@ -66,7 +68,8 @@ module _ {s rows : List ℕ} {n slot i : ℕ} {p : Places} (h : Gathered s rows 
         by-test (standsIn row slot)
         (λ t. let live : liveAt (survey (keyOf c) l) (kindOf c) q ≡ true = sym (sn .live) ∙ left-of (rowLive row) (eqb (rowSlot row) slot) t in
         let e : spotIn s row ≡ record { name = keyOf c .name; start = q + leadLength (kindOf c) } =
-        (λ j. record { name = keyAt s (sn .place j) .name; start = sn .place j }) ∙ ap (λ (y : Key). record { name = y .name; start = q + leadLength (kindOf c) }) (key-at (written-at g c (ruled-good (g .ruled) lt) q live)) in
+        (λ j. record { name = keyAt s (sn .place j) .name; start = sn .place j }) ∙ ap
+        (λ (y : Key). record { name = y .name; start = q + leadLength (kindOf c) }) (key-at (written-at g c (ruled-good (g .ruled) lt) q live)) in
         ap (λ (y : Bool). cond y (putSpot (spotIn s row) (spots p)) (spots p)) t ∙ ap₂ putSpot e (h .is l g k ek hk)
         ∙ sym (ap (λ (y : Bool). cond y (putSpot (record { name = keyOf c .name; start = q + leadLength (kindOf c) }) old) old) (sym eb ∙ t)))
         (λ t. ap (λ (y : Bool). cond y (putSpot (spotIn s row) (spots p)) (spots p)) t ∙ h .is l g k ek hk
@@ -77,7 +80,8 @@ module _ {s rows : List ℕ} {n slot i : ℕ} {p : Places} (h : Gathered s rows 
     gathered-few o = ruled-few (o .logged .ruled) lt
 
     -- there is a place left for a record that stands, and it is written within the bytes
-    pub gathered-room : Log s rows n → (k : Key) → slot ≡ hourSlot k → k .hour < 32 → standsIn (getD rows i 0) slot ≡ true → (p .n < 16) × (rowPlace (getD rows i 0) ≤ length s)
+    pub gathered-room : Log s rows n → (k : Key) → slot ≡ hourSlot k → k .hour < 32 → standsIn (getD rows i 0) slot ≡ true → (p .n < 16) ×
+        (rowPlace (getD rows i 0) ≤ length s)
     gathered-room o k ek hk t =
         let g = o .logged in
         let l = o .list in
@@ -86,8 +90,21 @@ module _ {s rows : List ℕ} {n slot i : ℕ} {p : Places} (h : Gathered s rows 
         let row = getD rows i 0 in
         let e : putSpot (spotIn s row) (spots p) ≡ gather (hourPass k) l (drop (n - (i + 1)) l) =
         sym (ap (λ (y : Bool). cond y (putSpot (spotIn s row) (spots p)) (spots p)) t) ∙ turn l g k ek hk in (
-          omega (arith, ap length e, gather-few k l (g .ruled .valid) (n - (i + 1)), put-length (spotIn s row) (spots p), length-take (p .n) (p .at), h .size, h .few),
-          omega (arith, sn .place, written-at g (w .what) (ruled-good (g .ruled) lt) (length (writeAll (drop (n - i) l))) (sym (sn .live) ∙ left-of (rowLive row) (eqb (rowSlot row) slot) t) .at .inside),
+          omega (
+            arith,
+            ap length e,
+            gather-few k l (g .ruled .valid) (n - (i + 1)),
+            put-length (spotIn s row) (spots p),
+            length-take (p .n) (p .at),
+            h .size,
+            h .few,
+          ),
+          omega (
+            arith,
+            sn .place,
+            written-at g (w .what) (ruled-good (g .ruled) lt) (length (writeAll (drop (n - i) l)))
+                (sym (sn .live) ∙ left-of (rowLive row) (eqb (rowSlot row) slot) t) .at .inside,
+          ),
         )
 
     -- with the record of the row, or without
@@ -108,5 +125,6 @@ module _ {s rows : List ℕ} {n slot i : ℕ} {p : Places} (h : Gathered s rows 
       is = λ l g k ek hk. sym (ap (λ (b : Bool). cond b (putSpot (spotIn s (getD rows i 0)) (spots p)) (spots p)) t) ∙ turn l g k ek hk;
     }
 
-pub spot-read : (s : List ℕ) (row x : ℕ) (name : Name) → x ≡ rowPlace row → name ≡ keyAt s x .name → _≡_ {A = Spot} (record { name = name; start = x }) (spotIn s row)
+pub spot-read : (s : List ℕ) (row x : ℕ) (name : Name) → x ≡ rowPlace row → name ≡ keyAt s x .name → _≡_ {A = Spot} (record { name = name; start = x })
+    (spotIn s row)
 spot-read s row x name ex en = ap (λ (y : Name). record { name = y; start = x }) en ∙ ap (λ (y : ℕ). record { name = keyAt s y .name; start = y }) ex

@@ -9,6 +9,7 @@ use lib.ListN.{length, drop, getD, set, replicate, length-set, length-replicate,
 use lib.Seq.{getD-set-same, getD-set-other}
 use lib.Dec.{eqb, ltb}
 use borrow.Author.Tests.{eqb-true, eqb-false, lt-ltb, le-ltb, lt-leb, le-leb}
+use Rattle.laws.specs.Lists.{All, also}
 use Rattle.money.specs.Names.{sameName}
 use Rattle.records.specs.Marks.{hasName}
 use Rattle.records.specs.Keys.{same, sameHour}
@@ -26,7 +27,6 @@ use Rattle.book.specs.tables.Prices.{PriceIs, TableOf, priceAt, priceHou
 use Rattle.book.specs.tables.Worked.{Begun, begun}
 use Rattle.book.specs.laws.RegisterLaws.{by-test, valid-new}
 use Rattle.book.specs.laws.StandLaws.{Stands, all-stand}
-use Rattle.laws.specs.Lists.{All, also}
 use Rattle.book.specs.laws.PriceLaws.{price-written, price-unknown, price-found, price-gone}
 use Rattle.book.specs.laws.GatherLaws.{Pass, gather, collect, gather-standing}
 use Rattle.book.proofs.log.index.Lemmas.{latest-few}
@@ -58,7 +58,8 @@ module _ {s rows : List ℕ} {n h : ℕ} {k : Key} (e : k ≡ hourKey Pr h) (low
   pub price-there : r .found ≡ true → (p : HourPrice) → p ≡ priceAt s (r .start) → (l : List Change) → Logged s rows n l → PriceIs (priceOf (standing l) h) p
   price-there t p ep l g =
       let w = sought f (price-formed e low) l g in
-      subst⁻¹ (PriceIs (priceOf (standing l) h)) (ep ∙ ap (priceAt s) (w .start t ∙ (λ i. survey-is l i .start))) (price-found (begun g) h (sym (λ i. survey-is l i .found) ∙ sym (w .found) ∙ t))
+      subst⁻¹ (PriceIs (priceOf (standing l) h)) (ep ∙ ap (priceAt s) (w .start t ∙ (λ i. survey-is l i .start)))
+      (price-found (begun g) h (sym (λ i. survey-is l i .found) ∙ sym (w .found) ∙ t))
 
   pub price-missing : r .found ≡ false → (p : HourPrice) → p .known ≡ false → (l : List Change) → Logged s rows n l → PriceIs (priceOf (standing l) h) p
   price-missing t p ep l g = price-gone (begun g) h (sym (λ i. survey-is l i .found) ∙ sym (sought f (price-formed e low) l g .found) ∙ t) ep
@@ -93,8 +94,10 @@ collected-size s none all (r ∷ rs) = go (isPrice (r .key)) (collected-size s n
     go true e = length-set t (r .key .hour - 1) (priceAt s (survey (r .key) all .start)) ∙ e
     go false e = e
 
-module _ {s : List ℕ} {l : List Change} (o : Begun s l) (none : List HourPrice) (long : length none ≡ 24) (blank : (j : ℕ) → j < 24 → (d : HourPrice) → getD none j d .known ≡ false) where
-  collected : (rs : List Rec) → All (Stands o) rs → (j : ℕ) → j < 24 → (d : HourPrice) → PriceIs (priceOf rs (1 + j)) (getD (collect (tablePass s none) l rs) j d)
+module _ {s : List ℕ} {l : List Change} (o : Begun s l) (none : List HourPrice) (long : length none ≡ 24)
+    (blank : (j : ℕ) → j < 24 → (d : HourPrice) → getD none j d .known ≡ false) where
+  collected : (rs : List Rec) → All (Stands o) rs → (j : ℕ) → j < 24 → (d : HourPrice) → PriceIs (priceOf rs (1 + j))
+      (getD (collect (tablePass s none) l rs) j d)
   unfolding collect priceOf pick sameHour
   collected [] a j lt d = price-unknown (blank j lt d)
   collected (r ∷ rs) (also w a) j lt d = go (isPrice (r .key)) refl (eqb (1 + j) (r .key .hour)) refl (collected rs a j lt d)
@@ -114,18 +117,23 @@ module _ {s : List ℕ} {l : List Change} (o : Begun s l) (none : List HourPrice
       -- by whether it is a price, and of this hour
       by-parts : (b e : Bool) → isPrice (r .key) ≡ b → eqb (1 + j) (r .key .hour) ≡ e
           → PriceIs (priceFrom (cond (b && e) (is r) (pick (hourKey Pr (1 + j)) rs))) (getD (cond b (set t m v) t) j d)
-          → PriceIs (priceFrom (cond (same (hourKey Pr (1 + j)) (r .key)) (is r) (pick (hourKey Pr (1 + j)) rs))) (getD (cond (isPrice (r .key)) (set t m v) t) j d)
+          → PriceIs (priceFrom (cond (same (hourKey Pr (1 + j)) (r .key)) (is r) (pick (hourKey Pr (1 + j)) rs)))
+          (getD (cond (isPrice (r .key)) (set t m v) t) j d)
       by-parts b e eb ee x =
-          subst⁻¹ (λ (y : Bool). PriceIs (priceFrom (cond y (is r) (pick (hourKey Pr (1 + j)) rs))) (getD (cond (isPrice (r .key)) (set t m v) t) j d)) (is-same ∙ ap₂ _&&_ eb ee)
+          subst⁻¹ (λ (y : Bool). PriceIs (priceFrom (cond y (is r) (pick (hourKey Pr (1 + j)) rs))) (getD (cond (isPrice (r .key)) (set t m v) t) j d))
+          (is-same ∙ ap₂ _&&_ eb ee)
           (subst⁻¹ (λ (y : Bool). PriceIs (priceFrom (cond (b && e) (is r) (pick (hourKey Pr (1 + j)) rs))) (getD (cond y (set t m v) t) j d)) eb x)
 
       go : (b : Bool) → isPrice (r .key) ≡ b → (e : Bool) → eqb (1 + j) (r .key .hour) ≡ e → PriceIs (priceFrom (pick (hourKey Pr (1 + j)) rs)) (getD t j d)
-          → PriceIs (priceFrom (cond (same (hourKey Pr (1 + j)) (r .key)) (is r) (pick (hourKey Pr (1 + j)) rs))) (getD (cond (isPrice (r .key)) (set t m v) t) j d)
+          → PriceIs (priceFrom (cond (same (hourKey Pr (1 + j)) (r .key)) (is r) (pick (hourKey Pr (1 + j)) rs)))
+          (getD (cond (isPrice (r .key)) (set t m v) t) j d)
       go true eb true ee ih =
           let p : j ≡ m = omega (arith, eqb-true (1 + j) (r .key .hour) ee) in
           let mk = hour-parts (hourKey Pr (1 + j)) (r .key) (ap₂ _&&_ eb ee) .0 in
           by-parts true true eb ee
-          (subst⁻¹ (PriceIs (priced (pricesOf r))) (ap (λ (y : ℕ). getD (set t m v) y d) p ∙ getD-set-same t m v d (omega (arith, collected-size s none l rs, long, p))) (price-written (w .at) (sym mk)))
+          (subst⁻¹ (PriceIs (priced (pricesOf r)))
+          (ap (λ (y : ℕ). getD (set t m v) y d) p ∙ getD-set-same t m v d (omega (arith, collected-size s none l rs, long, p)))
+          (price-written (w .at) (sym mk)))
       go true eb false ee ih =
           let low = good-hour (filed r) (w .at .good) .0 in
           let p : (j ≡ m) → ⊥ = λ y. eqb-false (1 + j) (r .key .hour) ee (omega arith) in
@@ -166,8 +174,10 @@ above zero z = absurd (z refl)
 above (suc m) z = omega arith
 
 -- the hour that a row tells
-price-row : {row : ℕ} {all : List Change} {q : ℕ} {c : Change} → Seen row all q c → priceHour row ≡ cond (isPrice (keyOf c) && liveAt (survey (keyOf c) all) (kindOf c) q) (keyOf c .hour) 0
-price-row {row} {all} {q} {c} sn = ap₂ (λ (b : Bool) (x : ℕ). cond (b && ltb x 32) x 0) (sn .live) (sn .slot) ∙ go (liveAt (survey (keyOf c) all) (kindOf c) q) (isPrice (keyOf c)) refl
+price-row : {row : ℕ} {all : List Change} {q : ℕ} {c : Change} → Seen row all q c → priceHour row ≡ cond
+    (isPrice (keyOf c) && liveAt (survey (keyOf c) all) (kindOf c) q) (keyOf c .hour) 0
+price-row {row} {all} {q} {c} sn = ap₂ (λ (b : Bool) (x : ℕ). cond (b && ltb x 32) x 0) (sn .live) (sn .slot) ∙ go (liveAt (survey (keyOf c) all) (kindOf c) q)
+    (isPrice (keyOf c)) refl
   where
     k : Key
     k = keyOf c
@@ -205,7 +215,8 @@ module _ {s rows : List ℕ} {n : ℕ} {none hours : List HourPrice} {i : ℕ} (
 
     missed : priceHour (getD rows i 0) ≡ 0 → live ≡ false
     missed z = by-test live
-        (λ t. let low = good-hour c (ruled-good (g .ruled) lt) .0 in absurd (omega (arith, low, sym (ap (λ (b : Bool). cond b (keyOf c .hour) 0) t) ∙ sym told ∙ z)))
+        (λ t. let low = good-hour c (ruled-good (g .ruled) lt) .0 in absurd
+        (omega (arith, low, sym (ap (λ (b : Bool). cond b (keyOf c .hour) 0) t) ∙ sym told ∙ z)))
         (λ t. t)
 
     hit : (priceHour (getD rows i 0) ≡ 0 → ⊥) → live ≡ true
@@ -235,7 +246,8 @@ module _ {s rows : List ℕ} {n : ℕ} {none hours : List HourPrice} {i : ℕ} (
         let l = o .list in
         let g = o .logged in
         let k = keyOf (c l g) in
-        let v = live-true (survey k l) (kindOf (c l g)) (q l g) (and-right (isPrice k) (liveAt (survey k l) (kindOf (c l g)) (q l g)) (hit l g (λ y. z (e ∙ y)))) in
+        let v = live-true (survey k l) (kindOf (c l g)) (q l g)
+        (and-right (isPrice k) (liveAt (survey k l) (kindOf (c l g)) (q l g)) (hit l g (λ y. z (e ∙ y)))) in
         omega (arith, ex, ruled-seen (g .ruled) lt .place, v .1, logged-at g k (v .0) .at .inside)
 
     pub tabling-put : {x : ℕ} → x ≡ rowPlace (getD rows i 0) → (p : HourPrice) → p ≡ priceAt s x → Tabling s rows n none (i + 1) (set hours (hr - 1) p)
@@ -244,7 +256,8 @@ module _ {s rows : List ℕ} {n : ℕ} {none hours : List HourPrice} {i : ℕ} (
       inside = omega arith;
       is = λ l g.
           (λ j. set hours (hour-is l g j - 1) ((ep ∙ ap (priceAt s) (ex ∙ ruled-seen (g .ruled) lt .place)) j))
-          ∙ sym (ap (λ (b : Bool). cond b (set hours (keyOf (c l g) .hour - 1) (priceAt s (q l g + leadLength (kindOf (c l g))))) hours) (hit l g (λ y. z (e ∙ y))))
+          ∙ sym (ap (λ (b : Bool). cond b (set hours (keyOf (c l g) .hour - 1) (priceAt s (q l g + leadLength (kindOf (c l g))))) hours)
+          (hit l g (λ y. z (e ∙ y))))
           ∙ sym (next l g);
     }
 
@@ -255,7 +268,8 @@ blank-at zero b e j lt d = absurd (not-suc-le-zero lt)
 blank-at (suc m) b e zero lt d = e
 blank-at (suc m) b e (suc j) lt d = blank-at m b e j (le-of-suc-le-suc lt) d
 
-pub tabling-end : {s rows : List ℕ} {n : ℕ} {b : HourPrice} {hours : List HourPrice} {i : ℕ} → Tabling s rows n (replicate 24 b) i hours → n ≤ i → b .known ≡ false
+pub tabling-end : {s rows : List ℕ} {n : ℕ} {b : HourPrice} {hours : List HourPrice} {i : ℕ} → Tabling s rows n (replicate 24 b) i hours → n ≤ i → b .known ≡
+    false
     → (l : List Change) → Logged s rows n l → TableOf (priceOf (standing l)) (record { hours = hours })
 tabling-end {s} {rows} {n} {b} {hours} {i} h le e l g =
     let w : n - i ≡ 0 = omega arith in

@@ -33,7 +33,8 @@ module _ (a : Name) (u : Units) (i : ℕ) (h : Sought (addName a) (u .names) (u 
     unfolding addName
     name-here t =
         let x = getD (u .names) i d in
-        sought-here h d le lt a (λ xs. ap (λ (y : Bool). cond y (a ∷ x ∷ xs) (cond (nameBefore (decodedBytes x) (decodedBytes a)) (x ∷ addName a xs) (x ∷ xs))) (sym e ∙ t))
+        sought-here h d le lt a
+        (λ xs. ap (λ (y : Bool). cond y (a ∷ x ∷ xs) (cond (nameBefore (decodedBytes x) (decodedBytes a)) (x ∷ addName a xs) (x ∷ xs))) (sym e ∙ t))
 
     module _ (t : b ≡ false) {w : Bool} (ew : w ≡ nameBefore (decodedBytes (getD (u .names) i d)) (decodedBytes a)) where
       later : (xs : List Name) → addName a (getD (u .names) i d ∷ xs) ≡ cond w (getD (u .names) i d ∷ addName a xs) (getD (u .names) i d ∷ xs)
@@ -70,7 +71,8 @@ module _ (u : Units) (size : length (u .names) ≡ 512) (few : u .n < 512) where
       let names = set row j s in
       let long : length names ≡ 512 = length-set row j s ∙ o .size ∙ size in
       let count : length (take (u .n + 1) names) ≡ u .n + 1 = length-take-le (u .n + 1) names (omega arith) in
-      let blank : names ≡ pad emptyName 512 (take (u .n + 1) names) = pad-front emptyName 512 (u .n + 1) names long (opened-behind (omega arith) o le s ∙ blank-behind e) in
+      let blank : names ≡ pad emptyName 512 (take (u .n + 1) names) = pad-front emptyName 512 (u .n + 1) names long
+      (opened-behind (omega arith) o le s ∙ blank-behind e) in
       λ k. record { n = sym count k; names = blank k }
 
 -- ---- a row of a mark
@@ -86,7 +88,8 @@ picked-mark : {row : ℕ} {all : List Change} {q : ℕ} {c : Change} → Seen ro
     → ofMark row mark ≡ (sameMark k (keyOf c) && liveAt (survey (keyOf c) all) (kindOf c) q)
 picked-mark {row} {all} {q} {c} s k mark e =
     let m : rowSlot row / 32 ≡ order (keyOf c .mark) = omega (arith, s .slot, s .low) in
-    ap₂ _&&_ (s .live) (ap₂ eqb m e ∙ turned (order (keyOf c .mark)) (order (k .mark))) ∙ and-turned (liveAt (survey (keyOf c) all) (kindOf c) q) (sameMark k (keyOf c))
+    ap₂ _&&_ (s .live) (ap₂ eqb m e ∙ turned (order (keyOf c .mark)) (order (k .mark))) ∙ and-turned (liveAt (survey (keyOf c) all) (kindOf c) q)
+    (sameMark k (keyOf c))
 
 pub mark-gone : (row mark : ℕ) → row < 134217728 → false ≡ ofMark row mark
 mark-gone row mark h = sym (ap (λ (b : Bool). b && eqb (rowSlot row / 32) mark) (lt-leb 134217728 row h))
@@ -111,7 +114,8 @@ listed-start s rows n mark u e w =
       few = omega arith;
       whole = w ∙ ap unitsOf (sym (ap (λ (m : ℕ). take m (u .names)) z));
       inside = omega arith;
-      is = λ l g k ek. ap (λ (m : ℕ). take m (u .names)) z ∙ ap (gather (markPass k) l) (sym (drop-of-length-le l {i = n - 0} (omega (arith, g .ruled .count))));
+      is = λ l g k ek. ap (λ (m : ℕ). take m (u .names)) z ∙ ap (gather (markPass k) l)
+          (sym (drop-of-length-le l {i = n - 0} (omega (arith, g .ruled .count))));
     }
 
 module _ {s rows : List ℕ} {n mark i : ℕ} {u : Units} (h : Listed s rows n mark i u) where
@@ -125,7 +129,8 @@ module _ {s rows : List ℕ} {n mark i : ℕ} {u : Units} (h : Listed s rows n m
   module _ (lt : i < n) where
     -- the pass at the row's change
     step : (l : List Change) → Logged s rows n l → (k : Key) → mark ≡ order (k .mark) → (b : Bool) → ofMark (getD rows i 0) mark ≡ b → (name : Name)
-        → (b ≡ true → name ≡ keyAt s (rowPlace (getD rows i 0)) .name) → cond b (addName name (namesIn u)) (namesIn u) ≡ gather (markPass k) l (drop (n - (i + 1)) l)
+        → (b ≡ true → name ≡ keyAt s (rowPlace (getD rows i 0)) .name) → cond b (addName name (namesIn u)) (namesIn u) ≡ gather (markPass k) l
+        (drop (n - (i + 1)) l)
     unfolding gather
     step l g k ek b eb name en =
         let w = ruled-at (g .ruled) lt in
@@ -136,10 +141,12 @@ module _ {s rows : List ℕ} {n mark i : ℕ} {u : Units} (h : Listed s rows n m
         let live = sameMark k (keyOf c) && liveAt (survey (keyOf c) l) (kindOf c) q in
         let e : live ≡ b = sym (picked-mark sn k mark ek) ∙ eb in
         go b e (h .is l g k ek) (λ t. en t ∙ ap (λ (x : ℕ). keyAt s x .name) (sn .place)
-        ∙ ap (λ (y : Key). y .name) (key-at (written-at g c (ruled-good (g .ruled) lt) q (sym (sn .live) ∙ left-of (rowLive (getD rows i 0)) (eqb (rowSlot (getD rows i 0) / 32) mark) (eb ∙ t)))))
+        ∙ ap (λ (y : Key). y .name) (key-at (written-at g c (ruled-good (g .ruled) lt) q
+        (sym (sn .live) ∙ left-of (rowLive (getD rows i 0)) (eqb (rowSlot (getD rows i 0) / 32) mark) (eb ∙ t)))))
         ∙ ap (gather (markPass k) l) (sym (w .rest))
       where
-        go : {name own : Name} {old xs : List Name} {live : Bool} (b : Bool) → live ≡ b → xs ≡ old → (b ≡ true → name ≡ own) → cond b (addName name xs) xs ≡ cond live (addName own old) old
+        go : {name own : Name} {old xs : List Name} {live : Bool} (b : Bool) → live ≡ b → xs ≡ old → (b ≡ true → name ≡ own) → cond b (addName name xs) xs ≡
+            cond live (addName own old) old
         go {own = own} {old = old} true e ex en = ap₂ addName (en refl) ex ∙ sym (ap (λ (y : Bool). cond y (addName own old) old) e)
         go {own = own} {old = old} false e ex en = ex ∙ sym (ap (λ (y : Bool). cond y (addName own old) old) e)
 
@@ -152,7 +159,12 @@ module _ {s rows : List ℕ} {n mark i : ℕ} {u : Units} (h : Listed s rows n m
         let g = o .logged in
         let sn = ruled-seen (g .ruled) lt in
         let row = getD rows i 0 in
-        omega (arith, sn .place, written-at g (ruled-at (g .ruled) lt .what) (ruled-good (g .ruled) lt) (length (writeAll (drop (n - i) (o .list)))) (sym (sn .live) ∙ left-of (rowLive row) (eqb (rowSlot row / 32) mark) t) .at .inside)
+        omega (
+          arith,
+          sn .place,
+          written-at g (ruled-at (g .ruled) lt .what) (ruled-good (g .ruled) lt) (length (writeAll (drop (n - i) (o .list))))
+              (sym (sn .live) ∙ left-of (rowLive row) (eqb (rowSlot row / 32) mark) t) .at .inside,
+        )
 
     pub listed-skip : ofMark (getD rows i 0) mark ≡ false → Listed s rows n mark (i + 1) u
     listed-skip f = record {
@@ -163,7 +175,8 @@ module _ {s rows : List ℕ} {n mark i : ℕ} {u : Units} (h : Listed s rows n m
       is = λ l g k ek. step l g k ek false f emptyName (λ t. true≠false t refl);
     }
 
-    pub listed-next : ofMark (getD rows i 0) mark ≡ true → (name : Name) → name ≡ keyAt s (rowPlace (getD rows i 0)) .name → (u′ : Units) → length (u′ .names) ≡ 512
+    pub listed-next : ofMark (getD rows i 0) mark ≡ true → (name : Name) → name ≡ keyAt s (rowPlace (getD rows i 0)) .name → (u′ : Units) → length (u′ .names) ≡
+        512
         → (u′ .n ≤ u .n + 1) × (namesIn u′ ≡ addName name (namesIn u)) × (u ≡ unitsOf (namesIn u) → u′ ≡ unitsOf (namesIn u′)) → Listed s rows n mark (i + 1) u′
     listed-next t name en u′ size w = record {
       size = size;
@@ -174,5 +187,6 @@ module _ {s rows : List ℕ} {n mark i : ℕ} {u : Units} (h : Listed s rows n m
     }
 
 -- ---- the answer
-pub units-at : (d : Load) (l : List Change) → d ≡ belongs l → (k : Key) → k ≡ ghKey → (u : Units) → namesIn u ≡ namesOf k (standing l) → named (namesIn u) ≡ unitNames d
+pub units-at : (d : Load) (l : List Change) → d ≡ belongs l → (k : Key) → k ≡ ghKey → (u : Units) → namesIn u ≡ namesOf k (standing l) → named (namesIn u) ≡
+    unitNames d
 units-at d l e k ek u eu = ap named (eu ∙ ap (λ (y : Key). namesOf y (standing l)) ek) ∙ sym (ap unitNames e)

@@ -6,6 +6,7 @@ use native.Mathlib.Omega.{arith}
 use native.Mathlib.Nat.{not-suc-le-zero}
 use lib.ListN.{length, take, drop, getD, set, replicate, length-set, length-map}
 use lib.Seq.{ext-getD, drop-set-lt, drop-drop, getD-take, length-take-le}
+use Rattle.laws.specs.Lists.{All}
 use Rattle.book.specs.Layer.{Name, Change, filed, Gh, Fi, Fe, emptyName, pad}
 use Rattle.book.specs.laws.LayerLaws.{Padded, Wellformed, good-padded}
 use Rattle.book.specs.declared.answers.Guarantees.{Guarantees}
@@ -30,7 +31,6 @@ use Rattle.book.specs.tables.Worked.{noGuarantees, noCharges}
 use Rattle.book.specs.tables.Rows.{Logged}
 use Rattle.book.specs.tables.Prices.{PriceIs, TableOf}
 use Rattle.book.specs.laws.StandLaws.{all-map, all-at, all-names, standing-good}
-use Rattle.laws.specs.Lists.{All}
 use Rattle.book.specs.laws.ChargeLaws.{getD-same}
 use Rattle.book.specs.WholeDay.{hourReply, unitReply, hoursFrom, wholeOf, dayAmounts, hourFrom, unitFrom, noHour, noUnit, wholeHanded, dayFrom}
 use Rattle.book.specs.laws.WholeDayLaws.{hours-at}
@@ -72,7 +72,8 @@ hours-start s rows n t row e = record { long = e; upto = omega arith; each = λ 
 
 module _ {s rows : List ℕ} {n : ℕ} {t : PriceTable} {row : List HourAmounts} {i : ℕ} (h : Hours s rows n t row i) where
   pub hours-more : i < 24 → (d : HourPrice) (x : HourAmounts)
-      → ((l : List Change) → Logged s rows n l → (q : ℕ → HourPricing) → PriceIs (q (i + 1)) (getD (t .hours) i d) → x ≡ hourAt l q (i + 1)) → Hours s rows n t (set row i x) (i + 1)
+      → ((l : List Change) → Logged s rows n l → (q : ℕ → HourPricing) → PriceIs (q (i + 1)) (getD (t .hours) i d) → x ≡ hourAt l q (i + 1)) → Hours s rows n t
+      (set row i x) (i + 1)
   hours-more lt d x e =
       let one : i + 1 ≡ 1 + i = omega arith in
       record {
@@ -88,7 +89,8 @@ module _ {s rows : List ℕ} {n : ℕ} {t : PriceTable} {row : List HourAmounts}
       let f = hourReply (standing l) q in
       let all = pad noHour 24 (map hourFrom (map f (hoursFrom 1 24))) in
       ext-getD noHour row all (h .long ∙ sym (pad-length noHour 24 (map hourFrom (map f (hoursFrom 1 24)))))
-      (λ j lt. let in-day : j < 24 = omega (arith, h .long) in h .each l g q w j (omega arith) ∙ sym (hours-at f hourFrom noHour noHour 24 24 1 j in-day (omega arith)))
+      (λ j lt. let in-day : j < 24 = omega (arith, h .long) in h .each l g q w j (omega arith) ∙ sym
+      (hours-at f hourFrom noHour noHour 24 24 1 j in-day (omega arith)))
 
 -- ---- the loop over the units
 
@@ -98,18 +100,23 @@ pub record Dealt (s rows : List ℕ) (n : ℕ) (u : Units) (t : PriceTable) (row
   pub built : (l : List Change) → Logged s rows n l → (q : ℕ → HourPricing) → TableOf q t → Built (unitAs l q) (u .names) emptyName row noUnit i
   pub behind : drop i row ≡ drop i (pad noUnit 512 [])
 
-pub dealt-start : (s rows : List ℕ) (n : ℕ) (u : Units) (t : PriceTable) (x : UnitAmounts) → x ≡ noUnit → length (replicate 512 x) ≡ 512 → Dealt s rows n u t (replicate 512 x) 0
-dealt-start s rows n u t x e size = record { long = size; upto = omega arith; built = λ l g q w. built-none; behind = ap (replicate 512) e ∙ pad-none noUnit 512 }
+pub dealt-start : (s rows : List ℕ) (n : ℕ) (u : Units) (t : PriceTable) (x : UnitAmounts) → x ≡ noUnit → length (replicate 512 x) ≡ 512 → Dealt s rows n u t
+    (replicate 512 x) 0
+dealt-start s rows n u t x e size = record
+    { long = size; upto = omega arith; built = λ l g q w. built-none; behind = ap (replicate 512) e ∙ pad-none noUnit 512 }
 
-module _ {s rows : List ℕ} {n : ℕ} {u : Units} {t : PriceTable} {row : List UnitAmounts} {i : ℕ} (h : Dealt s rows n u t row i) (few : u .n ≤ 512) (size : length (u .names) ≡ 512) where
+module _ {s rows : List ℕ} {n : ℕ} {u : Units} {t : PriceTable} {row : List UnitAmounts} {i : ℕ} (h : Dealt s rows n u t row i) (few : u .n ≤ 512)
+    (size : length (u .names) ≡ 512) where
   pub dealt-more : i < u .n → (d : Name) (x : UnitDay)
-      → ((l : List Change) → Logged s rows n l → Gh ≡ Gh → (q : ℕ → HourPricing) → TableOf q t → dayReply x ≡ unitDayOf (unitKey (getD (u .names) i d)) (standing l) q) × (x ≡ unitDayFrom (dayReply x))
+      → ((l : List Change) → Logged s rows n l → Gh ≡ Gh → (q : ℕ → HourPricing) → TableOf q t → dayReply x ≡ unitDayOf (unitKey (getD (u .names) i d))
+      (standing l) q) × (x ≡ unitDayFrom (dayReply x))
       → Dealt s rows n u t (set row i (record { name = getD (u .names) i d; day = x })) (i + 1)
   dealt-more lt d x e = record {
     long = length-set row i v ∙ h .long;
     upto = omega arith;
     built = λ l g q w. built-more (h .built l g q w) (omega (arith, h .long))
-        ((λ k. record { name = getD (u .names) i d; day = (e .1 ∙ ap unitDayFrom (e .0 l g refl q w)) k }) ∙ ap (unitAs l q) (getD-same (u .names) i d emptyName (omega arith)));
+        ((λ k. record { name = getD (u .names) i d; day = (e .1 ∙ ap unitDayFrom (e .0 l g refl q w)) k }) ∙ ap (unitAs l q)
+        (getD-same (u .names) i d emptyName (omega arith)));
     behind = drop-set-lt (i + 1) row i v (omega arith) ∙ sym (drop-drop 1 i row) ∙ ap (drop 1) (h .behind) ∙ drop-drop 1 i (pad noUnit 512 []);
   }
     where
@@ -132,7 +139,8 @@ pub names-formed : (u : Units) → u .n ≤ 512 → length (u .names) ≡ 512 �
 names-formed u few size l v e = record {
   few = few;
   padded = λ i lt d. subst Padded (getD-take (u .n) (u .names) i d lt)
-      (all-at (subst (All Padded) (sym e) (all-names ghKey (all-map (λ r g q. good-padded (filed r) g) (standing-good l v)))) d i (omega (arith, length-take-le (u .n) (u .names) (omega arith))));
+      (all-at (subst (All Padded) (sym e) (all-names ghKey (all-map (λ r g q. good-padded (filed r) g) (standing-good l v)))) d i
+      (omega (arith, length-take-le (u .n) (u .names) (omega arith))));
 }
 
 -- the key of a unit, by its name

@@ -1,6 +1,6 @@
 use mathlib.Core.Path.{ap}
-use Rattle.book.specs.Layer.{Name, noTicks}
 use borrow.Author.Needs.{needs}
+use Rattle.book.specs.Layer.{Name, noTicks}
 use Rattle.book.proofs.answers.no_amount.Statement.{statement}
 use Rattle.book.proofs.answers.no_amount.Tie as tie
 

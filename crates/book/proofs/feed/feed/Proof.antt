@@ -1,7 +1,7 @@
+use borrow.Author.Needs.{needs}
 use Rattle.book.proofs.book.Rows.{not-rowed}
 use Rattle.book.proofs.log.held.Lemmas.{held-from}
 use Rattle.book.proofs.feed.Lemmas.{fed-none, fed-checked, fed-astray, feeds-by}
-use borrow.Author.Needs.{needs}
 use Rattle.book.proofs.feed.feed.Statement.{statement}
 use Rattle.book.proofs.feed.feed.Tie as tie
 
@@ -40,7 +40,8 @@ returns-3 c =
     let c2 = c .before .before in
     let c5 = c2 .before .before .before in
     let c8 = c5 .before .before .before in
-    feeds-by ((c .fed-so2) .ensures) (fed-astray ((c8 .args) .book) ((c8 .args) .log .now) ((c8 .args) .input .now) (not-rowed _ _ ((c2 .check-rows) .ensures) ((c .before .if2) .left)) ((c5 .if1) .left))
+    feeds-by ((c .fed-so2) .ensures) (fed-astray ((c8 .args) .book) ((c8 .args) .log .now) ((c8 .args) .input .now)
+    (not-rowed _ _ ((c2 .check-rows) .ensures) ((c .before .if2) .left)) ((c5 .if1) .left))
 
 pub feed-spec : {M : Type 1} → statement M
 feed-spec =

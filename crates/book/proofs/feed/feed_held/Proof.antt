@@ -1,9 +1,9 @@
 use mathlib.Core.Path.{_∙_}
 use Prim.Native.Nat.{_-_}
 use lib.ListN.{length}
-use Rattle.book.proofs.feed.Lemmas.{Going, started, finished, since, unread, end-within, end-after, read-there, stops, continues, ends-by}
 use native.Mathlib.Omega.{arith}
 use borrow.Author.Needs.{needs}
+use Rattle.book.proofs.feed.Lemmas.{Going, started, finished, since, unread, end-within, end-after, read-there, stops, continues, ends-by}
 use Rattle.book.proofs.feed.feed_held.Statement.{statement}
 use Rattle.book.proofs.feed.feed_held.Tie as tie
 
@@ -83,7 +83,20 @@ part-held-change-end c =
     end-within ((c11 .loop) .inv) ((c10 .loop-test) .taken) ((c8 .first-change) .ensures) ((c6 .if1) .left)
 
 held-change-requires : tie.Need-held-change-requires Inv-loop μ-loop
-held-change-requires c κs = ((c .before .before .before .before .before .before .before .before .before .before .before .before .loop) .inv .held, (since ((c .before .before .before .before .before .before .before .before .before .before .before .before .loop) .inv) ((c .before .before .before .before .bucket-of) .ensures .0) ((c .before .before .before .before .bucket-of) .ensures .1) ((c .before .before .before .search-from) .ensures), read-there ((c .before .before .before .before .before .before .before .before .before .before .before .before .loop) .inv) ((c .before .before .before .before .before .before .before .before .before .before .before .loop-test) .taken) ((c .before .before .before .before .before .before .before .before .before .first-change) .ensures) ((c .before .before .before .before .before .before .before .if1) .left)))
+held-change-requires c κs = (
+  (c .before .before .before .before .before .before .before .before .before .before .before .before .loop) .inv .held,
+  (
+    since
+        ((c .before .before .before .before .before .before .before .before .before .before .before .before .loop) .inv)
+        ((c .before .before .before .before .bucket-of) .ensures .0) ((c .before .before .before .before .bucket-of) .ensures .1)
+        ((c .before .before .before .search-from) .ensures),
+    read-there
+        ((c .before .before .before .before .before .before .before .before .before .before .before .before .loop) .inv)
+        ((c .before .before .before .before .before .before .before .before .before .before .before .loop-test) .taken)
+        ((c .before .before .before .before .before .before .before .before .before .first-change) .ensures)
+        ((c .before .before .before .before .before .before .before .if1) .left),
+  ),
+)
 
 refusal-in-requires : tie.Need-refusal-in-requires Inv-loop μ-loop
 refusal-in-requires c κs = search needs
@@ -105,7 +118,8 @@ returns-2 c =
     let c16 = c14 .before .before in
     let c18 = c16 .before .before in
     let c19 = c18 .before in
-    λ l e. ends-by ((c .fed-so2) .ensures) (stops ((c19 .loop) .inv) ((c18 .loop-test) .taken) ((c16 .first-change) .ensures) ((c14 .if1) .left) ((c6 .held-change) .ensures) ((c3 .refusal-in) .ensures) ((c .before .if2) .taken) l e)
+    λ l e. ends-by ((c .fed-so2) .ensures) (stops ((c19 .loop) .inv) ((c18 .loop-test) .taken) ((c16 .first-change) .ensures) ((c14 .if1) .left)
+    ((c6 .held-change) .ensures) ((c3 .refusal-in) .ensures) ((c .before .if2) .taken) l e)
 
 mul-latest : tie.Need-mul-latest Inv-loop μ-loop
 mul-latest c =
@@ -123,7 +137,12 @@ loop-less c =
     let c15 = c13 .before .before in
     let c17 = c15 .before .before in
     let c18 = c17 .before in
-    omega (arith, end-after ((c18 .loop) .inv) ((c17 .loop-test) .taken) ((c15 .first-change) .ensures) ((c13 .if1) .left), end-within ((c18 .loop) .inv) ((c17 .loop-test) .taken) ((c15 .first-change) .ensures) ((c13 .if1) .left))
+    omega (
+      arith,
+      end-after ((c18 .loop) .inv) ((c17 .loop-test) .taken) ((c15 .first-change) .ensures) ((c13 .if1) .left),
+      end-within ((c18 .loop) .inv)
+          ((c17 .loop-test) .taken) ((c15 .first-change) .ensures) ((c13 .if1) .left),
+    )
 
 loop-again : tie.Need-loop-again Inv-loop μ-loop
 loop-again c =
@@ -134,7 +153,8 @@ loop-again c =
     let c15 = c13 .before .before in
     let c17 = c15 .before .before in
     let c18 = c17 .before in
-    continues ((c18 .loop) .inv) ((c17 .loop-test) .taken) ((c15 .first-change) .ensures) ((c13 .if1) .left) ((c5 .held-change) .ensures) ((c2 .refusal-in) .ensures) ((c .if2) .left) ((c10 .bucket-of) .ensures .0) ((c10 .bucket-of) .ensures .1)
+    continues ((c18 .loop) .inv) ((c17 .loop-test) .taken) ((c15 .first-change) .ensures) ((c13 .if1) .left) ((c5 .held-change) .ensures)
+    ((c2 .refusal-in) .ensures) ((c .if2) .left) ((c10 .bucket-of) .ensures .0) ((c10 .bucket-of) .ensures .1)
 
 fed-so-requires-3 : tie.Need-fed-so-requires-3 Inv-loop μ-loop
 fed-so-requires-3 c κs = search needs

@@ -8,10 +8,10 @@ use lib.ListN.{length, take, drop, set, getD, length-append, length-set}
 use lib.Seq.{take-append-seam, take-take}
 use lib.Dec.{eqb, ltb}
 use borrow.Author.Tests.{eq-eqb, ne-eqb, eqb-true, eqb-false}
+use Rattle.records.specs.Changes.{entry, whole, parseAny}
 use Rattle.book.specs.Layer.{Key, View, Parsed, Change, keyOf, kindOf, write, Good, Input, fine, fault, parse, parsedOf, putBytes, limitOf, Wanted, Any, Kind, Record, TakeBack, Close, Nothing, isFiling, isWithdrawal, kindIn}
 use Rattle.book.specs.tables.LayerTables.{viewedBytes}
 use Rattle.book.specs.laws.LayerLaws.{parse-fine, parse-fault, viewed-put, store-front, store-length, Padded, good-padded, good-hour}
-use Rattle.records.specs.Changes.{entry, whole, parseAny}
 use Rattle.book.specs.Layer.{bad, Entry, changed, takingBack, closingEntry, entryView, entryOf, markIs, begins, takeBackBytes, closeBytes}
 use Rattle.book.specs.laws.LayerLaws.{entry-bad, any-fault, alone, asEntry, any-back, any-close, any-change}
 use Rattle.book.specs.declared.book.Book.{Book}
@@ -93,7 +93,8 @@ older-less c l m = go (eqb (bucket (keyOf c)) m) (latest-few m l)
 
 -- all changes are among all
 pub since-all : {b : Book} {s rows : List ℕ} → Checked b s rows → (k : Key) → Since b s k (b .changes)
-since-all h k = record { inside = omega arith; none = λ l p. omega (arith, latest-few (bucket k) l, ap length (belongs-one (sym (h .base .is) ∙ p)), h .base .count-is) }
+since-all h k = record
+    { inside = omega arith; none = λ l p. omega (arith, latest-few (bucket k) l, ap length (belongs-one (sym (h .base .is) ∙ p)), h .base .count-is) }
 
 -- ---- a record that is listed
 
@@ -120,81 +121,94 @@ module _ {b : Book} {s rows : List ℕ} (h : Checked b s rows) {want : Wanted} {
 
   open-or : (t : Bool) → b .closed ≡ t → stepped (listed (parse want rec)) b s (load b s)
       ≡ cond t (answered (refused 9)) (judged (r .what) (regOf b s (h .base)) (refusal (h .base .list) (length s) (r .what)))
-  open-or t e = step-listed ∙ ap (λ (y : Bool). cond y (answered (refused 9)) (judged (r .what) (regOf b s (h .base)) (refusal (h .base .list) (length s) (r .what)))) e
+  open-or t e = step-listed ∙ ap
+      (λ (y : Bool). cond y (answered (refused 9)) (judged (r .what) (regOf b s (h .base)) (refusal (h .base .list) (length s) (r .what)))) e
 
   pub listed-closed : b .closed ≡ true → Makes (listed (parse want rec)) b s (v .key) (record { book = b; answer = Refused 9 }) s rows
   listed-closed t = makes-refused h 9 (open-or true t)
 
   -- it is open; the key was looked for, and the records of its mark and hour were counted
   module _ (t : b .closed ≡ false) {from : ℕ} (sn : Since b s (v .key) from) {x : Seek}
-      (fs : (l : List Change) → Logged s rows (b .changes) l → v .key .hour < 32 → Padded (v .key .name) → latestOf (bucket (v .key)) l ≤ from → Sought rows (b .changes) (v .key) x l)
+      (fs : (l : List Change) → Logged s rows (b .changes) l → v .key .hour < 32 → Padded (v .key .name) → latestOf (bucket (v .key)) l ≤ from → Sought rows
+      (b .changes) (v .key) x l)
       {m : ℕ} (fm : (l : List Change) → Ruled rows (b .changes) l → v .key .hour < 32 → m ≡ count (v .key) (standing l))
-      {most : ℕ} (em : most ≡ limitOf (v .key)) {w : ℕ} (ew : w ≡ changeFault (kindIn (v .act)) (x .found) m most (b .changes) (b .used) (v .len) (length s)) where
-    sought : Sought rows (b .changes) (v .key) x (h .base .list)
-    sought = fs (h .base .list) (held-logged h) low padded (sn .none (h .base .list) (h .base .is))
+      {most : ℕ} (em : most ≡ limitOf (v .key)) {w : ℕ} (ew : w ≡ changeFault (kindIn (v .act)) (x .found) m most (b .changes) (b .used) (v .len) (length s))
+    where
+      sought : Sought rows (b .changes) (v .key) x (h .base .list)
+      sought = fs (h .base .list) (held-logged h) low padded (sn .none (h .base .list) (h .base .is))
 
-    -- the code's judgement is the register's
-    judged-is : refusal (h .base .list) (length s) (r .what) ≡ w
-    judged-is =
-        let c = r .what in
-        let l = h .base .list in
-        let fd : x .found ≡ stands (keyOf c) (standing l) = sought .found ∙ survey-found (v .key) l ∙ ap (λ (y : Key). stands y (standing l)) (sym key-is) in
-        let cs : m ≡ count (keyOf c) (standing l) = fm l (held-logged h .ruled) low ∙ ap (λ (y : Key). count y (standing l)) (sym key-is) in
-        let ms : most ≡ limitOf (keyOf c) = em ∙ ap limitOf (sym key-is) in
-        sym (ew ∙ (λ i. changeFault (kindIn (r .is i .act)) (fd i) (cs i) (ms i) (sym (h .base .count-is) i) (sym (h .base .size) i) (r .is i .len) (length s)) ∙ sym (refusal-judge l (length s) c))
-
-    pub listed-refused : (w ≡ 0 → ⊥) → Makes (listed (parse want rec)) b s (v .key) (record { book = b; answer = Refused w }) s rows
-    listed-refused z = makes-refused h w (open-or false t ∙ ap (judged (r .what) (regOf b s (h .base))) judged-is ∙ judged-no (r .what) (regOf b s (h .base)) w z)
-
-    -- it is taken
-    module _ (z : w ≡ 0) where
-      pub listed-few : (b .changes < 512) × (b .used + v .len ≤ length s) × (b .used + v .len ≤ 65535)
-      unfolding changeFault
-      listed-few =
-          room-facts (b .changes) (b .used) (v .len) (length s)
-          (judge-room (isFiling (kindIn (v .act))) (x .found) (ltb m most) (spaceFault (b .changes) (b .used) (v .len) (length s)) (sym ew ∙ z))
-
-      pub listed-clear : x .found ≡ true → x .at < 512
-      listed-clear f = omega (arith, sought .inside f, listed-few .0)
-
-      pub listed-row : {hour : ℕ} → hour < 512 → (hour < 512) × (b .used < 65536)
-      listed-row hs = (hs, omega (arith, listed-few .2))
-
-      step-taken : stepped (listed (parse want rec)) b s (load b s) ≡ becomes (record { list = r .what ∷ h .base .list; closed = b .closed })
-      step-taken = open-or false t ∙ ap (judged (r .what) (regOf b s (h .base))) (judged-is ∙ z)
-
-      pub makes-listed : {hour : ℕ} → hour ≡ hourSlot (v .key) → {s′ : List ℕ} → s′ ≡ viewedBytes v (b .used) rec s
-          → {rows₁ : List ℕ} → rows₁ ≡ cleared rows x → {row : ℕ} → row ≡ packed (not (isWithdrawal (kindIn (v .act)))) (kindIn (v .act)) hour (b .used)
-          → Makes (listed (parse want rec)) b s (v .key) (record { book = record { changes = b .changes + 1; used = b .used + v .len; closed = b .closed }; answer = Accepted }) s′ (set rows₁ (b .changes) row)
-      unfolding writeAll
-      makes-listed {hour} eh {s′} ev {rows₁} ex {row} er =
+      -- the code's judgement is the register's
+      judged-is : refusal (h .base .list) (length s) (r .what) ≡ w
+      judged-is =
           let c = r .what in
-          let es : s′ ≡ putBytes (parse want rec) (b .used) s = ev ∙ viewed-put want rec v (ap parsedOf (r .input) ∙ (λ i. record { number = 0; view = sym (r .is) i })) (b .used) s .1 in
-          let y = h .base in
-          let l = y .list in
-          let g : Reg = record { list = c ∷ l; closed = b .closed } in
-          let len : v .len ≡ length (write c) = ap (λ (k : View). k .len) (r .is) in
-          let n : length (writeAll l ++ write c) ≡ b .used + length (write c) = length-append (writeAll l) (write c) ∙ ap (λ (k : ℕ). k + length (write c)) (y .size) in
-          let u : b .changes + 1 ≡ suc (length l) = omega (arith, y .count-is) in
-          let st : listed (parse want rec) (length s) (regOf b s y) ≡ becomes g = sym (step-is (listed (parse want rec)) b s y) ∙ step-taken in
-          let f : Sought rows (b .changes) (keyOf c) x l = subst (λ (k : Key). Sought rows (b .changes) k x l) (sym key-is) sought in
-          let hr : hour ≡ hourSlot (keyOf c) = eh ∙ ap hourSlot (sym key-is) in
-          let er′ : row ≡ packed (not (isWithdrawal (kindOf c))) (kindOf c) (hourSlot (keyOf c)) (length (writeAll l)) =
-          er ∙ (λ i. packed (not (isWithdrawal (kindIn (r .is i .act)))) (kindIn (r .is i .act)) (hr i) (sym (y .size) i)) in
-          makes-accepted h g _ s′ (set rows₁ (b .changes) row) step-taken
-          (λ i. record { changes = u i; used = (ap (λ (k : ℕ). b .used + k) len ∙ sym n) i; closed = b .closed })
-          (ap length es ∙ store-length (parse want rec) (b .used) s)
-          (ap₂ take n es ∙ store-front (parse want rec) c (b .used) s (r .input) (omega (arith, listed-few .1)) ∙ ap (λ (k : List ℕ). k ++ write c) (sym (y .bytes)))
-          (subst (λ (k : Step). Valid (after k (regOf b s y) .list)) st (listed-valid (parse want rec) (length s) (regOf b s y) (λ k e. parse-fine want rec k e .good) (y .valid)))
-          (subst (λ (k : List ℕ). Rows (set k (b .changes) row) (c ∷ l) (c ∷ l)) (sym ex) (rows-next (held-logged h) (h .size) (listed-few .0) c x f row er′))
-          (length-set rows₁ (b .changes) row ∙ ap length ex ∙ cleared-size rows x ∙ h .size)
-          (λ m z. newer-other c l m (λ e. z (e ∙ ap bucket key-is)))
+          let l = h .base .list in
+          let fd : x .found ≡ stands (keyOf c) (standing l) = sought .found ∙ survey-found (v .key) l ∙ ap (λ (y : Key). stands y (standing l)) (sym key-is) in
+          let cs : m ≡ count (keyOf c) (standing l) = fm l (held-logged h .ruled) low ∙ ap (λ (y : Key). count y (standing l)) (sym key-is) in
+          let ms : most ≡ limitOf (keyOf c) = em ∙ ap limitOf (sym key-is) in
+          sym (ew ∙ (λ i. changeFault (kindIn (r .is i .act)) (fd i) (cs i) (ms i) (sym (h .base .count-is) i) (sym (h .base .size) i) (r .is i .len) (length s))
+          ∙ sym (refusal-judge l (length s) c))
+
+      pub listed-refused : (w ≡ 0 → ⊥) → Makes (listed (parse want rec)) b s (v .key) (record { book = b; answer = Refused w }) s rows
+      listed-refused z = makes-refused h w
+          (open-or false t ∙ ap (judged (r .what) (regOf b s (h .base))) judged-is ∙ judged-no (r .what) (regOf b s (h .base)) w z)
+
+      -- it is taken
+      module _ (z : w ≡ 0) where
+        pub listed-few : (b .changes < 512) × (b .used + v .len ≤ length s) × (b .used + v .len ≤ 65535)
+        unfolding changeFault
+        listed-few =
+            room-facts (b .changes) (b .used) (v .len) (length s)
+            (judge-room (isFiling (kindIn (v .act))) (x .found) (ltb m most) (spaceFault (b .changes) (b .used) (v .len) (length s)) (sym ew ∙ z))
+
+        pub listed-clear : x .found ≡ true → x .at < 512
+        listed-clear f = omega (arith, sought .inside f, listed-few .0)
+
+        pub listed-row : {hour : ℕ} → hour < 512 → (hour < 512) × (b .used < 65536)
+        listed-row hs = (hs, omega (arith, listed-few .2))
+
+        step-taken : stepped (listed (parse want rec)) b s (load b s) ≡ becomes (record { list = r .what ∷ h .base .list; closed = b .closed })
+        step-taken = open-or false t ∙ ap (judged (r .what) (regOf b s (h .base))) (judged-is ∙ z)
+
+        pub makes-listed : {hour : ℕ} → hour ≡ hourSlot (v .key) → {s′ : List ℕ} → s′ ≡ viewedBytes v (b .used) rec s
+            → {rows₁ : List ℕ} → rows₁ ≡ cleared rows x → {row : ℕ} → row ≡ packed (not (isWithdrawal (kindIn (v .act)))) (kindIn (v .act)) hour (b .used)
+            → Makes (listed (parse want rec)) b s (v .key)
+            (record { book = record { changes = b .changes + 1; used = b .used + v .len; closed = b .closed }; answer = Accepted }) s′
+            (set rows₁ (b .changes) row)
+        unfolding writeAll
+        makes-listed {hour} eh {s′} ev {rows₁} ex {row} er =
+            let c = r .what in
+            let es : s′ ≡ putBytes (parse want rec) (b .used) s = ev ∙ viewed-put want rec v
+            (ap parsedOf (r .input) ∙ (λ i. record { number = 0; view = sym (r .is) i })) (b .used) s .1 in
+            let y = h .base in
+            let l = y .list in
+            let g : Reg = record { list = c ∷ l; closed = b .closed } in
+            let len : v .len ≡ length (write c) = ap (λ (k : View). k .len) (r .is) in
+            let n : length (writeAll l ++ write c) ≡ b .used + length (write c) = length-append (writeAll l) (write c) ∙ ap (λ (k : ℕ). k + length (write c))
+            (y .size) in
+            let u : b .changes + 1 ≡ suc (length l) = omega (arith, y .count-is) in
+            let st : listed (parse want rec) (length s) (regOf b s y) ≡ becomes g = sym (step-is (listed (parse want rec)) b s y) ∙ step-taken in
+            let f : Sought rows (b .changes) (keyOf c) x l = subst (λ (k : Key). Sought rows (b .changes) k x l) (sym key-is) sought in
+            let hr : hour ≡ hourSlot (keyOf c) = eh ∙ ap hourSlot (sym key-is) in
+            let er′ : row ≡ packed (not (isWithdrawal (kindOf c))) (kindOf c) (hourSlot (keyOf c)) (length (writeAll l)) =
+            er ∙ (λ i. packed (not (isWithdrawal (kindIn (r .is i .act)))) (kindIn (r .is i .act)) (hr i) (sym (y .size) i)) in
+            makes-accepted h g _ s′ (set rows₁ (b .changes) row) step-taken
+            (λ i. record { changes = u i; used = (ap (λ (k : ℕ). b .used + k) len ∙ sym n) i; closed = b .closed })
+            (ap length es ∙ store-length (parse want rec) (b .used) s)
+            (ap₂ take n es ∙ store-front (parse want rec) c (b .used) s (r .input) (omega (arith, listed-few .1)) ∙ ap (λ (k : List ℕ). k ++ write c)
+            (sym (y .bytes)))
+            (subst (λ (k : Step). Valid (after k (regOf b s y) .list)) st
+            (listed-valid (parse want rec) (length s) (regOf b s y) (λ k e. parse-fine want rec k e .good) (y .valid)))
+            (subst (λ (k : List ℕ). Rows (set k (b .changes) row) (c ∷ l) (c ∷ l)) (sym ex) (rows-next (held-logged h) (h .size) (listed-few .0) c x f row er′))
+            (length-set rows₁ (b .changes) row ∙ ap length ex ∙ cleared-size rows x ∙ h .size)
+            (λ m z. newer-other c l m (λ e. z (e ∙ ap bucket key-is)))
 
 -- ---- what is refused before it is listed
 
 module _ (b : Book) (s : List ℕ) (x : Loaded b s) (rec : List ℕ) where
-  pub parse-refused : (want : Wanted) (p : Parsed) → p ≡ parsedOf (parse want rec) → (p .number ≡ 0 → ⊥) → Leaves (listed (parse want rec)) b s b (refused (p .number)) s
-  parse-refused want p e z = leaves-answered (listed (parse want rec)) b s (refused (p .number)) (step-is (listed (parse want rec)) b s x ∙ go (parse want rec) e)
+  pub parse-refused : (want : Wanted) (p : Parsed) → p ≡ parsedOf (parse want rec) → (p .number ≡ 0 → ⊥) → Leaves (listed (parse want rec)) b s b
+      (refused (p .number)) s
+  parse-refused want p e z = leaves-answered (listed (parse want rec)) b s (refused (p .number))
+      (step-is (listed (parse want rec)) b s x ∙ go (parse want rec) e)
     where
       go : (i : Input Change) → p ≡ parsedOf i → listed i (length s) (regOf b s x) ≡ answered (refused (p .number))
       go (fine c) q = absurd (z (ap (λ (y : Parsed). y .number) q))
@@ -274,7 +288,8 @@ module _ {b : Book} {s rows : List ℕ} (h : Checked b s rows) where
         let c = last .what in
         let by : writeAll l ++ write c ≡ take (b .used) s = sym (ap writeAll (last .list-is)) ∙ h .base .bytes in
         let size : length (writeAll l ++ write c) ≡ b .used = sym (ap (λ (y : List Change). length (writeAll y)) (last .list-is)) ∙ h .base .size in
-        sym (take-take (length (writeAll l)) (b .used) s (omega (arith, length-append (writeAll l) (write c)))) ∙ ap (take (length (writeAll l))) (sym by) ∙ take-append-seam (writeAll l) (write c)
+        sym (take-take (length (writeAll l)) (b .used) s (omega (arith, length-append (writeAll l) (write c)))) ∙ ap (take (length (writeAll l))) (sym by) ∙
+        take-append-seam (writeAll l) (write c)
 
     rest-valid : Valid (last .rest)
     unfolding Valid
@@ -292,20 +307,24 @@ module _ {b : Book} {s rows : List ℕ} (h : Checked b s rows) where
           makes-accepted h less _ s rows′ (back-step false t ∙ ap (shorter (b .closed)) (last .list-is)) book-is refl rest-bytes rest-valid kept n
           (λ m z. omega (arith, older-less (last .what) (last .rest) m, ap (latestOf m) (last .list-is)))
 
-      pub back-makes : {k : Key} {rows′ : List ℕ} → ((c : Change) (l : List Change) → Logged s rows (b .changes) (c ∷ l) → Rows rows′ l l) × (length rows′ ≡ 512)
+      pub back-makes : {k : Key} {rows′ : List ℕ} → ((c : Change) (l : List Change) → Logged s rows (b .changes) (c ∷ l) → Rows rows′ l l) ×
+          (length rows′ ≡ 512)
           → Makes (takenBack 0) b s k (record { book = record { changes = b .changes - 1; used = q; closed = b .closed }; answer = Accepted }) s rows′
       back-makes w = back-taken (w .0 (last .what) (last .rest) (subst (Logged s rows (b .changes)) (last .list-is) (held-logged h))) (w .1)
 
 -- ---- a book that is closed
 
 module _ {b : Book} {s rows : List ℕ} (h : Checked b s rows) where
-  close-step : (t : Bool) → b .closed ≡ t → stepped (closing 0) b s (load b s) ≡ cond t (answered (refused 9)) (becomes (record { list = h .base .list; closed = true }))
-  close-step t e = step-is (closing 0) b s (h .base) ∙ ap (λ (y : Bool). cond y (answered (refused 9)) (becomes (record { list = h .base .list; closed = true }))) e
+  close-step : (t : Bool) → b .closed ≡ t → stepped (closing 0) b s (load b s) ≡ cond t (answered (refused 9))
+      (becomes (record { list = h .base .list; closed = true }))
+  close-step t e = step-is (closing 0) b s (h .base) ∙ ap
+      (λ (y : Bool). cond y (answered (refused 9)) (becomes (record { list = h .base .list; closed = true }))) e
 
   pub close-closed : {k : Key} → b .closed ≡ true → Makes (closing 0) b s k (record { book = b; answer = Refused 9 }) s rows
   close-closed t = makes-refused h 9 (close-step true t)
 
-  pub close-taken : {k : Key} → b .closed ≡ false → Makes (closing 0) b s k (record { book = record { changes = b .changes; used = b .used; closed = true }; answer = Accepted }) s rows
+  pub close-taken : {k : Key} → b .closed ≡ false → Makes (closing 0) b s k
+      (record { book = record { changes = b .changes; used = b .used; closed = true }; answer = Accepted }) s rows
   close-taken t =
       let x = h .base in
       makes-accepted h (record { list = x .list; closed = true }) _ s rows (close-step false t)
@@ -357,7 +376,8 @@ sort-of (a ∷ b ∷ s) =
 general-fault : (rec : List ℕ) (n : ℕ) → parseAny rec ≡ fault n → (lent : ℕ) (g : Reg) → general rec lent g ≡ answered (refused n)
 general-fault rec n e lent g = go (sort-of rec)
   where
-    bare : (x : Entry) (m : ℕ) (f : ℕ → ℕ → Reg → Step) → ((k : ℕ) → f (suc k) lent g ≡ answered (refused (suc k))) → alone x m ≡ fault n → f m lent g ≡ answered (refused n)
+    bare : (x : Entry) (m : ℕ) (f : ℕ → ℕ → Reg → Step) → ((k : ℕ) → f (suc k) lent g ≡ answered (refused (suc k))) → alone x m ≡ fault n → f m lent g ≡
+        answered (refused n)
     bare x zero f r q = absurd (let z : _≡_ {A = ℕ} 0 1 = cc in omega arith)
     bare x (suc k) f r q = let p : suc k ≡ n = cc in r k ∙ ap (λ (j : ℕ). answered (refused j)) p
 
@@ -450,10 +470,12 @@ module _ {rec : List ℕ} {v : View} (r : IsEntry rec v) where
       go takingBack a = absurd (let y : _≡_ {A = ℕ} 0 1 = cc in omega arith)
       go closingEntry a = absurd (let y : _≡_ {A = ℕ} 0 1 = cc in omega arith)
 
-pub makes-by : {f g : ℕ → Reg → Step} {b : Book} {s : List ℕ} {k : Key} {d : Done} {s′ rows′ : List ℕ} → g ≡ f → Makes f b s k d s′ rows′ → Makes g b s k d s′ rows′
+pub makes-by : {f g : ℕ → Reg → Step} {b : Book} {s : List ℕ} {k : Key} {d : Done} {s′ rows′ : List ℕ} → g ≡ f → Makes f b s k d s′ rows′ → Makes g b s k d s′
+    rows′
 makes-by {b = b} {s = s} {k = k} {d = d} {s′ = s′} {rows′ = rows′} e m = subst⁻¹ (λ (y : ℕ → Reg → Step). Makes y b s k d s′ rows′) e m
 
-pub any-refused : (b : Book) (s : List ℕ) (x : Loaded b s) (rec : List ℕ) (p : Parsed) → p ≡ entryOf (parseAny rec) → (p .number ≡ 0 → ⊥) → Leaves (general rec) b s b (refused (p .number)) s
+pub any-refused : (b : Book) (s : List ℕ) (x : Loaded b s) (rec : List ℕ) (p : Parsed) → p ≡ entryOf (parseAny rec) → (p .number ≡ 0 → ⊥) → Leaves (general rec)
+    b s b (refused (p .number)) s
 any-refused b s x rec p e z = leaves-answered (general rec) b s (refused (p .number)) (step-is (general rec) b s x ∙ go (parseAny rec) refl)
   where
     go : (i : Input Entry) → parseAny rec ≡ i → general rec (length s) (regOf b s x) ≡ answered (refused (p .number))
@@ -463,7 +485,8 @@ any-refused b s x rec p e z = leaves-answered (general rec) b s (refused (p .num
 -- bytes of which no record can be read
 pub unread-refused : {b : Book} {s rows : List ℕ} → Checked b s rows → (rec : List ℕ) (j : ℕ) → entry rec ≡ bad j → Leaves (general rec) b s b (refused j) s
 unfolding parseAny
-unread-refused {b} {s} h rec j e = leaves-answered (general rec) b s (refused j) (step-is (general rec) b s (h .base) ∙ general-fault rec j (ap whole e) (length s) (regOf b s (h .base)))
+unread-refused {b} {s} h rec j e = leaves-answered (general rec) b s (refused j)
+    (step-is (general rec) b s (h .base) ∙ general-fault rec j (ap whole e) (length s) (regOf b s (h .base)))
 
 pub any-taken : (rec : List ℕ) (p : Parsed) → p ≡ entryOf (parseAny rec) → p .number ≡ 0 → IsEntry rec (p .view)
 any-taken rec p e z = go (parseAny rec) refl

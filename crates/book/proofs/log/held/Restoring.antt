@@ -71,7 +71,8 @@ module _ {s rows : List ℕ} {n : ℕ} {c : Change} {l : List Change} (g : Logge
     -- where its record stands under the key of the last one, it is written where that key's record stands
     live-place : same (keyOf d) (keyOf c) ≡ true → live l ≡ true → rowPlace (getD rows j 0) ≡ survey (keyOf c) l .start
     unfolding live
-    live-place t o = place-is ∙ sym (live-true (survey (keyOf d) l) (kindOf d) (length (writeAll m)) o .1) ∙ ap (λ (y : Survey). y .start) (survey-same (keyOf d) (keyOf c) t l)
+    live-place t o = place-is ∙ sym (live-true (survey (keyOf d) l) (kindOf d) (length (writeAll m)) o .1) ∙ ap (λ (y : Survey). y .start)
+        (survey-same (keyOf d) (keyOf c) t l)
 
   rows-restored : length rows ≡ 512 → (r : ℕ) → Wrote (length l) (keyOf c) r l → Rows (set rows r (rowStands (getD rows r 0))) l l
   unfolding live
@@ -84,9 +85,11 @@ module _ {s rows : List ℕ} {n : ℕ} {c : Change} {l : List Change} (g : Logge
       there j lt p =
           let o = rows-at rows (c ∷ l) l r (length l) l-kept refl (w .inside) in
           let v = w .live (o .what) (drop (length l - r) l) (o .rest) in
-          place-one (g .ruled) j r (omega (arith, g .ruled .count)) (omega (arith, w .inside, g .ruled .count)) (p ∙ sym (live-place r (w .inside) (o .what) (drop (length l - r) l) (o .rest) (v .0) (v .1)))
+          place-one (g .ruled) j r (omega (arith, g .ruled .count)) (omega (arith, w .inside, g .ruled .count))
+          (p ∙ sym (live-place r (w .inside) (o .what) (drop (length l - r) l) (o .rest) (v .0) (v .1)))
 
-      at : (j : ℕ) (d : Change) (m : List Change) → j < length l → drop (length l - (j + 1)) l ≡ d ∷ m → getD (set rows r x) j 0 ≡ rowOf l (length (writeAll m)) d
+      at : (j : ℕ) (d : Change) (m : List Change) → j < length l → drop (length l - (j + 1)) l ≡ d ∷ m → getD (set rows r x) j 0 ≡ rowOf l (length (writeAll m))
+          d
       at j d m lt e =
           let q = length (writeAll m) in
           let old = liveAt (survey (keyOf d) (c ∷ l)) (kindOf d) q in
@@ -95,16 +98,20 @@ module _ {s rows : List ℕ} {n : ℕ} {c : Change} {l : List Change} (g : Logge
           by-test (eqb j r)
           (λ t. let ej = eqb-true j r t in
           let o : new ≡ true = w .live d m (ap (λ (y : ℕ). drop (length l - (y + 1)) l) (sym ej) ∙ e) .1 in
-          ap (λ (y : ℕ). getD (set rows r x) y 0) ej ∙ getD-set-same rows r x 0 (omega (arith, w .inside, valid-size l l-valid .0)) ∙ ap (λ (y : ℕ). rowStands (getD rows y 0)) (sym ej)
-          ∙ ap rowStands (row-is j lt d m e) ∙ stands-packed old (kindOf d) (hourSlot (keyOf d)) q (slot-few (keyOf d) (low j lt d m e)) (q-few j lt d m e) ∙ ap row (sym o))
+          ap (λ (y : ℕ). getD (set rows r x) y 0) ej ∙ getD-set-same rows r x 0 (omega (arith, w .inside, valid-size l l-valid .0)) ∙ ap
+          (λ (y : ℕ). rowStands (getD rows y 0)) (sym ej)
+          ∙ ap rowStands (row-is j lt d m e) ∙ stands-packed old (kindOf d) (hourSlot (keyOf d)) q (slot-few (keyOf d) (low j lt d m e)) (q-few j lt d m e) ∙ ap
+          row (sym o))
           (λ t. getD-set-other rows r j x 0 (eqb-false j r t) ∙ row-is j lt d m e
           ∙ ap row (by-test (same (keyOf d) (keyOf c))
           (λ u. live-over c l (keyOf d) (kindOf d) q u (under d m l (length l - (j + 1)) e)
           ∙ sym (by-test new (λ o. absurd (eqb-false j r t (there j lt (live-place j lt d m e u o)))) (λ o. o)))
           (λ u. live-passed c l (keyOf d) (kindOf d) q u)))
 
-pub restored : {s rows : List ℕ} {n : ℕ} → length rows ≡ 512 → (r : ℕ) → ((c : Change) (l : List Change) → Logged s rows n (c ∷ l) → Wrote (length l) (keyOf c) r l)
-    → ((c : Change) (l : List Change) → Logged s rows n (c ∷ l) → Rows (set rows r (rowStands (getD rows r 0))) l l) × (length (set rows r (rowStands (getD rows r 0))) ≡ 512)
+pub restored : {s rows : List ℕ} {n : ℕ} → length rows ≡ 512 → (r : ℕ) →
+    ((c : Change) (l : List Change) → Logged s rows n (c ∷ l) → Wrote (length l) (keyOf c) r l)
+    → ((c : Change) (l : List Change) → Logged s rows n (c ∷ l) → Rows (set rows r (rowStands (getD rows r 0))) l l) ×
+    (length (set rows r (rowStands (getD rows r 0))) ≡ 512)
 restored {rows = rows} size r f = ((λ c l g. rows-restored g size r (f c l g)), length-set rows r (rowStands (getD rows r 0)) ∙ size)
 
 -- ---- what is written where a change begins
@@ -130,7 +137,8 @@ record Stands-at (s : List ℕ) (q : ℕ) (d : Change) : Type 0 where
   rest : List ℕ
   bytes : drop q s ≡ write d ++ rest
 
-stands-at : {s rows : List ℕ} {n : ℕ} {l : List Change} (g : Logged s rows n l) (m : ℕ) (d : Change) (r : List Change) → drop m l ≡ d ∷ r → Stands-at s (length (writeAll r)) d
+stands-at : {s rows : List ℕ} {n : ℕ} {l : List Change} (g : Logged s rows n l) (m : ℕ) (d : Change) (r : List Change) → drop m l ≡ d ∷ r → Stands-at s
+    (length (writeAll r)) d
 stands-at {s} {l = l} g m d r e =
     let w = split-at m l d r e in
     let v = drop (length (writeAll l)) s in
@@ -146,7 +154,12 @@ stands-at {s} {l = l} g m d r e =
 
 -- a record, behind the mark of a correction
 bears-at : {s : List ℕ} {q : ℕ} (d : Change) → Stands-at s q d → Good d → isWithdrawal (kindOf d) ≡ false → Bears s (q + leadLength (kindOf d)) (keyOf d)
-bears-at {s} {q} (filed r) w g z = record { what = r; at = subst (λ (x : ℕ). At s x r) (sym (zero-more q)) (record { inside = omega (arith, w .inside); rest = w .rest; bytes = w .bytes; good = g }); key = refl }
+bears-at {s} {q} (filed r) w g z = record {
+  what = r;
+  at = subst (λ (x : ℕ). At s x r) (sym (zero-more q))
+      (record { inside = omega (arith, w .inside); rest = w .rest; bytes = w .bytes; good = g });
+  key = refl;
+}
   where
     zero-more : (q : ℕ) → q + 0 ≡ q
     zero-more q = omega arith
@@ -155,7 +168,8 @@ bears-at {s} {q} (corrected r) w g z = record {
   at = record {
     inside = omega (arith, w .inside, write-co r .0);
     rest = w .rest;
-    bytes = sym (drop-drop 2 q s) ∙ ap (drop 2) (w .bytes) ∙ drop-append-le 2 (write (corrected r)) (w .rest) (omega (arith, write-co r .0)) ∙ ap (λ (y : List ℕ). y ++ w .rest) (write-co r .1);
+    bytes = sym (drop-drop 2 q s) ∙ ap (drop 2) (w .bytes) ∙ drop-append-le 2 (write (corrected r)) (w .rest) (omega (arith, write-co r .0)) ∙ ap
+        (λ (y : List ℕ). y ++ w .rest) (write-co r .1);
     good = good-co r g;
   };
   key = refl;
@@ -174,11 +188,13 @@ backward-start {n = n} h = record {
   inside = omega arith;
   is = λ c l u.
       let e : 1 ≡ n - (n - 1) = omega arith in
-      subst (λ (m : ℕ). (survey (keyOf c) (drop m (c ∷ l)) .found ≡ true) × (survey (keyOf c) (drop m (c ∷ l)) .start ≡ survey (keyOf c) l .start)) e (u .stood, refl);
+      subst (λ (m : ℕ). (survey (keyOf c) (drop m (c ∷ l)) .found ≡ true) × (survey (keyOf c) (drop m (c ∷ l)) .start ≡ survey (keyOf c) l .start)) e
+      (u .stood, refl);
 }
 
 -- one of the changes has the key
-pub backward-end : {s rows : List ℕ} {n hs : ℕ} {head : List ℕ} {i : ℕ} → Backward s rows n hs head i → i ≤ 0 → (r : ℕ) (c : Change) (l : List Change) → Undoing s rows n hs head c l → Wrote (length l) (keyOf c) r l
+pub backward-end : {s rows : List ℕ} {n hs : ℕ} {head : List ℕ} {i : ℕ} → Backward s rows n hs head i → i ≤ 0 → (r : ℕ) (c : Change) (l : List Change) → Undoing
+    s rows n hs head c l → Wrote (length l) (keyOf c) r l
 unfolding survey
 backward-end {n = n} {i = i} h z r c l u =
     let e : drop (n - i) (c ∷ l) ≡ [] = drop-of-length-le (c ∷ l) {i = n - i} (omega (arith, u .logged .ruled .count)) in
@@ -209,10 +225,12 @@ module _ {s rows : List ℕ} {n hs : ℕ} {head : List ℕ} {i : ℕ} (h : Backw
     good-there = ruled-good (g .ruled) back-inside
 
   module _ {c : Change} {l : List Change} (u : Undoing s rows n hs head c l) where
-    turn : (survey (keyOf c) (what (u .logged) ∷ older (u .logged)) .found ≡ true) × (survey (keyOf c) (what (u .logged) ∷ older (u .logged)) .start ≡ survey (keyOf c) l .start)
+    turn : (survey (keyOf c) (what (u .logged) ∷ older (u .logged)) .found ≡ true) ×
+        (survey (keyOf c) (what (u .logged) ∷ older (u .logged)) .start ≡ survey (keyOf c) l .start)
     turn =
         let e : n - i ≡ n - (j + 1) = omega arith in
-        subst (λ (y : List Change). (survey (keyOf c) y .found ≡ true) × (survey (keyOf c) y .start ≡ survey (keyOf c) l .start)) (ap (λ (m : ℕ). drop m (c ∷ l)) e ∙ older-is (u .logged)) (h .is c l u)
+        subst (λ (y : List Change). (survey (keyOf c) y .found ≡ true) × (survey (keyOf c) y .start ≡ survey (keyOf c) l .start))
+        (ap (λ (m : ℕ). drop m (c ∷ l)) e ∙ older-is (u .logged)) (h .is c l u)
 
     -- of the key it is no withdrawal
     turn-wrote : same (keyOf c) (keyOf (what (u .logged))) ≡ true → not (isWithdrawal (kindOf (what (u .logged)))) ≡ true
@@ -245,7 +263,8 @@ module _ {s rows : List ℕ} {n hs : ℕ} {head : List ℕ} {i : ℕ} (h : Backw
       by-test (same (keyOf c) (keyOf x))
       (λ t. let w = same-alike (keyOf c) (keyOf x) t in
       let sl : rowSlot row ≡ hs = seen-at (u .logged) .slot ∙ sym (u .slot-is ∙ (λ i. order (w .mark i) * 32 + w .hour i)) in
-      true≠false (ap₂ (λ (a : Kind) (b : Bool). not (isWithdrawal a) && b) (seen-at (u .logged) .kind) (eq-eqb (rowSlot row) hs sl) ∙ ap (λ (b : Bool). b && true) (turn-wrote u t)) e)
+      true≠false (ap₂ (λ (a : Kind) (b : Bool). not (isWithdrawal a) && b) (seen-at (u .logged) .kind) (eq-eqb (rowSlot row) hs sl) ∙ ap
+      (λ (b : Bool). b && true) (turn-wrote u t)) e)
       (λ t. t))
 
   -- it filed or corrected a record of the mark and hour
@@ -261,7 +280,8 @@ module _ {s rows : List ℕ} {n hs : ℕ} {head : List ℕ} {i : ℕ} (h : Backw
 
     same-there : {c : Change} {l : List Change} (u : Undoing s rows n hs head c l) → begins head (drop x s) ≡ same (keyOf c) (keyOf (what (u .logged)))
     unfolding Valid
-    same-there {c} u = ap (λ (y : List ℕ). begins y (drop x s)) (u .head-is) ∙ head-at (there (u .logged)) (keyOf c) (good-padded c (u .logged .ruled .valid .0))
+    same-there {c} u = ap (λ (y : List ℕ). begins y (drop x s)) (u .head-is) ∙ head-at (there (u .logged)) (keyOf c)
+        (good-padded c (u .logged .ruled .valid .0))
 
     -- of another name
     pub back-other : begins head (drop x s) ≡ false → Backward s rows n hs head j
@@ -270,7 +290,11 @@ module _ {s rows : List ℕ} {n hs : ℕ} {head : List ℕ} {i : ℕ} (h : Backw
     -- of the key
     pub back-hit : begins head (drop x s) ≡ true → (c : Change) (l : List Change) → Undoing s rows n hs head c l → Wrote (length l) (keyOf c) j l
     unfolding survey liveAt
-    back-hit t c l u = record { inside = before; live = λ d m r. let p : what g ∷ older g ≡ d ∷ m = sym older-l ∙ r in let y : what g ≡ d = cc in let z : older g ≡ m = cc in wrote d m y z }
+    back-hit t c l u = record {
+      inside = before;
+      live = λ d m r. let p : what g ∷ older g ≡ d ∷ m = sym older-l ∙ r in let y : what g ≡ d = cc in let z : older
+          g ≡ m = cc in wrote d m y z;
+    }
       where
         g : Logged s rows n (c ∷ l)
         g = u .logged
@@ -284,19 +308,23 @@ module _ {s rows : List ℕ} {n hs : ℕ} {head : List ℕ} {i : ℕ} (h : Backw
         sc : same (keyOf c) (keyOf (what g)) ≡ true
         sc = sym (same-there u) ∙ t
 
-        wrote : (d : Change) (m : List Change) → what g ≡ d → older g ≡ m → (same (keyOf d) (keyOf c) ≡ true) × (liveAt (survey (keyOf d) l) (kindOf d) (length (writeAll m)) ≡ true)
+        wrote : (d : Change) (m : List Change) → what g ≡ d → older g ≡ m → (same (keyOf d) (keyOf c) ≡ true) ×
+            (liveAt (survey (keyOf d) l) (kindOf d) (length (writeAll m)) ≡ true)
         wrote d m y z =
             let q = length (writeAll m) in
             let sd : same (keyOf c) (keyOf d) ≡ true = ap (λ (v : Change). same (keyOf c) (keyOf v)) (sym y) ∙ sc in
             let dc = same-sym (keyOf d) (keyOf c) ∙ sd in
             let sv = survey-same (keyOf d) (keyOf c) dc l in
-            let k3 : isWithdrawal (kindOf d) ≡ false = off (isWithdrawal (kindOf d)) (ap (λ (v : Change). not (isWithdrawal (kindOf v))) (sym y) ∙ turn-wrote u sc) in
+            let k3 : isWithdrawal (kindOf d) ≡ false = off (isWithdrawal (kindOf d))
+            (ap (λ (v : Change). not (isWithdrawal (kindOf v))) (sym y) ∙ turn-wrote u sc) in
             let st : survey (keyOf d) l .start ≡ q + leadLength (kindOf d) =
-            ap (λ (v : Survey). v .start) sv ∙ sym (turn u .1) ∙ (λ i. survey (keyOf c) (y i ∷ z i) .start) ∙ ap (λ (b : Bool). cond b (cond (isCorrection (kindOf d)) (q + 2) q) (survey (keyOf c) m .start)) sd
+            ap (λ (v : Survey). v .start) sv ∙ sym (turn u .1) ∙ (λ i. survey (keyOf c) (y i ∷ z i) .start) ∙ ap
+            (λ (b : Bool). cond b (cond (isCorrection (kindOf d)) (q + 2) q) (survey (keyOf c) m .start)) sd
             ∙ lead (isCorrection (kindOf d)) q in (
               dc,
               ap (λ (b : Bool). cond b false (cond (survey (keyOf d) l .found) (eqb (survey (keyOf d) l .start) (q + leadLength (kindOf d))) false)) k3
-                  ∙ ap₂ (λ (a b : Bool). cond a b false) (ap (λ (v : Survey). v .found) sv ∙ u .stood) (eq-eqb (survey (keyOf d) l .start) (q + leadLength (kindOf d)) st),
+                  ∙ ap₂ (λ (a b : Bool). cond a b false) (ap (λ (v : Survey). v .found) sv ∙ u .stood)
+                  (eq-eqb (survey (keyOf d) l .start) (q + leadLength (kindOf d)) st),
             )
           where
             off : (b : Bool) → not b ≡ true → b ≡ false
@@ -326,7 +354,8 @@ module _ {s rows : List ℕ} {n : ℕ} {c : Change} {l : List Change} (g : Logge
   unfolding Rows Valid
   last-seen =
       let e : n - 1 ≡ length l = omega (arith, g .ruled .count) in
-      row-seen _ (c ∷ l) (length (writeAll l)) c (ap (λ (m : ℕ). getD rows m 0) e ∙ g .ruled .kept .0) (omega (arith, good-hour c (g .ruled .valid .0) .1)) (omega (arith, valid-size l (g .ruled .valid .2) .1))
+      row-seen _ (c ∷ l) (length (writeAll l)) c (ap (λ (m : ℕ). getD rows m 0) e ∙ g .ruled .kept .0) (omega (arith, good-hour c (g .ruled .valid .0) .1))
+      (omega (arith, valid-size l (g .ruled .valid .2) .1))
 
   last-at : Stands-at s (length (writeAll l)) c
   last-at = stands-at g 0 c l refl
@@ -335,7 +364,8 @@ module _ {s rows : List ℕ} {n : ℕ} {c : Change} {l : List Change} (g : Logge
   last-within ex = omega (arith, ex, last-seen .start, last-at .inside)
 
   pub undoing : {kind : Kind} → kind ≡ rowKind (getD rows (n - 1) 0) → isFiling kind ≡ false → {x : ℕ} → x ≡ rowStart (getD rows (n - 1) 0)
-      → {a : KeyAnswer} → a ≡ keyAnswer (headKey (take (length s - x) (drop x s))) → {hs : ℕ} → hs ≡ hourSlot (a .key) → {head : List ℕ} → head ≡ recordHead (a .key)
+      → {a : KeyAnswer} → a ≡ keyAnswer (headKey (take (length s - x) (drop x s))) → {hs : ℕ} → hs ≡ hourSlot (a .key) → {head : List ℕ} → head ≡ recordHead
+      (a .key)
       → Undoing s rows n hs head c l
   unfolding Valid
   undoing {kind} ek z {x} ex {a} ea {hs} es {head} eh =

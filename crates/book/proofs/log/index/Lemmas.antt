@@ -35,7 +35,8 @@ weighing-start start bytes h = record { so-far = refl; most = omega arith; light
 pub byte-weighs : (b weight : ℕ) → b < 256 → weight < 8192 → b * weight ≤ 2097152
 byte-weighs b weight h w = mul-le-mul {n₁ = b} {m₁ = weight} {n₂ = 256} {m₂ = 8192} (omega arith) (omega arith)
 
-pub weighing-next : (start : ℕ) (bytes : List ℕ) (sum weight i d b : ℕ) → length bytes ≡ 12 → Weighing start bytes sum weight i → i < 12 → b ≡ getD bytes i d → b < 256
+pub weighing-next : (start : ℕ) (bytes : List ℕ) (sum weight i d b : ℕ) → length bytes ≡ 12 → Weighing start bytes sum weight i → i < 12 → b ≡ getD bytes i d →
+    b < 256
     → Weighing start bytes (sum + b * weight) (weight * 31 % 8192) (i + 1)
 unfolding weighed
 weighing-next start bytes sum weight i d b size h lt e w =
@@ -48,7 +49,8 @@ weighing-next start bytes sum weight i d b size h lt e w =
       inside = omega arith;
     }
 
-pub weighing-end : (k : Key) (sum weight i : ℕ) → length (k .name .bytes) ≡ 12 → Weighing (hourSlot k) (k .name .bytes) sum weight i → 12 ≤ i → (sum % 8192 ≡ bucket k) × (sum % 8192 < 8192)
+pub weighing-end : (k : Key) (sum weight i : ℕ) → length (k .name .bytes) ≡ 12 → Weighing (hourSlot k) (k .name .bytes) sum weight i → 12 ≤ i →
+    (sum % 8192 ≡ bucket k) × (sum % 8192 < 8192)
 unfolding bucket weighed
 weighing-end k sum weight i size h le =
     (ap (λ (x : ℕ). x % 8192) (sym (ap (weighed sum weight) (drop-of-length-le (k .name .bytes) {i = i} (omega arith))) ∙ h .so-far), omega arith)
@@ -67,7 +69,8 @@ latest-few h (c ∷ l) = go (eqb (bucket (keyOf c)) h) (latest-few h l)
 -- another number is another key: the number is made of all places of a name, which are as reading makes them
 pub other-slot : (k : Key) → Padded (k .name) → (c : Change) → Good c → eqb (bucket (keyOf c)) (bucket k) ≡ false → same k (keyOf c) ≡ false
 other-slot k p c g h =
-    by-test (same k (keyOf c)) (λ t. true≠false (eq-eqb (bucket (keyOf c)) (bucket k) (ap bucket (sym (same-true k (keyOf c) p (good-padded c g) t)))) h) (λ t. t)
+    by-test (same k (keyOf c)) (λ t. true≠false (eq-eqb (bucket (keyOf c)) (bucket k) (ap bucket (sym (same-true k (keyOf c) p (good-padded c g) t)))) h)
+    (λ t. t)
 
 -- ---- one change more
 
@@ -76,15 +79,18 @@ pub latest-next : (latest : List ℕ) (c : Change) (l : List Change) (h : ℕ) �
 unfolding latestOf
 latest-next latest c l h fits is =
     by-test (eqb (bucket (keyOf c)) h)
-    (λ t. ap (λ (n : ℕ). getD (set latest (bucket (keyOf c)) (length l + 1)) n 0) (sym (eqb-true (bucket (keyOf c)) h t)) ∙ getD-set-same latest (bucket (keyOf c)) (length l + 1) 0 fits ∙ sym (ap (λ (b : Bool). cond b (length l + 1) (latestOf h l)) t))
-    (λ t. getD-set-other latest (bucket (keyOf c)) h (length l + 1) 0 (λ e. true≠false (eq-eqb (bucket (keyOf c)) h (sym e)) t) ∙ is ∙ sym (ap (λ (b : Bool). cond b (length l + 1) (latestOf h l)) t))
+    (λ t. ap (λ (n : ℕ). getD (set latest (bucket (keyOf c)) (length l + 1)) n 0) (sym (eqb-true (bucket (keyOf c)) h t)) ∙ getD-set-same latest
+    (bucket (keyOf c)) (length l + 1) 0 fits ∙ sym (ap (λ (b : Bool). cond b (length l + 1) (latestOf h l)) t))
+    (λ t. getD-set-other latest (bucket (keyOf c)) h (length l + 1) 0 (λ e. true≠false (eq-eqb (bucket (keyOf c)) h (sym e)) t) ∙ is ∙ sym
+    (ap (λ (b : Bool). cond b (length l + 1) (latestOf h l)) t))
 
 -- two keys of different mark or hour are counted at different places
 apart : (a b : Key) → a .hour < 32 → b .hour < 32 → sameHour a b ≡ false → hourSlot a ≡ hourSlot b → ⊥
 apart a b h k n e = true≠false (parts-hour a b (omega arith) (omega arith)) n
 
 pub counts-next : (counts : List ℕ) (c : Change) (l : List Change) (k : Key) (n : ℕ) → hourSlot (keyOf c) < length counts → keyOf c .hour < 32 → k .hour < 32
-    → getD counts (hourSlot k) 0 ≡ survey k l .count → n ≡ cond (isFiling (kindOf c)) (getD counts (hourSlot (keyOf c)) 0 + 1) (cond (isWithdrawal (kindOf c)) (getD counts (hourSlot (keyOf c)) 0 - 1) (getD counts (hourSlot (keyOf c)) 0))
+    → getD counts (hourSlot k) 0 ≡ survey k l .count → n ≡ cond (isFiling (kindOf c)) (getD counts (hourSlot (keyOf c)) 0 + 1)
+    (cond (isWithdrawal (kindOf c)) (getD counts (hourSlot (keyOf c)) 0 - 1) (getD counts (hourSlot (keyOf c)) 0))
     → getD (set counts (hourSlot (keyOf c)) n) (hourSlot k) 0 ≡ survey k (c ∷ l) .count
 unfolding survey
 counts-next counts c l k n fits h j is e = by-test (sameHour k (keyOf c)) with-it beside
@@ -92,14 +98,16 @@ counts-next counts c l k n fits h j is e = by-test (sameHour k (keyOf c)) with-i
     after : ℕ → ℕ
     after m = cond (isFiling (kindOf c)) (m + 1) (cond (isWithdrawal (kindOf c)) (m - 1) m)
 
-    with-it : sameHour k (keyOf c) ≡ true → getD (set counts (hourSlot (keyOf c)) n) (hourSlot k) 0 ≡ cond (sameHour k (keyOf c)) (after (survey k l .count)) (survey k l .count)
+    with-it : sameHour k (keyOf c) ≡ true → getD (set counts (hourSlot (keyOf c)) n) (hourSlot k) 0 ≡ cond (sameHour k (keyOf c)) (after (survey k l .count))
+        (survey k l .count)
     with-it t =
         let p = hour-parts k (keyOf c) t in
         let s : hourSlot k ≡ hourSlot (keyOf c) = λ i. order (p .0 i) * 32 + p .1 i in
         ap (λ (m : ℕ). getD (set counts (hourSlot (keyOf c)) n) m 0) s ∙ getD-set-same counts (hourSlot (keyOf c)) n 0 fits ∙ e
         ∙ ap after (ap (λ (m : ℕ). getD counts m 0) (sym s) ∙ is) ∙ sym (ap (λ (b : Bool). cond b (after (survey k l .count)) (survey k l .count)) t)
 
-    beside : sameHour k (keyOf c) ≡ false → getD (set counts (hourSlot (keyOf c)) n) (hourSlot k) 0 ≡ cond (sameHour k (keyOf c)) (after (survey k l .count)) (survey k l .count)
+    beside : sameHour k (keyOf c) ≡ false → getD (set counts (hourSlot (keyOf c)) n) (hourSlot k) 0 ≡ cond (sameHour k (keyOf c)) (after (survey k l .count))
+        (survey k l .count)
     beside t =
         getD-set-other counts (hourSlot (keyOf c)) (hourSlot k) n 0 (λ w. apart k (keyOf c) j h t w) ∙ is
         ∙ sym (ap (λ (b : Bool). cond b (after (survey k l .count)) (survey k l .count)) t)

@@ -67,10 +67,12 @@ live-newest : (c : Change) (l : List Change) → liveAt (survey (keyOf c) (c ∷
 unfolding survey liveAt
 live-newest (filed r) l =
     let q = length (writeAll l) in
-    ap (λ (b : Bool). cond (cond b true (survey (r .key) l .found)) (eqb (cond b q (survey (r .key) l .start)) (q + 0)) false) (same-refl (r .key)) ∙ eq-eqb q (q + 0) (omega arith)
+    ap (λ (b : Bool). cond (cond b true (survey (r .key) l .found)) (eqb (cond b q (survey (r .key) l .start)) (q + 0)) false) (same-refl (r .key)) ∙ eq-eqb q
+    (q + 0) (omega arith)
 live-newest (corrected r) l =
     let q = length (writeAll l) in
-    ap (λ (b : Bool). cond (cond b true (survey (r .key) l .found)) (eqb (cond b (q + 2) (survey (r .key) l .start)) (q + 2)) false) (same-refl (r .key)) ∙ eq-eqb (q + 2) (q + 2) refl
+    ap (λ (b : Bool). cond (cond b true (survey (r .key) l .found)) (eqb (cond b (q + 2) (survey (r .key) l .start)) (q + 2)) false) (same-refl (r .key)) ∙
+    eq-eqb (q + 2) (q + 2) refl
 live-newest (withdrawn k) l = refl
 
 module _ (c : Change) (l : List Change) (k : Key) (v : Kind) (q : ℕ) where
@@ -78,13 +80,15 @@ module _ (c : Change) (l : List Change) (k : Key) (v : Kind) (q : ℕ) where
   unfolding survey liveAt
   live-passed t =
       let Q = length (writeAll l) in
-      ap (λ (b : Bool). cond (isWithdrawal v) false (cond (cond b (not (isWithdrawal (kindOf c))) (survey k l .found)) (eqb (cond b (cond (isCorrection (kindOf c)) (Q + 2) Q) (survey k l .start)) (q + leadLength v)) false)) t
+      ap (λ (b : Bool). cond (isWithdrawal v) false (cond (cond b (not (isWithdrawal (kindOf c))) (survey k l .found))
+      (eqb (cond b (cond (isCorrection (kindOf c)) (Q + 2) Q) (survey k l .start)) (q + leadLength v)) false)) t
 
   pub live-over : same k (keyOf c) ≡ true → q + leadLength v < length (writeAll l) → liveAt (survey k (c ∷ l)) v q ≡ false
   unfolding survey
   live-over t h =
       let Q = length (writeAll l) in
-      let e : survey k (c ∷ l) .start ≡ cond (isCorrection (kindOf c)) (Q + 2) Q = ap (λ (b : Bool). cond b (cond (isCorrection (kindOf c)) (Q + 2) Q) (survey k l .start)) t in
+      let e : survey k (c ∷ l) .start ≡ cond (isCorrection (kindOf c)) (Q + 2) Q = ap
+      (λ (b : Bool). cond b (cond (isCorrection (kindOf c)) (Q + 2) Q) (survey k l .start)) t in
       live-away (survey k (c ∷ l)) v q (λ z. omega (arith, z, e, h, least (isCorrection (kindOf c)) Q))
     where
       least : (b : Bool) (m : ℕ) → m ≤ cond b (m + 2) m
@@ -102,7 +106,8 @@ rows-build rows all [] n e f = tt
 rows-build rows all (c ∷ l) n e f =
     let z : n - (length l + 1) ≡ 0 = omega arith in (
       f (length l) c l (omega arith) (ap (λ (m : ℕ). drop m (c ∷ l)) z),
-      rows-build rows all l (length l) refl (λ j d m lt w. let y : n - (j + 1) ≡ suc (length l - (j + 1)) = omega arith in f j d m (omega arith) (ap (λ (x : ℕ). drop x (c ∷ l)) y ∙ w)),
+      rows-build rows all l (length l) refl
+          (λ j d m lt w. let y : n - (j + 1) ≡ suc (length l - (j + 1)) = omega arith in f j d m (omega arith) (ap (λ (x : ℕ). drop x (c ∷ l)) y ∙ w)),
     )
 
 pub cleared-size : (rows : List ℕ) (x : Seek) → length (cleared rows x) ≡ length rows
@@ -120,12 +125,14 @@ module _ {s rows : List ℕ} {n : ℕ} {l : List Change} (g : Logged s rows n l)
       gone : ℕ
       gone = rowGone (getD rows (x .at) 0)
 
-      go : (b : Bool) → (b ≡ true → x .at < n) → getD (cond b (set rows (x .at) gone) rows) j 0 ≡ cond (b && eqb j (x .at)) (rowGone (getD rows j 0)) (getD rows j 0)
+      go : (b : Bool) → (b ≡ true → x .at < n) → getD (cond b (set rows (x .at) gone) rows) j 0 ≡ cond (b && eqb j (x .at)) (rowGone (getD rows j 0))
+          (getD rows j 0)
       go false h = refl
       go true h =
           by-test (eqb j (x .at))
           (λ t. let e = eqb-true j (x .at) t in
-          ap (λ (m : ℕ). getD (set rows (x .at) gone) m 0) e ∙ getD-set-same rows (x .at) gone 0 (omega (arith, h refl)) ∙ ap (λ (m : ℕ). rowGone (getD rows m 0)) (sym e)
+          ap (λ (m : ℕ). getD (set rows (x .at) gone) m 0) e ∙ getD-set-same rows (x .at) gone 0 (omega (arith, h refl)) ∙ ap
+          (λ (m : ℕ). rowGone (getD rows m 0)) (sym e)
           ∙ sym (ap (λ (b : Bool). cond b (rowGone (getD rows j 0)) (getD rows j 0)) t))
           (λ t. getD-set-other rows (x .at) j gone 0 (λ e. true≠false (eq-eqb j (x .at) e) t)
           ∙ sym (ap (λ (b : Bool). cond b (rowGone (getD rows j 0)) (getD rows j 0)) t))
@@ -171,7 +178,8 @@ module _ {s rows : List ℕ} {n : ℕ} {l : List Change} (g : Logged s rows n l)
         (λ o. let w = live-true (survey (keyOf d) l) (kindOf d) (length (writeAll m)) o in
         let kd = survey-same (keyOf d) (keyOf c) t l in
         let fd : x .found ≡ true = f .found ∙ ap (λ (y : Survey). y .found) (sym kd) ∙ w .0 in
-        let p : rowPlace (getD rows (x .at) 0) ≡ rowPlace (getD rows j 0) = f .place fd ∙ f .start fd ∙ ap (λ (y : Survey). y .start) (sym kd) ∙ w .1 ∙ sym place-is in
+        let p : rowPlace (getD rows (x .at) 0) ≡ rowPlace (getD rows j 0) = f .place fd ∙ f .start fd ∙ ap (λ (y : Survey). y .start) (sym kd) ∙ w .1 ∙ sym
+        place-is in
         let a : x .at ≡ j = place-one (g .ruled) (x .at) j (f .inside fd) lt p in
         true≠false (ap₂ _&&_ fd (eq-eqb j (x .at) (sym a))) h)
         (λ o. o)
@@ -216,9 +224,11 @@ module _ {s rows : List ℕ} {n : ℕ} {l : List Change} (g : Logged s rows n l)
 
 -- ---- the loop over the changes
 
-judge-few : (kind : Kind) (f : Bool) (n most changes used len : ℕ) → changeFault kind f n most changes used len 65535 ≡ 0 → (changes < 512) × (used + len ≤ 65535)
+judge-few : (kind : Kind) (f : Bool) (n most changes used len : ℕ) → changeFault kind f n most changes used len 65535 ≡ 0 → (changes < 512) ×
+    (used + len ≤ 65535)
 unfolding changeFault
-judge-few kind f n most changes used len e = let r = room-facts changes used len 65535 (judge-room (isFiling kind) f (ltb n most) (spaceFault changes used len 65535) e) in (r .0, r .2)
+judge-few kind f n most changes used len e = let r = room-facts changes used len 65535
+    (judge-room (isFiling kind) f (ltb n most) (spaceFault changes used len 65535) e) in (r .0, r .2)
 
 belongs-one : (a b : List Change) → belongs a ≡ belongs b → a ≡ b
 belongs-one a b e = cc
@@ -280,7 +290,8 @@ module _ {part : List ℕ} {n : ℕ} {rows latest counts : List ℕ} {q i : ℕ}
   head-logged = record {
     ruled = record { valid = h .valid; kept = h .kept; count = h .count };
     within = omega (arith, head-within, h .at);
-    bytes = ap (take (length (writeAll (h .acc)))) (h .split) ∙ take-append-le (length (writeAll (h .acc))) (writeAll (h .acc)) (drop q part) (omega arith) ∙ take-length (writeAll (h .acc));
+    bytes = ap (take (length (writeAll (h .acc)))) (h .split) ∙ take-append-le (length (writeAll (h .acc))) (writeAll (h .acc)) (drop q part) (omega arith) ∙
+        take-length (writeAll (h .acc));
   }
 
   pub head-log : Log part rows i
@@ -318,11 +329,13 @@ module _ {part : List ℕ} {n : ℕ} {rows latest counts : List ℕ} {q i : ℕ}
         kept = λ l e. let same-list : h .acc ≡ l = belongs-one (h .acc) l (sym d ∙ e) in subst (λ (y : List Change). Rows rows y y) same-list (h .kept);
         size = h .size;
       })
-      (λ t. subst (λ (b : Bool). Rowed (replay n [] part) b rows) (sym t) (astray-rowed _ rows (h .size) (left-over le (λ z. true≠false (eq-eqb q (length part) z) t))))
+      (λ t. subst (λ (b : Bool). Rowed (replay n [] part) b rows) (sym t)
+      (astray-rowed _ rows (h .size) (left-over le (λ z. true≠false (eq-eqb q (length part) z) t))))
 
   -- a change is read, and its key was looked for
   module _ (lt : i < n) {v : View} (r : Read (drop q part) v) {sl : ℕ} (es : sl ≡ bucket (v .key)) {x : Seek}
-      (fs : (l : List Change) → Logged part rows i l → v .key .hour < 32 → Padded (v .key .name) → latestOf (bucket (v .key)) l ≤ getD latest sl 0 → Sought rows i (v .key) x l) where
+      (fs : (l : List Change) → Logged part rows i l → v .key .hour < 32 → Padded (v .key .name) → latestOf (bucket (v .key)) l ≤ getD latest sl 0 → Sought rows
+      i (v .key) x l) where
     c-is : keyOf (r .what) ≡ v .key
     c-is = sym (ap (λ (y : View). y .key) (r .view-is))
 
@@ -348,65 +361,75 @@ module _ {part : List ℕ} {n : ℕ} {rows latest counts : List ℕ} {q i : ℕ}
       pub head-fewer : getD counts hour 0 < 65536
       head-fewer = omega (arith, head-count, survey-few (v .key) (h .acc), h .count, h .few)
 
-      module _ {most : ℕ} (em : most ≡ limitOf (v .key)) {w : ℕ} (e : w ≡ changeFault (kindIn (v .act)) (x .found) (getD counts hour 0) most i q (v .len) 65535) where
-        -- the code's judgement is the register's
-        judged-is : refusal (h .acc) 65535 (r .what) ≡ w
-        judged-is =
-            let c = r .what in
-            let fd : x .found ≡ stands (keyOf c) (standing (h .acc)) = sought .found ∙ ap (λ (y : Key). survey y (h .acc) .found) (sym c-is) ∙ survey-found (keyOf c) (h .acc) in
-            let cs : getD counts hour 0 ≡ count (keyOf c) (standing (h .acc)) = head-count ∙ ap (λ (y : Key). survey y (h .acc) .count) (sym c-is) ∙ survey-count (keyOf c) (h .acc) (h .valid) in
-            let ms : most ≡ limitOf (keyOf c) = em ∙ ap limitOf (sym c-is) in
-            sym (e ∙ (λ s. changeFault (kindIn (r .view-is s .act)) (fd s) (cs s) (ms s) (sym (h .count) s) (sym (h .at) s) (r .view-is s .len) 65535) ∙ sym (refusal-judge (h .acc) 65535 c))
-
-        pub head-refused : (w ≡ 0 → ⊥) → Rowed (replay n [] part) false rows
-        head-refused z =
-            astray-rowed _ rows (h .size) (one-turn lt ∙ ap (replayOn (h .acc) (drop q part) (replay (n - (i + 1)))) (r .scanned)
-            ∙ ap (λ (b : Bool). cond b (replay (n - (i + 1)) (r .what ∷ h .acc) (drop (v .len) (drop q part))) mismatched)
-            (ne-eqb (refusal (h .acc) 65535 (r .what)) 0 (λ y. z (sym judged-is ∙ y))))
-
-        -- it is taken
-        module _ (z : w ≡ 0) where
-          pub head-few : (i < 512) × (q + v .len ≤ 65535)
-          head-few = judge-few (kindIn (v .act)) (x .found) (getD counts hour 0) most i q (v .len) (sym e ∙ z)
-
-          pub head-row : (hour < 512) × (q < 65536)
-          head-row = (omega (arith, eh, slot-few (v .key) low-key), omega (arith, head-few .1))
-
-          pub head-next : sl < 8192 → {rows′ : List ℕ} → rows′ ≡ cleared rows x → {row : ℕ} → row ≡ packed (not (isWithdrawal (kindIn (v .act)))) (kindIn (v .act)) hour q
-              → {m : ℕ} → m ≡ cond (isFiling (kindIn (v .act))) (getD counts hour 0 + 1) (cond (isWithdrawal (kindIn (v .act))) (getD counts hour 0 - 1) (getD counts hour 0))
-              → Head part n (set rows′ i row) (set latest sl (i + 1)) (set counts hour m) (q + v .len) (i + 1)
-          unfolding Valid writeAll
-          head-next sl-in {rows′} ex {row} er {m} em′ =
+      module _ {most : ℕ} (em : most ≡ limitOf (v .key)) {w : ℕ} (e : w ≡ changeFault (kindIn (v .act)) (x .found) (getD counts hour 0) most i q (v .len) 65535)
+        where
+          -- the code's judgement is the register's
+          judged-is : refusal (h .acc) 65535 (r .what) ≡ w
+          judged-is =
               let c = r .what in
-              let y : refusal (h .acc) 65535 c ≡ 0 = judged-is ∙ z in
-              let spaceFault = head-few .0 in
-              let sk : sl ≡ bucket (keyOf c) = es ∙ ap bucket (sym c-is) in
-              let i-is : i + 1 ≡ length (h .acc) + 1 = omega (arith, h .count) in
-              let hr : hour ≡ hourSlot (keyOf c) = eh ∙ ap hourSlot (sym c-is) in
-              let f : Sought rows i (keyOf c) x (h .acc) = subst (λ (k : Key). Sought rows i k x (h .acc)) (sym c-is) sought in
-              let er′ : row ≡ packed (not (isWithdrawal (kindOf c))) (kindOf c) (hourSlot (keyOf c)) (length (writeAll (h .acc))) =
-              er ∙ (λ t. packed (not (isWithdrawal (kindIn (r .view-is t .act)))) (kindIn (r .view-is t .act)) (hr t) (sym (h .at) t)) in
-              record {
-                acc = c ∷ h .acc;
-                valid = (good .good, y, h .valid);
-                inside = omega arith;
-                few = omega arith;
-                size = length-set rows′ i row ∙ ap length ex ∙ cleared-size rows x ∙ h .size;
-                kept = subst (λ (t : List ℕ). Rows (set t i row) (c ∷ h .acc) (c ∷ h .acc)) (sym ex) (rows-next head-logged (h .size) spaceFault c x f row er′);
-                latest-size = length-set latest sl (i + 1) ∙ h .latest-size;
-                latest-is = λ k. (λ j. getD (set latest (sk j) (i-is j)) k 0) ∙ latest-next latest c (h .acc) k (omega (arith, sk, h .latest-size)) (h .latest-is k);
-                counts-size = length-set counts hour m ∙ h .counts-size;
-                counts-is = λ k lk. ap (λ (t : ℕ). getD (set counts t m) (hourSlot k) 0) hr
-                    ∙ counts-next counts c (h .acc) k m (omega (arith, hr, h .counts-size, head-row .0)) (omega (arith, low-key, ap (λ (t : Key). t .hour) c-is)) lk (h .counts-is k lk)
-                    (em′ ∙ (λ j. cond (isFiling (kindIn (r .view-is j .act))) (getD counts (hr j) 0 + 1) (cond (isWithdrawal (kindIn (r .view-is j .act))) (getD counts (hr j) 0 - 1) (getD counts (hr j) 0))));
-                count = omega (arith, h .count);
-                at = length-append (writeAll (h .acc)) (write c) ∙ ap₂ _+_ (h .at) (sym (good .len));
-                split = h .split ∙ ap (λ (t : List ℕ). writeAll (h .acc) ++ t) (good .bytes ∙ ap (λ (t : List ℕ). write c ++ t) (drop-drop (v .len) q part))
-                    ∙ sym (append-assoc (writeAll (h .acc)) (write c) (drop (q + v .len) part));
-                goes = one-turn lt ∙ ap (replayOn (h .acc) (drop q part) (replay (n - (i + 1)))) (r .scanned)
-                    ∙ ap (λ (b : Bool). cond b (replay (n - (i + 1)) (c ∷ h .acc) (drop (v .len) (drop q part))) mismatched) (eq-eqb (refusal (h .acc) 65535 c) 0 y)
-                    ∙ ap (replay (n - (i + 1)) (c ∷ h .acc)) (drop-drop (v .len) q part);
-              }
+              let fd : x .found ≡ stands (keyOf c) (standing (h .acc)) = sought .found ∙ ap (λ (y : Key). survey y (h .acc) .found) (sym c-is) ∙ survey-found
+              (keyOf c) (h .acc) in
+              let cs : getD counts hour 0 ≡ count (keyOf c) (standing (h .acc)) = head-count ∙ ap (λ (y : Key). survey y (h .acc) .count) (sym c-is) ∙
+              survey-count (keyOf c) (h .acc) (h .valid) in
+              let ms : most ≡ limitOf (keyOf c) = em ∙ ap limitOf (sym c-is) in
+              sym (e ∙ (λ s. changeFault (kindIn (r .view-is s .act)) (fd s) (cs s) (ms s) (sym (h .count) s) (sym (h .at) s) (r .view-is s .len) 65535) ∙ sym
+              (refusal-judge (h .acc) 65535 c))
+
+          pub head-refused : (w ≡ 0 → ⊥) → Rowed (replay n [] part) false rows
+          head-refused z =
+              astray-rowed _ rows (h .size) (one-turn lt ∙ ap (replayOn (h .acc) (drop q part) (replay (n - (i + 1)))) (r .scanned)
+              ∙ ap (λ (b : Bool). cond b (replay (n - (i + 1)) (r .what ∷ h .acc) (drop (v .len) (drop q part))) mismatched)
+              (ne-eqb (refusal (h .acc) 65535 (r .what)) 0 (λ y. z (sym judged-is ∙ y))))
+
+          -- it is taken
+          module _ (z : w ≡ 0) where
+            pub head-few : (i < 512) × (q + v .len ≤ 65535)
+            head-few = judge-few (kindIn (v .act)) (x .found) (getD counts hour 0) most i q (v .len) (sym e ∙ z)
+
+            pub head-row : (hour < 512) × (q < 65536)
+            head-row = (omega (arith, eh, slot-few (v .key) low-key), omega (arith, head-few .1))
+
+            pub head-next : sl < 8192 → {rows′ : List ℕ} → rows′ ≡ cleared rows x → {row : ℕ} → row ≡ packed (not (isWithdrawal (kindIn (v .act))))
+                (kindIn (v .act)) hour q
+                → {m : ℕ} → m ≡ cond (isFiling (kindIn (v .act))) (getD counts hour 0 + 1)
+                (cond (isWithdrawal (kindIn (v .act))) (getD counts hour 0 - 1) (getD counts hour 0))
+                → Head part n (set rows′ i row) (set latest sl (i + 1)) (set counts hour m) (q + v .len) (i + 1)
+            unfolding Valid writeAll
+            head-next sl-in {rows′} ex {row} er {m} em′ =
+                let c = r .what in
+                let y : refusal (h .acc) 65535 c ≡ 0 = judged-is ∙ z in
+                let spaceFault = head-few .0 in
+                let sk : sl ≡ bucket (keyOf c) = es ∙ ap bucket (sym c-is) in
+                let i-is : i + 1 ≡ length (h .acc) + 1 = omega (arith, h .count) in
+                let hr : hour ≡ hourSlot (keyOf c) = eh ∙ ap hourSlot (sym c-is) in
+                let f : Sought rows i (keyOf c) x (h .acc) = subst (λ (k : Key). Sought rows i k x (h .acc)) (sym c-is) sought in
+                let er′ : row ≡ packed (not (isWithdrawal (kindOf c))) (kindOf c) (hourSlot (keyOf c)) (length (writeAll (h .acc))) =
+                er ∙ (λ t. packed (not (isWithdrawal (kindIn (r .view-is t .act)))) (kindIn (r .view-is t .act)) (hr t) (sym (h .at) t)) in
+                record {
+                  acc = c ∷ h .acc;
+                  valid = (good .good, y, h .valid);
+                  inside = omega arith;
+                  few = omega arith;
+                  size = length-set rows′ i row ∙ ap length ex ∙ cleared-size rows x ∙ h .size;
+                  kept = subst (λ (t : List ℕ). Rows (set t i row) (c ∷ h .acc) (c ∷ h .acc)) (sym ex) (rows-next head-logged (h .size) spaceFault c x f row er′);
+                  latest-size = length-set latest sl (i + 1) ∙ h .latest-size;
+                  latest-is = λ k. (λ j. getD (set latest (sk j) (i-is j)) k 0) ∙ latest-next latest c (h .acc) k (omega (arith, sk, h .latest-size))
+                      (h .latest-is k);
+                  counts-size = length-set counts hour m ∙ h .counts-size;
+                  counts-is = λ k lk. ap (λ (t : ℕ). getD (set counts t m) (hourSlot k) 0) hr
+                      ∙ counts-next counts c (h .acc) k m (omega (arith, hr, h .counts-size, head-row .0))
+                      (omega (arith, low-key, ap (λ (t : Key). t .hour) c-is)) lk (h .counts-is k lk)
+                      (em′ ∙ (λ j. cond (isFiling (kindIn (r .view-is j .act))) (getD counts (hr j) 0 + 1)
+                      (cond (isWithdrawal (kindIn (r .view-is j .act))) (getD counts (hr j) 0 - 1) (getD counts (hr j) 0))));
+                  count = omega (arith, h .count);
+                  at = length-append (writeAll (h .acc)) (write c) ∙ ap₂ _+_ (h .at) (sym (good .len));
+                  split = h .split ∙ ap (λ (t : List ℕ). writeAll (h .acc) ++ t) (good .bytes ∙ ap (λ (t : List ℕ). write c ++ t) (drop-drop (v .len) q part))
+                      ∙ sym (append-assoc (writeAll (h .acc)) (write c) (drop (q + v .len) part));
+                  goes = one-turn lt ∙ ap (replayOn (h .acc) (drop q part) (replay (n - (i + 1)))) (r .scanned)
+                      ∙ ap (λ (b : Bool). cond b (replay (n - (i + 1)) (c ∷ h .acc) (drop (v .len) (drop q part))) mismatched)
+                      (eq-eqb (refusal (h .acc) 65535 c) 0 y)
+                      ∙ ap (replay (n - (i + 1)) (c ∷ h .acc)) (drop-drop (v .len) q part);
+                }
 
 pub under : (d : Change) (m l : List Change) (n : ℕ) → drop n l ≡ d ∷ m → length (writeAll m) + leadLength (kindOf d) < length (writeAll l)
 unfolding writeAll

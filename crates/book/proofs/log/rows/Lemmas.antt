@@ -89,7 +89,8 @@ row-seen row all q c e low hq =
       slot = ap rowSlot e ∙ unpack-slot b (kindOf c) (hourSlot (keyOf c)) q hs hq;
       kind = ap rowKind e ∙ unpack-kind b (kindOf c) (hourSlot (keyOf c)) q hs hq;
       start = ap rowStart e ∙ unpack-start b (kindOf c) (hourSlot (keyOf c)) q hs hq;
-      place = ap rowPlace e ∙ ap₂ (λ (x : ℕ) (y : Kind). x + leadLength y) (unpack-start b (kindOf c) (hourSlot (keyOf c)) q hs hq) (unpack-kind b (kindOf c) (hourSlot (keyOf c)) q hs hq);
+      place = ap rowPlace e ∙ ap₂ (λ (x : ℕ) (y : Kind). x + leadLength y) (unpack-start b (kindOf c) (hourSlot (keyOf c)) q hs hq)
+          (unpack-kind b (kindOf c) (hourSlot (keyOf c)) q hs hq);
       low = low;
     }
 
@@ -192,7 +193,8 @@ module _ {B : Type 0} {p : Key → Pass B} {rows : List ℕ} {n slot i : ℕ} {x
   pub ran-next : (lt : i < n) (ys : B)
       → ((l : List Change) (r : Ruled rows n l) (k : Key) → slot ≡ hourSlot k → k .hour < 32
       → let w = ruled-at r lt in let q = length (writeAll (drop (n - i) l)) in
-      ys ≡ cond (p k .pick (keyOf (w .what)) && liveAt (survey (keyOf (w .what)) l) (kindOf (w .what)) q) (p k .put (keyOf (w .what)) (q + leadLength (kindOf (w .what))) xs) xs)
+      ys ≡ cond (p k .pick (keyOf (w .what)) && liveAt (survey (keyOf (w .what)) l) (kindOf (w .what)) q)
+      (p k .put (keyOf (w .what)) (q + leadLength (kindOf (w .what))) xs) xs)
       → Ran p rows n slot (i + 1) ys
   unfolding gather
   ran-next lt ys e = record {
@@ -201,7 +203,8 @@ module _ {B : Type 0} {p : Key → Pass B} {rows : List ℕ} {n slot i : ℕ} {x
         let w = ruled-at r lt in
         let q = length (writeAll (drop (n - i) l)) in
         e l r k ek hk
-        ∙ ap (λ (y : B). cond (p k .pick (keyOf (w .what)) && liveAt (survey (keyOf (w .what)) l) (kindOf (w .what)) q) (p k .put (keyOf (w .what)) (q + leadLength (kindOf (w .what))) y) y) (h .is l r k ek hk)
+        ∙ ap (λ (y : B). cond (p k .pick (keyOf (w .what)) && liveAt (survey (keyOf (w .what)) l) (kindOf (w .what)) q)
+        (p k .put (keyOf (w .what)) (q + leadLength (kindOf (w .what))) y) y) (h .is l r k ek hk)
         ∙ ap (gather (p k) l) (sym (w .rest));
   }
 
@@ -268,7 +271,8 @@ pub record Bears (s : List ℕ) (x : ℕ) (k : Key) : Type 0 where
 
 -- its key is read there
 pub key-at : {s : List ℕ} {x : ℕ} {k : Key} → Bears s x k → keyAt s x ≡ k
-key-at w = ap (λ (y : List ℕ). keyAnswer (headKey y) .key) (w .at .bytes) ∙ ap (λ (y : Res Key). keyAnswer y .key) (head-written (filed (w .what)) (w .at .good) (w .at .rest)) ∙ w .key
+key-at w = ap (λ (y : List ℕ). keyAnswer (headKey y) .key) (w .at .bytes) ∙ ap (λ (y : Res Key). keyAnswer y .key)
+    (head-written (filed (w .what)) (w .at .good) (w .at .rest)) ∙ w .key
 
 -- and found there by the head of its key alone
 pub head-at : {s : List ℕ} {x : ℕ} {j : Key} → Bears s x j → (k : Key) → Padded (k .name) → begins (recordHead k) (drop x s) ≡ same k j
@@ -287,7 +291,8 @@ module _ {s rows : List ℕ} {n : ℕ} {l : List Change} (g : Logged s rows n l)
       record {
         what = f .what;
         at = subst (λ (x : ℕ). At s x (f .what)) (e .1) (f .at);
-        key = sym (same-true (keyOf c) (f .what .key) (good-padded c gc) (good-padded (filed (f .what)) (f .at .good)) (pick-key (keyOf c) (standing l) (f .what) (f .picked)));
+        key = sym (same-true (keyOf c) (f .what .key) (good-padded c gc) (good-padded (filed (f .what)) (f .at .good))
+            (pick-key (keyOf c) (standing l) (f .what) (f .picked)));
       }
 
 pub and-right : (a b : Bool) → (a && b) ≡ true → b ≡ true
@@ -324,7 +329,8 @@ survey-same j k h (c ∷ l) =
       found = cond (e i) (not (isWithdrawal (kindOf c))) (ih i .found);
       start = cond (e i) (cond (isCorrection (kindOf c)) (q + 2) q) (ih i .start);
       len = cond (e i) (cond (isCorrection (kindOf c)) (length (write c) - 2) (length (write c))) (ih i .len);
-      count = cond (sameHour-same j k sh (keyOf c) i) (cond (isFiling (kindOf c)) (ih i .count + 1) (cond (isWithdrawal (kindOf c)) (ih i .count - 1) (ih i .count))) (ih i .count);
+      count = cond (sameHour-same j k sh (keyOf c) i)
+          (cond (isFiling (kindOf c)) (ih i .count + 1) (cond (isWithdrawal (kindOf c)) (ih i .count - 1) (ih i .count))) (ih i .count);
     }
 
 collect-find : (k : Key) (all : List Change) (rs : List Rec) → collect (findPass k) all rs ≡ hit-or (stands k rs) (survey k all .start)
@@ -339,7 +345,8 @@ collect-find k all (r ∷ rs) =
     ∙ collect-find k all rs ∙ sym (ap (λ (b : Bool). hit-or (cond b true (stands k rs)) (survey k all .start)) t))
 
 pub find-is : (k : Key) (l : List Change) → Valid l → gather (findPass k) l l ≡ hit-or (survey k l .found) (survey k l .start)
-find-is k l v = gather-standing (findPass k) l (valid-new l v) ∙ collect-find k l (standing l) ∙ ap (λ (b : Bool). hit-or b (survey k l .start)) (sym (survey-found k l))
+find-is k l v = gather-standing (findPass k) l (valid-new l v) ∙ collect-find k l (standing l) ∙ ap (λ (b : Bool). hit-or b (survey k l .start))
+    (sym (survey-found k l))
 
 hit-there : (b : Bool) (x y : ℕ) → hit-or b x ≡ record { found = true; start = y } → (true ≡ b) × (y ≡ x)
 unfolding hit-or
@@ -356,12 +363,15 @@ pub record Seeking (s rows : List ℕ) (n from hs : ℕ) (head : List ℕ) (i : 
   pub is : (k : Key) (l : List Change) → Search s rows n from hs head k l → gather (findPass k) l l ≡ gather (findPass k) l (drop (n - i) l)
 
 -- no change newer than the latest of its number has the key
-skip-newer : (k : Key) → Padded (k .name) → (all l : List Change) → Valid l → (from : ℕ) → latestOf (keyNumber k) l ≤ from → from ≤ length l → gather (findPass k) all l ≡ gather (findPass k) all (drop (length l - from) l)
+skip-newer : (k : Key) → Padded (k .name) → (all l : List Change) → Valid l → (from : ℕ) → latestOf (keyNumber k) l ≤ from → from ≤ length l → gather
+    (findPass k) all l ≡ gather (findPass k) all (drop (length l - from) l)
 unfolding gather latestOf Valid
 skip-newer k p all [] v from h le = ap (gather (findPass k) all) (sym (drop-of-length-le {A = Change} [] {i = length {A = Change} [] - from} (omega arith)))
-skip-newer k p all (c ∷ l) v from h le = by-test (leb from (length l)) (inside-it (λ w lt. skip-newer k p all l (v .2) from w lt)) (λ t. let e : 0 ≡ length (c ∷ l) - from = omega (arith, leb-false from (length l) t) in ap (λ (m : ℕ). gather (findPass k) all (drop m (c ∷ l))) e)
+skip-newer k p all (c ∷ l) v from h le = by-test (leb from (length l)) (inside-it (λ w lt. skip-newer k p all l (v .2) from w lt))
+    (λ t. let e : 0 ≡ length (c ∷ l) - from = omega (arith, leb-false from (length l) t) in ap (λ (m : ℕ). gather (findPass k) all (drop m (c ∷ l))) e)
   where
-    inside-it : (latestOf (keyNumber k) l ≤ from → from ≤ length l → gather (findPass k) all l ≡ gather (findPass k) all (drop (length l - from) l)) → leb from (length l) ≡ true → gather (findPass k) all (c ∷ l) ≡ gather (findPass k) all (drop (length (c ∷ l) - from) (c ∷ l))
+    inside-it : (latestOf (keyNumber k) l ≤ from → from ≤ length l → gather (findPass k) all l ≡ gather (findPass k) all (drop (length l - from) l)) → leb from
+        (length l) ≡ true → gather (findPass k) all (c ∷ l) ≡ gather (findPass k) all (drop (length (c ∷ l) - from) (c ∷ l))
     inside-it ih t =
         let lt = leb-true from (length l) t in
         let e : length (c ∷ l) - from ≡ suc (length l - from) = omega arith in
@@ -369,17 +379,20 @@ skip-newer k p all (c ∷ l) v from h le = by-test (leb from (length l)) (inside
         (λ u. absurd (omega (arith, h, ap (λ (b : Bool). cond b (length l + 1) (latestOf (keyNumber k) l)) u)))
         (λ u. let o = other-slot k p c (v .0) u in
         let q = length (writeAll l) in
-        ap (λ (b : Bool). cond (b && liveAt (survey (keyOf c) all) (kindOf c) q) (record { found = true; start = q + leadLength (kindOf c) }) (gather (findPass k) all l)) o
+        ap (λ (b : Bool). cond (b && liveAt (survey (keyOf c) all) (kindOf c) q) (record { found = true; start = q + leadLength (kindOf c) })
+        (gather (findPass k) all l)) o
         ∙ ih (omega (arith, h, ap (λ (b : Bool). cond b (length l + 1) (latestOf (keyNumber k) l)) u)) lt
         ∙ ap (λ (m : ℕ). gather (findPass k) all (drop m (c ∷ l))) (sym e))
 
 pub seeking-start : (s rows : List ℕ) (n from hs : ℕ) (head : List ℕ) → from ≤ n → Seeking s rows n from hs head from
 seeking-start s rows n from hs head le = record {
   inside = le;
-  is = λ k l w. skip-newer k (w .padded) l l (w .logged .ruled .valid) from (w .few) (omega (arith, w .logged .ruled .count)) ∙ ap (λ (m : ℕ). gather (findPass k) l (drop (m - from) l)) (w .logged .ruled .count);
+  is = λ k l w. skip-newer k (w .padded) l l (w .logged .ruled .valid) from (w .few) (omega (arith, w .logged .ruled .count)) ∙ ap
+      (λ (m : ℕ). gather (findPass k) l (drop (m - from) l)) (w .logged .ruled .count);
 }
 
-pub seeking-end : {s rows : List ℕ} {n from hs : ℕ} {head : List ℕ} {i : ℕ} → Seeking s rows n from hs head i → i ≤ 0 → (k : Key) (l : List Change) → Search s rows n from hs head k l
+pub seeking-end : {s rows : List ℕ} {n from hs : ℕ} {head : List ℕ} {i : ℕ} → Seeking s rows n from hs head i → i ≤ 0 → (k : Key) (l : List Change) → Search s
+    rows n from hs head k l
     → Sought rows n k (record { found = false; at = 0; start = 0 }) l
 unfolding gather
 seeking-end {n = n} {i = i} h z k l w =
@@ -393,10 +406,12 @@ seeking-end {n = n} {i = i} h z k l w =
     }
 
 -- no change has the number of the key
-pub seeking-none : {s rows : List ℕ} {n from : ℕ} → from ≤ n → from ≡ 0 → (k : Key) (l : List Change) → Logged s rows n l → k .hour < 32 → Padded (k .name) → latestOf (keyNumber k) l ≤ from
+pub seeking-none : {s rows : List ℕ} {n from : ℕ} → from ≤ n → from ≡ 0 → (k : Key) (l : List Change) → Logged s rows n l → k .hour < 32 → Padded (k .name) →
+    latestOf (keyNumber k) l ≤ from
     → Sought rows n k (record { found = false; at = 0; start = 0 }) l
 seeking-none {s} {rows} {n} {from} le z k l g hk hp few =
-    seeking-end (seeking-start s rows n from (hourSlot k) (recordHead k) le) (omega arith) k l (record { logged = g; slot-is = refl; head-is = refl; low = hk; padded = hp; few = few })
+    seeking-end (seeking-start s rows n from (hourSlot k) (recordHead k) le) (omega arith) k l
+    (record { logged = g; slot-is = refl; head-is = refl; low = hk; padded = hp; few = few })
 
 -- a turn: the change before i
 module _ {s rows : List ℕ} {n from hs : ℕ} {head : List ℕ} {i : ℕ} (h : Seeking s rows n from hs head i) (above : 0 < i) (j : ℕ) (ej : j ≡ i - 1) where
@@ -414,17 +429,20 @@ module _ {s rows : List ℕ} {n from hs : ℕ} {head : List ℕ} {i : ℕ} (h : 
     live = liveAt (survey (keyOf what) l) (kindOf what) begun-at
 
   turn-is : (k : Key) (l : List Change) (w : Search s rows n from hs head k l)
-      → gather (findPass k) l l ≡ cond (same k (keyOf (what (w .logged))) && live (w .logged)) (record { found = true; start = begun-at (w .logged) + leadLength (kindOf (what (w .logged))) }) (gather (findPass k) l (drop (n - j) l))
+      → gather (findPass k) l l ≡ cond (same k (keyOf (what (w .logged))) && live (w .logged))
+      (record { found = true; start = begun-at (w .logged) + leadLength (kindOf (what (w .logged))) }) (gather (findPass k) l (drop (n - j) l))
   unfolding gather what begun-at live
   turn-is k l w =
       let e : n - i ≡ n - (j + 1) = omega arith in
       h .is k l w ∙ ap (λ (m : ℕ). gather (findPass k) l (drop m l)) e ∙ ap (gather (findPass k) l) (ruled-at (w .logged .ruled) turn-inside .rest)
 
-  skip : ((k : Key) (l : List Change) (w : Search s rows n from hs head k l) → (same k (keyOf (what (w .logged))) && live (w .logged)) ≡ false) → Seeking s rows n from hs head j
+  skip : ((k : Key) (l : List Change) (w : Search s rows n from hs head k l) → (same k (keyOf (what (w .logged))) && live (w .logged)) ≡ false) → Seeking s rows
+      n from hs head j
   skip f = record {
     inside = omega (arith, turn-inside);
     is = λ k l w.
-        turn-is k l w ∙ ap (λ (b : Bool). cond b (record { found = true; start = begun-at (w .logged) + leadLength (kindOf (what (w .logged))) }) (gather (findPass k) l (drop (n - j) l))) (f k l w);
+        turn-is k l w ∙ ap (λ (b : Bool). cond b (record { found = true; start = begun-at (w .logged) + leadLength (kindOf (what (w .logged))) })
+        (gather (findPass k) l (drop (n - j) l))) (f k l w);
   }
 
   -- its record does not stand, or is of another mark or hour
@@ -461,7 +479,8 @@ module _ {s rows : List ℕ} {n from hs : ℕ} {head : List ℕ} {i : ℕ} (h : 
     seeking-other t = skip (λ k l w. ap (λ (y : Bool). y && live (w .logged)) (sym (same-there k l w) ∙ t))
 
     -- of the key
-    pub seeking-hit : begins head (drop x s) ≡ true → (k : Key) (l : List Change) → Search s rows n from hs head k l → Sought rows n k (record { found = true; at = j; start = x }) l
+    pub seeking-hit : begins head (drop x s) ≡ true → (k : Key) (l : List Change) → Search s rows n from hs head k l → Sought rows n k
+        (record { found = true; at = j; start = x }) l
     unfolding what begun-at live
     seeking-hit t k l w =
         let g = w .logged in
@@ -470,7 +489,8 @@ module _ {s rows : List ℕ} {n from hs : ℕ} {head : List ℕ} {i : ℕ} (h : 
         let sc : same k (keyOf c) ≡ true = sym (same-there k l w) ∙ t in
         let e : hit-or (survey k l .found) (survey k l .start) ≡ record { found = true; start = q + leadLength (kindOf c) } =
         sym (find-is k l (g .ruled .valid)) ∙ turn-is k l w
-        ∙ ap₂ (λ (a b : Bool). cond (a && b) (record { found = true; start = q + leadLength (kindOf c) }) (gather (findPass k) l (drop (n - j) l))) sc (live-there g) in
+        ∙ ap₂ (λ (a b : Bool). cond (a && b) (record { found = true; start = q + leadLength (kindOf c) }) (gather (findPass k) l (drop (n - j) l))) sc
+        (live-there g) in
         let f = hit-there (survey k l .found) (survey k l .start) (q + leadLength (kindOf c)) e in
         record {
           found = f .0;

@@ -2,8 +2,8 @@ use Prim.Native.Nat.{_≤_, _<_, _-_, min}
 use mathlib.Core.Path.{_≡_}
 use lib.ListN.{length}
 use native.Mathlib.Omega.{arith}
-use Rattle.filter.proofs.reading.ToFront.{Moving, moving-none, moving-next, moved-all, moved-none}
 use borrow.Author.Needs.{needs}
+use Rattle.filter.proofs.reading.ToFront.{Moving, moving-none, moving-next, moved-all, moved-none}
 use Rattle.filter.proofs.reading.to_front.Statement.{statement}
 use Rattle.filter.proofs.reading.to_front.Tie as tie
 
@@ -25,7 +25,14 @@ sub-n : tie.Need-sub-n Inv-loop μ-loop
 sub-n c = search needs
 
 loop-holds : tie.Need-loop-holds Inv-loop μ-loop
-loop-holds c = (search needs, search needs, search needs, (c .before .least) .ensures, moving-none ((c .before .before .before .args) .bytes .now) ((c .before .before .before .args) .from) ((c .before .least) .result))
+loop-holds c = (
+  search needs,
+  search needs,
+  search needs,
+  (c .before .least) .ensures,
+  moving-none ((c .before .before .before .args) .bytes .now)
+      ((c .before .before .before .args) .from) ((c .before .least) .result),
+)
 
 add-bytes : tie.Need-add-bytes Inv-loop μ-loop
 add-bytes c = omega (arith, (c .before .loop) .inv .4 .size)
@@ -43,7 +50,15 @@ loop-less : tie.Need-loop-less Inv-loop μ-loop
 loop-less c = search needs
 
 loop-again : tie.Need-loop-again Inv-loop μ-loop
-loop-again c = (search needs, search needs, search needs, search needs, moving-next ((c .before .before .before .before .before .before .args) .bytes .now) ((c .before .before .loop) .bytes) ((c .before .before .before .before .before .before .args) .from) ((c .before .before .before .before .least) .result) ((c .before .before .loop) .i) ((c .before .before .loop) .inv .4) (omega arith) (omega arith))
+loop-again c = (
+  search needs,
+  search needs,
+  search needs,
+  search needs,
+  moving-next ((c .before .before .before .before .before .before .args) .bytes .now)
+      ((c .before .before .loop) .bytes) ((c .before .before .before .before .before .before .args) .from) ((c .before .before .before .before .least) .result)
+      ((c .before .before .loop) .i) ((c .before .before .loop) .inv .4) (omega arith) (omega arith),
+)
 
 same-length : tie.Need-same-length Inv-loop μ-loop
 same-length c = (c .before .loop) .inv .4 .size
@@ -52,7 +67,8 @@ returns-2 : tie.Need-returns-2 Inv-loop μ-loop
 returns-2 c =
     let c3 = c .before .before .before in
     let c5 = c3 .before .before in
-    moved-all ((c5 .args) .bytes .now) ((c .before .loop) .bytes) ((c5 .args) .from) ((c5 .args) .end) ((c3 .least) .result) ((c .before .loop) .i) ((c .before .loop) .inv .4) ((c3 .least) .ensures) (omega arith) (omega arith) (omega arith)
+    moved-all ((c5 .args) .bytes .now) ((c .before .loop) .bytes) ((c5 .args) .from) ((c5 .args) .end) ((c3 .least) .result) ((c .before .loop) .i)
+    ((c .before .loop) .inv .4) ((c3 .least) .ensures) (omega arith) (omega arith) (omega arith)
 
 pub to-front-spec : {M : Type 1} → statement M
 to-front-spec =

@@ -1,8 +1,8 @@
 use Prim.Native.Nat.{ℕ}
 use mathlib.Core.Path.{sym}
 use lib.Seq.{length-take-le}
-use Rattle.filter.proofs.reading.Lemmas.{none-waits, some-waits}
 use borrow.Author.Needs.{needs}
+use Rattle.filter.proofs.reading.Lemmas.{none-waits, some-waits}
 use Rattle.filter.proofs.reading.waits_at.Statement.{statement}
 use Rattle.filter.proofs.reading.waits_at.Tie as tie
 

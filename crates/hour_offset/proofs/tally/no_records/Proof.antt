@@ -1,6 +1,6 @@
-use Rattle.hour_offset.proofs.tally.Lemmas.{none-tallied}
 use mathlib.Core.Path.{refl}
 use borrow.Author.Needs.{needs}
+use Rattle.hour_offset.proofs.tally.Lemmas.{none-tallied}
 use Rattle.hour_offset.proofs.tally.no_records.Statement.{statement}
 use Rattle.hour_offset.proofs.tally.no_records.Tie as tie
 

@@ -1,7 +1,7 @@
 use mathlib.Core.Path.{ap, _∙_}
+use borrow.Author.Needs.{needs}
 use Rattle.book.specs.Layer.{PricesAnswer, pricesIn}
 use Rattle.hour_offset.proofs.tally.Lemmas.{to-end}
-use borrow.Author.Needs.{needs}
 use Rattle.hour_offset.proofs.tally.prices_at.Statement.{statement}
 use Rattle.hour_offset.proofs.tally.prices_at.Tie as tie
 

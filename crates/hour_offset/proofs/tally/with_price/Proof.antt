@@ -1,8 +1,8 @@
-use Rattle.hour_offset.proofs.tally.Lemmas.{adds-no, adds-price}
 use mathlib.Core.Path.{sym, ap}
 use mathlib.Core.Bool.{Bool, cond}
 use native.Mathlib.Omega.{arith}
 use borrow.Author.Needs.{needs}
+use Rattle.hour_offset.proofs.tally.Lemmas.{adds-no, adds-price}
 use Rattle.hour_offset.proofs.tally.with_price.Statement.{statement}
 use Rattle.hour_offset.proofs.tally.with_price.Tie as tie
 

@@ -1,7 +1,7 @@
-use Rattle.hour_offset.proofs.tally.Lemmas.{adds-no}
 use mathlib.Core.Path.{refl}
 use native.Mathlib.Omega.{arith}
 use borrow.Author.Needs.{needs}
+use Rattle.hour_offset.proofs.tally.Lemmas.{adds-no}
 use Rattle.hour_offset.proofs.tally.with_record.Statement.{statement}
 use Rattle.hour_offset.proofs.tally.with_record.Tie as tie
 

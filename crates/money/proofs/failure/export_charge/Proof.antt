@@ -1,11 +1,11 @@
 use mathlib.Core.Path.{sym, ap, _∙_}
 use lib.IntN.{ℤ, _-ℤ_}
 use borrow.Author.Tests.{not-true, not-false}
+use native.Mathlib.Omega.{arith}
+use borrow.Author.Needs.{needs}
 use Rattle.money.specs.declared.units.Answer.the-variants.{Amount}
 use Rattle.money.specs.Failure.{dev}
 use Rattle.money.specs.laws.FailureLaws.{sound-of, gap-size, charge-is}
-use native.Mathlib.Omega.{arith}
-use borrow.Author.Needs.{needs}
 use Rattle.money.proofs.failure.export_charge.Statement.{statement}
 use Rattle.money.proofs.failure.export_charge.Tie as tie
 
@@ -40,8 +40,15 @@ charge-of-requires c κs =
     let c5 = c2 .before .before .before in
     let c6 = c5 .before in
     let c7 = c6 .before in
-    let s = sound-of ((c7 .args) .f) ((c7 .args) .pd) (sym ((c6 .failure-ok) .ensures) ∙ not-false _ ((c5 .if1) .left)) in
-    (gap-size ((c7 .args) .f .«day_ahead_price» .0) ((c7 .args) .pd .0) (s .day-ahead-price) (s .market) ((c2 .gap) .ensures), (gap-size ((c7 .args) .f .«day_ahead_price» .0) ((c7 .args) .f .«pre_dispatch_price» .0) (s .day-ahead-price) (s .pre-dispatch-price) ((c .before .gap2) .ensures), omega (arith, (c .dev-of) .ensures)))
+    let s = sound-of ((c7 .args) .f) ((c7 .args) .pd) (sym ((c6 .failure-ok) .ensures) ∙ not-false _ ((c5 .if1) .left)) in (
+      gap-size ((c7 .args) .f .«day_ahead_price» .0) ((c7 .args) .pd .0) (s .day-ahead-price) (s .market) ((c2 .gap) .ensures),
+      (
+        gap-size
+            ((c7 .args) .f .«day_ahead_price» .0) ((c7 .args) .f .«pre_dispatch_price» .0) (s .day-ahead-price) (s .pre-dispatch-price)
+            ((c .before .gap2) .ensures),
+        omega (arith, (c .dev-of) .ensures),
+      ),
+    )
 
 returns-2 : tie.Need-returns-2
 returns-2 c =
@@ -50,7 +57,8 @@ returns-2 c =
     let c6 = c3 .before .before .before in
     let c7 = c6 .before in
     let c8 = c7 .before in
-    let e = charge-is ((c8 .args) .f .«day_ahead_price» .0 -ℤ (c8 .args) .pd .0) ((c8 .args) .f .«day_ahead_price» .0 -ℤ (c8 .args) .f .«pre_dispatch_price» .0) (dev ((c8 .args) .f)) ((c3 .gap) .ensures) ((c2 .gap2) .ensures) ((c .before .dev-of) .ensures) ((c .charge-of) .ensures) in
+    let e = charge-is ((c8 .args) .f .«day_ahead_price» .0 -ℤ (c8 .args) .pd .0) ((c8 .args) .f .«day_ahead_price» .0 -ℤ (c8 .args) .f .«pre_dispatch_price» .0)
+    (dev ((c8 .args) .f)) ((c3 .gap) .ensures) ((c2 .gap2) .ensures) ((c .before .dev-of) .ensures) ((c .charge-of) .ensures) in
     rw (sym ((c7 .failure-ok) .ensures) ∙ not-false _ ((c6 .if1) .left)) (ap (λ (z : ℤ). Amount (record { 0 = z })) e)
 
 pub export-charge-spec : {M : Type 1} → statement M

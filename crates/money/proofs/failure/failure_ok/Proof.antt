@@ -1,7 +1,7 @@
 use mathlib.Core.Path.{sym, _∙_}
 use borrow.Author.Tests.{not-true, not-false}
-use Rattle.money.specs.Failure.{failureOk}
 use borrow.Author.Needs.{needs}
+use Rattle.money.specs.Failure.{failureOk}
 use Rattle.money.proofs.failure.failure_ok.Statement.{statement}
 use Rattle.money.proofs.failure.failure_ok.Tie as tie
 
@@ -32,7 +32,12 @@ returns-3 c =
     let c3 = c2 .before in
     let c4 = c3 .before in
     let c5 = c4 .before in
-    rw (sym ((c5 .in-range) .ensures) ∙ not-false _ ((c4 .if1) .left), sym ((c3 .in-range2) .ensures) ∙ not-false _ ((c2 .if2) .left), sym ((c .before .in-range3) .ensures) ∙ not-true _ ((c .if3) .taken))
+    rw (
+      sym ((c5 .in-range) .ensures) ∙ not-false _ ((c4 .if1) .left),
+      sym ((c3 .in-range2) .ensures) ∙ not-false _ ((c2 .if2) .left),
+      sym
+          ((c .before .in-range3) .ensures) ∙ not-true _ ((c .if3) .taken),
+    )
 
 in-range-requires-4 : tie.Need-in-range-requires-4
 in-range-requires-4 c κs = search needs
@@ -46,7 +51,13 @@ returns-4 c =
     let c5 = c4 .before in
     let c6 = c5 .before in
     let c7 = c6 .before in
-    rw (sym ((c7 .in-range) .ensures) ∙ not-false _ ((c6 .if1) .left), sym ((c5 .in-range2) .ensures) ∙ not-false _ ((c4 .if2) .left), sym ((c3 .in-range3) .ensures) ∙ not-false _ ((c2 .if3) .left), sym ((c .before .in-range4) .ensures) ∙ not-true _ ((c .if4) .taken))
+    rw (
+      sym ((c7 .in-range) .ensures) ∙ not-false _ ((c6 .if1) .left),
+      sym ((c5 .in-range2) .ensures) ∙ not-false _ ((c4 .if2) .left),
+      sym
+          ((c3 .in-range3) .ensures) ∙ not-false _ ((c2 .if3) .left),
+      sym ((c .before .in-range4) .ensures) ∙ not-true _ ((c .if4) .taken),
+    )
 
 in-range-requires-5 : tie.Need-in-range-requires-5
 in-range-requires-5 c κs = search needs
@@ -61,7 +72,14 @@ returns-5 c =
     let c6 = c5 .before in
     let c7 = c6 .before in
     let c8 = c7 .before in
-    rw (sym ((c8 .in-range) .ensures) ∙ not-false _ ((c7 .if1) .left), sym ((c6 .in-range2) .ensures) ∙ not-false _ ((c5 .if2) .left), sym ((c4 .in-range3) .ensures) ∙ not-false _ ((c3 .if3) .left), sym ((c2 .in-range4) .ensures) ∙ not-false _ ((c .before .if4) .left)) ((c .in-range5) .ensures)
+    rw (
+      sym ((c8 .in-range) .ensures) ∙ not-false _ ((c7 .if1) .left),
+      sym ((c6 .in-range2) .ensures) ∙ not-false _ ((c5 .if2) .left),
+      sym
+          ((c4 .in-range3) .ensures) ∙ not-false _ ((c3 .if3) .left),
+      sym ((c2 .in-range4) .ensures) ∙ not-false _ ((c .before .if4) .left),
+    )
+    ((c .in-range5) .ensures)
 
 pub failure-ok-spec : {M : Type 1} → statement M
 failure-ok-spec =

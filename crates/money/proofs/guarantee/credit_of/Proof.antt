@@ -1,9 +1,9 @@
 use mathlib.Core.Path.{ap, _∙_}
 use lib.IntN.{ℤ, pos, negℤ}
-use Rattle.laws.specs.Ints.{minℤ}
-use Rattle.money.specs.laws.GuaranteeLaws.{profits-size}
 use native.Mathlib.Omega.{arith}
 use borrow.Author.Needs.{needs}
+use Rattle.laws.specs.Ints.{minℤ}
+use Rattle.money.specs.laws.GuaranteeLaws.{profits-size}
 use Rattle.money.proofs.guarantee.credit_of.Statement.{statement}
 use Rattle.money.proofs.guarantee.credit_of.Tie as tie
 

@@ -1,12 +1,12 @@
 use Prim.Native.Nat.{_-_}
+use borrow.Author.Needs.{needs}
+use native.Mathlib.Omega.{arith}
 use Rattle.laws.specs.Sums.{Σℤ}
 use Rattle.laws.specs.SumLaws.{Summed, summed-none, summed-more}
 use Rattle.money.specs.Units.{intervals, priceAt, quantityAt}
 use Rattle.money.specs.Offers.{maxPairs, piece}
 use Rattle.money.specs.laws.OfferLaws.{Walk, starts, short, in-range, pieces-room, spent-room, found-on, found}
 use Rattle.money.specs.laws.GuaranteeLaws.{interval-profit, profit-is, profit-room, profits-room, profits-all}
-use borrow.Author.Needs.{needs}
-use native.Mathlib.Omega.{arith}
 use Rattle.money.proofs.guarantee.profit_sum.Statement.{statement}
 use Rattle.money.proofs.guarantee.profit_sum.Tie as tie
 
@@ -117,7 +117,8 @@ minus-requires c κs =
     let c12 = c9 .before .before .before in
     let c14 = c12 .before .before in
     let c15 = c14 .before in
-    let z = found ((c15 .pre) .good) ((c15 .pre) .within _ ((c12 .intervals-test) .taken)) ((c9 .loop) .inv) ((c14 .costs-before) .ensures _ ((c9 .loop) .inv .below)) ((c5 .if1) .taken) ((c2 .between) .ensures .0) ((c .before .plus) .ensures) in
+    let z = found ((c15 .pre) .good) ((c15 .pre) .within _ ((c12 .intervals-test) .taken)) ((c9 .loop) .inv)
+    ((c14 .costs-before) .ensures _ ((c9 .loop) .inv .below)) ((c5 .if1) .taken) ((c2 .between) .ensures .0) ((c .before .plus) .ensures) in
     (omega (arith, (c .for-quantity) .ensures .1), spent-room _ _ ((c15 .pre) .good) ((c15 .pre) .within _ ((c12 .intervals-test) .taken)) z)
 
 plus-requires-2 : tie.Need-plus-requires-2 Inv-loop μ-loop Inv-intervals μ-intervals
@@ -130,8 +131,13 @@ plus-requires-2 c κs =
     let c14 = c13 .before in
     let c15 = c14 .before in
     let c16 = c15 .before in
-    let z = found ((c16 .pre) .good) ((c16 .pre) .within _ ((c13 .intervals-test) .taken)) ((c10 .loop) .inv) ((c15 .costs-before) .ensures _ ((c10 .loop) .inv .below)) ((c6 .if1) .taken) ((c3 .between) .ensures .0) ((c2 .plus) .ensures) in
-    (profits-room ((c16 .pre)) ((c14 .intervals) .inv), profit-room ((c16 .pre)) _ ((c13 .intervals-test) .taken) (profit-is ((c16 .args) .t1) (priceAt ((c16 .args) .t2) ((c14 .intervals) .k)) (quantityAt ((c16 .args) .t3) ((c14 .intervals) .k)) ((c .before .for-quantity) .ensures .0) z ((c .minus) .ensures)))
+    let z = found ((c16 .pre) .good) ((c16 .pre) .within _ ((c13 .intervals-test) .taken)) ((c10 .loop) .inv)
+    ((c15 .costs-before) .ensures _ ((c10 .loop) .inv .below)) ((c6 .if1) .taken) ((c3 .between) .ensures .0) ((c2 .plus) .ensures) in (
+      profits-room ((c16 .pre)) ((c14 .intervals) .inv),
+      profit-room ((c16 .pre)) _ ((c13 .intervals-test) .taken) (profit-is ((c16 .args) .t1)
+          (priceAt ((c16 .args) .t2) ((c14 .intervals) .k)) (quantityAt ((c16 .args) .t3) ((c14 .intervals) .k)) ((c .before .for-quantity) .ensures .0) z
+          ((c .minus) .ensures)),
+    )
 
 add-k : tie.Need-add-k Inv-loop μ-loop Inv-intervals μ-intervals
 add-k c = search needs
@@ -150,8 +156,11 @@ intervals-again c =
     let c15 = c14 .before in
     let c16 = c15 .before in
     let c17 = c16 .before in
-    let z = found ((c17 .pre) .good) ((c17 .pre) .within _ ((c14 .intervals-test) .taken)) ((c11 .loop) .inv) ((c16 .costs-before) .ensures _ ((c11 .loop) .inv .below)) ((c7 .if1) .taken) ((c4 .between) .ensures .0) ((c3 .plus) .ensures) in
-    summed-more ((c15 .intervals) .inv) ((c14 .intervals-test) .taken) ((c .plus2) .ensures) (profit-is ((c17 .args) .t1) (priceAt ((c17 .args) .t2) ((c15 .intervals) .k)) (quantityAt ((c17 .args) .t3) ((c15 .intervals) .k)) ((c2 .for-quantity) .ensures .0) z ((c .before .minus) .ensures))
+    let z = found ((c17 .pre) .good) ((c17 .pre) .within _ ((c14 .intervals-test) .taken)) ((c11 .loop) .inv)
+    ((c16 .costs-before) .ensures _ ((c11 .loop) .inv .below)) ((c7 .if1) .taken) ((c4 .between) .ensures .0) ((c3 .plus) .ensures) in
+    summed-more ((c15 .intervals) .inv) ((c14 .intervals-test) .taken) ((c .plus2) .ensures) (profit-is ((c17 .args) .t1)
+    (priceAt ((c17 .args) .t2) ((c15 .intervals) .k)) (quantityAt ((c17 .args) .t3) ((c15 .intervals) .k)) ((c2 .for-quantity) .ensures .0) z
+    ((c .before .minus) .ensures))
 
 returns : tie.Need-returns Inv-loop μ-loop Inv-intervals μ-intervals
 returns c = profits-all _ _ _ ((c .before .intervals) .inv) ((c .intervals-test) .left)

@@ -1,9 +1,9 @@
 use mathlib.Core.Path.{sym, _∙_}
 use borrow.Author.Tests.{not-true, not-false}
+use borrow.Author.Needs.{needs}
 use Rattle.money.specs.Offset.{faultAt, freshName}
 use Rattle.money.specs.Units.{unless}
 use Rattle.money.specs.laws.UnitLaws.{kept}
-use borrow.Author.Needs.{needs}
 use Rattle.money.proofs.imports.fault_at.Statement.{statement}
 use Rattle.money.proofs.imports.fault_at.Tie as tie
 

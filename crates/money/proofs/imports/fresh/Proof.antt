@@ -1,10 +1,10 @@
 use mathlib.Core.Path.{sym, _∙_, ap}
 use mathlib.Core.Bool.{Bool, not}
 use Prim.Native.Nat.{_-_}
+use borrow.Author.Needs.{needs}
 use Rattle.laws.specs.SumLaws.{Passed, passed-none, passed-more, passed-all, every-no}
 use Rattle.money.specs.Names.{sameName}
 use Rattle.money.specs.Offset.{entry, freshName}
-use borrow.Author.Needs.{needs}
 use Rattle.money.proofs.imports.fresh.Statement.{statement}
 use Rattle.money.proofs.imports.fresh.Tie as tie
 
@@ -37,7 +37,8 @@ unfolding freshName
 returns c =
     let c4 = c .before .before .before .before in
     let c8 = c4 .before .before .before .before in
-    sym (every-no _ _ (λ a. not (sameName (entry ((c8 .args) .t1) ((c8 .args) .i) .name) (entry ((c8 .args) .t1) a .name))) ((c4 .loop-test) .taken) (ap (λ (b : Bool). not b) (sym ((c .before .same-name) .ensures) ∙ (c .if1) .taken)))
+    sym (every-no _ _ (λ a. not (sameName (entry ((c8 .args) .t1) ((c8 .args) .i) .name) (entry ((c8 .args) .t1) a .name))) ((c4 .loop-test) .taken)
+    (ap (λ (b : Bool). not b) (sym ((c .before .same-name) .ensures) ∙ (c .if1) .taken)))
 
 add-j : tie.Need-add-j Inv-loop μ-loop
 add-j c = search needs

@@ -1,9 +1,9 @@
 use mathlib.Core.Path.{sym, _∙_}
 use Prim.Native.Nat.{_-_}
-use Rattle.money.specs.Offset.{faultAt, entriesFault}
-use Rattle.laws.specs.SumLaws.{Clean, clean-none, clean-more, clean-all, clean-no}
 use borrow.Author.Needs.{needs}
 use native.Mathlib.Omega.{arith}
+use Rattle.laws.specs.SumLaws.{Clean, clean-none, clean-more, clean-all, clean-no}
+use Rattle.money.specs.Offset.{faultAt, entriesFault}
 use Rattle.money.proofs.imports.list_fault.Statement.{statement}
 use Rattle.money.proofs.imports.list_fault.Tie as tie
 

@@ -2,9 +2,9 @@ use mathlib.Core.Path.{sym, _∙_}
 use Prim.Native.Nat.{_-_}
 use lib.ListN.{getD}
 use borrow.Author.Tests.{not-true, not-false, le-leb, lt-leb}
-use Rattle.money.specs.Names.{nameOk, nameByteOk}
-use Rattle.laws.specs.SumLaws.{Passed, passed-none, passed-more, passed-all, every-no}
 use borrow.Author.Needs.{needs}
+use Rattle.laws.specs.SumLaws.{Passed, passed-none, passed-more, passed-all, every-no}
+use Rattle.money.specs.Names.{nameOk, nameByteOk}
 use Rattle.money.proofs.names.name_ok.Statement.{statement}
 use Rattle.money.proofs.names.name_ok.Tie as tie
 
@@ -41,7 +41,12 @@ returns-3 c =
     let c5 = c3 .before .before in
     let c6 = c5 .before in
     let c7 = c6 .before in
-    rw (le-leb _ _ ((c6 .if1) .left), le-leb _ _ ((c5 .if2) .left), every-no _ _ (λ j. nameByteOk (getD ((c7 .args) .t1 .bytes) j 0)) ((c3 .loop-test) .taken) (sym ((c .before .byte-ok) .ensures) ∙ not-true _ ((c .if3) .taken)))
+    rw (
+      le-leb _ _ ((c6 .if1) .left),
+      le-leb _ _ ((c5 .if2) .left),
+      every-no _ _ (λ j. nameByteOk (getD ((c7 .args) .t1 .bytes) j 0)) ((c3 .loop-test) .taken)
+          (sym ((c .before .byte-ok) .ensures) ∙ not-true _ ((c .if3) .taken)),
+    )
 
 add-i : tie.Need-add-i Inv-loop μ-loop
 add-i c = search needs

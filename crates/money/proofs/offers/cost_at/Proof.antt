@@ -2,12 +2,12 @@ use mathlib.Core.Path.{sym, _∙_}
 use Prim.Native.Nat.{_≤_, _<_}
 use lib.Dec.{leb}
 use borrow.Author.Tests.{le-leb, lt-leb, not-true, not-false}
+use native.Mathlib.Omega.{arith}
+use borrow.Author.Needs.{needs}
 use Rattle.money.specs.Offers.{costAnswer, cost, lastQ}
 use Rattle.money.specs.Units.{unless}
 use Rattle.money.specs.laws.OfferLaws.{good-of}
 use Rattle.money.specs.laws.UnitLaws.{kept, answer-fault}
-use native.Mathlib.Omega.{arith}
-use borrow.Author.Needs.{needs}
 use Rattle.money.proofs.offers.cost_at.Statement.{statement}
 use Rattle.money.proofs.offers.cost_at.Tie as tie
 
@@ -27,7 +27,8 @@ returns-2 c =
     let c2 = c .before .before in
     let c3 = c2 .before in
     let c4 = c3 .before in
-    rw (sym ((c3 .in-range) .ensures) ∙ not-false _ ((c2 .if1) .left)) (answer-fault (cost ((c4 .args) .o) ((c4 .args) .q .0)) (kept (unless (leb ((c4 .args) .q .0) (lastQ ((c4 .args) .o))) 7 0) ((c .before .offer-fault) .ensures) ((c .if2) .taken)) ((c .if2) .taken))
+    rw (sym ((c3 .in-range) .ensures) ∙ not-false _ ((c2 .if1) .left)) (answer-fault (cost ((c4 .args) .o) ((c4 .args) .q .0))
+    (kept (unless (leb ((c4 .args) .q .0) (lastQ ((c4 .args) .o))) 7 0) ((c .before .offer-fault) .ensures) ((c .if2) .taken)) ((c .if2) .taken))
 
 last-of-requires : tie.Need-last-of-requires
 last-of-requires c κs =

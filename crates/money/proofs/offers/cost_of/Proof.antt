@@ -1,8 +1,8 @@
 use Prim.Native.Nat.{_-_}
-use Rattle.money.specs.laws.OfferLaws.{Walk, starts, reach, short, in-range, pieces-room, walked-on, walked}
-use Rattle.money.specs.Offers.{maxPairs}
 use borrow.Author.Needs.{needs}
 use native.Mathlib.Omega.{arith}
+use Rattle.money.specs.laws.OfferLaws.{Walk, starts, reach, short, in-range, pieces-room, walked-on, walked}
+use Rattle.money.specs.Offers.{maxPairs}
 use Rattle.money.proofs.offers.cost_of.Statement.{statement}
 use Rattle.money.proofs.offers.cost_of.Tie as tie
 

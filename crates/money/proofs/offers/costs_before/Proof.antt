@@ -1,8 +1,8 @@
 use mathlib.Core.Path.{_≡_, refl}
 use Prim.Native.Nat.{_-_}
-use Rattle.money.specs.laws.OfferLaws.{Costed, reach, pieces-room, costed-none, costed-more}
 use borrow.Author.Needs.{needs}
 use native.Mathlib.Omega.{arith}
+use Rattle.money.specs.laws.OfferLaws.{Costed, reach, pieces-room, costed-none, costed-more}
 use Rattle.money.proofs.offers.costs_before.Statement.{statement}
 use Rattle.money.proofs.offers.costs_before.Tie as tie
 
@@ -64,8 +64,11 @@ loop-again : tie.Need-loop-again Inv-loop μ-loop
 loop-again c =
     let c4 = c .before .before .before .before in
     let c5 = c4 .before in
-    let c6 = c5 .before in
-    ((c5 .loop) .inv .0, costed-more ((c6 .pre)) ((c5 .loop) .inv .1) (omega (arith, (c5 .loop) .inv .0, (c4 .loop-test) .taken)) refl ((c .before .between) .ensures .0) ((c .plus) .ensures))
+    let c6 = c5 .before in (
+      (c5 .loop) .inv .0,
+      costed-more ((c6 .pre)) ((c5 .loop) .inv .1) (omega (arith, (c5 .loop) .inv .0, (c4 .loop-test) .taken)) refl
+          ((c .before .between) .ensures .0) ((c .plus) .ensures),
+    )
 
 returns : tie.Need-returns Inv-loop μ-loop
 returns c = λ j l. (c .before .loop) .inv .1 .so-far j (omega (arith, (c .before .loop) .inv .0, (c .loop-test) .left))

@@ -1,5 +1,5 @@
-use Rattle.money.specs.laws.OfferLaws.{last-is}
 use borrow.Author.Needs.{needs}
+use Rattle.money.specs.laws.OfferLaws.{last-is}
 use Rattle.money.proofs.offers.last_of.Statement.{statement}
 use Rattle.money.proofs.offers.last_of.Tie as tie
 

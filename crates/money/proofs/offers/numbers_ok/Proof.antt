@@ -1,9 +1,9 @@
 use mathlib.Core.Path.{sym, _∙_}
 use Prim.Native.Nat.{_-_}
 use borrow.Author.Tests.{not-true, not-false}
-use Rattle.money.specs.Offers.{numberOk, numbersOk}
-use Rattle.laws.specs.SumLaws.{Passed, passed-none, passed-more, passed-all, every-no}
 use borrow.Author.Needs.{needs}
+use Rattle.laws.specs.SumLaws.{Passed, passed-none, passed-more, passed-all, every-no}
+use Rattle.money.specs.Offers.{numberOk, numbersOk}
 use Rattle.money.proofs.offers.numbers_ok.Statement.{statement}
 use Rattle.money.proofs.offers.numbers_ok.Tie as tie
 

@@ -1,7 +1,7 @@
 use mathlib.Core.Path.{sym, _∙_}
 use borrow.Author.Tests.{not-true, not-false, le-leb, lt-leb}
-use Rattle.money.specs.Offers.{offerFault}
 use borrow.Author.Needs.{needs}
+use Rattle.money.specs.Offers.{offerFault}
 use Rattle.money.proofs.offers.offer_fault.Statement.{statement}
 use Rattle.money.proofs.offers.offer_fault.Tie as tie
 

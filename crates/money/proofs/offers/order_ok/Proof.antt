@@ -1,9 +1,9 @@
 use mathlib.Core.Path.{sym, _∙_}
 use Prim.Native.Nat.{_-_}
 use borrow.Author.Tests.{not-true, not-false, le-leb, lt-leb}
-use Rattle.money.specs.Offers.{risesAt, orderOk}
-use Rattle.laws.specs.SumLaws.{Passed, passed-none, passed-more, passed-all, every-no}
 use borrow.Author.Needs.{needs}
+use Rattle.laws.specs.SumLaws.{Passed, passed-none, passed-more, passed-all, every-no}
+use Rattle.money.specs.Offers.{risesAt, orderOk}
 use Rattle.money.proofs.offers.order_ok.Statement.{statement}
 use Rattle.money.proofs.offers.order_ok.Tie as tie
 
@@ -68,7 +68,11 @@ returns-2 c =
     let c6 = c .before .before .before .before .before .before in
     let c8 = c6 .before .before in
     let c11 = c8 .before .before .before in
-    rw (le-leb _ _ ((c8 .if1) .left), every-no _ _ (risesAt ((c11 .args) .t1)) ((c6 .loop-test) .taken) (sym ((c .before .pair-rises) .ensures) ∙ not-true _ ((c .if2) .taken)))
+    rw (
+      le-leb _ _ ((c8 .if1) .left),
+      every-no _ _ (risesAt ((c11 .args) .t1)) ((c6 .loop-test) .taken)
+          (sym ((c .before .pair-rises) .ensures) ∙ not-true _ ((c .if2) .taken)),
+    )
 
 add-i : tie.Need-add-i Inv-loop μ-loop
 add-i c = search needs

@@ -1,7 +1,7 @@
 use mir.Syntax.{w32}
 use mir.Val.{SFits}
-use Rattle.laws.specs.Held as h
 use borrow.Author.Needs.{needs}
+use Rattle.laws.specs.Held as h
 use Rattle.money.proofs.offers.pair_rises.Statement.{statement}
 use Rattle.money.proofs.offers.pair_rises.Tie as tie
 

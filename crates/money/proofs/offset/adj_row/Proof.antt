@@ -1,10 +1,10 @@
 use Prim.Native.Nat.{ℕ, _-_, min}
 use mathlib.Core.Path.{refl, _∙_, ap}
+use borrow.Author.Needs.{needs}
+use native.Mathlib.Omega.{arith}
 use Rattle.money.specs.Units.{intervals, quantityAt}
 use Rattle.money.specs.Offset.{mqsi, entry}
 use Rattle.money.specs.laws.UnitLaws.{Filled, filled-none, filled-more}
-use borrow.Author.Needs.{needs}
-use native.Mathlib.Omega.{arith}
 use Rattle.money.proofs.offset.adj_row.Statement.{statement}
 use Rattle.money.proofs.offset.adj_row.Tie as tie
 
@@ -72,7 +72,8 @@ returns : tie.Need-returns Inv-loop μ-loop
 returns c =
     let c2 = c .before .before in
     let c4 = c2 .before .before in
-    λ k h. (c .before .loop) .inv .so-far k (omega (arith, (c .loop-test) .left)) ∙ ap (λ (x : ℕ). min (mqsi (entry ((c4 .args) .t2) ((c4 .args) .i)) k) (x - quantityAt ((c4 .args) .t3) k)) ((c2 .reach-row) .ensures k h)
+    λ k h. (c .before .loop) .inv .so-far k (omega (arith, (c .loop-test) .left)) ∙ ap
+    (λ (x : ℕ). min (mqsi (entry ((c4 .args) .t2) ((c4 .args) .i)) k) (x - quantityAt ((c4 .args) .t3) k)) ((c2 .reach-row) .ensures k h)
 
 pub adj-row-spec : {M : Type 1} → statement M
 adj-row-spec =

@@ -1,7 +1,7 @@
 use mathlib.Core.Path.{sym, _∙_}
-use Rattle.money.specs.laws.OffsetLaws.{counted-yes, counted-no}
 use native.Mathlib.Omega.{arith}
 use borrow.Author.Needs.{needs}
+use Rattle.money.specs.laws.OffsetLaws.{counted-yes, counted-no}
 use Rattle.money.proofs.offset.counted_in.Statement.{statement}
 use Rattle.money.proofs.offset.counted_in.Tie as tie
 

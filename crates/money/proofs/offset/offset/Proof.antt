@@ -142,7 +142,8 @@ module _ {M : Type 1} (𝓤 : URA M) (H : Heap 𝓤) (A : Atoms 𝓤) (mem : Mem
     pub add-known : Triple 𝓤 (C #add) Add
     pub finish-known : Triple 𝓤 (C #finish) Finish
 
-module _ {M : Type 1} (𝓤 : URA M) (H : Heap 𝓤) (A : Atoms 𝓤) (W : Given 𝓤 H A) (mem : Memory → SProp 𝓤) (run : Routine → Fun 𝓤) (κ : Lft) (q : Share) (b o : ℕ) (γ : GName) (ys : List Import) (ps : List Price) (ts : List Quantity) where
+module _ {M : Type 1} (𝓤 : URA M) (H : Heap 𝓤) (A : Atoms 𝓤) (W : Given 𝓤 H A) (mem : Memory → SProp 𝓤) (run : Routine → Fun 𝓤) (κ : Lft) (q : Share) (b o : ℕ)
+    (γ : GName) (ys : List Import) (ps : List Price) (ts : List Quantity) where
   abbrev n : ℕ
   n = length ys
 
@@ -171,10 +172,12 @@ module _ {M : Type 1} (𝓤 : URA M) (H : Heap 𝓤) (A : Atoms 𝓤) (W : Given
   typedS : (t : Taken) (v : Val) → Is S.the-row t (v ∷ []) → T (hasTy S′.mir v) × WT v
   typedS t v g = LL.lawful S.the-type S′.the-laws 𝓤 H A W .typed t (v ∷ []) g .0
 
-  exits : IsP ps → IsQ ts → (r : Answer) (u : Val) → r ≡ offsetAnswer (length ys) ys ps ts → Is N.the-row r (u ∷ []) → ent 𝓤 (⋆ 𝓤 H A (‵ (flft κ q) ∷ ‵ Res ∷ ‵ Shr ∷ ‵ Fact ∷ [])) (Post u)
+  exits : IsP ps → IsQ ts → (r : Answer) (u : Val) → r ≡ offsetAnswer (length ys) ys ps ts → Is N.the-row r (u ∷ []) → ent 𝓤
+      (⋆ 𝓤 H A (‵ (flft κ q) ∷ ‵ Res ∷ ‵ Shr ∷ ‵ Fact ∷ [])) (Post u)
   exits gp gq r u e gr =
       qed W (‵ (flft κ q) ∷ ‵ Res ∷ ‵ Shr ∷ ‵ Fact ∷ []) ∵
-      suffices ! _ (ends-at 𝓤 H A offset.ended stayed (offset.clauses 𝓤 H A mem run) W (((κ, tt), (q, tt), tt, (x, (ps, (ts, tt))), at), tt) u r (tt, (tt, (tt, tt))) (tt, (tt, (tt, tt)))) $ says ! e $
+      suffices ! _ (ends-at 𝓤 H A offset.ended stayed (offset.clauses 𝓤 H A mem run) W (((κ, tt), (q, tt), tt, (x, (ps, (ts, tt))), at), tt) u r
+      (tt, (tt, (tt, tt))) (tt, (tt, (tt, tt)))) $ says ! e $
       -- [the token; res; the borrow; the fact]: the slice's own is put together again, and the plain parameters' are made anew
       move ! (1 ∷ 2 ∷ []) $ fjoin ! $ move ! (2 ∷ 0 ∷ []) $ fjoin ! $
       nothing ! $ owned ! RQ (Is RQ) (array-makes 𝓤 H A W Q.the-row (LL.makes Q.the-type Q′.the-plain 𝓤 H A) 12) ts _ gq $ fjoin ! $
@@ -230,7 +233,8 @@ module _ {M : Type 1} (𝓤 : URA M) (H : Heap 𝓤) (A : Atoms 𝓤) (W : Given
   Nearer-wf : WellFounded Nearer
   Nearer-wf = InvImage·wf (λ (j : Upto). n - j .i) (Nat·lt-wfRel .wf)
 
-  module _ (𝓣 : Tables 𝓤 H) (fm : FmC 𝓤 H (W .laws) (𝓣 .C)) (known : Known 𝓤 H A mem run (𝓣 .C)) (gn : Room T.the-row n) (gp : IsP ps) (gq : IsQ ts) (l₀ l₁ l₂ l₃ l₄ l₅ l₆ l₇ l₈ l₉ : ℕ) where
+  module _ (𝓣 : Tables 𝓤 H) (fm : FmC 𝓤 H (W .laws) (𝓣 .C)) (known : Known 𝓤 H A mem run (𝓣 .C)) (gn : Room T.the-row n) (gp : IsP ps) (gq : IsQ ts)
+      (l₀ l₁ l₂ l₃ l₄ l₅ l₆ l₇ l₈ l₉ : ℕ) where
     abbrev C : Calls 𝓤 H
     C = 𝓣 .C
 
@@ -254,10 +258,12 @@ module _ {M : Type 1} (𝓤 : URA M) (H : Heap 𝓤) (A : Atoms 𝓤) (W : Given
 
     abbrev Below-t : List (Item 𝓤)
     Below-t = ‵ (fat fullShare tyQ l₃ 0 (machQ ts)) ∷ ‵ (fdies tyQ l₃) ∷ ‵ (fat fullShare tyP l₂ 0 (machP ps)) ∷ ‵ (fdies tyP l₂)
-        ∷ ‵ (fat fullShare slice l₁ 0 (sliceVal (b, o) n)) ∷ ‵ (fdies slice l₁) ∷ ‵ (froom N′.mir l₀ 0) ∷ ‵ (fdies N′.mir l₀) ∷ ‵ (flft κ q) ∷ ‵ Res ∷ ‵ Shr ∷ ‵ Fact ∷ []
+        ∷ ‵ (fat fullShare slice l₁ 0 (sliceVal (b, o) n)) ∷ ‵ (fdies slice l₁) ∷ ‵ (froom N′.mir l₀ 0) ∷ ‵ (fdies N′.mir l₀) ∷ ‵ (flft κ q) ∷ ‵ Res ∷ ‵ Shr ∷ ‵
+        Fact ∷ []
 
     abbrev At : Upto → List (Item 𝓤)
-    At j = ‵ (froom T′.mir l₉ 0) ∷ ‵ (fdies T′.mir l₉) ∷ ‵ (froom tyPtr l₈ 0) ∷ ‵ (fdies tyPtr l₈) ∷ ‵ (froom tyBool l₇ 0) ∷ ‵ (fdies tyBool l₇) ∷ ‵ (froom word l₆ 0) ∷ ‵ (fdies word l₆)
+    At j = ‵ (froom T′.mir l₉ 0) ∷ ‵ (fdies T′.mir l₉) ∷ ‵ (froom tyPtr l₈ 0) ∷ ‵ (fdies tyPtr l₈) ∷ ‵ (froom tyBool l₇ 0) ∷ ‵ (fdies tyBool l₇) ∷ ‵
+        (froom word l₆ 0) ∷ ‵ (fdies word l₆)
         ∷ ‵ (fat fullShare word l₅ 0 (vint w64 (j .i))) ∷ ‵ (fdies word l₅) ∷ ‵ (fat fullShare S′.mir l₄ 0 (machS (j .t))) ∷ ‵ (fdies S′.mir l₄) ∷ Below-t
 
     abbrev Turned : Upto → Out → SProp 𝓤
@@ -267,27 +273,38 @@ module _ {M : Type 1} (𝓤 : URA M) (H : Heap 𝓤) (A : Atoms 𝓤) (W : Given
     more : (j : Upto) → ltb (j .i) n ≡ true → Sq W (At j) (runs C Λ En mirs.turn-1 (anyQ (Turned j)))
     unfolding afterTurn
     more j e =
-        assigns ! (of-opd ! (load ! (from ! (fld ! refl (stop !))) (look-in ! 16 (sub ! 1 refl (all-of !))))) (from ! (stop !)) (init ! 6 refl (tt, record { fits = gn .0 })) $
+        assigns ! (of-opd ! (load ! (from ! (fld ! refl (stop !))) (look-in ! 16 (sub ! 1 refl (all-of !))))) (from ! (stop !))
+        (init ! 6 refl (tt, record { fits = gn .0 })) $
         assigns ! (bin ! (load ! (from ! (stop !)) (look ! 8 refl)) (load ! (from ! (stop !)) (look ! 6 refl)) tt) (from ! (stop !)) (init ! 4 refl (tt, tt)) $
         rewrite ! 4 (λ (c : Bool). ‵ (fat fullShare tyBool l₇ 0 (vbool c))) e refl $ stays ! (load ! (from ! (stop !)) (look ! 4 refl)) $
-        assigns ! (bin ! (load ! (from ! (stop !)) (look ! 8 refl)) (lit ! tt) (scaled-fits (j .i) n 240 l (gn .1))) (from ! (stop !)) (store ! 6 refl (tt, scaled-fits (j .i) n 240 l (gn .1))) $
-        assigns ! (bin ! (load ! (from ! (fld ! refl (stop !))) (look-in ! 16 (sub ! 0 refl (all-of !)))) (load ! (from ! (stop !)) (look ! 6 refl)) tt) (from ! (stop !)) (init ! 2 refl (tt, tt)) $
+        assigns ! (bin ! (load ! (from ! (stop !)) (look ! 8 refl)) (lit ! tt) (scaled-fits (j .i) n 240 l (gn .1))) (from ! (stop !))
+        (store ! 6 refl (tt, scaled-fits (j .i) n 240 l (gn .1))) $
+        assigns ! (bin ! (load ! (from ! (fld ! refl (stop !))) (look-in ! 16 (sub ! 0 refl (all-of !)))) (load ! (from ! (stop !)) (look ! 6 refl)) tt)
+        (from ! (stop !)) (init ! 2 refl (tt, tt)) $
         rewrite ! 2 (λ (p : ℕ). ‵ (fat fullShare tyPtr l₈ 0 (vptr b p))) (sym (place-is 240 o (j .i))) refl $ move ! (22 ∷ 20 ∷ []) $
-        looks-slice ! tt T.the-row (Is T.the-row) (shows 𝓤 H A T.the-row) (LL.vals T.the-type T′.the-laws) (LL.tells T.the-type T′.the-laws) (LL.copy T.the-type T′.the-copy 𝓤 H A W) ys b o (λ q′.
-        elem-out ! T.the-row (Is T.the-row) (shows 𝓤 H A T.the-row) (LL.vals T.the-type T′.the-laws) (LL.tells T.the-type T′.the-laws) q′ ys (j .i) noImport b o l (λ g.
+        looks-slice ! tt T.the-row (Is T.the-row) (shows 𝓤 H A T.the-row) (LL.vals T.the-type T′.the-laws) (LL.tells T.the-type T′.the-laws)
+        (LL.copy T.the-type T′.the-copy 𝓤 H A W) ys b o (λ q′.
+        elem-out ! T.the-row (Is T.the-row) (shows 𝓤 H A T.the-row) (LL.vals T.the-type T′.the-laws) (LL.tells T.the-type T′.the-laws) q′ ys (j .i) noImport b o
+        l (λ g.
         -- [entries[i]; what it owns; the others; what shuts; the borrow; _9; …; _8; …; …]
-        assigns ! (of-opd ! (load ! (from ! (hop ! (look ! 7 refl) (stop !))) (look-raw ! 0 refl))) (from ! (stop !)) (init ! 5 refl (LL.lawful T.the-type T′.the-laws 𝓤 H A W .typed en (machT en ∷ []) g .0)) $
+        assigns ! (of-opd ! (load ! (from ! (hop ! (look ! 7 refl) (stop !))) (look-raw ! 0 refl))) (from ! (stop !))
+        (init ! 5 refl (LL.lawful T.the-type T′.the-laws 𝓤 H A W .typed en (machT en ∷ []) g .0)) $
         elem-back ! T.the-row q′ ys (j .i) noImport (machT en ∷ []) b o l $ shuts-slice ! tt T.the-row q′ ys b o $
         -- [the token; the borrow; _9; …; _8; …; …]
         use0 W (raw (Add 𝓤 H A mem run .pre (to-add (j .t) en))) (goes-add (j .t) en (j .is) g) $
-        calls-at ! fm (Add 𝓤 H A mem run) (known .add-known) (to-add (j .t) en) (and-then ! (load ! (from ! (stop !)) (look ! 13 refl)) (and-then ! (load ! (from ! (stop !)) (look ! 3 refl)) (no-more !))) (λ u.
-        use1 W (later (some (λ (r : Taken). (‵ ftrue ⊛ ‵ (S.the-row .own r (u ∷ []))) ⊛ raw (ensured 𝓤 H A add.ended (add.clauses 𝓤 H A mem run) tt (j .t, (en, tt)) tt r)))) (id⊢ 𝓤 _) $ await ! tt $ pick ! (λ r.
-        split ! $ move ! (1 ∷ []) $ use1 W (raw (fact 𝓤 (r ≡ addOf (j .t) en))) (add-said (j .t) en r) $ heard ! (r ≡ addOf (j .t) en) (λ said. split ! $ move ! (1 ∷ []) $
+        calls-at ! fm (Add 𝓤 H A mem run) (known .add-known) (to-add (j .t) en)
+        (and-then ! (load ! (from ! (stop !)) (look ! 13 refl)) (and-then ! (load ! (from ! (stop !)) (look ! 3 refl)) (no-more !))) (λ u.
+        use1 W (later (some
+        (λ (r : Taken). (‵ ftrue ⊛ ‵ (S.the-row .own r (u ∷ []))) ⊛ raw (ensured 𝓤 H A add.ended (add.clauses 𝓤 H A mem run) tt (j .t, (en, tt)) tt r))))
+        (id⊢ 𝓤 _) $ await ! tt $ pick ! (λ r.
+        split ! $ move ! (1 ∷ []) $ use1 W (raw (fact 𝓤 (r ≡ addOf (j .t) en))) (add-said (j .t) en r) $ heard ! (r ≡ addOf (j .t) en)
+        (λ said. split ! $ move ! (1 ∷ []) $
         -- [the result; true; the token; the borrow; _9; …; _8; …; _7; …; _6; …; _5; …; _4; …; …]
         peeks ! S.the-row (Is S.the-row) (shows 𝓤 H A S.the-row) r (u ∷ []) (λ is′.
         land ! (from ! (stop !)) (store ! 14 refl (typedS r u is′)) $
         rewrite ! 14 (λ (v : Val). ‵ (fat fullShare S′.mir l₄ 0 v)) (ap only (LL.tells S.the-type S′.the-laws r (u ∷ []) is′)) refl $
-        assigns-last ! (bin ! (load ! (from ! (stop !)) (look ! 12 refl)) (lit ! tt) (record { fits = fits })) (from ! (stop !)) (store ! 12 refl (tt, record { fits = fits })) $
+        assigns-last ! (bin ! (load ! (from ! (stop !)) (look ! 12 refl)) (lit ! tt) (record { fits = fits })) (from ! (stop !))
+        (store ! 12 refl (tt, record { fits = fits })) $
         forget ! 4 refl $ forget ! 6 refl $ forget ! 8 refl $ forget ! 10 refl $
         keep ! (4 ∷ 5 ∷ 6 ∷ 7 ∷ 8 ∷ 9 ∷ 10 ∷ 11 ∷ 12 ∷ 13 ∷ 14 ∷ 15 ∷ 16 ∷ 17 ∷ 18 ∷ 19 ∷ 20 ∷ 21 ∷ 22 ∷ 23 ∷ 2 ∷ 24 ∷ 3 ∷ 25 ∷ []) $
         again ! Nearer At j (next r said is′) (add-one-dec n (j .i) l)))))))
@@ -314,19 +331,28 @@ module _ {M : Type 1} (𝓤 : URA M) (H : Heap 𝓤) (A : Atoms 𝓤) (W : Given
     ends : (j : Upto) → ltb (j .i) n ≡ false → Sq W (At j) (runs C Λ En mirs.turn-1 (anyQ (Turned j)))
     unfolding afterTurn
     ends j e =
-        assigns ! (of-opd ! (load ! (from ! (fld ! refl (stop !))) (look-in ! 16 (sub ! 1 refl (all-of !))))) (from ! (stop !)) (init ! 6 refl (tt, record { fits = gn .0 })) $
+        assigns ! (of-opd ! (load ! (from ! (fld ! refl (stop !))) (look-in ! 16 (sub ! 1 refl (all-of !))))) (from ! (stop !))
+        (init ! 6 refl (tt, record { fits = gn .0 })) $
         assigns ! (bin ! (load ! (from ! (stop !)) (look ! 8 refl)) (load ! (from ! (stop !)) (look ! 6 refl)) tt) (from ! (stop !)) (init ! 4 refl (tt, tt)) $
-        rewrite ! 4 (λ (c : Bool). ‵ (fat fullShare tyBool l₇ 0 (vbool c))) e refl $ leaves-loop ! (load ! (from ! (stop !)) (look ! 4 refl)) $ exec ! C Λ En mirs.t-4 (atRet En Post) $
+        rewrite ! 4 (λ (c : Bool). ‵ (fat fullShare tyBool l₇ 0 (vbool c))) e refl $ leaves-loop ! (load ! (from ! (stop !)) (look ! 4 refl)) $ exec ! C Λ En
+        mirs.t-4 (atRet En Post) $
         use0 W (raw (Finish 𝓤 H A mem run .pre (to-finish (j .t)))) (goes-finish (j .t) (j .is)) $
         calls-at ! fm (Finish 𝓤 H A mem run) (known .finish-known) (to-finish (j .t)) (and-then ! (load ! (from ! (stop !)) (look ! 11 refl)) (no-more !)) (λ u.
-        use1 W (later (some (λ (r : Answer). (‵ ftrue ⊛ ‵ (N.the-row .own r (u ∷ []))) ⊛ raw (ensured 𝓤 H A finish.ended (finish.clauses 𝓤 H A mem run) tt (j .t, tt) tt r)))) (id⊢ 𝓤 _) $ await ! tt $ pick ! (λ r.
-        split ! $ move ! (1 ∷ []) $ use1 W (raw (fact 𝓤 (r ≡ finishOf (j .t)))) (finish-said (j .t) r) $ heard ! (r ≡ finishOf (j .t)) (λ said. split ! $ move ! (1 ∷ []) $
+        use1 W (later (some
+        (λ (r : Answer). (‵ ftrue ⊛ ‵ (N.the-row .own r (u ∷ []))) ⊛ raw (ensured 𝓤 H A finish.ended (finish.clauses 𝓤 H A mem run) tt (j .t, tt) tt r))))
+        (id⊢ 𝓤 _) $ await ! tt $ pick ! (λ r.
+        split ! $ move ! (1 ∷ []) $ use1 W (raw (fact 𝓤 (r ≡ finishOf (j .t)))) (finish-said (j .t) r) $ heard ! (r ≡ finishOf (j .t))
+        (λ said. split ! $ move ! (1 ∷ []) $
         -- [the result; true; _9; …; _0; …; the token; res; the borrow; the fact]
         peeks ! N.the-row (Is N.the-row) (shows 𝓤 H A N.the-row) r (u ∷ []) (λ is′.
         land ! (from ! (stop !)) (init ! 20 refl (EL.lawful N.the-type N′.the-laws 𝓤 H A W tt .typed r _ is′ .0)) $
-        returns ! (look ! 20 refl) $ forget ! 6 refl $ forget ! 8 refl $ forget ! 10 refl $ forget ! 12 refl $ forget ! 14 refl $ forget ! 16 refl $ forget ! 18 refl $ forget ! 20 refl $
-        move ! (20 ∷ 21 ∷ []) $ free1 ! $ move ! (18 ∷ 19 ∷ []) $ free1 ! $ move ! (16 ∷ 17 ∷ []) $ free1 ! $ move ! (14 ∷ 15 ∷ []) $ free1 ! $ move ! (12 ∷ 13 ∷ []) $ free1 ! $ move ! (10 ∷ 11 ∷ []) $ free1 ! $ move ! (8 ∷ 9 ∷ []) $ free1 ! $ move ! (6 ∷ 7 ∷ []) $ free1 ! $ move ! (4 ∷ 5 ∷ []) $ free1 ! $ move ! (2 ∷ 3 ∷ []) $ free1 ! $ free0 ! $
-        keep ! (2 ∷ 3 ∷ 4 ∷ 5 ∷ []) $ by ! (exits gp gq r u (said ∙ ap finishOf (sym (j .so ∙ fold-end (j .t) ys (j .i) (ltb-false (j .i) n e))) ∙ whole ys ps ts) is′)))))
+        returns ! (look ! 20 refl) $ forget ! 6 refl $ forget ! 8 refl $ forget ! 10 refl $ forget ! 12 refl $ forget ! 14 refl $ forget ! 16 refl $ forget ! 18
+        refl $ forget ! 20 refl $
+        move ! (20 ∷ 21 ∷ []) $ free1 ! $ move ! (18 ∷ 19 ∷ []) $ free1 ! $ move ! (16 ∷ 17 ∷ []) $ free1 ! $ move ! (14 ∷ 15 ∷ []) $ free1 ! $ move !
+        (12 ∷ 13 ∷ []) $ free1 ! $ move ! (10 ∷ 11 ∷ []) $ free1 ! $ move ! (8 ∷ 9 ∷ []) $ free1 ! $ move ! (6 ∷ 7 ∷ []) $ free1 ! $ move ! (4 ∷ 5 ∷ []) $
+        free1 ! $ move ! (2 ∷ 3 ∷ []) $ free1 ! $ free0 ! $
+        keep ! (2 ∷ 3 ∷ 4 ∷ 5 ∷ []) $ by !
+        (exits gp gq r u (said ∙ ap finishOf (sym (j .so ∙ fold-end (j .t) ys (j .i) (ltb-false (j .i) n e))) ∙ whole ys ps ts) is′)))))
 
     turns : (j : Upto) → Sq W (At j) (runs C Λ En mirs.turn-1 (anyQ (Turned j)))
     turns j = by-test (ltb (j .i) n) refl
@@ -340,14 +366,18 @@ module _ {M : Type 1} (𝓤 : URA M) (H : Heap 𝓤) (A : Atoms 𝓤) (W : Given
 
     -- the call of `start`, and i
     abbrev Entered : List (Item 𝓤)
-    Entered = ‵ (froom T′.mir l₉ 0) ∷ ‵ (fdies T′.mir l₉) ∷ ‵ (froom tyPtr l₈ 0) ∷ ‵ (fdies tyPtr l₈) ∷ ‵ (froom tyBool l₇ 0) ∷ ‵ (fdies tyBool l₇) ∷ ‵ (froom word l₆ 0) ∷ ‵ (fdies word l₆)
+    Entered = ‵ (froom T′.mir l₉ 0) ∷ ‵ (fdies T′.mir l₉) ∷ ‵ (froom tyPtr l₈ 0) ∷ ‵ (fdies tyPtr l₈) ∷ ‵ (froom tyBool l₇ 0) ∷ ‵ (fdies tyBool l₇) ∷ ‵
+        (froom word l₆ 0) ∷ ‵ (fdies word l₆)
         ∷ ‵ (froom word l₅ 0) ∷ ‵ (fdies word l₅) ∷ ‵ (froom S′.mir l₄ 0) ∷ ‵ (fdies S′.mir l₄) ∷ Below-t
 
     began : Sq W Entered (runs C Λ En mirs.t-1 (atRet En Post))
     began =
         use0 W (raw (Start 𝓤 H A mem run .pre to-start)) (goes-start gp gq) $
-        calls-at ! fm (Start 𝓤 H A mem run) (known .start-known) to-start (and-then ! (load ! (from ! (stop !)) (look ! 15 refl)) (and-then ! (load ! (from ! (stop !)) (look ! 13 refl)) (no-more !))) (λ u.
-        use1 W (later (some (λ (r : Taken). (‵ ftrue ⊛ ‵ (S.the-row .own r (u ∷ []))) ⊛ raw (ensured 𝓤 H A start.ended (start.clauses 𝓤 H A mem run) tt (ps, (ts, tt)) tt r)))) (id⊢ 𝓤 _) $ await ! tt $ pick ! (λ r.
+        calls-at ! fm (Start 𝓤 H A mem run) (known .start-known) to-start
+        (and-then ! (load ! (from ! (stop !)) (look ! 15 refl)) (and-then ! (load ! (from ! (stop !)) (look ! 13 refl)) (no-more !))) (λ u.
+        use1 W (later (some
+        (λ (r : Taken). (‵ ftrue ⊛ ‵ (S.the-row .own r (u ∷ []))) ⊛ raw (ensured 𝓤 H A start.ended (start.clauses 𝓤 H A mem run) tt (ps, (ts, tt)) tt r))))
+        (id⊢ 𝓤 _) $ await ! tt $ pick ! (λ r.
         split ! $ move ! (1 ∷ []) $ use1 W (raw (fact 𝓤 (r ≡ startOf ps ts))) (start-said r) $ heard ! (r ≡ startOf ps ts) (λ said. split ! $ move ! (1 ∷ []) $
         -- [the result; true; _9; …]
         peeks ! S.the-row (Is S.the-row) (shows 𝓤 H A S.the-row) r (u ∷ []) (λ is′.
@@ -355,27 +385,52 @@ module _ {M : Type 1} (𝓤 : URA M) (H : Heap 𝓤) (A : Atoms 𝓤) (W : Given
         rewrite ! 12 (λ (v : Val). ‵ (fat fullShare S′.mir l₄ 0 v)) (ap only (LL.tells S.the-type S′.the-laws r (u ∷ []) is′)) refl $
         assigns ! (of-opd ! (lit ! tt)) (from ! (stop !)) (init ! 10 refl (tt, record { fits = lit< tt })) $
         keep ! (2 ∷ 3 ∷ 4 ∷ 5 ∷ 6 ∷ 7 ∷ 8 ∷ 9 ∷ 10 ∷ 11 ∷ 12 ∷ 13 ∷ 14 ∷ 15 ∷ 16 ∷ 17 ∷ 18 ∷ 19 ∷ 20 ∷ 21 ∷ 22 ∷ 23 ∷ 24 ∷ 25 ∷ []) $
-        looped (record { i = 0; t = r; le = zero-le; so = ap (λ (z : Taken). foldOf z ys) (sym said); is = subst (λ (vs : List Val). Is S.the-row r vs) (LL.tells S.the-type S′.the-laws r (u ∷ []) is′) is′ })))))
+        looped (record {
+          i = 0;
+          t = r;
+          le = zero-le;
+          so = ap (λ (z : Taken). foldOf z ys) (sym said);
+          is = subst (λ (vs : List Val). Is S.the-row r vs)
+              (LL.tells S.the-type S′.the-laws r (u ∷ []) is′) is′;
+        })))))
 
-  walk : (𝓣 : Tables 𝓤 H) → FmC 𝓤 H (W .laws) (𝓣 .C) → Known 𝓤 H A mem run (𝓣 .C) → Room T.the-row n → IsP ps → IsQ ts → ent 𝓤 (onEntry 𝓤 H A offset.signature (κ, tt) (q, tt) (x, (ps, (ts, tt))) at) (WpFn 𝓤 H (𝓣 .C) (𝓣 .Λ) code.function (sliceVal (b, o) n ∷ machP ps ∷ machQ ts ∷ []) Post)
+  walk : (𝓣 : Tables 𝓤 H) → FmC 𝓤 H (W .laws) (𝓣 .C) → Known 𝓤 H A mem run (𝓣 .C) → Room T.the-row n → IsP ps → IsQ ts → ent 𝓤
+      (onEntry 𝓤 H A offset.signature (κ, tt) (q, tt) (x, (ps, (ts, tt))) at)
+      (WpFn 𝓤 H (𝓣 .C) (𝓣 .Λ) code.function (sliceVal (b, o) n ∷ machP ps ∷ machQ ts ∷ []) Post)
   walk 𝓣 fm known gn gp gq =
-      qed W ((‵ (flft κ q) ⊛ ‵ ftrue) ∷ ‵ (owns (ShrSlice (named 0) κ T.the-row ∷ RP ∷ RQ ∷ []) (x, (ps, (ts, tt))) at) ∷ []) ∵ enter ! (𝓣 .C) (𝓣 .Λ) code.function (sliceVal (b, o) n ∷ machP ps ∷ machQ ts ∷ []) _ $
-      alloc1 ! (λ l₀. alloc1 ! (λ l₁. alloc1 ! (λ l₂. alloc1 ! (λ l₃. alloc1 ! (λ l₄. alloc1 ! (λ l₅. alloc1 ! (λ l₆. alloc1 ! (λ l₇. alloc1 ! (λ l₈. alloc1 ! (λ l₉. alloc0 ! $ params1 ! $
-      pass1 ! (init ! 16 refl (tt, (tt, (record { fits = gn .0 }, tt)))) $ pass1 ! (init ! 14 refl (array-lawful 𝓤 H A W P.the-row (LL.lawful P.the-type P′.the-laws 𝓤 H A W) 12 .typed ps (machP ps ∷ []) gp .0)) $ pass1 ! (init ! 12 refl (array-lawful 𝓤 H A W Q.the-row (LL.lawful Q.the-type Q′.the-laws 𝓤 H A W) 12 .typed ts (machQ ts ∷ []) gq .0)) $ pass0 ! $
+      qed W ((‵ (flft κ q) ⊛ ‵ ftrue) ∷ ‵ (owns (ShrSlice (named 0) κ T.the-row ∷ RP ∷ RQ ∷ []) (x, (ps, (ts, tt))) at) ∷ []) ∵ enter ! (𝓣 .C) (𝓣 .Λ)
+      code.function (sliceVal (b, o) n ∷ machP ps ∷ machQ ts ∷ []) _ $
+      alloc1 ! (λ l₀. alloc1 ! (λ l₁. alloc1 !
+      (λ l₂. alloc1 ! (λ l₃. alloc1 ! (λ l₄. alloc1 ! (λ l₅. alloc1 ! (λ l₆. alloc1 ! (λ l₇. alloc1 ! (λ l₈. alloc1 ! (λ l₉. alloc0 ! $ params1 ! $
+      pass1 ! (init ! 16 refl (tt, (tt, (record { fits = gn .0 }, tt)))) $ pass1 !
+      (init ! 14 refl (array-lawful 𝓤 H A W P.the-row (LL.lawful P.the-type P′.the-laws 𝓤 H A W) 12 .typed ps (machP ps ∷ []) gp .0)) $ pass1 !
+      (init ! 12 refl (array-lawful 𝓤 H A W Q.the-row (LL.lawful Q.the-type Q′.the-laws 𝓤 H A W) 12 .typed ts (machQ ts ∷ []) gq .0)) $ pass0 ! $
       move ! (21 ∷ []) $ fsplit ! $ fsplit ! $ move ! (1 ∷ []) $ fsplit ! $ move ! (24 ∷ []) $ split ! $
       keep ! (6 ∷ 7 ∷ 8 ∷ 9 ∷ 10 ∷ 11 ∷ 12 ∷ 13 ∷ 14 ∷ 15 ∷ 16 ∷ 17 ∷ 18 ∷ 19 ∷ 20 ∷ 21 ∷ 22 ∷ 23 ∷ 24 ∷ 25 ∷ 0 ∷ 2 ∷ 3 ∷ 4 ∷ []) $
       began 𝓣 fm known gn gp gq l₀ l₁ l₂ l₃ l₄ l₅ l₆ l₇ l₈ l₉))))))))))
 
-module _ {M : Type 1} (𝓤 : URA M) (H : Heap 𝓤) (A : Atoms 𝓤) (W : Given 𝓤 H A) (mem : Memory → SProp 𝓤) (run : Routine → Fun 𝓤) (𝓣 : Tables 𝓤 H) (known : Known 𝓤 H A mem run (𝓣 .C)) where
+module _ {M : Type 1} (𝓤 : URA M) (H : Heap 𝓤) (A : Atoms 𝓤) (W : Given 𝓤 H A) (mem : Memory → SProp 𝓤) (run : Routine → Fun 𝓤) (𝓣 : Tables 𝓤 H)
+    (known : Known 𝓤 H A mem run (𝓣 .C)) where
   offset-walks : Walks 𝓤 H A offset.ended stayed (WpFn 𝓤 H (𝓣 .C) (𝓣 .Λ) code.function) (offset.clauses 𝓤 H A mem run)
   offset-walks = walked 𝓤 H A offset.ended stayed (offset.clauses 𝓤 H A mem run) (WpFn 𝓤 H (𝓣 .C) (𝓣 .Λ) code.function)
       (λ κs. (slice-vals, (array-vals (LL.vals P.the-type P′.the-laws), (array-vals (LL.vals Q.the-type Q′.the-laws), tt))))
-      (λ κs. (shr-slice-tells (named 0) (κs .0) T.the-row, (array-tells P.the-row (LL.vals P.the-type P′.the-laws) (LL.tells P.the-type P′.the-laws) 12, (array-tells Q.the-row (LL.vals Q.the-type Q′.the-laws) (LL.tells Q.the-type Q′.the-laws) 12, tt))))
+      (λ κs. (
+        shr-slice-tells (named 0) (κs .0) T.the-row,
+        (
+          array-tells P.the-row (LL.vals P.the-type P′.the-laws) (LL.tells P.the-type P′.the-laws) 12,
+          (array-tells Q.the-row (LL.vals Q.the-type Q′.the-laws) (LL.tells Q.the-type Q′.the-laws) 12, tt),
+        ),
+      ))
       (λ κs qs bounds a g are. via 𝓤 _ (fst∗ 𝓤 _ (emp 𝓤))
-      (walk 𝓤 H A W mem run (κs .0) (qs .0) (a .0 .ptr .0) (a .0 .ptr .1) (a .0 .name) (a .0 .now) (a .1 .0) (a .1 .1 .0) 𝓣 (fmOf 𝓤 H (W .laws) 𝓣) known (are .0 .0 .1) (are .1 .0) (are .1 .1 .0)))
+      (walk 𝓤 H A W mem run (κs .0) (qs .0) (a .0 .ptr .0) (a .0 .ptr .1) (a .0 .name) (a .0 .now) (a .1 .0) (a .1 .1 .0) 𝓣 (fmOf 𝓤 H (W .laws) 𝓣) known
+      (are .0 .0 .1) (are .1 .0) (are .1 .1 .0)))
 
   offset-meets : Meets 𝓤 H A offset.signature (WpFn 𝓤 H (𝓣 .C) (𝓣 .Λ) code.function) (offset.spec 𝓤 H A mem run)
-  offset-meets = walk-meets 𝓤 H A offset.ended stayed W (goes-none-slice 𝓤 H A W 1 (0 ∷ []) tt (plain (λ _. T.the-row)) yes, (goes-none 𝓤 H A W 1 (λ _. RP) yes (λ κs x f. refl), (goes-none 𝓤 H A W 1 (λ _. RQ) yes (λ κs x f. refl), tt))) (offset.clauses 𝓤 H A mem run) (WpFn 𝓤 H (𝓣 .C) (𝓣 .Λ) code.function) (WpFn-mono 𝓤 H (W .laws) 𝓣 code.function) offset-walks
+  offset-meets = walk-meets 𝓤 H A offset.ended stayed W (
+    goes-none-slice 𝓤 H A W 1 (0 ∷ []) tt (plain (λ _. T.the-row)) yes,
+    (goes-none 𝓤 H A W 1 (λ _. RP) yes (λ κs x f. refl), (goes-none 𝓤 H A W 1 (λ _. RQ) yes (λ κs x f. refl), tt)),
+  ) (offset.clauses 𝓤 H A mem run) (WpFn 𝓤 H
+      (𝓣 .C) (𝓣 .Λ) code.function) (WpFn-mono 𝓤 H (W .laws) 𝓣 code.function) offset-walks
 
 pub offset-spec : {M : Type 1} → stated.statement M
 unfolding code.routine tablesOf
@@ -383,7 +438,9 @@ offset-spec 𝓤 H 𝓜 𝓖 𝓡 =
     entered 𝓤 H (tripleOf 𝓤 H (𝓖 .A) offset.signature (offset.spec 𝓤 H (𝓖 .A) (𝓜 .mem) (𝓡 .run)))
     (tables 𝓤 H 𝓜 𝓡 code.env .C) (tables 𝓤 H 𝓜 𝓡 code.env .Λ) #offset code.function (code.unfolded 𝓤 H 𝓜 𝓡)
     (offset-meets 𝓤 H (𝓖 .A) (givenOf 𝓤 H 𝓜 𝓖) (𝓜 .mem) (𝓡 .run) (tablesOf 𝓤 H 𝓜 (tables 𝓤 H 𝓜 𝓡 code.env)) (record {
-      start-known = cited 𝓤 H (Start 𝓤 H (𝓖 .A) (𝓜 .mem) (𝓡 .run)) 𝓜 𝓡 code.env #start start-def.routine code.calls-money·offset·start (start-thm.met 𝓤 H 𝓜 𝓖 𝓡);
+      start-known = cited 𝓤 H (Start 𝓤 H (𝓖 .A) (𝓜 .mem) (𝓡 .run)) 𝓜 𝓡 code.env #start start-def.routine code.calls-money·offset·start
+          (start-thm.met 𝓤 H 𝓜 𝓖 𝓡);
       add-known = cited 𝓤 H (Add 𝓤 H (𝓖 .A) (𝓜 .mem) (𝓡 .run)) 𝓜 𝓡 code.env #add add-def.routine code.calls-money·offset·add (add-thm.met 𝓤 H 𝓜 𝓖 𝓡);
-      finish-known = cited 𝓤 H (Finish 𝓤 H (𝓖 .A) (𝓜 .mem) (𝓡 .run)) 𝓜 𝓡 code.env #finish finish-def.routine code.calls-money·offset·finish (finish-thm.met 𝓤 H 𝓜 𝓖 𝓡);
+      finish-known = cited 𝓤 H (Finish 𝓤 H (𝓖 .A) (𝓜 .mem) (𝓡 .run)) 𝓜 𝓡 code.env #finish finish-def.routine code.calls-money·offset·finish
+          (finish-thm.met 𝓤 H 𝓜 𝓖 𝓡);
     }))

@@ -1,11 +1,11 @@
 use mathlib.Core.Path.{sym, _∙_, ap}
 use lib.IntN.{ℤ}
 use borrow.Author.Tests.{not-true, not-false, le-leb, lt-leb}
+use borrow.Author.Needs.{needs}
 use Rattle.money.specs.declared.units.Answer.the-variants.{Amount}
 use Rattle.money.specs.Offset.{offsetAnswer, offset}
 use Rattle.money.specs.laws.UnitLaws.{answer-fault}
 use Rattle.money.specs.laws.OffsetLaws.{rates-of, listed-of}
-use borrow.Author.Needs.{needs}
 use Rattle.money.proofs.offset.offset_core.Statement.{statement}
 use Rattle.money.proofs.offset.offset_core.Tie as tie
 
@@ -30,7 +30,8 @@ returns-3 c =
     let c3 = c2 .before in
     let c4 = c3 .before in
     let c5 = c4 .before in
-    rw (le-leb _ _ ((c4 .if1) .left), sym ((c3 .rates-ok) .ensures) ∙ not-false _ ((c2 .if2) .left)) (answer-fault (offset ((c5 .args) .count) ((c5 .args) .entries) ((c5 .args) .prices) ((c5 .args) .totals)) ((c .before .list-fault) .ensures) ((c .if3) .taken))
+    rw (le-leb _ _ ((c4 .if1) .left), sym ((c3 .rates-ok) .ensures) ∙ not-false _ ((c2 .if2) .left)) (answer-fault
+    (offset ((c5 .args) .count) ((c5 .args) .entries) ((c5 .args) .prices) ((c5 .args) .totals)) ((c .before .list-fault) .ensures) ((c .if3) .taken))
 
 offset-of-requires : tie.Need-offset-of-requires
 offset-of-requires c κs =

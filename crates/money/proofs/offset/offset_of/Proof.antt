@@ -1,10 +1,10 @@
 use Prim.Native.Nat.{_-_}
-use Rattle.money.specs.laws.OffsetLaws.{gives, adj-ready, offsets-room, gives-is, gives-room, offsets-all}
-use Rattle.laws.specs.SumLaws.{Summed, summed-none, summed-more}
-use Rattle.money.specs.laws.GuaranteeLaws.{credit-room}
-use Rattle.money.specs.Units.{quantityAt}
 use borrow.Author.Needs.{needs}
 use native.Mathlib.Omega.{arith}
+use Rattle.laws.specs.SumLaws.{Summed, summed-none, summed-more}
+use Rattle.money.specs.laws.OffsetLaws.{gives, adj-ready, offsets-room, gives-is, gives-room, offsets-all}
+use Rattle.money.specs.laws.GuaranteeLaws.{credit-room}
+use Rattle.money.specs.Units.{quantityAt}
 use Rattle.money.proofs.offset.offset_of.Statement.{statement}
 use Rattle.money.proofs.offset.offset_of.Tie as tie
 
@@ -32,7 +32,8 @@ credit-of-requires c κs =
     let c4 = c2 .before .before in
     let c5 = c4 .before in
     let c6 = c5 .before in
-    adj-ready ((c6 .args) .prices) ((c6 .args) .totals) ((c6 .pre) .0) ((c6 .pre) .1) {q = quantityAt ((c2 .adj-row) .result)} {i = (c5 .loop) .i} ((c4 .loop-test) .taken) ((c2 .adj-row) .ensures)
+    adj-ready ((c6 .args) .prices) ((c6 .args) .totals) ((c6 .pre) .0) ((c6 .pre) .1) {q = quantityAt ((c2 .adj-row) .result)} {i = (c5 .loop) .i}
+    ((c4 .loop-test) .taken) ((c2 .adj-row) .ensures)
 
 minus-requires : tie.Need-minus-requires Inv-loop μ-loop
 minus-requires c κs =
@@ -40,7 +41,8 @@ minus-requires c κs =
     let c5 = c3 .before .before in
     let c6 = c5 .before in
     let c7 = c6 .before in
-    let r = adj-ready ((c7 .args) .prices) ((c7 .args) .totals) ((c7 .pre) .0) ((c7 .pre) .1) {q = quantityAt ((c3 .adj-row) .result)} {i = (c6 .loop) .i} ((c5 .loop-test) .taken) ((c3 .adj-row) .ensures) in
+    let r = adj-ready ((c7 .args) .prices) ((c7 .args) .totals) ((c7 .pre) .0) ((c7 .pre) .1) {q = quantityAt ((c3 .adj-row) .result)} {i = (c6 .loop) .i}
+    ((c5 .loop-test) .taken) ((c3 .adj-row) .ensures) in
     (omega (arith, (c7 .pre) .0 .each ((c6 .loop) .i) ((c5 .loop-test) .taken) .small), credit-room r ((c .credit-of) .ensures))
 
 plus-requires : tie.Need-plus-requires Inv-loop μ-loop
@@ -48,8 +50,12 @@ plus-requires c κs =
     let c4 = c .before .before .before .before in
     let c6 = c4 .before .before in
     let c7 = c6 .before in
-    let c8 = c7 .before in
-    (offsets-room ((c8 .args) .prices) ((c8 .args) .totals) ((c8 .pre) .0) ((c8 .pre) .1) ((c7 .loop) .inv), gives-room ((c8 .args) .prices) ((c8 .args) .totals) ((c8 .pre) .0) ((c8 .pre) .1) ((c7 .loop) .inv) ((c6 .loop-test) .taken) ((c4 .adj-row) .ensures) ((c .before .credit-of) .ensures) ((c .minus) .ensures))
+    let c8 = c7 .before in (
+      offsets-room ((c8 .args) .prices) ((c8 .args) .totals) ((c8 .pre) .0) ((c8 .pre) .1) ((c7 .loop) .inv),
+      gives-room ((c8 .args) .prices)
+          ((c8 .args) .totals) ((c8 .pre) .0) ((c8 .pre) .1) ((c7 .loop) .inv) ((c6 .loop-test) .taken) ((c4 .adj-row) .ensures) ((c .before .credit-of) .ensures)
+          ((c .minus) .ensures),
+    )
 
 add-i : tie.Need-add-i Inv-loop μ-loop
 add-i c = search needs
@@ -64,7 +70,8 @@ loop-again c =
     let c7 = c5 .before .before in
     let c8 = c7 .before in
     let c9 = c8 .before in
-    summed-more ((c8 .loop) .inv) ((c7 .loop-test) .taken) ((c .plus) .ensures) (gives-is ((c9 .args) .prices) ((c9 .args) .totals) ((c9 .pre) .0) ((c9 .pre) .1) ((c8 .loop) .inv) ((c7 .loop-test) .taken) ((c5 .adj-row) .ensures) ((c2 .credit-of) .ensures) ((c .before .minus) .ensures))
+    summed-more ((c8 .loop) .inv) ((c7 .loop-test) .taken) ((c .plus) .ensures) (gives-is ((c9 .args) .prices) ((c9 .args) .totals) ((c9 .pre) .0)
+    ((c9 .pre) .1) ((c8 .loop) .inv) ((c7 .loop-test) .taken) ((c5 .adj-row) .ensures) ((c2 .credit-of) .ensures) ((c .before .minus) .ensures))
 
 returns : tie.Need-returns Inv-loop μ-loop
 returns c = offsets-all _ _ _ _ ((c .before .loop) .inv) ((c .loop-test) .left)

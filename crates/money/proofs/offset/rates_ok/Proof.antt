@@ -1,10 +1,10 @@
 use mathlib.Core.Path.{sym, _∙_}
 use Prim.Native.Nat.{_-_}
 use borrow.Author.Tests.{not-true, not-false}
+use borrow.Author.Needs.{needs}
 use Rattle.laws.specs.SumLaws.{Passed, passed-none, passed-more, passed-all, every-no}
 use Rattle.money.specs.Offset.{rateOk, ratesOk}
 use Rattle.money.specs.Units.{intervals}
-use borrow.Author.Needs.{needs}
 use Rattle.money.proofs.offset.rates_ok.Statement.{statement}
 use Rattle.money.proofs.offset.rates_ok.Tie as tie
 

@@ -1,8 +1,8 @@
 use Prim.Native.Nat.{_-_}
+use borrow.Author.Needs.{needs}
 use Rattle.money.specs.laws.UnitLaws.{zeros}
 use Rattle.money.specs.laws.OffsetLaws.{Reached, reached-none, reached-room, reached-more, reached-all}
 use Rattle.money.specs.Units.{intervals}
-use borrow.Author.Needs.{needs}
 use Rattle.money.proofs.offset.reach_row.Statement.{statement}
 use Rattle.money.proofs.offset.reach_row.Tie as tie
 

@@ -1,9 +1,9 @@
 use mathlib.Core.Path.{refl}
 use Prim.Native.Nat.{ℕ, _+_, _-_}
-use Rattle.money.specs.Units.{intervals, quantityAt}
-use Rattle.money.specs.laws.UnitLaws.{Filled, filled-none, filled-more}
 use native.Mathlib.Omega.{arith}
 use borrow.Author.Needs.{needs}
+use Rattle.money.specs.Units.{intervals, quantityAt}
+use Rattle.money.specs.laws.UnitLaws.{Filled, filled-none, filled-more}
 use Rattle.money.proofs.offset.row_sum.Statement.{statement}
 use Rattle.money.proofs.offset.row_sum.Tie as tie
 

@@ -1,9 +1,9 @@
 use Prim.Native.Nat.{ℕ, _-_, _+_, min}
 use mathlib.Core.Path.{refl}
+use borrow.Author.Needs.{needs}
 use Rattle.money.specs.Units.{intervals, quantityAt}
 use Rattle.money.specs.laws.UnitLaws.{Filled, filled-none, filled-more, filled-all}
 use Rattle.money.specs.Offset.{maxTotal, totalsWith}
-use borrow.Author.Needs.{needs}
 use Rattle.money.proofs.offset.totals_with.Statement.{statement}
 use Rattle.money.proofs.offset.totals_with.Tie as tie
 

@@ -1,5 +1,5 @@
-use Rattle.money.specs.Production.{C1}
 use borrow.Author.Needs.{needs}
+use Rattle.money.specs.Production.{C1}
 use Rattle.money.proofs.production.c1.Statement.{statement}
 use Rattle.money.proofs.production.c1.Tie as tie
 
@@ -29,8 +29,10 @@ element-copy-out-a c = search needs
 
 component-1-of-requires : tie.Need-component-1-of-requires
 component-1-of-requires c κs =
-    let c6 = c .before .before .before .before .before .before in
-    ((c6 .pre) .0 .ahead, ((c6 .pre) .0 .ahead-within ((c6 .args) .k) ((c6 .pre) .1), ((c6 .pre) .0 .rates ((c6 .args) .k) ((c6 .pre) .1), (c6 .pre) .0 .noload)))
+    let c6 = c .before .before .before .before .before .before in (
+      (c6 .pre) .0 .ahead,
+      ((c6 .pre) .0 .ahead-within ((c6 .args) .k) ((c6 .pre) .1), ((c6 .pre) .0 .rates ((c6 .args) .k) ((c6 .pre) .1), (c6 .pre) .0 .noload)),
+    )
 
 returns : tie.Need-returns
 unfolding C1

@@ -1,5 +1,5 @@
-use Rattle.money.specs.Production.{C2}
 use borrow.Author.Needs.{needs}
+use Rattle.money.specs.Production.{C2}
 use Rattle.money.proofs.production.c2.Statement.{statement}
 use Rattle.money.proofs.production.c2.Tie as tie
 
@@ -29,8 +29,10 @@ element-copy-out-cap c = search needs
 
 component-2-of-requires : tie.Need-component-2-of-requires
 component-2-of-requires c κs =
-    let c6 = c .before .before .before .before .before .before in
-    ((c6 .pre) .0 .ahead, ((c6 .pre) .0 .real, ((c6 .pre) .0 .ahead-within ((c6 .args) .k) ((c6 .pre) .1), (c6 .pre) .0 .real-within ((c6 .args) .k) ((c6 .pre) .1))))
+    let c6 = c .before .before .before .before .before .before in (
+      (c6 .pre) .0 .ahead,
+      ((c6 .pre) .0 .real, ((c6 .pre) .0 .ahead-within ((c6 .args) .k) ((c6 .pre) .1), (c6 .pre) .0 .real-within ((c6 .args) .k) ((c6 .pre) .1))),
+    )
 
 returns : tie.Need-returns
 unfolding C2

@@ -1,5 +1,5 @@
-use Rattle.money.specs.Production.{C3}
 use borrow.Author.Needs.{needs}
+use Rattle.money.specs.Production.{C3}
 use Rattle.money.proofs.production.c3.Statement.{statement}
 use Rattle.money.proofs.production.c3.Tie as tie
 

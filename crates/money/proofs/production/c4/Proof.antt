@@ -1,5 +1,5 @@
-use Rattle.money.specs.Production.{C4}
 use borrow.Author.Needs.{needs}
+use Rattle.money.specs.Production.{C4}
 use Rattle.money.proofs.production.c4.Statement.{statement}
 use Rattle.money.proofs.production.c4.Tie as tie
 

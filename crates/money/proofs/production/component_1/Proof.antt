@@ -1,8 +1,8 @@
 use mathlib.Core.Path.{sym, _∙_}
+use borrow.Author.Needs.{needs}
 use Rattle.money.specs.Production.{C1}
 use Rattle.money.specs.laws.ProductionLaws.{interval-of}
 use Rattle.money.specs.laws.UnitLaws.{answer-fault, answer-amount}
-use borrow.Author.Needs.{needs}
 use Rattle.money.proofs.production.component_1.Statement.{statement}
 use Rattle.money.proofs.production.component_1.Tie as tie
 

@@ -1,9 +1,9 @@
 use mathlib.Core.Path.{_≡_, ap, _∙_}
 use Prim.Native.Nat.{ℕ, _≤_, min, max}
+use borrow.Author.Needs.{needs}
 use Rattle.money.specs.Offers.{lastQ}
 use Rattle.money.specs.laws.OfferLaws.{spent-room}
 use Rattle.money.specs.laws.ProductionLaws.{lesser-in, step-is, step-room, arranged-is}
-use borrow.Author.Needs.{needs}
 use Rattle.money.proofs.production.component_2_of.Statement.{statement}
 use Rattle.money.proofs.production.component_2_of.Tie as tie
 
@@ -61,8 +61,11 @@ minus-requires-3 c κs =
     let b : (c8 .lesser) .result .0 ≤ lastQ ((c9 .args) .da) = lesser-in ((c9 .args) .d .0) ((c9 .args) .k .0) ((c8 .lesser) .ensures) ((c9 .pre) .1 .1 .0) in
     let a : (c6 .lesser2) .result .0 ≤ lastQ ((c9 .args) .da) = lesser-in ((c8 .lesser) .result .0) ((c7 .greater) .result .0) ((c6 .lesser2) .ensures) b in
     let b′ : (c8 .lesser) .result .0 ≤ lastQ ((c9 .args) .rt) = lesser-in ((c9 .args) .d .0) ((c9 .args) .k .0) ((c8 .lesser) .ensures) ((c9 .pre) .1 .1 .1) in
-    let a′ : (c6 .lesser2) .result .0 ≤ lastQ ((c9 .args) .rt) = lesser-in ((c8 .lesser) .result .0) ((c7 .greater) .result .0) ((c6 .lesser2) .ensures) b′ in
-    (step-room _ _ _ ((c9 .pre) .0) b a ((c5 .cost-of) .ensures) ((c4 .cost-of2) .ensures) ((c3 .minus) .ensures), step-room _ _ _ ((c9 .pre) .1 .0) b′ a′ ((c2 .cost-of3) .ensures) ((c .before .cost-of4) .ensures) ((c .minus2) .ensures))
+    let a′ : (c6 .lesser2) .result .0 ≤ lastQ ((c9 .args) .rt) = lesser-in ((c8 .lesser) .result .0) ((c7 .greater) .result .0) ((c6 .lesser2) .ensures) b′ in (
+      step-room _ _ _ ((c9 .pre) .0) b a ((c5 .cost-of) .ensures) ((c4 .cost-of2) .ensures) ((c3 .minus) .ensures),
+      step-room _ _ _ ((c9 .pre) .1 .0) b′ a′
+          ((c2 .cost-of3) .ensures) ((c .before .cost-of4) .ensures) ((c .minus2) .ensures),
+    )
 
 returns : tie.Need-returns
 returns c =
@@ -75,13 +78,18 @@ returns c =
     let c8 = c7 .before in
     let c9 = c8 .before in
     let c10 = c9 .before in
-    let b : (c9 .lesser) .result .0 ≤ lastQ ((c10 .args) .da) = lesser-in ((c10 .args) .d .0) ((c10 .args) .k .0) ((c9 .lesser) .ensures) ((c10 .pre) .1 .1 .0) in
+    let b : (c9 .lesser) .result .0 ≤ lastQ ((c10 .args) .da) = lesser-in ((c10 .args) .d .0) ((c10 .args) .k .0) ((c9 .lesser) .ensures)
+    ((c10 .pre) .1 .1 .0) in
     let a : (c7 .lesser2) .result .0 ≤ lastQ ((c10 .args) .da) = lesser-in ((c9 .lesser) .result .0) ((c8 .greater) .result .0) ((c7 .lesser2) .ensures) b in
-    let b′ : (c9 .lesser) .result .0 ≤ lastQ ((c10 .args) .rt) = lesser-in ((c10 .args) .d .0) ((c10 .args) .k .0) ((c9 .lesser) .ensures) ((c10 .pre) .1 .1 .1) in
+    let b′ : (c9 .lesser) .result .0 ≤ lastQ ((c10 .args) .rt) = lesser-in ((c10 .args) .d .0) ((c10 .args) .k .0) ((c9 .lesser) .ensures)
+    ((c10 .pre) .1 .1 .1) in
     let a′ : (c7 .lesser2) .result .0 ≤ lastQ ((c10 .args) .rt) = lesser-in ((c9 .lesser) .result .0) ((c8 .greater) .result .0) ((c7 .lesser2) .ensures) b′ in
     let e : (c9 .lesser) .result .0 ≡ min ((c10 .args) .d .0) ((c10 .args) .k .0) = (c9 .lesser) .ensures in
-    let f : (c7 .lesser2) .result .0 ≡ min ((c9 .lesser) .result .0) (max ((c10 .args) .r .0) ((c10 .args) .a .0)) = (c7 .lesser2) .ensures ∙ ap (λ (n : ℕ). min ((c9 .lesser) .result .0) n) ((c8 .greater) .ensures) in
-    rw (← e, ← f) (arranged-is ((c10 .args) .da) ((c10 .args) .rt) ((c9 .lesser) .result .0) ((c7 .lesser2) .result .0) (step-is _ _ _ ((c10 .pre) .0) b a ((c6 .cost-of) .ensures) ((c5 .cost-of2) .ensures) ((c4 .minus) .ensures)) (step-is _ _ _ ((c10 .pre) .1 .0) b′ a′ ((c3 .cost-of3) .ensures) ((c2 .cost-of4) .ensures) ((c .before .minus2) .ensures)) ((c .minus3) .ensures))
+    let f : (c7 .lesser2) .result .0 ≡ min ((c9 .lesser) .result .0) (max ((c10 .args) .r .0) ((c10 .args) .a .0)) = (c7 .lesser2) .ensures ∙ ap
+    (λ (n : ℕ). min ((c9 .lesser) .result .0) n) ((c8 .greater) .ensures) in
+    rw (← e, ← f) (arranged-is ((c10 .args) .da) ((c10 .args) .rt) ((c9 .lesser) .result .0) ((c7 .lesser2) .result .0)
+    (step-is _ _ _ ((c10 .pre) .0) b a ((c6 .cost-of) .ensures) ((c5 .cost-of2) .ensures) ((c4 .minus) .ensures))
+    (step-is _ _ _ ((c10 .pre) .1 .0) b′ a′ ((c3 .cost-of3) .ensures) ((c2 .cost-of4) .ensures) ((c .before .minus2) .ensures)) ((c .minus3) .ensures))
 
 pub component-2-of-spec : {M : Type 1} → statement M
 component-2-of-spec =

@@ -1,10 +1,10 @@
 use mathlib.Core.Path.{_≡_}
 use Prim.Native.Nat.{_≤_, min}
+use native.Mathlib.Omega.{arith}
+use borrow.Author.Needs.{needs}
 use Rattle.money.specs.Offers.{lastQ}
 use Rattle.money.specs.laws.OfferLaws.{in-range, spent-room}
 use Rattle.money.specs.laws.ProductionLaws.{loss-is, loss-room, congestion-is}
-use native.Mathlib.Omega.{arith}
-use borrow.Author.Needs.{needs}
 use Rattle.money.proofs.production.component_3_of.Statement.{statement}
 use Rattle.money.proofs.production.component_3_of.Tie as tie
 
@@ -58,8 +58,11 @@ minus-requires-3 c κs =
     let c7 = c6 .before in
     let c8 = c7 .before in
     let b : (c7 .lesser) .result .0 ≤ lastQ ((c8 .args) .rt) = omega arith in
-    let a : (c6 .lesser2) .result .0 ≤ lastQ ((c8 .args) .rt) = omega arith in
-    (loss-room _ _ ((c8 .pre) .0) b ((c8 .args) .emp .0) ((c8 .pre) .1 .1) ((c5 .cost-of) .ensures) ((c4 .for-quantity) .ensures .0) ((c3 .minus) .ensures), loss-room _ _ ((c8 .pre) .0) a ((c8 .args) .emp .0) ((c8 .pre) .1 .1) ((c2 .cost-of2) .ensures) ((c .before .for-quantity2) .ensures .0) ((c .minus2) .ensures))
+    let a : (c6 .lesser2) .result .0 ≤ lastQ ((c8 .args) .rt) = omega arith in (
+      loss-room _ _ ((c8 .pre) .0) b ((c8 .args) .emp .0) ((c8 .pre) .1 .1) ((c5 .cost-of) .ensures) ((c4 .for-quantity) .ensures .0) ((c3 .minus) .ensures),
+      loss-room _ _ ((c8 .pre) .0) a ((c8 .args) .emp .0) ((c8 .pre) .1 .1) ((c2 .cost-of2) .ensures) ((c .before .for-quantity2) .ensures .0)
+          ((c .minus2) .ensures),
+    )
 
 returns : tie.Need-returns
 returns c =
@@ -75,7 +78,10 @@ returns c =
     let a : (c7 .lesser2) .result .0 ≤ lastQ ((c9 .args) .rt) = omega arith in
     let e : (c8 .lesser) .result .0 ≡ min ((c9 .args) .r .0) ((c9 .args) .d .0) = omega arith in
     let f : (c7 .lesser2) .result .0 ≡ min ((c9 .args) .u .0) ((c9 .args) .d .0) = omega arith in
-    rw (← e, ← f) (congestion-is ((c9 .args) .rt) ((c9 .args) .emp .0) ((c8 .lesser) .result .0) ((c7 .lesser2) .result .0) (loss-is _ _ ((c9 .pre) .0) b ((c9 .args) .emp .0) ((c9 .pre) .1 .1) ((c6 .cost-of) .ensures) ((c5 .for-quantity) .ensures .0) ((c4 .minus) .ensures)) (loss-is _ _ ((c9 .pre) .0) a ((c9 .args) .emp .0) ((c9 .pre) .1 .1) ((c3 .cost-of2) .ensures) ((c2 .for-quantity2) .ensures .0) ((c .before .minus2) .ensures)) ((c .minus3) .ensures))
+    rw (← e, ← f) (congestion-is ((c9 .args) .rt) ((c9 .args) .emp .0) ((c8 .lesser) .result .0) ((c7 .lesser2) .result .0) (loss-is _ _ ((c9 .pre) .0) b
+    ((c9 .args) .emp .0) ((c9 .pre) .1 .1) ((c6 .cost-of) .ensures) ((c5 .for-quantity) .ensures .0) ((c4 .minus) .ensures)) (loss-is _ _ ((c9 .pre) .0) a
+    ((c9 .args) .emp .0) ((c9 .pre) .1 .1) ((c3 .cost-of2) .ensures) ((c2 .for-quantity2) .ensures .0) ((c .before .minus2) .ensures))
+    ((c .minus3) .ensures))
 
 pub component-3-of-spec : {M : Type 1} → statement M
 component-3-of-spec =

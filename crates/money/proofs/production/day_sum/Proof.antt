@@ -1,10 +1,10 @@
-use Rattle.laws.specs.SumLaws.{Summed, summed-none, summed-more, summed-all}
 use Prim.Native.Nat.{_-_}
+use borrow.Author.Needs.{needs}
+use native.Mathlib.Omega.{arith}
+use Rattle.laws.specs.SumLaws.{Summed, summed-none, summed-more, summed-all}
 use Rattle.money.specs.Production.{hourPart, daySum}
 use Rattle.money.specs.laws.ProductionLaws.{day-room, part-is, part-room, start-room}
 use Rattle.money.specs.Units.{dayHours}
-use borrow.Author.Needs.{needs}
-use native.Mathlib.Omega.{arith}
 use Rattle.money.proofs.production.day_sum.Statement.{statement}
 use Rattle.money.proofs.production.day_sum.Tie as tie
 
@@ -36,8 +36,11 @@ plus-requires : tie.Need-plus-requires Inv-loop μ-loop
 plus-requires c κs =
     let c3 = c .before .before .before in
     let c4 = c3 .before in
-    let c5 = c4 .before in
-    (omega (arith, (c5 .pre) .amounts ((c4 .loop) .i) ((c3 .loop-test) .taken)), start-room ((c5 .pre)) ((c4 .loop) .i) ((c3 .loop-test) .taken) ((c .ticks) .ensures))
+    let c5 = c4 .before in (
+      omega (arith, (c5 .pre) .amounts ((c4 .loop) .i) ((c3 .loop-test) .taken)),
+      start-room ((c5 .pre)) ((c4 .loop) .i) ((c3 .loop-test) .taken)
+          ((c .ticks) .ensures),
+    )
 
 plus-requires-2 : tie.Need-plus-requires-2 Inv-loop μ-loop
 plus-requires-2 c κs =
@@ -58,7 +61,8 @@ loop-again c =
     let c5 = c2 .before .before .before in
     let c6 = c5 .before in
     let c7 = c6 .before in
-    summed-more ((c6 .loop) .inv) ((c5 .loop-test) .taken) ((c .plus2) .ensures) (part-is ((c7 .pre)) ((c6 .loop) .i) ((c5 .loop-test) .taken) ((c2 .ticks) .ensures) ((c .before .plus) .ensures))
+    summed-more ((c6 .loop) .inv) ((c5 .loop-test) .taken) ((c .plus2) .ensures)
+    (part-is ((c7 .pre)) ((c6 .loop) .i) ((c5 .loop-test) .taken) ((c2 .ticks) .ensures) ((c .before .plus) .ensures))
 
 returns : tie.Need-returns Inv-loop μ-loop
 unfolding daySum

@@ -2,10 +2,10 @@ use mathlib.Core.Path.{sym, _∙_}
 use Prim.Native.Nat.{_-_}
 use lib.ListN.{getD}
 use borrow.Author.Tests.{not-true, not-false}
+use borrow.Author.Needs.{needs}
 use Rattle.laws.specs.SumLaws.{Passed, passed-none, passed-more, passed-all, every-no}
 use Rattle.money.specs.Production.{amountOk, hoursOk, noTicks, noStart}
 use Rattle.money.specs.Units.{dayHours}
-use borrow.Author.Needs.{needs}
 use Rattle.money.proofs.production.hours_ok.Statement.{statement}
 use Rattle.money.proofs.production.hours_ok.Tie as tie
 
@@ -38,7 +38,8 @@ unfolding hoursOk
 returns c =
     let c4 = c .before .before .before .before in
     let c6 = c4 .before .before in
-    sym (every-no _ _ (λ j. amountOk (getD ((c6 .args) .t1) j noTicks) (getD ((c6 .args) .t2) j noStart)) ((c4 .loop-test) .taken) (sym ((c .before .hour-ok) .ensures) ∙ not-true _ ((c .if1) .taken)))
+    sym (every-no _ _ (λ j. amountOk (getD ((c6 .args) .t1) j noTicks) (getD ((c6 .args) .t2) j noStart)) ((c4 .loop-test) .taken)
+    (sym ((c .before .hour-ok) .ensures) ∙ not-true _ ((c .if1) .taken)))
 
 add-i : tie.Need-add-i Inv-loop μ-loop
 add-i c = search needs

@@ -1,10 +1,10 @@
 use mathlib.Core.Path.{sym, _∙_}
 use lib.Dec.{ltb}
 use borrow.Author.Tests.{lt-ltb, le-ltb}
+use borrow.Author.Needs.{needs}
 use Rattle.money.specs.Units.{intervals, unless}
 use Rattle.money.specs.Production.{intervalFault}
 use Rattle.money.specs.laws.UnitLaws.{kept}
-use borrow.Author.Needs.{needs}
 use Rattle.money.proofs.production.interval_fault.Statement.{statement}
 use Rattle.money.proofs.production.interval_fault.Tie as tie
 

@@ -1,8 +1,8 @@
 use Prim.Native.Nat.{ℕ, _-_}
+use borrow.Author.Needs.{needs}
 use Rattle.laws.specs.SumLaws.{Summed, summed-none, summed-more, summed-all}
 use Rattle.money.specs.Units.{intervals, quantityAt}
 use Rattle.money.specs.laws.ProductionLaws.{running, running-room, runs-room}
-use borrow.Author.Needs.{needs}
 use Rattle.money.proofs.production.noload_sum.Statement.{statement}
 use Rattle.money.proofs.production.noload_sum.Tie as tie
 
@@ -27,8 +27,11 @@ running-at-requires c κs = search needs
 plus-requires : tie.Need-plus-requires Inv-loop μ-loop
 plus-requires c κs =
     let c3 = c .before .before .before in
-    let c4 = c3 .before in
-    (runs-room ((c4 .args) .noload .0) (quantityAt ((c4 .args) .t2)) ((c4 .pre)) ((c3 .loop) .inv), running-room ((c4 .args) .noload .0) (quantityAt ((c4 .args) .t2) ((c3 .loop) .k)) ((c4 .pre)) ((c .running-at) .ensures))
+    let c4 = c3 .before in (
+      runs-room ((c4 .args) .noload .0) (quantityAt ((c4 .args) .t2)) ((c4 .pre)) ((c3 .loop) .inv),
+      running-room ((c4 .args) .noload .0)
+          (quantityAt ((c4 .args) .t2) ((c3 .loop) .k)) ((c4 .pre)) ((c .running-at) .ensures),
+    )
 
 add-k : tie.Need-add-k Inv-loop μ-loop
 add-k c = search needs

@@ -2,9 +2,9 @@ use mathlib.Core.Path.{sym, _∙_}
 use mathlib.Core.Logic.{⊎-elim}
 use Prim.Native.Nat.{_≤_}
 use borrow.Author.Tests.{le-leb, lt-leb}
-use Rattle.money.specs.Production.{reserveFault}
 use native.Mathlib.Omega.{arith}
 use borrow.Author.Needs.{needs}
+use Rattle.money.specs.Production.{reserveFault}
 use Rattle.money.proofs.production.reserve_fault.Statement.{statement}
 use Rattle.money.proofs.production.reserve_fault.Tie as tie
 

@@ -1,9 +1,9 @@
+use native.Mathlib.Omega.{arith}
+use borrow.Author.Needs.{needs}
 use Rattle.money.specs.Units.{priceAt}
 use Rattle.money.specs.laws.OfferLaws.{in-range, spent-room}
 use Rattle.money.specs.laws.ProductionLaws.{offered, idle}
 use Rattle.money.specs.laws.GuaranteeLaws.{profit-is}
-use native.Mathlib.Omega.{arith}
-use borrow.Author.Needs.{needs}
 use Rattle.money.proofs.production.reserve_net.Statement.{statement}
 use Rattle.money.proofs.production.reserve_net.Tie as tie
 
@@ -40,7 +40,8 @@ returns-2 : tie.Need-returns-2
 returns-2 c =
     let c2 = c .before .before in
     let c7 = c2 .before .before .before .before .before in
-    profit-is ((c7 .args) .t1 .offer) (priceAt ((c7 .args) .t1 .prices) ((c7 .args) .k)) ((c7 .args) .q .0) ((c2 .for-quantity) .ensures .0) ((c .before .cost-of) .ensures) ((c .minus) .ensures)
+    profit-is ((c7 .args) .t1 .offer) (priceAt ((c7 .args) .t1 .prices) ((c7 .args) .k)) ((c7 .args) .q .0) ((c2 .for-quantity) .ensures .0)
+    ((c .before .cost-of) .ensures) ((c .minus) .ensures)
 
 pub reserve-net-spec : {M : Type 1} → statement M
 reserve-net-spec =

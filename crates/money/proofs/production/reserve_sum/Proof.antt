@@ -1,7 +1,7 @@
-use Rattle.money.specs.Units.{quantityAt}
-use Rattle.money.specs.laws.ProductionLaws.{reserve-none, reserve-ready, reserve-is}
 use native.Mathlib.Omega.{arith}
 use borrow.Author.Needs.{needs}
+use Rattle.money.specs.Units.{quantityAt}
+use Rattle.money.specs.laws.ProductionLaws.{reserve-none, reserve-ready, reserve-is}
 use Rattle.money.proofs.production.reserve_sum.Statement.{statement}
 use Rattle.money.proofs.production.reserve_sum.Tie as tie
 

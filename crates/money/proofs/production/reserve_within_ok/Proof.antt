@@ -1,8 +1,8 @@
 use mathlib.Core.Path.{sym, ap, _∙_}
 use Prim.Native.Nat.{ℕ}
+use borrow.Author.Needs.{needs}
 use Rattle.money.specs.Units.{withinOk}
 use Rattle.money.specs.laws.ProductionLaws.{last-none}
-use borrow.Author.Needs.{needs}
 use Rattle.money.proofs.production.reserve_within_ok.Statement.{statement}
 use Rattle.money.proofs.production.reserve_within_ok.Tie as tie
 

@@ -1,7 +1,7 @@
 use mathlib.Core.Path.{sym, _∙_}
 use borrow.Author.Tests.{not-true, not-false}
-use Rattle.money.specs.Production.{reservesNumbersOk}
 use borrow.Author.Needs.{needs}
+use Rattle.money.specs.Production.{reservesNumbersOk}
 use Rattle.money.proofs.production.reserves_numbers_ok.Statement.{statement}
 use Rattle.money.proofs.production.reserves_numbers_ok.Tie as tie
 
@@ -32,7 +32,8 @@ returns-3 c =
     let c3 = c2 .before in
     let c5 = c3 .before .before in
     let c6 = c5 .before in
-    rw (sym ((c6 .reserve-numbers-ok) .ensures) ∙ not-false _ ((c5 .if1) .left), sym ((c3 .reserve-numbers-ok2) .ensures) ∙ not-false _ ((c2 .if2) .left)) ((c .reserve-numbers-ok3) .ensures)
+    rw (sym ((c6 .reserve-numbers-ok) .ensures) ∙ not-false _ ((c5 .if1) .left), sym ((c3 .reserve-numbers-ok2) .ensures) ∙ not-false _ ((c2 .if2) .left))
+    ((c .reserve-numbers-ok3) .ensures)
 
 pub reserves-numbers-ok-spec : {M : Type 1} → statement M
 reserves-numbers-ok-spec =

@@ -1,10 +1,10 @@
 use mathlib.Core.Path.{refl}
 use Prim.Native.Nat.{ℕ, _-_}
+use borrow.Author.Needs.{needs}
+use native.Mathlib.Omega.{arith}
 use Rattle.money.specs.Units.{intervals, quantityAt}
 use Rattle.money.specs.laws.UnitLaws.{Filled, filled-none, filled-more}
 use Rattle.money.specs.laws.ProductionLaws.{pickOf}
-use borrow.Author.Needs.{needs}
-use native.Mathlib.Omega.{arith}
 use Rattle.money.proofs.production.row_by.Statement.{statement}
 use Rattle.money.proofs.production.row_by.Tie as tie
 

@@ -1,6 +1,6 @@
-use Rattle.money.specs.laws.ProductionLaws.{running-none, running-some}
 use native.Mathlib.Omega.{arith}
 use borrow.Author.Needs.{needs}
+use Rattle.money.specs.laws.ProductionLaws.{running-none, running-some}
 use Rattle.money.proofs.production.running_at.Statement.{statement}
 use Rattle.money.proofs.production.running_at.Tie as tie
 

@@ -1,6 +1,6 @@
+use borrow.Author.Needs.{needs}
 use Rattle.money.specs.Units.{quantityAt}
 use Rattle.money.specs.laws.ProductionLaws.{ready-less, profits-moderate, sum3-is, second-in}
-use borrow.Author.Needs.{needs}
 use Rattle.money.proofs.production.sum_3.Statement.{statement}
 use Rattle.money.proofs.production.sum_3.Tie as tie
 
@@ -25,11 +25,12 @@ minus-requires : tie.Need-minus-requires
 minus-requires c κs =
     let c2 = c .before .before in
     let c3 = c2 .before in
-    let c4 = c3 .before in
-    (
-  profits-moderate (ready-less ((c4 .pre)) (λ k l. second-in (quantityAt ((c4 .args) .u) k) (quantityAt ((c4 .args) .d) k) ((c2 .row-by2) .ensures k l))) ((c .before .profit-sum) .ensures),
-  profits-moderate (ready-less ((c4 .pre)) (λ k l. second-in (quantityAt ((c4 .args) .r) k) (quantityAt ((c4 .args) .d) k) ((c3 .row-by) .ensures k l))) ((c .profit-sum2) .ensures),
-)
+    let c4 = c3 .before in (
+      profits-moderate (ready-less ((c4 .pre)) (λ k l. second-in (quantityAt ((c4 .args) .u) k) (quantityAt ((c4 .args) .d) k) ((c2 .row-by2) .ensures k l)))
+          ((c .before .profit-sum) .ensures),
+      profits-moderate (ready-less ((c4 .pre)) (λ k l. second-in (quantityAt ((c4 .args) .r) k) (quantityAt ((c4 .args) .d) k) ((c3 .row-by) .ensures k l)))
+          ((c .profit-sum2) .ensures),
+    )
 
 returns : tie.Need-returns
 returns c =
@@ -37,7 +38,8 @@ returns c =
     let c3 = c2 .before in
     let c4 = c3 .before in
     let c5 = c4 .before in
-    sum3-is ((c5 .args) .rt) ((c5 .args) .prices) (quantityAt ((c5 .args) .d)) (quantityAt ((c5 .args) .r)) (quantityAt ((c5 .args) .u)) (quantityAt ((c4 .row-by) .result)) (quantityAt ((c3 .row-by2) .result))
+    sum3-is ((c5 .args) .rt) ((c5 .args) .prices) (quantityAt ((c5 .args) .d)) (quantityAt ((c5 .args) .r)) (quantityAt ((c5 .args) .u))
+    (quantityAt ((c4 .row-by) .result)) (quantityAt ((c3 .row-by2) .result))
     ((c4 .row-by) .ensures) ((c3 .row-by2) .ensures) ((c2 .profit-sum) .ensures) ((c .before .profit-sum2) .ensures) ((c .minus) .ensures)
 
 pub sum-3-spec : {M : Type 1} → statement M

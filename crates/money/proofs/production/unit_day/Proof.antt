@@ -1,9 +1,9 @@
 use mathlib.Core.Path.{sym, _∙_}
 use borrow.Author.Tests.{not-true, not-false}
+use borrow.Author.Needs.{needs}
 use Rattle.money.specs.declared.production.DayAnswer.the-variants as day-variants
 use Rattle.money.specs.Production.{dayAnswer}
 use Rattle.money.specs.laws.ProductionLaws.{day-of, reversal-is}
-use borrow.Author.Needs.{needs}
 use Rattle.money.proofs.production.unit_day.Statement.{statement}
 use Rattle.money.proofs.production.unit_day.Tie as tie
 
@@ -27,7 +27,8 @@ unfolding dayAnswer
 returns-2 c =
     let c2 = c .before .before in
     let c3 = c2 .before in
-    rw (sym ((c3 .hours-ok) .ensures) ∙ not-false _ ((c2 .if1) .left)) (λ i. day-variants.Day (record { 0 = (c .before .day-sum) .ensures .0 i }) (record { 0 = reversal-is ((c .before .day-sum) .ensures .0) ((c .deficit) .ensures) i }))
+    rw (sym ((c3 .hours-ok) .ensures) ∙ not-false _ ((c2 .if1) .left)) (λ i. day-variants.Day (record { 0 = (c .before .day-sum) .ensures .0 i })
+    (record { 0 = reversal-is ((c .before .day-sum) .ensures .0) ((c .deficit) .ensures) i }))
 
 pub unit-day-spec : {M : Type 1} → statement M
 unit-day-spec =

@@ -1,10 +1,10 @@
 use mathlib.Core.Path.{sym, _∙_}
 use borrow.Author.Tests.{not-true, not-false}
+use borrow.Author.Needs.{needs}
 use Rattle.money.specs.Units.{unless}
 use Rattle.money.specs.Production.{withinFine, unitFault}
 use Rattle.money.specs.laws.ProductionLaws.{lists-of}
 use Rattle.money.specs.laws.UnitLaws.{kept}
-use borrow.Author.Needs.{needs}
 use Rattle.money.proofs.production.unit_fault.Statement.{statement}
 use Rattle.money.proofs.production.unit_fault.Tie as tie
 
@@ -36,7 +36,8 @@ returns-3 c =
     let c4 = c3 .before in
     let c5 = c4 .before in
     let c6 = c5 .before in
-    rw (sym ((c5 .prices-ok) .ensures) ∙ not-false _ ((c4 .if1) .left), sym ((c3 .numbers-fine) .ensures) ∙ not-false _ ((c2 .if2) .left)) (kept (unless (withinFine ((c6 .args) .h)) 7 0) ((c .before .lists-fault) .ensures) ((c .if3) .taken))
+    rw (sym ((c5 .prices-ok) .ensures) ∙ not-false _ ((c4 .if1) .left), sym ((c3 .numbers-fine) .ensures) ∙ not-false _ ((c2 .if2) .left))
+    (kept (unless (withinFine ((c6 .args) .h)) 7 0) ((c .before .lists-fault) .ensures) ((c .if3) .taken))
 
 within-fine-requires : tie.Need-within-fine-requires
 within-fine-requires c κs = lists-of ((c .before .before .before .before .before .before .args) .h) (sym ((c .before .lists-fault) .ensures) ∙ (c .if3) .left)
@@ -50,7 +51,13 @@ returns-4 c =
     let c5 = c4 .before in
     let c6 = c5 .before in
     let c7 = c6 .before in
-    rw (sym ((c7 .prices-ok) .ensures) ∙ not-false _ ((c6 .if1) .left), sym ((c5 .numbers-fine) .ensures) ∙ not-false _ ((c4 .if2) .left), sym ((c3 .lists-fault) .ensures) ∙ (c2 .if3) .left, sym ((c .before .within-fine) .ensures) ∙ not-true _ ((c .if4) .taken))
+    rw (
+      sym ((c7 .prices-ok) .ensures) ∙ not-false _ ((c6 .if1) .left),
+      sym ((c5 .numbers-fine) .ensures) ∙ not-false _ ((c4 .if2) .left),
+      sym
+          ((c3 .lists-fault) .ensures) ∙ (c2 .if3) .left,
+      sym ((c .before .within-fine) .ensures) ∙ not-true _ ((c .if4) .taken),
+    )
 
 returns-5 : tie.Need-returns-5
 unfolding unitFault
@@ -61,7 +68,13 @@ returns-5 c =
     let c5 = c4 .before in
     let c6 = c5 .before in
     let c7 = c6 .before in
-    rw (sym ((c7 .prices-ok) .ensures) ∙ not-false _ ((c6 .if1) .left), sym ((c5 .numbers-fine) .ensures) ∙ not-false _ ((c4 .if2) .left), sym ((c3 .lists-fault) .ensures) ∙ (c2 .if3) .left, sym ((c .before .within-fine) .ensures) ∙ not-false _ ((c .if4) .left))
+    rw (
+      sym ((c7 .prices-ok) .ensures) ∙ not-false _ ((c6 .if1) .left),
+      sym ((c5 .numbers-fine) .ensures) ∙ not-false _ ((c4 .if2) .left),
+      sym
+          ((c3 .lists-fault) .ensures) ∙ (c2 .if3) .left,
+      sym ((c .before .within-fine) .ensures) ∙ not-false _ ((c .if4) .left),
+    )
 
 pub unit-fault-spec : {M : Type 1} → statement M
 unit-fault-spec =

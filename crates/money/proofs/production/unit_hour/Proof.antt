@@ -1,8 +1,8 @@
 use mathlib.Core.Path.{sym, _∙_}
+use borrow.Author.Needs.{needs}
 use Rattle.money.specs.Production.{hourAmount}
 use Rattle.money.specs.laws.ProductionLaws.{unit-of}
 use Rattle.money.specs.laws.UnitLaws.{answer-fault, answer-amount}
-use borrow.Author.Needs.{needs}
 use Rattle.money.proofs.production.unit_hour.Statement.{statement}
 use Rattle.money.proofs.production.unit_hour.Tie as tie
 

@@ -2,9 +2,9 @@ use mathlib.Core.Path.{sym, _∙_}
 use Prim.Native.Nat.{_-_}
 use lib.ListN.{getD}
 use borrow.Author.Tests.{not-true, not-false}
-use Rattle.money.specs.Units.{intervals, quantitiesOk, quantityOk, noQuantity}
-use Rattle.laws.specs.SumLaws.{Passed, passed-none, passed-more, passed-all, every-no}
 use borrow.Author.Needs.{needs}
+use Rattle.laws.specs.SumLaws.{Passed, passed-none, passed-more, passed-all, every-no}
+use Rattle.money.specs.Units.{intervals, quantitiesOk, quantityOk, noQuantity}
 use Rattle.money.proofs.units.quantities_ok.Statement.{statement}
 use Rattle.money.proofs.units.quantities_ok.Tie as tie
 
@@ -31,7 +31,8 @@ unfolding quantitiesOk
 returns c =
     let c3 = c .before .before .before in
     let c5 = c3 .before .before in
-    sym (every-no _ _ (λ j. quantityOk (getD ((c5 .args) .t1) j noQuantity)) ((c3 .loop-test) .taken) (sym ((c .before .in-range) .ensures) ∙ not-true _ ((c .if1) .taken)))
+    sym (every-no _ _ (λ j. quantityOk (getD ((c5 .args) .t1) j noQuantity)) ((c3 .loop-test) .taken)
+    (sym ((c .before .in-range) .ensures) ∙ not-true _ ((c .if1) .taken)))
 
 add-k : tie.Need-add-k Inv-loop μ-loop
 add-k c = search needs

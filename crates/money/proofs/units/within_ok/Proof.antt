@@ -2,9 +2,9 @@ use mathlib.Core.Path.{sym}
 use Prim.Native.Nat.{_-_}
 use lib.Dec.{leb}
 use borrow.Author.Tests.{le-leb, lt-leb}
-use Rattle.money.specs.Units.{intervals, withinOk, quantityAt}
-use Rattle.laws.specs.SumLaws.{Passed, passed-none, passed-more, passed-all, every-no}
 use borrow.Author.Needs.{needs}
+use Rattle.laws.specs.SumLaws.{Passed, passed-none, passed-more, passed-all, every-no}
+use Rattle.money.specs.Units.{intervals, withinOk, quantityAt}
 use Rattle.money.proofs.units.within_ok.Statement.{statement}
 use Rattle.money.proofs.units.within_ok.Tie as tie
 

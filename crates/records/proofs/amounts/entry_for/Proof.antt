@@ -1,8 +1,8 @@
 use mathlib.Core.Path.{sym, ap, _∙_}
 use mathlib.Core.List.{[]}
+use borrow.Author.Needs.{needs}
 use Rattle.money.specs.declared.units.Answer.{Answer}
 use Rattle.records.specs.Amounts.{given, entryFrom, entryAnswer}
-use borrow.Author.Needs.{needs}
 use Rattle.records.proofs.amounts.entry_for.Statement.{statement}
 use Rattle.records.proofs.amounts.entry_for.Tie as tie
 
@@ -29,7 +29,8 @@ returns-2 c =
     let c2 = c .before .before in
     let c4 = c2 .before .before in
     let c7 = c4 .before .before .before in
-    (c .no-entry) .ensures ∙ ap (λ (a : Answer). entryAnswer (given a (entryFrom ((c7 .args) .name) ((c7 .args) .i)) [])) (sym ((c2 .a2) .given .1) ∙ (c4 .credit-for) .ensures)
+    (c .no-entry) .ensures ∙ ap (λ (a : Answer). entryAnswer (given a (entryFrom ((c7 .args) .name) ((c7 .args) .i)) []))
+    (sym ((c2 .a2) .given .1) ∙ (c4 .credit-for) .ensures)
 
 pub entry-for-spec : {M : Type 1} → statement M
 entry-for-spec =

@@ -1,7 +1,7 @@
-use Rattle.records.specs.tables.Inner.{layoutFor}
-use Rattle.records.proofs.fields.Step.{last}
 use mathlib.Core.Path.{sym}
 use borrow.Author.Needs.{needs}
+use Rattle.records.specs.tables.Inner.{layoutFor}
+use Rattle.records.proofs.fields.Step.{last}
 use Rattle.records.proofs.changes.fields_then.Statement.{statement}
 use Rattle.records.proofs.changes.fields_then.Tie as tie
 

@@ -1,5 +1,5 @@
-use Rattle.records.proofs.changes.Lemmas.{change-is}
 use borrow.Author.Needs.{needs}
+use Rattle.records.proofs.changes.Lemmas.{change-is}
 use Rattle.records.proofs.changes.read_change.Statement.{statement}
 use Rattle.records.proofs.changes.read_change.Tie as tie
 
@@ -29,7 +29,8 @@ returns c =
     let n = (c3 .name-then) in
     let f = (c .before .fields-then) in
     rw ((c .place) .ensures)
-    (change-is ((c7 .args) .s .now) ((c7 .args) .want) (h .result) (o .result) (n .result) (f .result) (h .ensures .0) (o .ensures .0) (n .ensures) (f .ensures))
+    (change-is ((c7 .args) .s .now) ((c7 .args) .want) (h .result) (o .result) (n .result) (f .result) (h .ensures .0) (o .ensures .0) (n .ensures)
+    (f .ensures))
 
 pub read-change-spec : {M : Type 1} → statement M
 read-change-spec =

@@ -1,5 +1,5 @@
-use Rattle.records.proofs.marks.Lemmas.{zero-past, zero-here, zero-not}
 use borrow.Author.Needs.{needs}
+use Rattle.records.proofs.marks.Lemmas.{zero-past, zero-here, zero-not}
 use Rattle.records.proofs.changes.zero_then.Statement.{statement}
 use Rattle.records.proofs.changes.zero_then.Tie as tie
 
@@ -19,7 +19,11 @@ enum-known-e-2 : tie.Need-enum-known-e-2
 enum-known-e-2 c = search needs
 
 returns-2 : tie.Need-returns-2
-returns-2 c = (rw ((c .before .before .before .before .e) .given .1) (zero-here ((c .before .before .before .before .before .before .args) .s .now) _ ((c .before .before .if1) .left) ((c .if2) .taken)), search needs)
+returns-2 c = (
+  rw ((c .before .before .before .before .e) .given .1)
+      (zero-here ((c .before .before .before .before .before .before .args) .s .now) _ ((c .before .before .if1) .left) ((c .if2) .taken)),
+  search needs,
+)
 
 returns-3 : tie.Need-returns-3
 returns-3 c =

@@ -1,6 +1,6 @@
-use Rattle.records.specs.Numbers.{amount}
 use borrow.Author.Tests.{le-leb, lt-leb}
 use borrow.Author.Needs.{needs}
+use Rattle.records.specs.Numbers.{amount}
 use Rattle.records.proofs.fields.read_amount.Statement.{statement}
 use Rattle.records.proofs.fields.read_amount.Tie as tie
 

@@ -1,10 +1,10 @@
 use mathlib.Core.Path.{sym, ap, _∙_}
 use mir.ValLaws.{toZ-ofZ}
 use mir.Syntax.{w32}
+use borrow.Author.Needs.{needs}
 use Rattle.money.specs.Units.{priceRead}
 use Rattle.records.specs.tables.Inner.{num}
 use Rattle.records.proofs.fields.Lemmas.{price-good, price-refused, price-bad}
-use borrow.Author.Needs.{needs}
 use Rattle.records.proofs.fields.read_price.Statement.{statement}
 use Rattle.records.proofs.fields.read_price.Tie as tie
 
@@ -31,11 +31,28 @@ enum-known-w-2 c = search needs
 
 returns : tie.Need-returns
 returns c =
-    let h = (c .before .before .before .before .before .before .before .before .read-word) .ensures .1 in
-    (price-good ((c .before .before .before .before .before .before .before .before .before .before .args) .s .now) ((c .before .before .before .before .before .before .before .before .before .before .args) .at) ((c .before .before .before .before .before .before .w) .given .0 .0) ((c .before .before .before .before .before .before .w) .given .0 .1 .0) (sym ((c .before .before .before .before .before .before .before .before .read-word) .ensures .0) ∙ ap (num _) ((c .before .before .before .before .before .before .w) .given .1)) _ (ap priceRead (sym ((c .before .before .before .before .signed-of) .ensures)) ∙ ap priceRead (sym (toZ-ofZ w32 ((c .before .before .before .before .signed-of) .result) (search needs))) ∙ sym ((c .before .before .before .new) .ensures) ∙ (c .before .p) .given .1), rw ((c .before .before .before .before .before .before .w) .given .1) at h)
+    let h = (c .before .before .before .before .before .before .before .before .read-word) .ensures .1 in (
+      price-good ((c .before .before .before .before .before .before .before .before .before .before .args) .s .now)
+          ((c .before .before .before .before .before .before .before .before .before .before .args) .at)
+          ((c .before .before .before .before .before .before .w) .given .0 .0) ((c .before .before .before .before .before .before .w) .given .0 .1 .0) (sym
+          ((c .before .before .before .before .before .before .before .before .read-word) .ensures .0) ∙ ap (num _)
+          ((c .before .before .before .before .before .before .w) .given .1)) _ (ap priceRead (sym ((c .before .before .before .before .signed-of) .ensures)) ∙ ap
+          priceRead (sym (toZ-ofZ w32 ((c .before .before .before .before .signed-of) .result) (search needs))) ∙ sym ((c .before .before .before .new) .ensures)
+          ∙ (c .before .p) .given .1),
+      rw ((c .before .before .before .before .before .before .w) .given .1) at h,
+    )
 
 returns-2 : tie.Need-returns-2
-returns-2 c = (price-refused ((c .before .before .before .before .before .before .before .before .before .before .args) .s .now) ((c .before .before .before .before .before .before .before .before .before .before .args) .at) ((c .before .before .before .before .before .before .w) .given .0 .0) ((c .before .before .before .before .before .before .w) .given .0 .1 .0) (sym ((c .before .before .before .before .before .before .before .before .read-word) .ensures .0) ∙ ap (num _) ((c .before .before .before .before .before .before .w) .given .1)) _ (ap priceRead (sym ((c .before .before .before .before .signed-of) .ensures)) ∙ ap priceRead (sym (toZ-ofZ w32 ((c .before .before .before .before .signed-of) .result) (search needs))) ∙ sym ((c .before .before .before .new) .ensures) ∙ (c .before .p2) .given .1), tt)
+returns-2 c = (
+  price-refused ((c .before .before .before .before .before .before .before .before .before .before .args) .s .now)
+      ((c .before .before .before .before .before .before .before .before .before .before .args) .at)
+      ((c .before .before .before .before .before .before .w) .given .0 .0) ((c .before .before .before .before .before .before .w) .given .0 .1 .0) (sym
+      ((c .before .before .before .before .before .before .before .before .read-word) .ensures .0) ∙ ap (num _)
+      ((c .before .before .before .before .before .before .w) .given .1)) _ (ap priceRead (sym ((c .before .before .before .before .signed-of) .ensures)) ∙ ap
+      priceRead (sym (toZ-ofZ w32 ((c .before .before .before .before .signed-of) .result) (search needs))) ∙ sym ((c .before .before .before .new) .ensures) ∙
+      (c .before .p2) .given .1),
+  tt,
+)
 
 returns-3 : tie.Need-returns-3
 returns-3 c =

@@ -1,6 +1,6 @@
 use mathlib.Core.Path.{sym, _∙_}
-use Rattle.records.proofs.heads.Lemmas.{ok-not, ok-named, ok-unnamed}
 use borrow.Author.Needs.{needs}
+use Rattle.records.proofs.heads.Lemmas.{ok-not, ok-named, ok-unnamed}
 use Rattle.records.proofs.heads.key_ok.Statement.{statement}
 use Rattle.records.proofs.heads.key_ok.Tie as tie
 
@@ -19,7 +19,8 @@ returns c =
     let c3 = c2 .before in
     let c4 = c3 .before in
     let c6 = c4 .before .before in
-    (c .name-ok) .ensures ∙ ok-named ((c6 .args) .key) (sym ((c4 .hour-ok) .ensures) ∙ (c3 .if1) .taken) (sym ((c2 .has-name) .ensures) ∙ (c .before .if2) .taken)
+    (c .name-ok) .ensures ∙ ok-named ((c6 .args) .key) (sym ((c4 .hour-ok) .ensures) ∙ (c3 .if1) .taken)
+    (sym ((c2 .has-name) .ensures) ∙ (c .before .if2) .taken)
 
 returns-2 : tie.Need-returns-2
 returns-2 c =

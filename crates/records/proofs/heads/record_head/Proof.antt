@@ -1,6 +1,6 @@
 use mathlib.Core.Path.{sym, _∙_}
-use Rattle.records.proofs.heads.Lemmas.{ok-short, head-full, head-none}
 use borrow.Author.Needs.{needs}
+use Rattle.records.proofs.heads.Lemmas.{ok-short, head-full, head-none}
 use Rattle.records.proofs.heads.record_head.Statement.{statement}
 use Rattle.records.proofs.heads.record_head.Tie as tie
 

@@ -1,6 +1,6 @@
 use mathlib.Core.Path.{_∙_}
-use Rattle.records.proofs.hour_records.Lemmas.{filed-at, filed-no}
 use borrow.Author.Needs.{needs}
+use Rattle.records.proofs.hour_records.Lemmas.{filed-at, filed-no}
 use Rattle.records.proofs.hour_records.filed_front.Statement.{statement}
 use Rattle.records.proofs.hour_records.filed_front.Tie as tie
 
@@ -28,7 +28,8 @@ returns-2 c =
     let c2 = c .before .before in
     let c4 = c2 .before .before in
     let c6 = c4 .before .before in
-    (c .no-record) .ensures ∙ filed-no ((c6 .args) .s .now) ((c4 .read-change) .result) ((c4 .read-change) .ensures) ((c2 .e2) .given .0 .0) ((c2 .e2) .given .1)
+    (c .no-record) .ensures ∙ filed-no ((c6 .args) .s .now) ((c4 .read-change) .result) ((c4 .read-change) .ensures) ((c2 .e2) .given .0 .0)
+    ((c2 .e2) .given .1)
 
 pub filed-front-spec : {M : Type 1} → statement M
 filed-front-spec =

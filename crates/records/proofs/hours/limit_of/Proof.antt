@@ -1,5 +1,5 @@
-use Rattle.records.specs.Hours.{limitOf}
 use borrow.Author.Needs.{needs}
+use Rattle.records.specs.Hours.{limitOf}
 use Rattle.records.proofs.hours.limit_of.Statement.{statement}
 use Rattle.records.proofs.hours.limit_of.Tie as tie
 

@@ -1,5 +1,5 @@
-use Rattle.records.specs.Hours.{sameName, atHour}
 use borrow.Author.Needs.{needs}
+use Rattle.records.specs.Hours.{sameName, atHour}
 use Rattle.records.proofs.hours.same_name.Statement.{statement}
 use Rattle.records.proofs.hours.same_name.Tie as tie
 

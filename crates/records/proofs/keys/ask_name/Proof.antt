@@ -1,7 +1,7 @@
 use mathlib.Core.Path.{sym, ap, _∙_}
+use borrow.Author.Needs.{needs}
 use Rattle.records.specs.Keys.{nameAnswer}
 use Rattle.records.specs.tables.Inner.{shown}
-use borrow.Author.Needs.{needs}
 use Rattle.records.proofs.keys.ask_name.Statement.{statement}
 use Rattle.records.proofs.keys.ask_name.Tie as tie
 

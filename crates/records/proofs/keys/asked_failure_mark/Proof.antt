@@ -1,9 +1,9 @@
 use mathlib.Core.Path.{sym, _∙_}
+use borrow.Author.Needs.{needs}
 use Rattle.records.specs.Marks.{isFailure}
 use Rattle.records.specs.Keys.{askMark, askFailureMark}
 use Rattle.records.specs.tables.Inner.{guarded}
 use Rattle.records.proofs.fields.Step.{first, test, last, guarded-in}
-use borrow.Author.Needs.{needs}
 use Rattle.records.proofs.keys.asked_failure_mark.Statement.{statement}
 use Rattle.records.proofs.keys.asked_failure_mark.Tie as tie
 

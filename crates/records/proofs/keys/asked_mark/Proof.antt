@@ -1,6 +1,6 @@
 use mathlib.Core.Path.{_∙_}
-use Rattle.records.proofs.keys.Lemmas.{mark-two, mark-other}
 use borrow.Author.Needs.{needs}
+use Rattle.records.proofs.keys.Lemmas.{mark-two, mark-other}
 use Rattle.records.proofs.keys.asked_mark.Statement.{statement}
 use Rattle.records.proofs.keys.asked_mark.Tie as tie
 

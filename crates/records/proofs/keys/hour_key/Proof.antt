@@ -1,7 +1,7 @@
 use mathlib.Core.Path.{sym, ap, _∙_}
+use borrow.Author.Needs.{needs}
 use Rattle.records.specs.Keys.{keyAnswer}
 use Rattle.records.proofs.keys.Lemmas.{hour-out, hour-got}
-use borrow.Author.Needs.{needs}
 use Rattle.records.proofs.keys.hour_key.Statement.{statement}
 use Rattle.records.proofs.keys.hour_key.Tie as tie
 

@@ -1,6 +1,6 @@
 use mathlib.Core.Path.{sym, _∙_}
-use Rattle.records.proofs.writing.Lemmas.{other-mark, by-hour}
 use borrow.Author.Needs.{needs}
+use Rattle.records.proofs.writing.Lemmas.{other-mark, by-hour}
 use Rattle.records.proofs.keys.same_hour.Statement.{statement}
 use Rattle.records.proofs.keys.same_hour.Tie as tie
 

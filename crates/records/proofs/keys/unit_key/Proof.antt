@@ -1,9 +1,9 @@
 use mathlib.Core.Path.{sym, ap, _∙_}
+use borrow.Author.Needs.{needs}
 use Rattle.records.specs.Reading.{from}
 use Rattle.records.specs.Keys.{keyAnswer}
 use Rattle.records.specs.tables.Inner.{shown}
 use Rattle.records.proofs.keys.Lemmas.{unit-fault, unit-got}
-use borrow.Author.Needs.{needs}
 use Rattle.records.proofs.keys.unit_key.Statement.{statement}
 use Rattle.records.proofs.keys.unit_key.Tie as tie
 
@@ -25,7 +25,8 @@ returns c =
     let c6 = c4 .before .before in
     let s = (c6 .args) .name .now in
     let n = (c4 .decode) .result .name in
-    sym (ap keyAnswer (unit-got s n (from s ((c .before .e) .given .0 .0)) (sym ((c4 .decode) .ensures .value) ∙ ap (λ d. shown s d n) ((c .before .e) .given .1))))
+    sym (ap keyAnswer
+    (unit-got s n (from s ((c .before .e) .given .0 .0)) (sym ((c4 .decode) .ensures .value) ∙ ap (λ d. shown s d n) ((c .before .e) .given .1))))
 
 returns-2 : tie.Need-returns-2
 returns-2 c =
@@ -34,7 +35,8 @@ returns-2 c =
     let c7 = c5 .before .before in
     let s = (c7 .args) .name .now in
     let n = (c5 .decode) .result .name in
-    (c .key-no) .ensures ∙ sym (ap keyAnswer (unit-fault s ((c2 .e2) .given .0 .0) (sym ((c5 .decode) .ensures .value) ∙ ap (λ d. shown s d n) ((c2 .e2) .given .1))))
+    (c .key-no) .ensures ∙ sym
+    (ap keyAnswer (unit-fault s ((c2 .e2) .given .0 .0) (sym ((c5 .decode) .ensures .value) ∙ ap (λ d. shown s d n) ((c2 .e2) .given .1))))
 
 pub unit-key-spec : {M : Type 1} → statement M
 unit-key-spec =

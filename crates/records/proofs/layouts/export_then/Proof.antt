@@ -1,9 +1,9 @@
 use mathlib.Core.Path.{sym, _∙_}
+use borrow.Author.Needs.{needs}
 use Rattle.records.specs.Reading.{many}
 use Rattle.records.specs.Numbers.{quantity}
 use Rattle.records.specs.Layouts.{export}
 use Rattle.records.proofs.fields.Step.{next, last}
-use borrow.Author.Needs.{needs}
 use Rattle.records.proofs.layouts.export_then.Statement.{statement}
 use Rattle.records.proofs.layouts.export_then.Tie as tie
 

@@ -1,8 +1,8 @@
 use mathlib.Core.Path.{sym, _∙_}
+use borrow.Author.Needs.{needs}
 use Rattle.records.specs.Numbers.{price, quantity}
 use Rattle.records.specs.Layouts.{failure}
 use Rattle.records.proofs.fields.Step.{next, last}
-use borrow.Author.Needs.{needs}
 use Rattle.records.proofs.layouts.failure_then.Statement.{statement}
 use Rattle.records.proofs.layouts.failure_then.Tie as tie
 

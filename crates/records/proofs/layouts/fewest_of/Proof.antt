@@ -1,6 +1,6 @@
 use mathlib.Core.Path.{sym, _∙_}
-use Rattle.records.proofs.marks.Lemmas.{least-yes, least-no}
 use borrow.Author.Needs.{needs}
+use Rattle.records.proofs.marks.Lemmas.{least-yes, least-no}
 use Rattle.records.proofs.layouts.fewest_of.Statement.{statement}
 use Rattle.records.proofs.layouts.fewest_of.Tie as tie
 

@@ -1,10 +1,10 @@
 use mathlib.Core.Path.{sym, _∙_}
+use borrow.Author.Needs.{needs}
 use Rattle.records.specs.Reading.{many}
 use Rattle.records.specs.Numbers.{quantity, listFrom}
 use Rattle.records.specs.Layouts.{import, within}
 use Rattle.records.specs.tables.Inner.{guarded}
 use Rattle.records.proofs.fields.Step.{next, test, last, guarded-in}
-use borrow.Author.Needs.{needs}
 use Rattle.records.proofs.layouts.import_then.Statement.{statement}
 use Rattle.records.proofs.layouts.import_then.Tie as tie
 

@@ -1,6 +1,6 @@
 use mathlib.Core.Path.{ap, _∙_}
-use Rattle.money.specs.Units.{withinOk}
 use borrow.Author.Needs.{needs}
+use Rattle.money.specs.Units.{withinOk}
 use Rattle.records.proofs.layouts.inside_list.Statement.{statement}
 use Rattle.records.proofs.layouts.inside_list.Tie as tie
 

@@ -1,9 +1,9 @@
 use mathlib.Core.Path.{sym, _∙_}
+use borrow.Author.Needs.{needs}
 use Rattle.records.specs.Reading.{many}
 use Rattle.records.specs.Numbers.{price, quantity}
 use Rattle.records.specs.Layouts.{reserveRows}
 use Rattle.records.proofs.fields.Step.{next, last}
-use borrow.Author.Needs.{needs}
 use Rattle.records.proofs.layouts.reserve_rows_then.Statement.{statement}
 use Rattle.records.proofs.layouts.reserve_rows_then.Tie as tie
 

@@ -1,10 +1,10 @@
 use mathlib.Core.Path.{sym, _∙_}
+use borrow.Author.Needs.{needs}
 use Rattle.money.specs.Units.{maxCents}
 use Rattle.records.specs.Reading.{many}
 use Rattle.records.specs.Numbers.{quantity, amount}
 use Rattle.records.specs.Layouts.{schedules}
 use Rattle.records.proofs.fields.Step.{next, last}
-use borrow.Author.Needs.{needs}
 use Rattle.records.proofs.layouts.schedules_then.Statement.{statement}
 use Rattle.records.proofs.layouts.schedules_then.Tie as tie
 

@@ -1,8 +1,8 @@
 use mathlib.Core.Path.{sym, _∙_}
+use borrow.Author.Needs.{needs}
 use Rattle.records.specs.Layouts.{unit, schedules, reserveRows, lists, allWithin}
 use Rattle.records.specs.tables.Inner.{guarded}
 use Rattle.records.proofs.fields.Step.{next, test, last, guarded-in}
-use borrow.Author.Needs.{needs}
 use Rattle.records.proofs.layouts.unit_then.Statement.{statement}
 use Rattle.records.proofs.layouts.unit_then.Tie as tie
 
@@ -62,7 +62,14 @@ returns c =
     let s2 = v2 .rows .schedules in
     let s3 = v3 .rows .schedules in
     let ok = allWithin (k .lists) (h .schedules .ahead) s1 s2 s3 in (
-      rw ((c .unit-of) .ensures, (c3 .reserve) .ensures, (c2 .reserve2) .ensures, (c .before .reserve3) .ensures, (c9 .guard-end) .ensures, (c10 .all-inside) .ensures)
+      rw (
+        (c .unit-of) .ensures,
+        (c3 .reserve) .ensures,
+        (c2 .reserve2) .ensures,
+        (c .before .reserve3) .ensures,
+        (c9 .guard-end) .ensures,
+        (c10 .all-inside) .ensures,
+      )
           (sym (next s ((c26 .args) .e) (h .end) (h .schedules) schedules _ ((c24 .schedules-then) .ensures .0)
           ∙ next s (h .end) (v1 .end) (v1 .rows) reserveRows _ ((c23 .reserve-rows-then) .ensures .0)
           ∙ next s (v1 .end) (v2 .end) (v2 .rows) reserveRows _ ((c22 .reserve-rows-then2) .ensures .0)

@@ -1,6 +1,6 @@
 use mathlib.Core.Path.{_∙_}
-use Rattle.records.proofs.leads.Lemmas.{bears-short, bears-is}
 use borrow.Author.Needs.{needs}
+use Rattle.records.proofs.leads.Lemmas.{bears-short, bears-is}
 use Rattle.records.proofs.leads.begins_with.Statement.{statement}
 use Rattle.records.proofs.leads.begins_with.Tie as tie
 

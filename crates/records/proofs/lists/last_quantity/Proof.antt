@@ -1,6 +1,6 @@
-use Rattle.money.specs.laws.OfferLaws.{last-is}
 use native.Mathlib.Omega.{arith}
 use borrow.Author.Needs.{needs}
+use Rattle.money.specs.laws.OfferLaws.{last-is}
 use Rattle.records.proofs.lists.last_quantity.Statement.{statement}
 use Rattle.records.proofs.lists.last_quantity.Tie as tie
 

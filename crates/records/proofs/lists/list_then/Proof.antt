@@ -23,7 +23,12 @@ returns c =
 returns-2 : tie.Need-returns-2
 returns-2 c =
     let c2 = c .before .before in
-    record { value = rw ((c .offer-no) .ensures .0, (c2 .e2) .given .1); placed = rw ((c .offer-no) .ensures .0) tt; few = omega (arith, (c .offer-no) .ensures .1) }
+    record {
+      value = rw ((c .offer-no) .ensures .0, (c2 .e2) .given .1);
+      placed = rw ((c .offer-no) .ensures .0) tt;
+      few = omega
+          (arith, (c .offer-no) .ensures .1);
+    }
 
 pub list-then-spec : {M : Type 1} → statement M
 list-then-spec =

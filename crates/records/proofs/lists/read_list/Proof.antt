@@ -1,7 +1,7 @@
-use Rattle.records.specs.Numbers.{listFrom}
 use borrow.Author.Tests.{le-leb, lt-leb}
 use native.Mathlib.Omega.{arith}
 use borrow.Author.Needs.{needs}
+use Rattle.records.specs.Numbers.{listFrom}
 use Rattle.records.proofs.lists.read_list.Statement.{statement}
 use Rattle.records.proofs.lists.read_list.Tie as tie
 
@@ -19,7 +19,12 @@ unfolding listFrom
 returns c =
     let c3 = c .before .before .before in
     let c5 = c3 .before .before in
-    record { value = rw ((c .offer-no) .ensures .0, ← (c5 .read-byte) .ensures .0, (c3 .c) .given .1, lt-leb _ _ ((c .before .if1) .taken)); placed = rw ((c .offer-no) .ensures .0) tt; few = omega (arith, (c .offer-no) .ensures .1) }
+    record {
+      value = rw ((c .offer-no) .ensures .0, ← (c5 .read-byte) .ensures .0, (c3 .c) .given .1, lt-leb _ _ ((c .before .if1) .taken));
+      placed = rw
+          ((c .offer-no) .ensures .0) tt;
+      few = omega (arith, (c .offer-no) .ensures .1);
+    }
 
 offer-no-requires-2 : tie.Need-offer-no-requires-2
 offer-no-requires-2 c κs = search needs
@@ -30,13 +35,19 @@ returns-2 c =
     let c2 = c .before .before in
     let c4 = c2 .before .before in
     let c6 = c4 .before .before in
-    record { value = rw ((c .offer-no2) .ensures .0, ← (c6 .read-byte) .ensures .0, (c4 .c) .given .1, le-leb _ _ ((c2 .if1) .left), lt-leb _ _ ((c .before .if2) .taken)); placed = rw ((c .offer-no2) .ensures .0) tt; few = omega (arith, (c .offer-no2) .ensures .1) }
+    record {
+      value = rw
+          ((c .offer-no2) .ensures .0, ← (c6 .read-byte) .ensures .0, (c4 .c) .given .1, le-leb _ _ ((c2 .if1) .left), lt-leb _ _ ((c .before .if2) .taken));
+      placed = rw ((c .offer-no2) .ensures .0) tt;
+      few = omega (arith, (c .offer-no2) .ensures .1);
+    }
 
 cast-read-pairs : tie.Need-cast-read-pairs
 cast-read-pairs c = search needs
 
 read-pairs-requires : tie.Need-read-pairs-requires
-read-pairs-requires c κs = let h = (c .before .before .before .before .before .read-byte) .ensures .1 in (search needs, rw ((c .before .before .before .c) .given .1) at h)
+read-pairs-requires c κs = let h = (c .before .before .before .before .before .read-byte) .ensures .1 in
+    (search needs, rw ((c .before .before .before .c) .given .1) at h)
 
 enum-known-e : tie.Need-enum-known-e
 enum-known-e c = search needs
@@ -68,7 +79,21 @@ returns-3 c =
     let c8 = c7 .before in
     let c10 = c8 .before .before in
     let c12 = c10 .before .before in
-    record { value = rw (← (c12 .read-byte) .ensures .0, (c10 .c) .given .1, le-leb _ _ ((c8 .if1) .left), le-leb _ _ ((c7 .if2) .left), ← (c6 .read-pairs) .ensures .value, (c4 .e) .given .1, ← (c .before .list-ok) .ensures, (c .if3) .taken); placed = (c6 .read-pairs) .ensures .placed; few = (c6 .read-pairs) .ensures .few }
+    record {
+      value = rw (
+        ← (c12 .read-byte) .ensures .0,
+        (c10 .c) .given .1,
+        le-leb _ _ ((c8 .if1) .left),
+        le-leb _ _ ((c7 .if2) .left),
+        ←
+            (c6 .read-pairs) .ensures .value,
+        (c4 .e) .given .1,
+        ← (c .before .list-ok) .ensures,
+        (c .if3) .taken,
+      );
+      placed = (c6 .read-pairs) .ensures .placed;
+      few = (c6 .read-pairs) .ensures .few;
+    }
 
 returns-4 : tie.Need-returns-4
 unfolding listFrom
@@ -80,7 +105,23 @@ returns-4 c =
     let c9 = c8 .before in
     let c11 = c9 .before .before in
     let c13 = c11 .before .before in
-    record { value = rw ((c .offer-no3) .ensures .0, ← (c13 .read-byte) .ensures .0, (c11 .c) .given .1, le-leb _ _ ((c9 .if1) .left), le-leb _ _ ((c8 .if2) .left), ← (c7 .read-pairs) .ensures .value, (c5 .e) .given .1, ← (c2 .list-ok) .ensures, (c .before .if3) .left); placed = rw ((c .offer-no3) .ensures .0) tt; few = omega (arith, (c .offer-no3) .ensures .1) }
+    record {
+      value = rw (
+        (c .offer-no3) .ensures .0,
+        ← (c13 .read-byte) .ensures .0,
+        (c11 .c) .given .1,
+        le-leb _ _ ((c9 .if1) .left),
+        le-leb _ _
+            ((c8 .if2) .left),
+        ← (c7 .read-pairs) .ensures .value,
+        (c5 .e) .given .1,
+        ← (c2 .list-ok) .ensures,
+        (c .before .if3) .left,
+      );
+      placed = rw
+          ((c .offer-no3) .ensures .0) tt;
+      few = omega (arith, (c .offer-no3) .ensures .1);
+    }
 
 returns-5 : tie.Need-returns-5
 unfolding listFrom
@@ -91,14 +132,35 @@ returns-5 c =
     let c6 = c5 .before in
     let c8 = c6 .before .before in
     let c10 = c8 .before .before in
-    record { value = rw ((c .offer-no4) .ensures .0, ← (c10 .read-byte) .ensures .0, (c8 .c) .given .1, le-leb _ _ ((c6 .if1) .left), le-leb _ _ ((c5 .if2) .left), ← (c4 .read-pairs) .ensures .value, (c2 .e2) .given .1); placed = rw ((c .offer-no4) .ensures .0) tt; few = omega (arith, (c .offer-no4) .ensures .1) }
+    record {
+      value = rw (
+        (c .offer-no4) .ensures .0,
+        ← (c10 .read-byte) .ensures .0,
+        (c8 .c) .given .1,
+        le-leb _ _ ((c6 .if1) .left),
+        le-leb _ _
+            ((c5 .if2) .left),
+        ← (c4 .read-pairs) .ensures .value,
+        (c2 .e2) .given .1,
+      );
+      placed = rw ((c .offer-no4) .ensures .0) tt;
+      few = omega (
+        arith,
+        (c .offer-no4) .ensures .1,
+      );
+    }
 
 returns-6 : tie.Need-returns-6
 unfolding listFrom
 returns-6 c =
     let c2 = c .before .before in
     let c4 = c2 .before .before in
-    record { value = rw ((c .offer-no5) .ensures .0, ← (c4 .read-byte) .ensures .0, (c2 .c2) .given .1); placed = rw ((c .offer-no5) .ensures .0) tt; few = omega (arith, (c .offer-no5) .ensures .1) }
+    record {
+      value = rw ((c .offer-no5) .ensures .0, ← (c4 .read-byte) .ensures .0, (c2 .c2) .given .1);
+      placed = rw ((c .offer-no5) .ensures .0) tt;
+      few =
+          omega (arith, (c .offer-no5) .ensures .1);
+    }
 
 pub read-list-spec : {M : Type 1} → statement M
 read-list-spec =

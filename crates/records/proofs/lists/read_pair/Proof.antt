@@ -1,5 +1,5 @@
-use Rattle.records.specs.Numbers.{pair}
 use borrow.Author.Needs.{needs}
+use Rattle.records.specs.Numbers.{pair}
 use Rattle.records.proofs.lists.read_pair.Statement.{statement}
 use Rattle.records.proofs.lists.read_pair.Tie as tie
 

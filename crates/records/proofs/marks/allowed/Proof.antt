@@ -1,7 +1,7 @@
 use mathlib.Core.Path.{sym, ap, _∙_}
+use borrow.Author.Needs.{needs}
 use Rattle.records.specs.Changes.{allowed}
 use Rattle.records.specs.declared.marks.Wanted.{Wanted}
-use borrow.Author.Needs.{needs}
 use Rattle.records.proofs.marks.allowed.Statement.{statement}
 use Rattle.records.proofs.marks.allowed.Tie as tie
 

@@ -1,5 +1,5 @@
-use Rattle.records.specs.Names.{spellByte}
 use borrow.Author.Needs.{needs}
+use Rattle.records.specs.Names.{spellByte}
 use Rattle.records.proofs.names.byte_len.Statement.{statement}
 use Rattle.records.proofs.names.byte_len.Tie as tie
 

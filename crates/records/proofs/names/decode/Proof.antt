@@ -2,13 +2,13 @@ use Prim.Native.Nat.{_≤_, _-_}
 use mathlib.Core.Path.{_≡_, refl, sym, ap, _∙_}
 use lib.ListN.{length}
 use borrow.Author.Tests.{le-leb, lt-leb}
+use borrow.Author.Needs.{needs}
+use native.Mathlib.Omega.{arith}
 use Rattle.records.specs.Reading.{from}
 use Rattle.records.specs.Names.{decodeName, storedName}
 use Rattle.records.specs.tables.Inner.{chr}
 use Rattle.records.proofs.lists.Lemmas.{Padded, padded-more}
 use Rattle.records.proofs.names.Lemmas.{Spelled, spelled-none, spelled-more, spelled-bad, spelled-full, name-all}
-use borrow.Author.Needs.{needs}
-use native.Mathlib.Omega.{arith}
 use Rattle.records.proofs.names.decode.Statement.{statement}
 use Rattle.records.proofs.names.decode.Tie as tie
 
@@ -23,7 +23,12 @@ name-no-requires c κs = search needs
 
 returns : tie.Need-returns Inv-loop μ-loop
 unfolding decodeName
-returns c = record { value = rw ((c .name-no) .ensures .0, lt-leb _ _ ((c .before .if1) .taken)); placed = rw ((c .name-no) .ensures .0) tt; few = omega (arith, (c .name-no) .ensures .1) }
+returns c = record {
+  value = rw ((c .name-no) .ensures .0, lt-leb _ _ ((c .before .if1) .taken));
+  placed = rw ((c .name-no) .ensures .0) tt;
+  few = omega
+      (arith, (c .name-no) .ensures .1);
+}
 
 name-no-requires-2 : tie.Need-name-no-requires-2 Inv-loop μ-loop
 name-no-requires-2 c κs = search needs
@@ -32,7 +37,12 @@ returns-2 : tie.Need-returns-2 Inv-loop μ-loop
 unfolding decodeName
 returns-2 c =
     let c2 = c .before .before in
-    record { value = rw ((c .name-no2) .ensures .0, le-leb _ _ ((c2 .if1) .left), lt-leb _ _ ((c .before .if2) .taken)); placed = rw ((c .name-no2) .ensures .0) tt; few = omega (arith, (c .name-no2) .ensures .1) }
+    record {
+      value = rw ((c .name-no2) .ensures .0, le-leb _ _ ((c2 .if1) .left), lt-leb _ _ ((c .before .if2) .taken));
+      placed = rw ((c .name-no2) .ensures .0)
+          tt;
+      few = omega (arith, (c .name-no2) .ensures .1);
+    }
 
 loop-holds : tie.Need-loop-holds Inv-loop μ-loop
 loop-holds c = (search needs, refl, search needs, spelled-none, record { long = refl; behind = refl })
@@ -47,7 +57,12 @@ returns-3 c =
     let c3 = c2 .before in
     let c4 = c3 .before in
     let c5 = c4 .before in
-    record { value = rw ((c .name-no3) .ensures .0, le-leb _ _ ((c5 .if1) .left), le-leb _ _ ((c4 .if2) .left)) (ap storedName (spelled-full ((c3 .loop) .inv .3) ((c2 .loop-test) .taken) ((c .before .if3) .taken))); placed = rw ((c .name-no3) .ensures .0) tt; few = omega (arith, (c .name-no3) .ensures .1) }
+    record {
+      value = rw ((c .name-no3) .ensures .0, le-leb _ _ ((c5 .if1) .left), le-leb _ _ ((c4 .if2) .left))
+          (ap storedName (spelled-full ((c3 .loop) .inv .3) ((c2 .loop-test) .taken) ((c .before .if3) .taken)));
+      placed = rw ((c .name-no3) .ensures .0) tt;
+      few = omega (arith, (c .name-no3) .ensures .1);
+    }
 
 one-at-requires : tie.Need-one-at-requires Inv-loop μ-loop
 one-at-requires c κs = search needs
@@ -66,8 +81,16 @@ loop-less c = search needs
 
 loop-again : tie.Need-loop-again Inv-loop μ-loop
 loop-again c =
-    let h = (c .before .before .before .one-at) .ensures .1 in
-    (search needs, search needs, rw ((c .before .b) .given .1) at h, spelled-more ((c .before .before .before .before .before .before .loop) .inv .3) ((c .before .before .before .before .before .loop-test) .taken) ((c .before .before .before .before .if3) .left) (omega arith) (sym ((c .before .before .before .one-at) .ensures .0) ∙ ap (chr _) ((c .before .b) .given .1)), padded-more _ ((c .before .before .before .before .before .before .loop) .inv .4) (omega arith))
+    let h = (c .before .before .before .one-at) .ensures .1 in (
+      search needs,
+      search needs,
+      rw ((c .before .b) .given .1) at h,
+      spelled-more ((c .before .before .before .before .before .before .loop) .inv .3)
+          ((c .before .before .before .before .before .loop-test) .taken) ((c .before .before .before .before .if3) .left) (omega arith)
+          (sym ((c .before .before .before .one-at) .ensures .0) ∙ ap (chr _) ((c .before .b) .given .1)),
+      padded-more _
+          ((c .before .before .before .before .before .before .loop) .inv .4) (omega arith),
+    )
 
 enum-known-b-2 : tie.Need-enum-known-b-2 Inv-loop μ-loop
 enum-known-b-2 c = search needs
@@ -85,7 +108,12 @@ returns-4 c =
     let c7 = c6 .before in
     let c8 = c7 .before in
     let c9 = c8 .before in
-    record { value = rw ((c .name-no4) .ensures .0, le-leb _ _ ((c9 .if1) .left), le-leb _ _ ((c8 .if2) .left)) (ap storedName (spelled-bad ((c7 .loop) .inv .3) ((c6 .loop-test) .taken) ((c5 .if3) .left) (sym ((c4 .one-at) .ensures .0) ∙ ap (chr _) ((c2 .b2) .given .1)))); placed = rw ((c .name-no4) .ensures .0) tt; few = omega (arith, (c .name-no4) .ensures .1) }
+    record {
+      value = rw ((c .name-no4) .ensures .0, le-leb _ _ ((c9 .if1) .left), le-leb _ _ ((c8 .if2) .left)) (ap storedName
+          (spelled-bad ((c7 .loop) .inv .3) ((c6 .loop-test) .taken) ((c5 .if3) .left) (sym ((c4 .one-at) .ensures .0) ∙ ap (chr _) ((c2 .b2) .given .1))));
+      placed = rw ((c .name-no4) .ensures .0) tt;
+      few = omega (arith, (c .name-no4) .ensures .1);
+    }
 
 cast-t16 : tie.Need-cast-t16 Inv-loop μ-loop
 cast-t16 c = search needs
@@ -95,7 +123,13 @@ unfolding decodeName from
 returns-5 c =
     let c2 = c .before .before in
     let c3 = c2 .before in
-    record { value = rw (le-leb _ _ ((c3 .if1) .left), le-leb _ _ ((c2 .if2) .left)) (name-all ((c .before .loop) .inv .3) ((c .before .loop) .inv .0) ((c .before .loop) .inv .4) ((c .loop-test) .left)); placed = (c .before .loop) .inv .2; few = (c .before .loop) .inv .0 }
+    record {
+      value = rw (le-leb _ _ ((c3 .if1) .left), le-leb _ _ ((c2 .if2) .left))
+          (name-all ((c .before .loop) .inv .3) ((c .before .loop) .inv .0) ((c .before .loop) .inv .4) ((c .loop-test) .left));
+      placed =
+          (c .before .loop) .inv .2;
+      few = (c .before .loop) .inv .0;
+    }
 
 pub decode-spec : {M : Type 1} → statement M
 decode-spec =

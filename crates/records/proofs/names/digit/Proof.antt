@@ -1,6 +1,6 @@
 use borrow.Author.Tests.{lt-ltb, le-ltb}
-use Rattle.records.specs.Names.{digit}
 use borrow.Author.Needs.{needs}
+use Rattle.records.specs.Names.{digit}
 use Rattle.records.proofs.names.digit.Statement.{statement}
 use Rattle.records.proofs.names.digit.Tie as tie
 

@@ -1,8 +1,8 @@
 use borrow.Author.Tests.{lt-ltb, le-ltb}
-use Rattle.records.specs.Names.{escaped}
-use Rattle.records.proofs.names.Lemmas.{at-end, at-two, at-last}
 use native.Mathlib.Omega.{arith}
 use borrow.Author.Needs.{needs}
+use Rattle.records.specs.Names.{escaped}
+use Rattle.records.proofs.names.Lemmas.{at-end, at-two, at-last}
 use Rattle.records.proofs.names.escaped_at.Statement.{statement}
 use Rattle.records.proofs.names.escaped_at.Tie as tie
 
@@ -44,7 +44,16 @@ returns-4 c =
     let c3 = c .before .before .before in
     let c4 = c3 .before in
     let c9 = c4 .before .before .before .before .before in
-    let a = c9 .args in (rw (at-two (a .s .now) (a .at) (omega arith) (omega arith), ← c4 .hex .ensures, lt-ltb _ _ (c3 .if3 .left), ← c .before .hex2 .ensures, le-ltb _ _ (c .if4 .taken)), tt)
+    let a = c9 .args in (
+      rw (
+        at-two (a .s .now) (a .at) (omega arith) (omega arith),
+        ← c4 .hex .ensures,
+        lt-ltb _ _ (c3 .if3 .left),
+        ← c .before .hex2 .ensures,
+        le-ltb _ _ (c .if4 .taken),
+      ),
+      tt,
+    )
 
 mul-b : tie.Need-mul-b
 mul-b c = search needs
@@ -60,7 +69,21 @@ add-t14 c = search needs
 
 returns-5 : tie.Need-returns-5
 unfolding escaped
-returns-5 c = let a = c .before .before .before .before .before .before .before .before .before .before .before .args in (rw (at-two (a .s .now) (a .at) (omega arith) (omega arith), ← c .before .before .before .before .before .before .hex .ensures, lt-ltb _ _ (c .before .before .before .before .before .if3 .left), ← c .before .before .before .hex2 .ensures, lt-ltb _ _ (c .before .before .if4 .left), ← c .before .visible .ensures, c .if5 .taken), search needs)
+returns-5 c = let a = c .before .before .before .before .before .before .before .before .before .before .before .args in (
+  rw (
+    at-two (a .s .now) (a .at)
+        (omega arith) (omega arith),
+    ← c .before .before .before .before .before .before .hex .ensures,
+    lt-ltb _ _
+        (c .before .before .before .before .before .if3 .left),
+    ← c .before .before .before .hex2 .ensures,
+    lt-ltb _ _ (c .before .before .if4 .left),
+    ←
+        c .before .visible .ensures,
+    c .if5 .taken,
+  ),
+  search needs,
+)
 
 returns-6 : tie.Need-returns-6
 unfolding escaped
@@ -70,7 +93,18 @@ returns-6 c =
     let c5 = c3 .before .before in
     let c6 = c5 .before in
     let c11 = c6 .before .before .before .before .before in
-    let a = c11 .args in (rw (at-two (a .s .now) (a .at) (omega arith) (omega arith), ← c6 .hex .ensures, lt-ltb _ _ (c5 .if3 .left), ← c3 .hex2 .ensures, lt-ltb _ _ (c2 .if4 .left), ← c .before .visible .ensures, c .if5 .left), tt)
+    let a = c11 .args in (
+      rw (
+        at-two (a .s .now) (a .at) (omega arith) (omega arith),
+        ← c6 .hex .ensures,
+        lt-ltb _ _ (c5 .if3 .left),
+        ← c3 .hex2 .ensures,
+        lt-ltb _ _ (c2 .if4 .left),
+        ← c .before .visible .ensures,
+        c .if5 .left,
+      ),
+      tt,
+    )
 
 pub escaped-at-spec : {M : Type 1} → statement M
 escaped-at-spec =

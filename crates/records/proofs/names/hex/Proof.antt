@@ -1,7 +1,7 @@
 use borrow.Author.Tests.{le-leb, lt-leb}
-use Rattle.records.specs.Names.{hexVal}
 use native.Mathlib.Omega.{arith}
 use borrow.Author.Needs.{needs}
+use Rattle.records.specs.Names.{hexVal}
 use Rattle.records.proofs.names.hex.Statement.{statement}
 use Rattle.records.proofs.names.hex.Tie as tie
 
@@ -32,7 +32,8 @@ returns-5 : tie.Need-returns-5
 unfolding hexVal
 returns-5 c =
     let c5 = c .before .before .before .before .before in
-    let x = c5 .args .x in simp (le-leb 48 x (omega arith), lt-leb x 57 (omega arith), le-leb 65 x (omega arith), lt-leb x 70 (omega arith), lt-leb 97 x (omega arith))
+    let x = c5 .args .x in simp
+    (le-leb 48 x (omega arith), lt-leb x 57 (omega arith), le-leb 65 x (omega arith), lt-leb x 70 (omega arith), lt-leb 97 x (omega arith))
 
 add-result-2 : tie.Need-add-result-2
 add-result-2 c = search needs
@@ -41,13 +42,29 @@ returns-6 : tie.Need-returns-6
 unfolding hexVal
 returns-6 c =
     let c6 = c .before .before .before .before .before .before in
-    let x = c6 .args .x in simp (le-leb 48 x (omega arith), lt-leb x 57 (omega arith), le-leb 65 x (omega arith), lt-leb x 70 (omega arith), le-leb 97 x (omega arith), le-leb x 102 (omega arith))
+    let x = c6 .args .x in simp (
+      le-leb 48 x (omega arith),
+      lt-leb x 57 (omega arith),
+      le-leb 65 x (omega arith),
+      lt-leb x 70 (omega arith),
+      le-leb 97 x
+          (omega arith),
+      le-leb x 102 (omega arith),
+    )
 
 returns-7 : tie.Need-returns-7
 unfolding hexVal
 returns-7 c =
     let c6 = c .before .before .before .before .before .before in
-    let x = c6 .args .x in simp (le-leb 48 x (omega arith), lt-leb x 57 (omega arith), le-leb 65 x (omega arith), lt-leb x 70 (omega arith), le-leb 97 x (omega arith), lt-leb x 102 (omega arith))
+    let x = c6 .args .x in simp (
+      le-leb 48 x (omega arith),
+      lt-leb x 57 (omega arith),
+      le-leb 65 x (omega arith),
+      lt-leb x 70 (omega arith),
+      le-leb 97 x
+          (omega arith),
+      lt-leb x 102 (omega arith),
+    )
 
 pub hex-spec : {M : Type 1} → statement M
 hex-spec =

@@ -1,8 +1,8 @@
 use borrow.Author.Tests.{eq-eqb, ne-eqb}
-use Rattle.records.specs.Names.{one}
-use Rattle.records.proofs.names.Lemmas.{at-next}
 use native.Mathlib.Omega.{arith}
 use borrow.Author.Needs.{needs}
+use Rattle.records.specs.Names.{one}
+use Rattle.records.proofs.names.Lemmas.{at-next}
 use Rattle.records.proofs.names.one_at.Statement.{statement}
 use Rattle.records.proofs.names.one_at.Tie as tie
 
@@ -19,7 +19,8 @@ returns : tie.Need-returns
 unfolding one
 returns c =
     let c4 = c .before .before .before .before in
-    let a = c4 .args in (rw (at-next (a .s .now) (a .at) (omega arith), eq-eqb _ _ (c .before .if1 .taken)) (c .escaped-at .ensures .0), c .escaped-at .ensures .1)
+    let a = c4 .args in
+    (rw (at-next (a .s .now) (a .at) (omega arith), eq-eqb _ _ (c .before .if1 .taken)) (c .escaped-at .ensures .0), c .escaped-at .ensures .1)
 
 visible-requires : tie.Need-visible-requires
 visible-requires c κs = search needs
@@ -29,7 +30,8 @@ add-t10 c = search needs
 
 returns-2 : tie.Need-returns-2
 unfolding one
-returns-2 c = let a = c .before .before .before .before .before .args in (rw (at-next (a .s .now) (a .at) (omega arith), ne-eqb _ _ (c .before .before .if1 .left), ← c .before .visible .ensures, c .if2 .taken), search needs)
+returns-2 c = let a = c .before .before .before .before .before .args in
+    (rw (at-next (a .s .now) (a .at) (omega arith), ne-eqb _ _ (c .before .before .if1 .left), ← c .before .visible .ensures, c .if2 .taken), search needs)
 
 returns-3 : tie.Need-returns-3
 unfolding one

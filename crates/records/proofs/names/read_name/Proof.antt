@@ -2,13 +2,13 @@ use mathlib.Core.Path.{sym, ap, _∙_}
 use Prim.Native.Nat.{_+_, _-_}
 use lib.ListN.{take, drop}
 use borrow.Author.Tests.{le-leb, lt-leb}
+use native.Mathlib.Omega.{arith}
+use borrow.Author.Needs.{needs}
 use Rattle.records.specs.Reading.{from}
 use Rattle.records.specs.Names.{nameField, decodeName}
 use Rattle.records.specs.tables.Inner.{shown}
 use Rattle.records.proofs.names.Some.{some-short, some-at}
 use Rattle.records.proofs.names.Lemmas.{held-got, held-bad}
-use native.Mathlib.Omega.{arith}
-use borrow.Author.Needs.{needs}
 use Rattle.records.proofs.names.read_name.Statement.{statement}
 use Rattle.records.proofs.names.read_name.Tie as tie
 
@@ -26,7 +26,12 @@ unfolding nameField
 returns c =
     let c3 = c .before .before .before in
     let c5 = c3 .before .before in
-    record { value = rw ((c .name-no) .ensures .0, ← (c5 .read-byte) .ensures .0, (c3 .c) .given .1, lt-leb _ _ ((c .before .if1) .taken)); placed = rw ((c .name-no) .ensures .0) tt; few = omega (arith, (c .name-no) .ensures .1) }
+    record {
+      value = rw ((c .name-no) .ensures .0, ← (c5 .read-byte) .ensures .0, (c3 .c) .given .1, lt-leb _ _ ((c .before .if1) .taken));
+      placed = rw
+          ((c .name-no) .ensures .0) tt;
+      few = omega (arith, (c .name-no) .ensures .1);
+    }
 
 name-no-requires-2 : tie.Need-name-no-requires-2
 name-no-requires-2 c κs = search needs
@@ -37,7 +42,12 @@ returns-2 c =
     let c2 = c .before .before in
     let c4 = c2 .before .before in
     let c6 = c4 .before .before in
-    record { value = rw ((c .name-no2) .ensures .0, ← (c6 .read-byte) .ensures .0, (c4 .c) .given .1, le-leb _ _ ((c2 .if1) .left), lt-leb _ _ ((c .before .if2) .taken)); placed = rw ((c .name-no2) .ensures .0) tt; few = omega (arith, (c .name-no2) .ensures .1) }
+    record {
+      value = rw
+          ((c .name-no2) .ensures .0, ← (c6 .read-byte) .ensures .0, (c4 .c) .given .1, le-leb _ _ ((c2 .if1) .left), lt-leb _ _ ((c .before .if2) .taken));
+      placed = rw ((c .name-no2) .ensures .0) tt;
+      few = omega (arith, (c .name-no2) .ensures .1);
+    }
 
 cast-k : tie.Need-cast-k
 cast-k c = search needs
@@ -56,7 +66,20 @@ returns-3 c =
     let c5 = c3 .before .before in
     let c7 = c5 .before .before in
     let c9 = c7 .before .before in
-    record { value = rw ((c .name-no3) .ensures .0, ← (c7 .read-byte) .ensures .0, (c5 .c) .given .1, le-leb _ _ ((c3 .if1) .left), le-leb _ _ ((c2 .if2) .left), some-short ((c9 .args) .s .now) ((c5 .c) .given .0 .1 .0) ((c5 .c) .given .0 .0) ((c .before .if3) .taken)); placed = rw ((c .name-no3) .ensures .0) tt; few = omega (arith, (c .name-no3) .ensures .1) }
+    record {
+      value = rw (
+        (c .name-no3) .ensures .0,
+        ← (c7 .read-byte) .ensures .0,
+        (c5 .c) .given .1,
+        le-leb _ _ ((c3 .if1) .left),
+        le-leb _ _
+            ((c2 .if2) .left),
+        some-short ((c9 .args) .s .now) ((c5 .c) .given .0 .1 .0) ((c5 .c) .given .0 .0) ((c .before .if3) .taken),
+      );
+      placed = rw
+          ((c .name-no3) .ensures .0) tt;
+      few = omega (arith, (c .name-no3) .ensures .1);
+    }
 
 add-decode : tie.Need-add-decode
 add-decode c = search needs
@@ -100,8 +123,19 @@ returns-4 c =
     let part = take (first + k - first) (drop first s) in
     record {
       value =
-          rw (← (c .before .before .before .before .before .before .before .before .before .before .before .before .read-byte) .ensures .0, (c .before .before .before .before .before .before .before .before .before .before .c) .given .1, le-leb _ _ ((c .before .before .before .before .before .before .before .before .if1) .left), le-leb _ _ ((c .before .before .before .before .before .before .before .if2) .left), some-at s first k ((c .before .before .before .before .before .before .if3) .left))
-          (held-got (decodeName part) ((c .before .before .before .before .decode) .result .name) (from part ((c .before .e) .given .0 .0)) _ (sym (ap (λ d. shown part d ((c .before .before .before .before .decode) .result .name)) ((c .before .e) .given .1)) ∙ (c .before .before .before .before .decode) .ensures .value));
+          rw (
+            ← (c .before .before .before .before .before .before .before .before .before .before .before .before .read-byte) .ensures .0,
+            (c .before .before .before .before .before .before .before .before .before .before .c) .given .1,
+            le-leb _ _
+                ((c .before .before .before .before .before .before .before .before .if1) .left),
+            le-leb _ _
+                ((c .before .before .before .before .before .before .before .if2) .left),
+            some-at s first k
+                ((c .before .before .before .before .before .before .if3) .left),
+          )
+          (held-got (decodeName part) ((c .before .before .before .before .decode) .result .name) (from part ((c .before .e) .given .0 .0)) _ (sym
+          (ap (λ d. shown part d ((c .before .before .before .before .decode) .result .name)) ((c .before .e) .given .1)) ∙
+          (c .before .before .before .before .decode) .ensures .value));
       placed = search needs;
       few = (c .before .before .before .before .decode) .ensures .few;
     }
@@ -123,8 +157,17 @@ returns-5 c =
     let part = take (first + k - first) (drop first s) in
     record {
       value =
-          rw ((c .name-no4) .ensures .0, ← (c13 .read-byte) .ensures .0, (c11 .c) .given .1, le-leb _ _ ((c9 .if1) .left), le-leb _ _ ((c8 .if2) .left), some-at s first k ((c7 .if3) .left))
-          (held-bad (decodeName part) ((c2 .e2) .given .0 .0) _ (sym (ap (λ d. shown part d ((c5 .decode) .result .name)) ((c2 .e2) .given .1)) ∙ (c5 .decode) .ensures .value));
+          rw (
+            (c .name-no4) .ensures .0,
+            ← (c13 .read-byte) .ensures .0,
+            (c11 .c) .given .1,
+            le-leb _ _ ((c9 .if1) .left),
+            le-leb _ _ ((c8 .if2) .left),
+            some-at
+                s first k ((c7 .if3) .left),
+          )
+          (held-bad (decodeName part) ((c2 .e2) .given .0 .0) _
+          (sym (ap (λ d. shown part d ((c5 .decode) .result .name)) ((c2 .e2) .given .1)) ∙ (c5 .decode) .ensures .value));
       placed = rw ((c .name-no4) .ensures .0) tt;
       few = omega (arith, (c .name-no4) .ensures .1);
     }
@@ -134,7 +177,12 @@ unfolding nameField
 returns-6 c =
     let c2 = c .before .before in
     let c4 = c2 .before .before in
-    record { value = rw ((c .name-no5) .ensures .0, ← (c4 .read-byte) .ensures .0, (c2 .c2) .given .1); placed = rw ((c .name-no5) .ensures .0) tt; few = omega (arith, (c .name-no5) .ensures .1) }
+    record {
+      value = rw ((c .name-no5) .ensures .0, ← (c4 .read-byte) .ensures .0, (c2 .c2) .given .1);
+      placed = rw ((c .name-no5) .ensures .0) tt;
+      few = omega
+          (arith, (c .name-no5) .ensures .1);
+    }
 
 pub read-name-spec : {M : Type 1} → statement M
 read-name-spec =

@@ -1,10 +1,10 @@
 use mathlib.Core.Path.{sym, _∙_}
 use borrow.Author.Tests.{not-true, not-false}
+use native.Mathlib.Omega.{arith}
+use borrow.Author.Needs.{needs}
 use Rattle.money.specs.laws.NameLaws.{name-most}
 use Rattle.records.specs.laws.NameLaws.{spelling-none}
 use Rattle.records.proofs.names.SpellName.{spell-most, spelled-in}
-use native.Mathlib.Omega.{arith}
-use borrow.Author.Needs.{needs}
 use Rattle.records.proofs.names.spell_name.Statement.{statement}
 use Rattle.records.proofs.names.spell_name.Tie as tie
 
@@ -28,7 +28,12 @@ cast-t9 c =
     let c3 = c .before .before .before in
     let c4 = c3 .before in
     let c5 = c4 .before in
-    omega (arith, (c .before .write-name) .ensures .after, spell-most ((c5 .args) .name) (name-most ((c5 .args) .name) (sym ((c4 .name-ok) .ensures) ∙ not-false _ ((c3 .if1) .left))))
+    omega (
+      arith,
+      (c .before .write-name) .ensures .after,
+      spell-most ((c5 .args) .name)
+          (name-most ((c5 .args) .name) (sym ((c4 .name-ok) .ensures) ∙ not-false _ ((c3 .if1) .left))),
+    )
 
 returns-2 : tie.Need-returns-2
 returns-2 c =

@@ -1,15 +1,16 @@
 use Prim.Native.Nat.{_≤_, _-_, _*_}
 use mathlib.Core.Path.{_≡_, refl}
 use lib.ListN.{length, take, length-append}
-use Rattle.records.specs.Names.{spell}
-use Rattle.records.specs.laws.NameLaws.{spell-more}
 use borrow.Author.Needs.{needs}
 use native.Mathlib.Omega.{arith}
+use Rattle.records.specs.Names.{spell}
+use Rattle.records.specs.laws.NameLaws.{spell-more}
 use Rattle.records.proofs.names.spelled_len.Statement.{statement}
 use Rattle.records.proofs.names.spelled_len.Tie as tie
 
 abbrev Inv-loop : tie.InvT-loop
-Inv-loop name n sum₀ i₀ sum i = (i ≤ n) × (n ≡ name .len) × (n ≤ 12) × (length (name .bytes) ≡ 12) × (sum ≤ 3 * i) × (sum ≡ length (spell (take i (name .bytes))))
+Inv-loop name n sum₀ i₀ sum i = (i ≤ n) × (n ≡ name .len) × (n ≤ 12) × (length (name .bytes) ≡ 12) × (sum ≤ 3 * i) ×
+    (sum ≡ length (spell (take i (name .bytes))))
 
 abbrev μ-loop : tie.MeasureT-loop
 μ-loop name n sum₀ i₀ sum i = n - i

@@ -1,8 +1,8 @@
 use lib.ListN.{length-set}
-use Rattle.records.specs.Names.{spellByte}
-use Rattle.records.proofs.writing.Putting.{wrote-one, wrote-three}
 use native.Mathlib.Omega.{arith}
 use borrow.Author.Needs.{needs}
+use Rattle.records.specs.Names.{spellByte}
+use Rattle.records.proofs.writing.Putting.{wrote-one, wrote-three}
 use Rattle.records.proofs.names.write_byte.Statement.{statement}
 use Rattle.records.proofs.names.write_byte.Tie as tie
 

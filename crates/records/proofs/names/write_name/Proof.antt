@@ -1,17 +1,18 @@
 use Prim.Native.Nat.{_≤_, _+_, _-_, _*_}
 use mathlib.Core.Path.{_≡_, _∙_}
 use lib.ListN.{length, take, getD}
+use borrow.Author.Needs.{needs}
+use native.Mathlib.Omega.{arith}
 use Rattle.records.specs.Names.{spell}
 use Rattle.records.specs.laws.NameLaws.{spell-more, spellByte-length}
 use Rattle.records.specs.tables.Inner.{Wrote}
 use Rattle.records.proofs.writing.Putting.{wrote-none, wrote-then, wrote-length}
-use borrow.Author.Needs.{needs}
-use native.Mathlib.Omega.{arith}
 use Rattle.records.proofs.names.write_name.Statement.{statement}
 use Rattle.records.proofs.names.write_name.Tie as tie
 
 abbrev Inv-loop : tie.InvT-loop
-Inv-loop out₀ at name n next₀ i₀ out next i = (i ≤ n) × (n ≡ name .len) × (n ≤ 12) × (length (name .bytes) ≡ 12) × (length out ≡ length out₀) × (next ≤ at + 3 * i) × (at + 36 ≤ length out₀) × Wrote out₀ out at next (spell (take i (name .bytes)))
+Inv-loop out₀ at name n next₀ i₀ out next i = (i ≤ n) × (n ≡ name .len) × (n ≤ 12) × (length (name .bytes) ≡ 12) × (length out ≡ length out₀) ×
+    (next ≤ at + 3 * i) × (at + 36 ≤ length out₀) × Wrote out₀ out at next (spell (take i (name .bytes)))
 
 abbrev μ-loop : tie.MeasureT-loop
 μ-loop out₀ at name n next₀ i₀ out next i = n - i

@@ -1,8 +1,8 @@
 use mathlib.Core.Bool.{true, false}
 use mathlib.Core.Path.{refl, sym, _∙_}
 use borrow.Author.Tests.{eq-eqb, ne-eqb}
-use Rattle.records.proofs.marks.Lemmas.{bare-short, bare-is}
 use borrow.Author.Needs.{needs}
+use Rattle.records.proofs.marks.Lemmas.{bare-short, bare-is}
 use Rattle.records.proofs.parse.bare_mark.Statement.{statement}
 use Rattle.records.proofs.parse.bare_mark.Tie as tie
 
@@ -23,14 +23,16 @@ returns-2 c =
     let c2 = c .before .before in
     let c5 = c2 .before .before .before in
     let c7 = c5 .before .before in
-    bare-is ((c7 .args) .x) ((c7 .args) .y) ((c7 .args) .s .now) ((c5 .if1) .left) true true (sym ((c2 .is) .ensures) ∙ (c .before .if2) .taken) (eq-eqb _ _ ((c .if3) .taken))
+    bare-is ((c7 .args) .x) ((c7 .args) .y) ((c7 .args) .s .now) ((c5 .if1) .left) true true (sym ((c2 .is) .ensures) ∙ (c .before .if2) .taken)
+    (eq-eqb _ _ ((c .if3) .taken))
 
 returns-3 : tie.Need-returns-3
 returns-3 c =
     let c2 = c .before .before in
     let c5 = c2 .before .before .before in
     let c7 = c5 .before .before in
-    bare-is ((c7 .args) .x) ((c7 .args) .y) ((c7 .args) .s .now) ((c5 .if1) .left) true false (sym ((c2 .is) .ensures) ∙ (c .before .if2) .taken) (ne-eqb _ _ ((c .if3) .left))
+    bare-is ((c7 .args) .x) ((c7 .args) .y) ((c7 .args) .s .now) ((c5 .if1) .left) true false (sym ((c2 .is) .ensures) ∙ (c .before .if2) .taken)
+    (ne-eqb _ _ ((c .if3) .left))
 
 returns-4 : tie.Need-returns-4
 returns-4 c =

@@ -1,8 +1,8 @@
 use mathlib.Core.Path.{sym, ap}
-use Rattle.records.specs.Changes.{changeView}
-use Rattle.records.proofs.writing.Lemmas.{full, read-bad, view-full}
 use borrow.Author.Needs.{needs}
 use native.Mathlib.Omega.{arith}
+use Rattle.records.specs.Changes.{changeView}
+use Rattle.records.proofs.writing.Lemmas.{full, read-bad, view-full}
 use Rattle.records.proofs.parse.change_at.Statement.{statement}
 use Rattle.records.proofs.parse.change_at.Tie as tie
 
@@ -62,7 +62,11 @@ returns-2 c =
     let c4 = c2 .before .before in
     let c6 = c4 .before .before in
     let s = (c6 .args) .s .now in
-    record { value = rw ((c .view-no) .ensures) (sym (ap changeView (read-bad s ((c6 .args) .want) ((c4 .read-change) .result) ((c4 .read-change) .ensures) ((c2 .e2) .given .0 .0) ((c2 .e2) .given .1)))); placed = rw ((c .view-no) .ensures) tt }
+    record {
+      value = rw ((c .view-no) .ensures) (sym
+          (ap changeView (read-bad s ((c6 .args) .want) ((c4 .read-change) .result) ((c4 .read-change) .ensures) ((c2 .e2) .given .0 .0) ((c2 .e2) .given .1))));
+      placed = rw ((c .view-no) .ensures) tt;
+    }
 
 pub change-at-spec : {M : Type 1} → statement M
 change-at-spec =

@@ -1,7 +1,7 @@
 use mathlib.Core.Path.{refl, sym, _∙_}
 use mathlib.Core.Bool.{true, false}
-use Rattle.records.proofs.parse.Lemmas.{entry-short, entry-is}
 use borrow.Author.Needs.{needs}
+use Rattle.records.proofs.parse.Lemmas.{entry-short, entry-is}
 use Rattle.records.proofs.parse.entry_at.Statement.{statement}
 use Rattle.records.proofs.parse.entry_at.Tie as tie
 
@@ -30,7 +30,12 @@ returns-2 c =
     let c2 = c .before .before in
     let c5 = c2 .before .before .before in
     let c7 = c5 .before .before in
-    record { value = rw ((c .bare-view) .ensures) (entry-is ((c7 .args) .s .now) ((c5 .if1) .left) true _ (sym ((c2 .is) .ensures) ∙ (c .before .if2) .taken) refl); placed = rw ((c .bare-view) .ensures) ((c5 .if1) .left) }
+    record {
+      value = rw ((c .bare-view) .ensures)
+          (entry-is ((c7 .args) .s .now) ((c5 .if1) .left) true _ (sym ((c2 .is) .ensures) ∙ (c .before .if2) .taken) refl);
+      placed = rw ((c .bare-view) .ensures)
+          ((c5 .if1) .left);
+    }
 
 is-requires-2 : tie.Need-is-requires-2
 is-requires-2 c κs = search needs
@@ -45,7 +50,11 @@ returns-3 c =
     let c4 = c3 .before in
     let c7 = c4 .before .before .before in
     let c9 = c7 .before .before in
-    record { value = rw ((c .bare-view2) .ensures) (entry-is ((c9 .args) .s .now) ((c7 .if1) .left) false true (sym ((c4 .is) .ensures) ∙ (c3 .if2) .left) (sym ((c2 .is2) .ensures) ∙ (c .before .if3) .taken)); placed = rw ((c .bare-view2) .ensures) ((c7 .if1) .left) }
+    record {
+      value = rw ((c .bare-view2) .ensures) (entry-is ((c9 .args) .s .now) ((c7 .if1) .left) false true (sym ((c4 .is) .ensures) ∙ (c3 .if2) .left)
+          (sym ((c2 .is2) .ensures) ∙ (c .before .if3) .taken));
+      placed = rw ((c .bare-view2) .ensures) ((c7 .if1) .left);
+    }
 
 change-at-requires : tie.Need-change-at-requires
 change-at-requires c κs = search needs
@@ -57,7 +66,11 @@ returns-4 c =
     let c4 = c3 .before in
     let c7 = c4 .before .before .before in
     let c9 = c7 .before .before in
-    record { value = (c .change-at) .ensures .value ∙ entry-is ((c9 .args) .s .now) ((c7 .if1) .left) false false (sym ((c4 .is) .ensures) ∙ (c3 .if2) .left) (sym ((c2 .is2) .ensures) ∙ (c .before .if3) .left); placed = (c .change-at) .ensures .placed }
+    record {
+      value = (c .change-at) .ensures .value ∙ entry-is ((c9 .args) .s .now) ((c7 .if1) .left) false false (sym ((c4 .is) .ensures) ∙ (c3 .if2) .left)
+          (sym ((c2 .is2) .ensures) ∙ (c .before .if3) .left);
+      placed = (c .change-at) .ensures .placed;
+    }
 
 pub entry-at-spec : {M : Type 1} → statement M
 entry-at-spec =

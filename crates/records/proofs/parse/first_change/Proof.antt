@@ -1,7 +1,7 @@
 use mathlib.Core.Path.{sym, ap, subst, _∙_}
+use borrow.Author.Needs.{needs}
 use Rattle.records.specs.tables.Inner.{shown, EndIn}
 use Rattle.records.proofs.parse.Lemmas.{front-at, front-no}
-use borrow.Author.Needs.{needs}
 use Rattle.records.proofs.parse.first_change.Statement.{statement}
 use Rattle.records.proofs.parse.first_change.Tie as tie
 
@@ -24,7 +24,8 @@ returns c =
     let c6 = c4 .before .before in
     let s = (c6 .args) .s .now in
     let v = (c4 .entry-at) .result .view in
-    front-at s v ((c2 .e) .given .0 .0) (sym (ap (λ d. shown s d v) ((c2 .e) .given .1)) ∙ (c4 .entry-at) .ensures .value) (subst (λ d. EndIn s d) ((c2 .e) .given .1) ((c4 .entry-at) .ensures .placed))
+    front-at s v ((c2 .e) .given .0 .0) (sym (ap (λ d. shown s d v) ((c2 .e) .given .1)) ∙ (c4 .entry-at) .ensures .value)
+    (subst (λ d. EndIn s d) ((c2 .e) .given .1) ((c4 .entry-at) .ensures .placed))
 
 returns-2 : tie.Need-returns-2
 returns-2 c =

@@ -1,11 +1,11 @@
 use Prim.Native.Nat.{_≤_, _-_}
 use mathlib.Core.Path.{_≡_, refl, sym, ap, _∙_}
 use lib.ListN.{length}
+use borrow.Author.Needs.{needs}
+use native.Mathlib.Omega.{arith}
 use Rattle.records.specs.Numbers.{price}
 use Rattle.records.specs.tables.Inner.{priceAt}
 use Rattle.records.proofs.fields.Lemmas.{Filled, filled-none, filled-more, filled-bad, filled-all}
-use borrow.Author.Needs.{needs}
-use native.Mathlib.Omega.{arith}
 use Rattle.records.proofs.rows.read_prices.Statement.{statement}
 use Rattle.records.proofs.rows.read_prices.Tie as tie
 
@@ -38,14 +38,23 @@ loop-less c = search needs
 
 loop-again : tie.Need-loop-again Inv-loop μ-loop
 loop-again c =
-    let h = (c .before .before .before .read-price) .ensures .1 in
-    (search needs, search needs, λ u. rw ((c .before .p) .given .1) at h, filled-more ((c .before .before .before .before .before .loop) .inv .3) (search needs) (omega arith) (sym ((c .before .before .before .read-price) .ensures .0) ∙ ap (priceAt _) ((c .before .p) .given .1)))
+    let h = (c .before .before .before .read-price) .ensures .1 in (
+      search needs,
+      search needs,
+      λ u. rw ((c .before .p) .given .1) at h,
+      filled-more ((c .before .before .before .before .before .loop) .inv .3) (search needs)
+          (omega arith) (sym ((c .before .before .before .read-price) .ensures .0) ∙ ap (priceAt _) ((c .before .p) .given .1)),
+    )
 
 enum-known-p-2 : tie.Need-enum-known-p-2 Inv-loop μ-loop
 enum-known-p-2 c = search needs
 
 returns : tie.Need-returns Inv-loop μ-loop
-returns c = (filled-bad ((c .before .before .before .before .before .loop) .inv .3) (search needs) (sym ((c .before .before .before .read-price) .ensures .0) ∙ ap (priceAt _) ((c .before .p2) .given .1)), tt)
+returns c = (
+  filled-bad ((c .before .before .before .before .before .loop) .inv .3) (search needs)
+      (sym ((c .before .before .before .read-price) .ensures .0) ∙ ap (priceAt _) ((c .before .p2) .given .1)),
+  tt,
+)
 
 returns-2 : tie.Need-returns-2 Inv-loop μ-loop
 returns-2 c = (filled-all ((c .before .loop) .inv .3) (search needs) (search needs) (search needs), (c .before .loop) .inv .2 (search needs))

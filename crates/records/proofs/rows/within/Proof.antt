@@ -2,10 +2,10 @@ use mathlib.Core.Path.{sym, _∙_}
 use Prim.Native.Nat.{_-_}
 use lib.Dec.{leb}
 use borrow.Author.Tests.{le-leb, lt-leb}
+use borrow.Author.Needs.{needs}
+use Rattle.laws.specs.SumLaws.{Passed, passed-none, passed-more, passed-all, every-no}
 use Rattle.money.specs.Units.{quantityAt}
 use Rattle.money.specs.laws.UnitLaws.{within-every}
-use Rattle.laws.specs.SumLaws.{Passed, passed-none, passed-more, passed-all, every-no}
-use borrow.Author.Needs.{needs}
 use Rattle.records.proofs.rows.within.Statement.{statement}
 use Rattle.records.proofs.rows.within.Tie as tie
 

@@ -1,9 +1,9 @@
 use mathlib.Core.Path.{sym, ap, _∙_}
+use native.Mathlib.Omega.{arith}
+use borrow.Author.Needs.{needs}
 use Rattle.records.specs.Changes.{begins}
 use Rattle.records.specs.declared.marks.Wanted.the-variants.{Any}
 use Rattle.records.proofs.writing.Lemmas.{full, read-bad, peek-yes, peek-no, peek-bad, head-part, head-fits}
-use native.Mathlib.Omega.{arith}
-use borrow.Author.Needs.{needs}
 use Rattle.records.proofs.scan.peek.Statement.{statement}
 use Rattle.records.proofs.scan.peek.Tie as tie
 
@@ -60,7 +60,8 @@ returns c =
     let c12 = c10 .before .before in
     let s = (c12 .args) .s .now in
     let f = full s Any ((c10 .read-change) .result) ((c10 .read-change) .ensures) ((c8 .e) .given .0 .0) ((c8 .e) .given .1) in
-    peek-yes s ((c8 .e) .given .0 .0) ((c10 .read-change) .result) f ((c5 .head-of) .result .len) ((c5 .head-of) .ensures .len) (ap (λ l. begins l s) (sym ((c5 .head-of) .ensures .bytes)) ∙ sym ((c2 .starts) .ensures) ∙ (c .before .if1) .taken)
+    peek-yes s ((c8 .e) .given .0 .0) ((c10 .read-change) .result) f ((c5 .head-of) .result .len) ((c5 .head-of) .ensures .len)
+    (ap (λ l. begins l s) (sym ((c5 .head-of) .ensures .bytes)) ∙ sym ((c2 .starts) .ensures) ∙ (c .before .if1) .taken)
 
 returns-2 : tie.Need-returns-2
 returns-2 c =
@@ -71,14 +72,16 @@ returns-2 c =
     let c12 = c10 .before .before in
     let s = (c12 .args) .s .now in
     let f = full s Any ((c10 .read-change) .result) ((c10 .read-change) .ensures) ((c8 .e) .given .0 .0) ((c8 .e) .given .1) in
-    (c .nothing) .ensures ∙ peek-no s ((c8 .e) .given .0 .0) ((c10 .read-change) .result) f (ap (λ l. begins l s) (sym ((c5 .head-of) .ensures .bytes)) ∙ sym ((c2 .starts) .ensures) ∙ (c .before .if1) .left)
+    (c .nothing) .ensures ∙ peek-no s ((c8 .e) .given .0 .0) ((c10 .read-change) .result) f
+    (ap (λ l. begins l s) (sym ((c5 .head-of) .ensures .bytes)) ∙ sym ((c2 .starts) .ensures) ∙ (c .before .if1) .left)
 
 returns-3 : tie.Need-returns-3
 returns-3 c =
     let c2 = c .before .before in
     let c4 = c2 .before .before in
     let c6 = c4 .before .before in
-    (c .nothing2) .ensures ∙ peek-bad ((c6 .args) .s .now) ((c2 .e2) .given .0 .0) (read-bad ((c6 .args) .s .now) Any ((c4 .read-change) .result) ((c4 .read-change) .ensures) ((c2 .e2) .given .0 .0) ((c2 .e2) .given .1))
+    (c .nothing2) .ensures ∙ peek-bad ((c6 .args) .s .now) ((c2 .e2) .given .0 .0)
+    (read-bad ((c6 .args) .s .now) Any ((c4 .read-change) .result) ((c4 .read-change) .ensures) ((c2 .e2) .given .0 .0) ((c2 .e2) .given .1))
 
 pub peek-spec : {M : Type 1} → statement M
 peek-spec =

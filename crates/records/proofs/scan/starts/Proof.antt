@@ -34,7 +34,8 @@ loop-less : tie.Need-loop-less Inv-loop μ-loop
 loop-less c = search needs
 
 loop-again : tie.Need-loop-again Inv-loop μ-loop
-loop-again c = (search needs, search needs, search needs, started-more ((c .before .before .before .before .loop) .inv .3) (search needs) (search needs) ((c .if2) .left))
+loop-again c =
+    (search needs, search needs, search needs, started-more ((c .before .before .before .before .loop) .inv .3) (search needs) (search needs) ((c .if2) .left))
 
 returns-3 : tie.Need-returns-3 Inv-loop μ-loop
 returns-3 c = started-all ((c .before .loop) .inv .3) (search needs)

@@ -1,4 +1,5 @@
 use mathlib.Core.Path.{sym, ap, _∙_}
+use borrow.Author.Needs.{needs}
 use Rattle.records.specs.Numbers.{hour}
 use Rattle.records.specs.Changes.{head}
 use Rattle.records.specs.tables.Inner.{then, guarded}
@@ -7,7 +8,6 @@ use Rattle.records.specs.Views.{ahead}
 use Rattle.records.specs.declared.marks.Kind.the-variants.{File}
 use Rattle.records.specs.declared.marks.Wanted.the-variants.{Only}
 use Rattle.records.proofs.fields.Step.{first, next, test}
-use borrow.Author.Needs.{needs}
 use Rattle.records.proofs.views.fields_at.Statement.{statement}
 use Rattle.records.proofs.views.fields_at.Tie as tie
 

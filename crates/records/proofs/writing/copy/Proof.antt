@@ -1,9 +1,9 @@
 use Prim.Native.Nat.{_≤_, _+_, _-_}
 use mathlib.Core.Path.{_≡_}
 use lib.ListN.{length, take, length-set}
+use borrow.Author.Needs.{needs}
 use Rattle.records.specs.tables.Inner.{Wrote}
 use Rattle.records.proofs.writing.Lemmas.{copy-more, copy-none, copy-all}
-use borrow.Author.Needs.{needs}
 use Rattle.records.proofs.writing.copy.Statement.{statement}
 use Rattle.records.proofs.writing.copy.Tie as tie
 
@@ -32,7 +32,14 @@ loop-less : tie.Need-loop-less Inv-loop μ-loop
 loop-less c = search needs
 
 loop-again : tie.Need-loop-again Inv-loop μ-loop
-loop-again c = (search needs, simp length-set ((c .before .before .loop) .inv .1), search needs, copy-more ((c .before .before .before .args) .out .now) ((c .before .before .loop) .out) ((c .before .before .before .args) .src .now) ((c .before .before .before .args) .at) ((c .before .before .loop) .i) ((c .before .loop-test) .taken) ((c .before .before .loop) .inv .3))
+loop-again c = (
+  search needs,
+  simp length-set ((c .before .before .loop) .inv .1),
+  search needs,
+  copy-more ((c .before .before .before .args) .out .now)
+      ((c .before .before .loop) .out) ((c .before .before .before .args) .src .now) ((c .before .before .before .args) .at) ((c .before .before .loop) .i)
+      ((c .before .loop-test) .taken) ((c .before .before .loop) .inv .3),
+)
 
 add-result : tie.Need-add-result Inv-loop μ-loop
 add-result c = search needs

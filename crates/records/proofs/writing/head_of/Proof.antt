@@ -1,6 +1,6 @@
-use Rattle.records.proofs.writing.Lemmas.{head-length, wrote-front}
 use native.Mathlib.Omega.{arith}
 use borrow.Author.Needs.{needs}
+use Rattle.records.proofs.writing.Lemmas.{head-length, wrote-front}
 use Rattle.records.proofs.writing.head_of.Statement.{statement}
 use Rattle.records.proofs.writing.head_of.Tie as tie
 

@@ -1,10 +1,10 @@
 use mathlib.Core.Path.{sym, _∙_}
 use lib.ListN.{take}
+use native.Mathlib.Omega.{arith}
+use borrow.Author.Needs.{needs}
 use Rattle.records.proofs.writing.Putting.{wrote-length}
 use Rattle.records.specs.Changes.{parse}
 use Rattle.records.proofs.writing.Lemmas.{full, read-bad, parse-8, parse-bad, parse-fine, full-length, put-fault, put-full, put-done, readOf, head-part, head-fits, first-fits, rest-fits, both-put}
-use native.Mathlib.Omega.{arith}
-use borrow.Author.Needs.{needs}
 use Rattle.records.proofs.writing.put.Statement.{statement}
 use Rattle.records.proofs.writing.put.Tie as tie
 
@@ -38,7 +38,8 @@ returns-2 c =
     let c′ = (c8 .read-change) .result in
     let n = (c6 .e) .given .0 .0 in
     let f = full s ((c11 .args) .want) c′ ((c8 .read-change) .ensures) n ((c6 .e) .given .1) in
-    put-full (parse ((c11 .args) .want) s) ((c11 .args) .at) ((c11 .args) .log .now) (readOf s n c′) (parse-fine s ((c11 .args) .want) n c′ f ((c4 .if1) .left)) (omega arith)
+    put-full (parse ((c11 .args) .want) s) ((c11 .args) .at) ((c11 .args) .log .now) (readOf s n c′) (parse-fine s ((c11 .args) .want) n c′ f ((c4 .if1) .left))
+    (omega arith)
 
 sub-if3 : tie.Need-sub-if3
 sub-if3 c = search needs
@@ -77,7 +78,8 @@ returns-3 c =
     let c′ = (c9 .read-change) .result in
     let n = (c7 .e) .given .0 .0 in
     let f = full s ((c12 .args) .want) c′ ((c9 .read-change) .ensures) n ((c7 .e) .given .1) in
-    put-full (parse ((c12 .args) .want) s) ((c12 .args) .at) ((c12 .args) .log .now) (readOf s n c′) (parse-fine s ((c12 .args) .want) n c′ f ((c5 .if1) .left)) (omega (arith, full-length s ((c12 .args) .want) n c′ f ((c3 .head-of) .result .len) ((c3 .head-of) .ensures .len)))
+    put-full (parse ((c12 .args) .want) s) ((c12 .args) .at) ((c12 .args) .log .now) (readOf s n c′) (parse-fine s ((c12 .args) .want) n c′ f ((c5 .if1) .left))
+    (omega (arith, full-length s ((c12 .args) .want) n c′ f ((c3 .head-of) .result .len) ((c3 .head-of) .ensures .len)))
 
 array-share-prefix-bytes : tie.Need-array-share-prefix-bytes
 array-share-prefix-bytes c = head-fits ((c .before .before .before .head-of) .ensures)
@@ -157,15 +159,19 @@ returns-4 c =
     let c′ = (c19 .read-change) .result in
     let n = (c17 .e) .given .0 .0 in
     let f = full s ((c22 .args) .want) c′ ((c19 .read-change) .ensures) n ((c17 .e) .given .1) in
-    put-done (parse ((c22 .args) .want) s) ((c22 .args) .at) ((c22 .args) .log .now) (readOf s n c′) _ (parse-fine s ((c22 .args) .want) n c′ f ((c15 .if1) .left))
+    put-done (parse ((c22 .args) .want) s) ((c22 .args) .at) ((c22 .args) .log .now) (readOf s n c′) _
+    (parse-fine s ((c22 .args) .want) n c′ f ((c15 .if1) .left))
     (omega (arith, (c11 .if2) .left, (c10 .if3) .left, full-length s ((c22 .args) .want) n c′ f ((c13 .head-of) .result .len) ((c13 .head-of) .ensures .len)))
-    (both-put s ((c22 .args) .want) n c′ f (take ((c13 .head-of) .result .len) ((c13 .head-of) .result .bytes)) ((c13 .head-of) .ensures .bytes) ((c7 .copy) .ensures) ((c2 .copy2) .ensures))
+    (both-put s ((c22 .args) .want) n c′ f (take ((c13 .head-of) .result .len) ((c13 .head-of) .result .bytes)) ((c13 .head-of) .ensures .bytes)
+    ((c7 .copy) .ensures) ((c2 .copy2) .ensures))
 
 returns-5 : tie.Need-returns-5
 returns-5 c =
     let c3 = c .before .before .before in
     let c6 = c3 .before .before .before in
-    put-fault (parse ((c6 .args) .want) ((c6 .args) .s .now)) ((c6 .args) .at) ((c6 .args) .log .now) ((c .before .e2) .given .0 .0) (parse-bad ((c6 .args) .want) ((c6 .args) .s .now) ((c .before .e2) .given .0 .0) (read-bad ((c6 .args) .s .now) ((c6 .args) .want) ((c3 .read-change) .result) ((c3 .read-change) .ensures) ((c .before .e2) .given .0 .0) ((c .before .e2) .given .1)))
+    put-fault (parse ((c6 .args) .want) ((c6 .args) .s .now)) ((c6 .args) .at) ((c6 .args) .log .now) ((c .before .e2) .given .0 .0) (parse-bad
+    ((c6 .args) .want) ((c6 .args) .s .now) ((c .before .e2) .given .0 .0) (read-bad ((c6 .args) .s .now) ((c6 .args) .want) ((c3 .read-change) .result)
+    ((c3 .read-change) .ensures) ((c .before .e2) .given .0 .0) ((c .before .e2) .given .1)))
 
 pub put-spec : {M : Type 1} → statement M
 put-spec =

@@ -1,9 +1,9 @@
 use mathlib.Core.Path.{_∙_}
 use lib.ListN.{length-set}
-use Rattle.records.proofs.writing.Putting.{wrote-one, wrote-then, wrote-length}
-use Rattle.records.specs.Changes.{headBytes}
 use native.Mathlib.Omega.{arith}
 use borrow.Author.Needs.{needs}
+use Rattle.records.proofs.writing.Putting.{wrote-one, wrote-then, wrote-length}
+use Rattle.records.specs.Changes.{headBytes}
 use Rattle.records.proofs.writing.write_head.Statement.{statement}
 use Rattle.records.proofs.writing.write_head.Tie as tie
 
@@ -20,7 +20,17 @@ add-write-key-name : tie.Need-add-write-key-name
 add-write-key-name c = search needs
 
 write-key-name-requires : tie.Need-write-key-name-requires
-write-key-name-requires c κs = (search needs, simp length-set (omega (arith, wrote-length ((c .before .before .before .before .before .before .before .write-lead) .ensures .0), wrote-length ((c .before .before .before .write-mark) .ensures .0), (c .before .before .before .before .before .before .before .write-lead) .ensures .1, (c .before .before .before .write-mark) .ensures .1)))
+write-key-name-requires c κs = (
+  search needs,
+  simp length-set (omega (
+    arith,
+    wrote-length
+        ((c .before .before .before .before .before .before .before .write-lead) .ensures .0),
+    wrote-length ((c .before .before .before .write-mark) .ensures .0),
+    (c .before .before .before .before .before .before .before .write-lead) .ensures .1,
+    (c .before .before .before .write-mark) .ensures .1,
+  )),
+)
 
 same-length : tie.Need-same-length
 same-length c =

@@ -1,9 +1,9 @@
 use mathlib.Core.Path.{sym, _∙_}
 use lib.ListN.{length-set}
-use Rattle.records.proofs.writing.Putting.{wrote-one, wrote-then, wrote-length}
-use Rattle.records.proofs.writing.Lemmas.{name-yes, name-no}
 use native.Mathlib.Omega.{arith}
 use borrow.Author.Needs.{needs}
+use Rattle.records.proofs.writing.Putting.{wrote-one, wrote-then, wrote-length}
+use Rattle.records.proofs.writing.Lemmas.{name-yes, name-no}
 use Rattle.records.proofs.writing.write_key_name.Statement.{statement}
 use Rattle.records.proofs.writing.write_key_name.Tie as tie
 

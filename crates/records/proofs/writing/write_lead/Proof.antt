@@ -1,7 +1,7 @@
 use lib.ListN.{length-set}
-use Rattle.records.proofs.writing.Putting.{wrote-none, wrote-two}
 use native.Mathlib.Omega.{arith}
 use borrow.Author.Needs.{needs}
+use Rattle.records.proofs.writing.Putting.{wrote-none, wrote-two}
 use Rattle.records.proofs.writing.write_lead.Statement.{statement}
 use Rattle.records.proofs.writing.write_lead.Tie as tie
 

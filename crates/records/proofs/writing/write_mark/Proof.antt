@@ -1,7 +1,7 @@
 use lib.ListN.{length-set}
-use Rattle.records.proofs.writing.Putting.{wrote-mark}
 use native.Mathlib.Omega.{arith}
 use borrow.Author.Needs.{needs}
+use Rattle.records.proofs.writing.Putting.{wrote-mark}
 use Rattle.records.proofs.writing.write_mark.Statement.{statement}
 use Rattle.records.proofs.writing.write_mark.Tie as tie
 

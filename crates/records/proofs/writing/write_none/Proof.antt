@@ -1,5 +1,5 @@
-use Rattle.records.proofs.writing.Putting.{wrote-none, wrote-one}
 use borrow.Author.Needs.{needs}
+use Rattle.records.proofs.writing.Putting.{wrote-none, wrote-one}
 use Rattle.records.proofs.writing.write_none.Statement.{statement}
 use Rattle.records.proofs.writing.write_none.Tie as tie
 

@@ -1,12 +1,12 @@
 use mathlib.Core.Path.{_≡_, ap}
 use lib.ListN.{length}
-use Rattle.statement.specs.laws.DecimalLaws.{decimal-one, decimal-more, decimal-longer}
-use Rattle.statement.proofs.bytes.Lemmas.{writes-then, writes-size}
 use borrow.Author.Needs.{needs}
 use native.Mathlib.Omega.{arith}
 use Prim.Native.Nat.{ℕ, _<_}
 use borrow.Fn.Kinds.{In}
 use borrow.Fn.PlainCycle.{Measures, is, falls, and}
+use Rattle.statement.specs.laws.DecimalLaws.{decimal-one, decimal-more, decimal-longer}
+use Rattle.statement.proofs.bytes.Lemmas.{writes-then, writes-size}
 use Rattle.statement.proofs.bytes.put_decimal.Reads as put-decimal
 use Rattle.statement.proofs.bytes.put_decimal.Kinds as put-decimal-kinds
 use Rattle.statement.proofs.bytes.+put_decimal.Lts-put_decimal as put-decimal-lts

@@ -1,5 +1,5 @@
-use Rattle.statement.proofs.bytes.Lemmas.{writes-one}
 use borrow.Author.Needs.{needs}
+use Rattle.statement.proofs.bytes.Lemmas.{writes-one}
 use Rattle.statement.proofs.bytes.put_byte.Statement.{statement}
 use Rattle.statement.proofs.bytes.put_byte.Tie as tie
 

@@ -1,9 +1,9 @@
 use mathlib.Core.Path.{_≡_}
 use Prim.Native.Nat.{_≤_, _+_, _-_}
 use lib.ListN.{length}
-use Rattle.statement.proofs.bytes.Lemmas.{Copied, copied-none, copied-next, copied-all}
 use borrow.Author.Needs.{needs}
 use native.Mathlib.Omega.{arith}
+use Rattle.statement.proofs.bytes.Lemmas.{Copied, copied-none, copied-next, copied-all}
 use Rattle.statement.proofs.bytes.put_part.Statement.{statement}
 use Rattle.statement.proofs.bytes.put_part.Tie as tie
 

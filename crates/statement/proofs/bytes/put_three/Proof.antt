@@ -1,5 +1,5 @@
-use Rattle.statement.proofs.bytes.Lemmas.{writes-then}
 use borrow.Author.Needs.{needs}
+use Rattle.statement.proofs.bytes.Lemmas.{writes-then}
 use Rattle.statement.proofs.bytes.put_three.Statement.{statement}
 use Rattle.statement.proofs.bytes.put_three.Tie as tie
 

@@ -1,6 +1,6 @@
+use borrow.Author.Needs.{needs}
 use Rattle.statement.specs.Decimal.{twoDigits}
 use Rattle.statement.proofs.bytes.Lemmas.{writes-then}
-use borrow.Author.Needs.{needs}
 use Rattle.statement.proofs.bytes.put_two.Statement.{statement}
 use Rattle.statement.proofs.bytes.put_two.Tie as tie
 

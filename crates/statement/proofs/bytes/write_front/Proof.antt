@@ -1,5 +1,5 @@
-use Rattle.statement.proofs.day.Lemmas.{fits-refused, fits-written}
 use borrow.Author.Needs.{needs}
+use Rattle.statement.proofs.day.Lemmas.{fits-refused, fits-written}
 use Rattle.statement.proofs.bytes.write_front.Statement.{statement}
 use Rattle.statement.proofs.bytes.write_front.Tie as tie
 

@@ -1,23 +1,32 @@
 use mathlib.Core.Path.{_≡_, sym}
 use Prim.Native.Nat.{_≤_, _+_, _-_, _*_}
 use lib.ListN.{length}
+use borrow.Author.Needs.{needs}
+use native.Mathlib.Omega.{arith}
 use Rattle.money.specs.laws.UnitLaws.{unmapped}
 use Rattle.statement.specs.tables.Inner.{WritesLines, linesOfHours, FewInAll}
 use Rattle.statement.specs.laws.StatementLaws.{hours-none, hours-more}
 use Rattle.statement.proofs.bytes.Lemmas.{lines-none, lines-then, lines-as, lines-size}
-use borrow.Author.Needs.{needs}
-use native.Mathlib.Omega.{arith}
 use Rattle.statement.proofs.day.put_hours.Statement.{statement}
 use Rattle.statement.proofs.day.put_hours.Tie as tie
 
 abbrev Inv-loop : tie.InvT-loop
-Inv-loop out₀ hours next₀ h₀ out next h = (h ≤ 24) × (length hours ≡ 24) × (next₀ .at + 77616 ≤ length out₀) × (next .at ≤ next₀ .at + 3234 * h) × FewInAll hours × WritesLines out₀ next₀ (linesOfHours h hours) out next
+Inv-loop out₀ hours next₀ h₀ out next h = (h ≤ 24) × (length hours ≡ 24) × (next₀ .at + 77616 ≤ length out₀) × (next .at ≤ next₀ .at + 3234 * h) × FewInAll
+    hours × WritesLines out₀ next₀ (linesOfHours h hours) out next
 
 abbrev μ-loop : tie.MeasureT-loop
 μ-loop out₀ hours next₀ h₀ out next h = 24 - h
 
 loop-holds : tie.Need-loop-holds Inv-loop μ-loop
-loop-holds c = (search needs, search (needs, unmapped), search needs, search needs, (c .before .pre) .0, lines-as (sym (hours-none ((c .before .args) .t3))) (lines-none ((c .before .args) .out .now) ((c .before .args) .c) (omega (arith, (c .before .pre) .1))))
+loop-holds c = (
+  search needs,
+  search (needs, unmapped),
+  search needs,
+  search needs,
+  (c .before .pre) .0,
+  lines-as (sym (hours-none ((c .before .args) .t3)))
+      (lines-none ((c .before .args) .out .now) ((c .before .args) .c) (omega (arith, (c .before .pre) .1))),
+)
 
 mul-a : tie.Need-mul-a Inv-loop μ-loop
 mul-a c = search needs
@@ -50,7 +59,8 @@ loop-again c =
       search needs,
       omega (arith, v .3, (c .before .before .put-hour) .ensures .1),
       v .4,
-      lines-as (sym (hours-more ((c .before .before .before .before .before .before .before .before .args) .t3) ((c .before .before .before .before .before .before .loop) .h) _ (omega arith))) (lines-then (v .5) ((c .before .before .put-hour) .ensures .0)),
+      lines-as (sym (hours-more ((c .before .before .before .before .before .before .before .before .args) .t3)
+          ((c .before .before .before .before .before .before .loop) .h) _ (omega arith))) (lines-then (v .5) ((c .before .before .put-hour) .ensures .0)),
     )
 
 same-length : tie.Need-same-length Inv-loop μ-loop

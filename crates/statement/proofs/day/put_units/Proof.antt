@@ -1,23 +1,32 @@
 use mathlib.Core.Path.{_≡_, sym}
 use Prim.Native.Nat.{_≤_, _+_, _-_, _*_}
 use lib.ListN.{length, take}
+use borrow.Author.Needs.{needs}
+use native.Mathlib.Omega.{arith}
 use Rattle.money.specs.laws.UnitLaws.{unmapped}
 use Rattle.statement.specs.tables.Inner.{WritesLines, linesOfUnits}
 use Rattle.statement.specs.laws.StatementLaws.{units-none, units-more}
 use Rattle.statement.proofs.bytes.Lemmas.{lines-none, lines-then, lines-as, lines-size}
-use borrow.Author.Needs.{needs}
-use native.Mathlib.Omega.{arith}
 use Rattle.statement.proofs.day.put_units.Statement.{statement}
 use Rattle.statement.proofs.day.put_units.Tie as tie
 
 abbrev Inv-loop : tie.InvT-loop
-Inv-loop out₀ n units next₀ i₀ out next i = (i ≤ n) × (n ≤ 512) × (length units ≡ 512) × (next₀ .at + 67584 ≤ length out₀) × (next .at ≤ next₀ .at + 132 * i) × WritesLines out₀ next₀ (linesOfUnits (take i units)) out next
+Inv-loop out₀ n units next₀ i₀ out next i = (i ≤ n) × (n ≤ 512) × (length units ≡ 512) × (next₀ .at + 67584 ≤ length out₀) × (next .at ≤ next₀ .at + 132 * i) ×
+    WritesLines out₀ next₀ (linesOfUnits (take i units)) out next
 
 abbrev μ-loop : tie.MeasureT-loop
 μ-loop out₀ n units next₀ i₀ out next i = n - i
 
 loop-holds : tie.Need-loop-holds Inv-loop μ-loop
-loop-holds c = (search needs, search needs, search (needs, unmapped), search needs, search needs, lines-as (sym units-none) (lines-none ((c .before .args) .out .now) ((c .before .args) .c) (omega (arith, (c .before .pre) .1))))
+loop-holds c = (
+  search needs,
+  search needs,
+  search (needs, unmapped),
+  search needs,
+  search needs,
+  lines-as (sym units-none)
+      (lines-none ((c .before .args) .out .now) ((c .before .args) .c) (omega (arith, (c .before .pre) .1))),
+)
 
 mul-u : tie.Need-mul-u Inv-loop μ-loop
 mul-u c = search needs
@@ -42,7 +51,8 @@ loop-again c =
       search needs,
       search needs,
       omega (arith, v .4, (c .before .before .put-unit) .ensures .1),
-      lines-as (sym (units-more ((c .before .before .before .before .before .before .before .before .args) .t3) ((c .before .before .before .before .before .before .loop) .i) _ (omega arith))) (lines-then (v .5) ((c .before .before .put-unit) .ensures .0)),
+      lines-as (sym (units-more ((c .before .before .before .before .before .before .before .before .args) .t3)
+          ((c .before .before .before .before .before .before .loop) .i) _ (omega arith))) (lines-then (v .5) ((c .before .before .put-unit) .ensures .0)),
     )
 
 same-length : tie.Need-same-length Inv-loop μ-loop

@@ -2,10 +2,10 @@ use Prim.Native.Nat.{ℕ}
 use mathlib.Core.Path.{sym}
 use lib.ListN.{length-replicate}
 use lib.Seq.{length-take-le}
-use Rattle.statement.proofs.bytes.Lemmas.{writes-size}
-use Rattle.statement.proofs.day.Lemmas.{held, is-astray, few-units, few-hours, stated, fits-written, fits-front, answers-astray, answers-fitted}
 use native.Mathlib.Omega.{arith}
 use borrow.Author.Needs.{needs}
+use Rattle.statement.proofs.bytes.Lemmas.{writes-size}
+use Rattle.statement.proofs.day.Lemmas.{held, is-astray, few-units, few-hours, stated, fits-written, fits-front, answers-astray, answers-fitted}
 use Rattle.statement.proofs.day.statement.Statement.{statement}
 use Rattle.statement.proofs.day.statement.Tie as tie
 
@@ -23,7 +23,8 @@ put-day-requires c κs =
     let c2 = c .before .before in
     let c4 = c2 .before .before in
     let c7 = c4 .before .before .before in
-    let x = held ((c7 .args) .book) ((c7 .args) .log .now) ((c4 .day) .result) ((c4 .day) .ensures) ((c2 .if1) .left) in (few-units x, few-hours x, (c .before .if2) .taken)
+    let x = held ((c7 .args) .book) ((c7 .args) .log .now) ((c4 .day) .result) ((c4 .day) .ensures) ((c2 .if1) .left) in
+    (few-units x, few-hours x, (c .before .if2) .taken)
 
 same-length : tie.Need-same-length
 same-length c = search needs
@@ -46,7 +47,8 @@ put-day-requires-2 c κs =
     let c2 = c .before .before in
     let c4 = c2 .before .before in
     let c7 = c4 .before .before .before in
-    let x = held ((c7 .args) .book) ((c7 .args) .log .now) ((c4 .day) .result) ((c4 .day) .ensures) ((c2 .if1) .left) in (few-units x, few-hours x, omega (arith, length-replicate {A = ℕ} 145200 0))
+    let x = held ((c7 .args) .book) ((c7 .args) .log .now) ((c4 .day) .result) ((c4 .day) .ensures) ((c2 .if1) .left) in
+    (few-units x, few-hours x, omega (arith, length-replicate {A = ℕ} 145200 0))
 
 array-share-prefix-aside : tie.Need-array-share-prefix-aside
 array-share-prefix-aside c = let w = (c .before .before .put-day2) .ensures .0 .text in omega (arith, w .behind, w .room, writes-size w)
@@ -54,7 +56,8 @@ array-share-prefix-aside c = let w = (c .before .before .put-day2) .ensures .0 .
 slice-aggregate-write-front : tie.Need-slice-aggregate-write-front
 slice-aggregate-write-front c =
     let c3 = c .before .before .before in
-    let w = (c3 .put-day2) .ensures .0 .text in sym (length-take-le {A = ℕ} ((c3 .put-day2) .result .at) ((c3 .put-day2) .last .0) (omega (arith, w .behind, w .room, writes-size w)))
+    let w = (c3 .put-day2) .ensures .0 .text in sym
+    (length-take-le {A = ℕ} ((c3 .put-day2) .result .at) ((c3 .put-day2) .last .0) (omega (arith, w .behind, w .room, writes-size w)))
 
 write-front-requires : tie.Need-write-front-requires
 write-front-requires c κs = search needs

@@ -3,6 +3,8 @@ use lib.Seq.{length-take-le}
 use mathlib.Core.List.{[], _∷_, map}
 use Prim.Native.Nat.{_≤_, _+_, _-_, _*_}
 use lib.ListN.{length, take}
+use borrow.Author.Needs.{needs}
+use native.Mathlib.Omega.{arith}
 use Rattle.money.specs.laws.UnitLaws.{unmapped}
 use Rattle.book.specs.Handed.{maxCredits}
 use Rattle.statement.specs.declared.lines.Kind.the-variants.{Iog}
@@ -10,8 +12,6 @@ use Rattle.statement.specs.Statement.{lineOf}
 use Rattle.statement.specs.tables.Inner.{WritesLines}
 use Rattle.statement.specs.declared.lines.Line.{Line}
 use Rattle.statement.proofs.bytes.Lemmas.{lines-none, lines-then, lines-as, lines-size, lines-end, next-line, few-lines}
-use borrow.Author.Needs.{needs}
-use native.Mathlib.Omega.{arith}
 use Rattle.statement.proofs.hours.put_credits.Statement.{statement}
 use Rattle.statement.proofs.hours.put_credits.Tie as tie
 

@@ -1,8 +1,8 @@
 use lib.ListN.{take}
 use borrow.Author.Tests.{ne-eqb}
-use Rattle.statement.proofs.bytes.Lemmas.{lines-size, hour-written}
 use native.Mathlib.Omega.{arith}
 use borrow.Author.Needs.{needs}
+use Rattle.statement.proofs.bytes.Lemmas.{lines-size, hour-written}
 use Rattle.statement.proofs.hours.put_hour.Statement.{statement}
 use Rattle.statement.proofs.hours.put_hour.Tie as tie
 
@@ -54,22 +54,57 @@ put-offset-requires : tie.Need-put-offset-requires
 put-offset-requires c κs =
     let c3 = c .before .before .before in
     let c19 = c3 .before .before .before .before .before .before .before .before .before .before .before .before .before .before .before .before in
-    omega (arith, (c19 .pre) .0 .credits, (c19 .pre) .0 .imports, (c19 .pre) .0 .exports, (c19 .pre) .1, (c3 .put-credits) .ensures .1, lines-size ((c3 .put-credits) .ensures .0))
+    omega (
+      arith,
+      (c19 .pre) .0 .credits,
+      (c19 .pre) .0 .imports,
+      (c19 .pre) .0 .exports,
+      (c19 .pre) .1,
+      (c3 .put-credits) .ensures .1,
+      lines-size
+          ((c3 .put-credits) .ensures .0),
+    )
 
 put-charges-requires : tie.Need-put-charges-requires
 put-charges-requires c κs =
     let c3 = c .before .before .before in
     let c7 = c3 .before .before .before .before in
-    let c23 = c7 .before .before .before .before .before .before .before .before .before .before .before .before .before .before .before .before in
-    ((c23 .pre) .0 .imports, omega (arith, (c23 .pre) .0 .credits, (c23 .pre) .0 .imports, (c23 .pre) .0 .exports, (c23 .pre) .1, (c7 .put-credits) .ensures .1, lines-size ((c7 .put-credits) .ensures .0), (c3 .put-offset) .ensures .1, lines-size ((c3 .put-offset) .ensures .0)))
+    let c23 = c7 .before .before .before .before .before .before .before .before .before .before .before .before .before .before .before .before in (
+      (c23 .pre) .0 .imports,
+      omega (
+        arith,
+        (c23 .pre) .0 .credits,
+        (c23 .pre) .0 .imports,
+        (c23 .pre) .0 .exports,
+        (c23 .pre) .1,
+        (c7 .put-credits) .ensures .1,
+        lines-size ((c7 .put-credits) .ensures .0),
+        (c3 .put-offset) .ensures .1,
+        lines-size ((c3 .put-offset) .ensures .0),
+      ),
+    )
 
 put-charges-requires-2 : tie.Need-put-charges-requires-2
 put-charges-requires-2 c κs =
     let c3 = c .before .before .before in
     let c7 = c3 .before .before .before .before in
     let c11 = c7 .before .before .before .before in
-    let c27 = c11 .before .before .before .before .before .before .before .before .before .before .before .before .before .before .before .before in
-    ((c27 .pre) .0 .exports, omega (arith, (c27 .pre) .0 .credits, (c27 .pre) .0 .imports, (c27 .pre) .0 .exports, (c27 .pre) .1, (c11 .put-credits) .ensures .1, lines-size ((c11 .put-credits) .ensures .0), (c7 .put-offset) .ensures .1, lines-size ((c7 .put-offset) .ensures .0), (c3 .put-charges) .ensures .1, lines-size ((c3 .put-charges) .ensures .0)))
+    let c27 = c11 .before .before .before .before .before .before .before .before .before .before .before .before .before .before .before .before in (
+      (c27 .pre) .0 .exports,
+      omega (
+        arith,
+        (c27 .pre) .0 .credits,
+        (c27 .pre) .0 .imports,
+        (c27 .pre) .0 .exports,
+        (c27 .pre) .1,
+        (c11 .put-credits) .ensures .1,
+        lines-size ((c11 .put-credits) .ensures .0),
+        (c7 .put-offset) .ensures .1,
+        lines-size ((c7 .put-offset) .ensures .0),
+        (c3 .put-charges) .ensures .1,
+        lines-size ((c3 .put-charges) .ensures .0),
+      ),
+    )
 
 same-length-4 : tie.Need-same-length-4
 same-length-4 c = search needs
@@ -83,11 +118,31 @@ returns-4 c =
     let c20 = c14 .before .before .before .before .before .before in
     let c22 = c20 .before .before in
     let c24 = c22 .before .before in
-    let c30 = c24 .before .before .before .before .before .before in
-    (
-  rw ((c24 .if1) .left, (c22 .if2) .left, (c20 .if3) .left) (hour-written ((c30 .args) .hour) (((c30 .args) .a .guarantees .credits) .n) (take (((c30 .args) .a .guarantees .credits) .n) (((c30 .args) .a .guarantees .credits) .list)) (take (((c30 .args) .a .imports .charges) .n) (((c30 .args) .a .imports .charges) .list)) (take (((c30 .args) .a .exports .charges) .n) (((c30 .args) .a .exports .charges) .list)) ((c30 .args) .a .guarantees .offset .0) ((c14 .put-credits) .ensures .2) ((c14 .put-credits) .ensures .0) ((c10 .put-offset) .ensures .0) ((c6 .put-charges) .ensures .0) ((c2 .put-charges2) .ensures .0)),
-  omega (arith, (c30 .pre) .0 .credits, (c30 .pre) .0 .imports, (c30 .pre) .0 .exports, (c30 .pre) .1, (c14 .put-credits) .ensures .1, lines-size ((c14 .put-credits) .ensures .0), (c10 .put-offset) .ensures .1, lines-size ((c10 .put-offset) .ensures .0), (c6 .put-charges) .ensures .1, lines-size ((c6 .put-charges) .ensures .0), (c2 .put-charges2) .ensures .1, lines-size ((c2 .put-charges2) .ensures .0)),
-)
+    let c30 = c24 .before .before .before .before .before .before in (
+      rw ((c24 .if1) .left, (c22 .if2) .left, (c20 .if3) .left) (hour-written ((c30 .args) .hour) (((c30 .args) .a .guarantees .credits) .n)
+          (take (((c30 .args) .a .guarantees .credits) .n) (((c30 .args) .a .guarantees .credits) .list))
+          (take (((c30 .args) .a .imports .charges) .n) (((c30 .args) .a .imports .charges) .list))
+          (take (((c30 .args) .a .exports .charges) .n) (((c30 .args) .a .exports .charges) .list)) ((c30 .args) .a .guarantees .offset .0)
+          ((c14 .put-credits) .ensures .2) ((c14 .put-credits) .ensures .0) ((c10 .put-offset) .ensures .0) ((c6 .put-charges) .ensures .0)
+          ((c2 .put-charges2) .ensures .0)),
+      omega (
+        arith,
+        (c30 .pre) .0 .credits,
+        (c30 .pre) .0 .imports,
+        (c30 .pre) .0 .exports,
+        (c30 .pre) .1,
+        (c14 .put-credits) .ensures .1,
+        lines-size
+            ((c14 .put-credits) .ensures .0),
+        (c10 .put-offset) .ensures .1,
+        lines-size ((c10 .put-offset) .ensures .0),
+        (c6 .put-charges) .ensures .1,
+        lines-size
+            ((c6 .put-charges) .ensures .0),
+        (c2 .put-charges2) .ensures .1,
+        lines-size ((c2 .put-charges2) .ensures .0),
+      ),
+    )
 
 pub put-hour-spec : {M : Type 1} → statement M
 put-hour-spec =

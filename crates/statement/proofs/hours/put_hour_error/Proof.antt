@@ -1,9 +1,9 @@
 use mathlib.Core.Path.{ap}
 use mathlib.Core.List.{[], _∷_}
+use borrow.Author.Needs.{needs}
 use Rattle.money.specs.declared.names.Name.{Name}
 use Rattle.statement.specs.Statement.{errorLine}
 use Rattle.statement.proofs.bytes.Lemmas.{lines-as}
-use borrow.Author.Needs.{needs}
 use Rattle.statement.proofs.hours.put_hour_error.Statement.{statement}
 use Rattle.statement.proofs.hours.put_hour_error.Tie as tie
 

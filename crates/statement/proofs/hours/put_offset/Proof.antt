@@ -1,13 +1,13 @@
 use mathlib.Core.Path.{ap, _∙_}
+use mathlib.Core.List.{[], _∷_}
+use borrow.Author.Tests.{eq-eqb, ne-eqb}
+use native.Mathlib.Omega.{arith}
+use borrow.Author.Needs.{needs}
 use Rattle.money.specs.declared.names.Name.{Name}
 use Rattle.statement.specs.Statement.{amountLine}
 use Rattle.statement.specs.declared.lines.Kind.the-variants.{Off}
-use mathlib.Core.List.{[], _∷_}
-use borrow.Author.Tests.{eq-eqb, ne-eqb}
 use Rattle.statement.specs.declared.lines.Line.{Line}
 use Rattle.statement.proofs.bytes.Lemmas.{lines-none, lines-as}
-use native.Mathlib.Omega.{arith}
-use borrow.Author.Needs.{needs}
 use Rattle.statement.proofs.hours.put_offset.Statement.{statement}
 use Rattle.statement.proofs.hours.put_offset.Tie as tie
 
@@ -32,8 +32,12 @@ returns-2 c =
     let c3 = c2 .before in
     let c4 = c3 .before in
     let c6 = c4 .before .before in
-    let c8 = c6 .before .before in
-    (rw (ne-eqb _ 0 ((c6 .if1) .left)) (lines-as (ap (λ (l : Line). l ∷ []) ((c3 .amount-line) .ensures ∙ ap (λ (n : Name). amountLine ((c8 .args) .hour) Off n ((c8 .args) .offset .0)) ((c4 .no-name) .ensures))) ((c2 .put-line) .ensures .0)), (c2 .put-line) .ensures .1)
+    let c8 = c6 .before .before in (
+      rw (ne-eqb _ 0 ((c6 .if1) .left)) (lines-as (ap (λ (l : Line). l ∷ [])
+          ((c3 .amount-line) .ensures ∙ ap (λ (n : Name). amountLine ((c8 .args) .hour) Off n ((c8 .args) .offset .0)) ((c4 .no-name) .ensures)))
+          ((c2 .put-line) .ensures .0)),
+      (c2 .put-line) .ensures .1,
+    )
 
 pub put-offset-spec : {M : Type 1} → statement M
 put-offset-spec =

@@ -4,11 +4,11 @@ use mathlib.Core.Path.{ap, _∙_}
 use Prim.Native.Nat.{_+_}
 use mir.Syntax.{w64}
 use mir.Val.{SFits}
+use borrow.Author.Needs.{needs}
+use native.Mathlib.Omega.{arith}
 use Rattle.laws.specs.Held as h
 use Rattle.laws.specs.IntLaws.{lt-true, lt-false}
 use Rattle.money.specs.laws.UnitLaws.{flip-abs, flip-above, abs-most, flipped}
-use borrow.Author.Needs.{needs}
-use native.Mathlib.Omega.{arith}
 use Rattle.statement.proofs.lines.magnitude.Statement.{statement}
 use Rattle.statement.proofs.lines.magnitude.Tie as tie
 
@@ -29,7 +29,8 @@ add-result : tie.Need-add-result
 add-result c =
     let f : SFits w64 ((c .before .before .before .before .before .args) .amount .0) = search needs in
     let x = h.plain f in
-    let l : (c .before .before .before .before .before .args) .amount .0 <ℤ pos 0 = lt-true _ _ (h.test-lt x (h.lit (pos 0)) ((c .before .before .if1) .taken)) in
+    let l : (c .before .before .before .before .before .args) .amount .0 <ℤ pos 0 = lt-true _ _
+    (h.test-lt x (h.lit (pos 0)) ((c .before .before .if1) .taken)) in
     record { fits = omega (arith, h.size (h.back (flipped f l) (omega arith))) }
 
 returns : tie.Need-returns

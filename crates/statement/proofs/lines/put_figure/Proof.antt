@@ -1,8 +1,8 @@
 use mathlib.Core.Path.{sym, _∙_}
-use Rattle.statement.specs.laws.LineLaws.{figure-number, figure-dollars, sign-length, number-digits, dollar-digits}
-use Rattle.statement.proofs.bytes.Lemmas.{writes-then, writes-size}
 use native.Mathlib.Omega.{arith}
 use borrow.Author.Needs.{needs}
+use Rattle.statement.specs.laws.LineLaws.{figure-number, figure-dollars, sign-length, number-digits, dollar-digits}
+use Rattle.statement.proofs.bytes.Lemmas.{writes-then, writes-size}
 use Rattle.statement.proofs.lines.put_figure.Statement.{statement}
 use Rattle.statement.proofs.lines.put_figure.Tie as tie
 
@@ -20,7 +20,15 @@ put-decimal-requires c κs =
     let c5 = c .before .before .before .before .before in
     let c7 = c5 .before .before in
     let c9 = c7 .before .before in
-    omega (arith, (c9 .pre), (c5 .put-sign) .ensures .behind, writes-size ((c5 .put-sign) .ensures), sign-length ((c9 .args) .cents .0), number-digits ((c7 .magnitude) .result) ((c7 .magnitude) .ensures .1))
+    omega (
+      arith,
+      (c9 .pre),
+      (c5 .put-sign) .ensures .behind,
+      writes-size ((c5 .put-sign) .ensures),
+      sign-length ((c9 .args) .cents .0),
+      number-digits
+          ((c7 .magnitude) .result) ((c7 .magnitude) .ensures .1),
+    )
 
 same-length : tie.Need-same-length
 same-length c = search needs
@@ -31,15 +39,26 @@ returns c =
     let c4 = c2 .before .before in
     let c5 = c4 .before in
     let c8 = c5 .before .before .before in
-    let c10 = c8 .before .before in
-    (rw (figure-number _ _ (sym ((c5 .is-number) .ensures) ∙ (c4 .if1) .taken), ← (c10 .magnitude) .ensures .0) (writes-then ((c8 .put-sign) .ensures) ((c2 .put-decimal) .ensures)), omega (arith, (c10 .magnitude) .ensures .0, (c10 .magnitude) .ensures .1))
+    let c10 = c8 .before .before in (
+      rw (figure-number _ _ (sym ((c5 .is-number) .ensures) ∙ (c4 .if1) .taken), ← (c10 .magnitude) .ensures .0)
+          (writes-then ((c8 .put-sign) .ensures) ((c2 .put-decimal) .ensures)),
+      omega (arith, (c10 .magnitude) .ensures .0, (c10 .magnitude) .ensures .1),
+    )
 
 put-decimal-requires-2 : tie.Need-put-decimal-requires-2
 put-decimal-requires-2 c κs =
     let c5 = c .before .before .before .before .before in
     let c7 = c5 .before .before in
     let c9 = c7 .before .before in
-    omega (arith, (c9 .pre), (c5 .put-sign) .ensures .behind, writes-size ((c5 .put-sign) .ensures), sign-length ((c9 .args) .cents .0), dollar-digits ((c7 .magnitude) .result) ((c7 .magnitude) .ensures .1))
+    omega (
+      arith,
+      (c9 .pre),
+      (c5 .put-sign) .ensures .behind,
+      writes-size ((c5 .put-sign) .ensures),
+      sign-length ((c9 .args) .cents .0),
+      dollar-digits
+          ((c7 .magnitude) .result) ((c7 .magnitude) .ensures .1),
+    )
 
 put-byte-requires : tie.Need-put-byte-requires
 put-byte-requires c κs =
@@ -47,7 +66,17 @@ put-byte-requires c κs =
     let c9 = c3 .before .before .before .before .before .before in
     let c11 = c9 .before .before in
     let c13 = c11 .before .before in
-    omega (arith, (c13 .pre), (c9 .put-sign) .ensures .behind, writes-size ((c9 .put-sign) .ensures), (c3 .put-decimal2) .ensures .behind, writes-size ((c3 .put-decimal2) .ensures), sign-length ((c13 .args) .cents .0), dollar-digits ((c11 .magnitude) .result) ((c11 .magnitude) .ensures .1))
+    omega (
+      arith,
+      (c13 .pre),
+      (c9 .put-sign) .ensures .behind,
+      writes-size ((c9 .put-sign) .ensures),
+      (c3 .put-decimal2) .ensures .behind,
+      writes-size
+          ((c3 .put-decimal2) .ensures),
+      sign-length ((c13 .args) .cents .0),
+      dollar-digits ((c11 .magnitude) .result) ((c11 .magnitude) .ensures .1),
+    )
 
 cast-put-two : tie.Need-cast-put-two
 cast-put-two c = search needs
@@ -59,7 +88,19 @@ put-two-requires c κs =
     let c13 = c7 .before .before .before .before .before .before in
     let c15 = c13 .before .before in
     let c17 = c15 .before .before in
-    omega (arith, (c17 .pre), (c13 .put-sign) .ensures .behind, writes-size ((c13 .put-sign) .ensures), (c7 .put-decimal2) .ensures .behind, writes-size ((c7 .put-decimal2) .ensures), (c3 .put-byte) .ensures .behind, writes-size ((c3 .put-byte) .ensures), sign-length ((c17 .args) .cents .0), dollar-digits ((c15 .magnitude) .result) ((c15 .magnitude) .ensures .1))
+    omega (
+      arith,
+      (c17 .pre),
+      (c13 .put-sign) .ensures .behind,
+      writes-size ((c13 .put-sign) .ensures),
+      (c7 .put-decimal2) .ensures .behind,
+      writes-size
+          ((c7 .put-decimal2) .ensures),
+      (c3 .put-byte) .ensures .behind,
+      writes-size ((c3 .put-byte) .ensures),
+      sign-length ((c17 .args) .cents .0),
+      dollar-digits ((c15 .magnitude) .result) ((c15 .magnitude) .ensures .1),
+    )
 
 same-length-2 : tie.Need-same-length-2
 same-length-2 c = search needs
@@ -72,8 +113,11 @@ returns-2 c =
     let c12 = c10 .before .before in
     let c13 = c12 .before in
     let c16 = c13 .before .before .before in
-    let c18 = c16 .before .before in
-    (rw (figure-dollars _ _ (sym ((c13 .is-number) .ensures) ∙ (c12 .if1) .left), ← (c18 .magnitude) .ensures .0) (writes-then (writes-then (writes-then ((c16 .put-sign) .ensures) ((c10 .put-decimal2) .ensures)) ((c6 .put-byte) .ensures)) ((c2 .put-two) .ensures)), omega (arith, (c18 .magnitude) .ensures .0, (c18 .magnitude) .ensures .1))
+    let c18 = c16 .before .before in (
+      rw (figure-dollars _ _ (sym ((c13 .is-number) .ensures) ∙ (c12 .if1) .left), ← (c18 .magnitude) .ensures .0)
+          (writes-then (writes-then (writes-then ((c16 .put-sign) .ensures) ((c10 .put-decimal2) .ensures)) ((c6 .put-byte) .ensures)) ((c2 .put-two) .ensures)),
+      omega (arith, (c18 .magnitude) .ensures .0, (c18 .magnitude) .ensures .1),
+    )
 
 pub put-figure-spec : {M : Type 1} → statement M
 put-figure-spec =

@@ -1,5 +1,5 @@
-use Rattle.statement.specs.Lines.{kindBytes}
 use borrow.Author.Needs.{needs}
+use Rattle.statement.specs.Lines.{kindBytes}
 use Rattle.statement.proofs.lines.put_kind.Statement.{statement}
 use Rattle.statement.proofs.lines.put_kind.Tie as tie
 

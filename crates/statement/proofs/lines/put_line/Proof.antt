@@ -1,8 +1,8 @@
+use native.Mathlib.Omega.{arith}
+use borrow.Author.Needs.{needs}
 use Rattle.statement.specs.Lines.{lineBytes}
 use Rattle.statement.specs.laws.LineLaws.{when-length, kind-length, name-length, figure-length, line-length}
 use Rattle.statement.proofs.bytes.Lemmas.{writes-then, writes-size, lines-one}
-use native.Mathlib.Omega.{arith}
-use borrow.Author.Needs.{needs}
 use Rattle.statement.proofs.lines.put_line.Statement.{statement}
 use Rattle.statement.proofs.lines.put_line.Tie as tie
 
@@ -20,7 +20,16 @@ put-kind-requires c κs =
     let c3 = c .before .before .before in
     let c7 = c3 .before .before .before .before in
     let c12 = c7 .before .before .before .before .before in
-    omega (arith, (c12 .pre), (c7 .put-when) .ensures .behind, writes-size ((c7 .put-when) .ensures), (c3 .put-byte) .ensures .behind, writes-size ((c3 .put-byte) .ensures), when-length ((c12 .args) .line .hour))
+    omega (
+      arith,
+      (c12 .pre),
+      (c7 .put-when) .ensures .behind,
+      writes-size ((c7 .put-when) .ensures),
+      (c3 .put-byte) .ensures .behind,
+      writes-size
+          ((c3 .put-byte) .ensures),
+      when-length ((c12 .args) .line .hour),
+    )
 
 put-byte-requires-2 : tie.Need-put-byte-requires-2
 put-byte-requires-2 c κs =
@@ -28,7 +37,20 @@ put-byte-requires-2 c κs =
     let c7 = c3 .before .before .before .before in
     let c11 = c7 .before .before .before .before in
     let c16 = c11 .before .before .before .before .before in
-    omega (arith, (c16 .pre), (c11 .put-when) .ensures .behind, writes-size ((c11 .put-when) .ensures), (c7 .put-byte) .ensures .behind, writes-size ((c7 .put-byte) .ensures), (c3 .put-kind) .ensures .behind, writes-size ((c3 .put-kind) .ensures), when-length ((c16 .args) .line .hour), kind-length ((c16 .args) .line .kind))
+    omega (
+      arith,
+      (c16 .pre),
+      (c11 .put-when) .ensures .behind,
+      writes-size ((c11 .put-when) .ensures),
+      (c7 .put-byte) .ensures .behind,
+      writes-size
+          ((c7 .put-byte) .ensures),
+      (c3 .put-kind) .ensures .behind,
+      writes-size ((c3 .put-kind) .ensures),
+      when-length ((c16 .args) .line .hour),
+      kind-length
+          ((c16 .args) .line .kind),
+    )
 
 put-name-requires : tie.Need-put-name-requires
 put-name-requires c κs =
@@ -37,7 +59,22 @@ put-name-requires c κs =
     let c11 = c7 .before .before .before .before in
     let c15 = c11 .before .before .before .before in
     let c20 = c15 .before .before .before .before .before in
-    omega (arith, (c20 .pre), (c15 .put-when) .ensures .behind, writes-size ((c15 .put-when) .ensures), (c11 .put-byte) .ensures .behind, writes-size ((c11 .put-byte) .ensures), (c7 .put-kind) .ensures .behind, writes-size ((c7 .put-kind) .ensures), (c3 .put-byte2) .ensures .behind, writes-size ((c3 .put-byte2) .ensures), when-length ((c20 .args) .line .hour), kind-length ((c20 .args) .line .kind))
+    omega (
+      arith,
+      (c20 .pre),
+      (c15 .put-when) .ensures .behind,
+      writes-size ((c15 .put-when) .ensures),
+      (c11 .put-byte) .ensures .behind,
+      writes-size
+          ((c11 .put-byte) .ensures),
+      (c7 .put-kind) .ensures .behind,
+      writes-size ((c7 .put-kind) .ensures),
+      (c3 .put-byte2) .ensures .behind,
+      writes-size
+          ((c3 .put-byte2) .ensures),
+      when-length ((c20 .args) .line .hour),
+      kind-length ((c20 .args) .line .kind),
+    )
 
 put-byte-requires-3 : tie.Need-put-byte-requires-3
 put-byte-requires-3 c κs =
@@ -47,7 +84,26 @@ put-byte-requires-3 c κs =
     let c15 = c11 .before .before .before .before in
     let c19 = c15 .before .before .before .before in
     let c24 = c19 .before .before .before .before .before in
-    omega (arith, (c24 .pre), (c19 .put-when) .ensures .behind, writes-size ((c19 .put-when) .ensures), (c15 .put-byte) .ensures .behind, writes-size ((c15 .put-byte) .ensures), (c11 .put-kind) .ensures .behind, writes-size ((c11 .put-kind) .ensures), (c7 .put-byte2) .ensures .behind, writes-size ((c7 .put-byte2) .ensures), (c3 .put-name) .ensures .behind, writes-size ((c3 .put-name) .ensures), when-length ((c24 .args) .line .hour), kind-length ((c24 .args) .line .kind), name-length ((c24 .args) .line .name))
+    omega (
+      arith,
+      (c24 .pre),
+      (c19 .put-when) .ensures .behind,
+      writes-size ((c19 .put-when) .ensures),
+      (c15 .put-byte) .ensures .behind,
+      writes-size
+          ((c15 .put-byte) .ensures),
+      (c11 .put-kind) .ensures .behind,
+      writes-size ((c11 .put-kind) .ensures),
+      (c7 .put-byte2) .ensures .behind,
+      writes-size
+          ((c7 .put-byte2) .ensures),
+      (c3 .put-name) .ensures .behind,
+      writes-size ((c3 .put-name) .ensures),
+      when-length ((c24 .args) .line .hour),
+      kind-length
+          ((c24 .args) .line .kind),
+      name-length ((c24 .args) .line .name),
+    )
 
 put-figure-requires : tie.Need-put-figure-requires
 put-figure-requires c κs =
@@ -58,7 +114,28 @@ put-figure-requires c κs =
     let c19 = c15 .before .before .before .before in
     let c23 = c19 .before .before .before .before in
     let c28 = c23 .before .before .before .before .before in
-    omega (arith, (c28 .pre), (c23 .put-when) .ensures .behind, writes-size ((c23 .put-when) .ensures), (c19 .put-byte) .ensures .behind, writes-size ((c19 .put-byte) .ensures), (c15 .put-kind) .ensures .behind, writes-size ((c15 .put-kind) .ensures), (c11 .put-byte2) .ensures .behind, writes-size ((c11 .put-byte2) .ensures), (c7 .put-name) .ensures .behind, writes-size ((c7 .put-name) .ensures), (c3 .put-byte3) .ensures .behind, writes-size ((c3 .put-byte3) .ensures), when-length ((c28 .args) .line .hour), kind-length ((c28 .args) .line .kind), name-length ((c28 .args) .line .name))
+    omega (
+      arith,
+      (c28 .pre),
+      (c23 .put-when) .ensures .behind,
+      writes-size ((c23 .put-when) .ensures),
+      (c19 .put-byte) .ensures .behind,
+      writes-size
+          ((c19 .put-byte) .ensures),
+      (c15 .put-kind) .ensures .behind,
+      writes-size ((c15 .put-kind) .ensures),
+      (c11 .put-byte2) .ensures .behind,
+      writes-size
+          ((c11 .put-byte2) .ensures),
+      (c7 .put-name) .ensures .behind,
+      writes-size ((c7 .put-name) .ensures),
+      (c3 .put-byte3) .ensures .behind,
+      writes-size
+          ((c3 .put-byte3) .ensures),
+      when-length ((c28 .args) .line .hour),
+      kind-length ((c28 .args) .line .kind),
+      name-length ((c28 .args) .line .name),
+    )
 
 put-byte-requires-4 : tie.Need-put-byte-requires-4
 put-byte-requires-4 c κs =
@@ -70,7 +147,32 @@ put-byte-requires-4 c κs =
     let c23 = c19 .before .before .before .before in
     let c27 = c23 .before .before .before .before in
     let c32 = c27 .before .before .before .before .before in
-    omega (arith, (c32 .pre), (c27 .put-when) .ensures .behind, writes-size ((c27 .put-when) .ensures), (c23 .put-byte) .ensures .behind, writes-size ((c23 .put-byte) .ensures), (c19 .put-kind) .ensures .behind, writes-size ((c19 .put-kind) .ensures), (c15 .put-byte2) .ensures .behind, writes-size ((c15 .put-byte2) .ensures), (c11 .put-name) .ensures .behind, writes-size ((c11 .put-name) .ensures), (c7 .put-byte3) .ensures .behind, writes-size ((c7 .put-byte3) .ensures), (c3 .put-figure) .ensures .0 .behind, writes-size ((c3 .put-figure) .ensures .0), when-length ((c32 .args) .line .hour), kind-length ((c32 .args) .line .kind), name-length ((c32 .args) .line .name), figure-length ((c32 .args) .line .kind) ((c32 .args) .line .cents .0) ((c3 .put-figure) .ensures .1))
+    omega (
+      arith,
+      (c32 .pre),
+      (c27 .put-when) .ensures .behind,
+      writes-size ((c27 .put-when) .ensures),
+      (c23 .put-byte) .ensures .behind,
+      writes-size
+          ((c23 .put-byte) .ensures),
+      (c19 .put-kind) .ensures .behind,
+      writes-size ((c19 .put-kind) .ensures),
+      (c15 .put-byte2) .ensures .behind,
+      writes-size
+          ((c15 .put-byte2) .ensures),
+      (c11 .put-name) .ensures .behind,
+      writes-size ((c11 .put-name) .ensures),
+      (c7 .put-byte3) .ensures .behind,
+      writes-size
+          ((c7 .put-byte3) .ensures),
+      (c3 .put-figure) .ensures .0 .behind,
+      writes-size ((c3 .put-figure) .ensures .0),
+      when-length ((c32 .args) .line .hour),
+      kind-length ((c32 .args) .line .kind),
+      name-length ((c32 .args) .line .name),
+      figure-length ((c32 .args) .line .kind) ((c32 .args) .line .cents .0)
+          ((c3 .put-figure) .ensures .1),
+    )
 
 same-length : tie.Need-same-length
 same-length c = search needs
@@ -87,7 +189,9 @@ returns c =
     let c26 = c22 .before .before .before .before in
     let c30 = c26 .before .before .before .before in
     let c35 = c30 .before .before .before .before .before in
-    let w = (writes-then (writes-then (writes-then (writes-then (writes-then (writes-then (writes-then ((c30 .put-when) .ensures) ((c26 .put-byte) .ensures)) ((c22 .put-kind) .ensures)) ((c18 .put-byte2) .ensures)) ((c14 .put-name) .ensures)) ((c10 .put-byte3) .ensures)) ((c6 .put-figure) .ensures .0)) ((c2 .put-byte4) .ensures)) in
+    let w = (writes-then (writes-then (writes-then (writes-then
+    (writes-then (writes-then (writes-then ((c30 .put-when) .ensures) ((c26 .put-byte) .ensures)) ((c22 .put-kind) .ensures)) ((c18 .put-byte2) .ensures))
+    ((c14 .put-name) .ensures)) ((c10 .put-byte3) .ensures)) ((c6 .put-figure) .ensures .0)) ((c2 .put-byte4) .ensures)) in
     let h = line-length ((c35 .args) .line) ((c6 .put-figure) .ensures .1) in
     (lines-one ((c35 .args) .line) h w, omega (arith, w .behind, h))
 

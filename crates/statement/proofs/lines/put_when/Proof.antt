@@ -1,7 +1,7 @@
-use Rattle.statement.specs.Lines.{whenBytes}
-use Rattle.statement.proofs.bytes.Lemmas.{writes-then}
 use borrow.Author.Tests.{eq-eqb, ne-eqb}
 use borrow.Author.Needs.{needs}
+use Rattle.statement.specs.Lines.{whenBytes}
+use Rattle.statement.proofs.bytes.Lemmas.{writes-then}
 use Rattle.statement.proofs.lines.put_when.Statement.{statement}
 use Rattle.statement.proofs.lines.put_when.Tie as tie
 

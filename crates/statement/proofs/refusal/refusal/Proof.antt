@@ -1,10 +1,10 @@
 use Prim.Native.Nat.{ℕ}
 use mathlib.Core.Path.{sym}
 use lib.Seq.{length-take-le}
-use Rattle.statement.proofs.day.Lemmas.{fits-front}
-use Rattle.statement.proofs.refusal.Lemmas.{refusal-length}
 use native.Mathlib.Omega.{arith}
 use borrow.Author.Needs.{needs}
+use Rattle.statement.proofs.day.Lemmas.{fits-front}
+use Rattle.statement.proofs.refusal.Lemmas.{refusal-length}
 use Rattle.statement.proofs.refusal.refusal.Statement.{statement}
 use Rattle.statement.proofs.refusal.refusal.Tie as tie
 
@@ -20,7 +20,8 @@ array-share-prefix-line c = search needs
 slice-aggregate-write-front : tie.Need-slice-aggregate-write-front
 slice-aggregate-write-front c =
     let c3 = c .before .before .before in
-    sym (length-take-le {A = ℕ} ((c3 .put-refusal) .result) ((c3 .put-refusal) .last .0) (omega (arith, (c3 .put-refusal) .ensures .behind, (c3 .put-refusal) .ensures .room)))
+    sym (length-take-le {A = ℕ} ((c3 .put-refusal) .result) ((c3 .put-refusal) .last .0)
+    (omega (arith, (c3 .put-refusal) .ensures .behind, (c3 .put-refusal) .ensures .room)))
 
 write-front-requires : tie.Need-write-front-requires
 write-front-requires c κs = search needs
@@ -33,8 +34,11 @@ returns c =
     let c2 = c .before .before in
     let c6 = c2 .before .before .before .before in
     let c9 = c6 .before .before .before in
-    let f = (c9 .fits) .ordinal in let g = (c9 .fits) .number in
-    (fits-front ((c6 .put-refusal) .ensures) ((c2 .write-front) .ensures), refusal-length ((c9 .args) .ordinal) ((c9 .args) .number) (omega arith) (omega arith))
+    let f = (c9 .fits) .ordinal in let g = (c9 .fits) .number in (
+      fits-front ((c6 .put-refusal) .ensures) ((c2 .write-front) .ensures),
+      refusal-length ((c9 .args) .ordinal) ((c9 .args) .number) (omega arith)
+          (omega arith),
+    )
 
 pub refusal-spec : {M : Type 1} → statement M
 refusal-spec =

@@ -1,10 +1,10 @@
 use mathlib.Core.Path.{ap}
 use mathlib.Core.List.{[], _∷_}
 use borrow.Author.Tests.{ne-eqb}
-use Rattle.statement.specs.declared.lines.Line.{Line}
-use Rattle.statement.proofs.bytes.Lemmas.{lines-then, lines-as, lines-size}
 use native.Mathlib.Omega.{arith}
 use borrow.Author.Needs.{needs}
+use Rattle.statement.specs.declared.lines.Line.{Line}
+use Rattle.statement.proofs.bytes.Lemmas.{lines-then, lines-as, lines-size}
 use Rattle.statement.proofs.units.put_unit.Statement.{statement}
 use Rattle.statement.proofs.units.put_unit.Tie as tie
 
@@ -44,11 +44,11 @@ returns-2 c =
     let c3 = c2 .before in
     let c7 = c3 .before .before .before .before in
     let c8 = c7 .before in
-    let c12 = c8 .before .before .before .before in
-    (
-  rw ((c12 .if1) .left) (lines-then (lines-as (ap (λ (l : Line). l ∷ []) ((c8 .amount-line) .ensures)) ((c7 .put-line) .ensures .0)) (lines-as (ap (λ (l : Line). l ∷ []) ((c3 .amount-line2) .ensures)) ((c2 .put-line2) .ensures .0))),
-  omega (arith, (c7 .put-line) .ensures .1, (c2 .put-line2) .ensures .1),
-)
+    let c12 = c8 .before .before .before .before in (
+      rw ((c12 .if1) .left) (lines-then (lines-as (ap (λ (l : Line). l ∷ []) ((c8 .amount-line) .ensures)) ((c7 .put-line) .ensures .0))
+          (lines-as (ap (λ (l : Line). l ∷ []) ((c3 .amount-line2) .ensures)) ((c2 .put-line2) .ensures .0))),
+      omega (arith, (c7 .put-line) .ensures .1, (c2 .put-line2) .ensures .1),
+    )
 
 pub put-unit-spec : {M : Type 1} → statement M
 put-unit-spec =

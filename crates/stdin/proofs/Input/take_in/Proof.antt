@@ -1,8 +1,8 @@
 use mathlib.Core.Path.{ap}
 use mir.Facts.{toZ-ofZ}
+use borrow.Author.Needs.{needs}
 use Rattle.stdin.specs.Rounds.{brokeOff}
 use Rattle.stdin.proofs.Rounds.{taken-in}
-use borrow.Author.Needs.{needs}
 use Rattle.stdin.proofs.Input.take_in.Statement.{statement}
 use Rattle.stdin.proofs.Input.take_in.Tie as tie
 

@@ -1,7 +1,7 @@
 use mathlib.Core.Path.{ap}
 use mathlib.Core.Bool.{true, false}
-use Rattle.filter.specs.declared.reading.Reading.{Reading}
 use borrow.Author.Needs.{needs}
+use Rattle.filter.specs.declared.reading.Reading.{Reading}
 use Rattle.stdin.proofs.Input.unread.Statement.{statement}
 use Rattle.stdin.proofs.Input.unread.Tie as tie
 

@@ -1,7 +1,7 @@
 use mathlib.Core.Path.{sym, ap, _∙_}
+use borrow.Author.Needs.{needs}
 use Rattle.book.specs.tables.Worked.{totalReply}
 use Rattle.book.specs.Handed.{unitDayFrom}
-use borrow.Author.Needs.{needs}
 use Rattle.book.proofs.amounts.days.answer_of.Statement.{statement}
 use Rattle.book.proofs.amounts.days.answer_of.Tie as tie
 

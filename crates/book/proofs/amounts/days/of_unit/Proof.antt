@@ -1,11 +1,11 @@
 use mathlib.Core.Path.{sym, ap, _∙_}
 use borrow.Author.Tests.{not-true, not-false}
+use borrow.Author.Needs.{needs}
 use Rattle.book.specs.declared.answers.UnitDay.{UnitDay}
 use Rattle.book.specs.Register.{refused}
 use Rattle.book.specs.Meaning.{dayReply}
 use Rattle.book.specs.tables.Worked.{begun, totalReply}
 use Rattle.book.proofs.amounts.days.Lemmas.{in-day, day-nowhere, day-unpriced, day-worked, handed-whole}
-use borrow.Author.Needs.{needs}
 use Rattle.book.proofs.amounts.days.of_unit.Statement.{statement}
 use Rattle.book.proofs.amounts.days.of_unit.Tie as tie
 
@@ -22,8 +22,11 @@ returns : tie.Need-returns
 returns c =
     let c2 = c .before .before in
     let c3 = c2 .before in
-    let c5 = c3 .before .before in
-    (λ l g marked price w. ap (λ (d : UnitDay). dayReply d) ((c .refused-day) .ensures) ∙ day-nowhere (begun g) ((c5 .args) .key) ((c3 .day-in) .result) ((c3 .day-in) .ensures l g) price (sym ((c2 .nowhere) .ensures) ∙ (c .before .if1) .taken), handed-whole (refused 11) _ ((c .refused-day) .ensures))
+    let c5 = c3 .before .before in (
+      λ l g marked price w. ap (λ (d : UnitDay). dayReply d) ((c .refused-day) .ensures) ∙ day-nowhere (begun g) ((c5 .args) .key) ((c3 .day-in) .result)
+          ((c3 .day-in) .ensures l g) price (sym ((c2 .nowhere) .ensures) ∙ (c .before .if1) .taken),
+      handed-whole (refused 11) _ ((c .refused-day) .ensures),
+    )
 
 payable-requires : tie.Need-payable-requires
 payable-requires c κs = search needs
@@ -37,8 +40,12 @@ returns-2 c =
     let c3 = c2 .before in
     let c4 = c3 .before in
     let c5 = c4 .before in
-    let c7 = c5 .before .before in
-    (λ l g marked price w. ap (λ (d : UnitDay). dayReply d) ((c .refused-day2) .ensures) ∙ day-unpriced (begun g) ((c7 .args) .key) ((c5 .day-in) .result) ((c5 .day-in) .ensures l g) price (sym ((c4 .nowhere) .ensures) ∙ (c3 .if1) .left) marked ((c7 .args) .table) w (sym ((c2 .payable) .ensures) ∙ not-true _ ((c .before .if2) .taken)), handed-whole (refused 15) _ ((c .refused-day2) .ensures))
+    let c7 = c5 .before .before in (
+      λ l g marked price w. ap (λ (d : UnitDay). dayReply d) ((c .refused-day2) .ensures) ∙ day-unpriced (begun g) ((c7 .args) .key) ((c5 .day-in) .result)
+          ((c5 .day-in) .ensures l g) price (sym ((c4 .nowhere) .ensures) ∙ (c3 .if1) .left) marked ((c7 .args) .table) w
+          (sym ((c2 .payable) .ensures) ∙ not-true _ ((c .before .if2) .taken)),
+      handed-whole (refused 15) _ ((c .refused-day2) .ensures),
+    )
 
 parts-of-requires : tie.Need-parts-of-requires
 parts-of-requires c κs =
@@ -60,8 +67,13 @@ returns-3 c =
     let c7 = c6 .before in
     let c8 = c7 .before in
     let c9 = c8 .before in
-    let c11 = c9 .before .before in
-    (λ l g marked price w. day-worked (begun g) ((c11 .args) .key) ((c9 .day-in) .result) ((c9 .day-in) .ensures l g) price (sym ((c8 .nowhere) .ensures) ∙ (c7 .if1) .left) marked ((c11 .args) .table) w (sym ((c6 .payable) .ensures) ∙ not-false _ ((c5 .if2) .left)) ((c4 .parts-of) .result .ticks) ((c4 .parts-of) .result .starts) ((c4 .parts-of) .ensures) ((c .before .day-of) .result) ((c .before .day-of) .ensures) _ ((c .answer-of) .ensures), handed-whole (totalReply ((c .before .day-of) .result)) _ ((c .answer-of) .ensures))
+    let c11 = c9 .before .before in (
+      λ l g marked price w. day-worked (begun g) ((c11 .args) .key) ((c9 .day-in) .result) ((c9 .day-in) .ensures l g) price
+          (sym ((c8 .nowhere) .ensures) ∙ (c7 .if1) .left) marked ((c11 .args) .table) w (sym ((c6 .payable) .ensures) ∙ not-false _ ((c5 .if2) .left))
+          ((c4 .parts-of) .result .ticks) ((c4 .parts-of) .result .starts) ((c4 .parts-of) .ensures) ((c .before .day-of) .result) ((c .before .day-of) .ensures)
+          _ ((c .answer-of) .ensures),
+      handed-whole (totalReply ((c .before .day-of) .result)) _ ((c .answer-of) .ensures),
+    )
 
 pub of-unit-spec : {M : Type 1} → statement M
 of-unit-spec =

@@ -1,5 +1,5 @@
-use Rattle.book.proofs.amounts.days.Lemmas.{part-empty, part-there}
 use borrow.Author.Needs.{needs}
+use Rattle.book.proofs.amounts.days.Lemmas.{part-empty, part-there}
 use Rattle.book.proofs.amounts.days.part_at.Statement.{statement}
 use Rattle.book.proofs.amounts.days.part_at.Tie as tie
 
@@ -19,7 +19,8 @@ returns : tie.Need-returns
 returns c =
     let c4 = c .before .before .before .before in
     let c6 = c4 .before .before in
-    part-there ((c6 .args) .unit) ((c6 .args) .price) ((c6 .args) .log .now) ((c4 .if1) .taken) ((c .before .unit-part) .result) ((c .before .unit-part) .ensures)
+    part-there ((c6 .args) .unit) ((c6 .args) .price) ((c6 .args) .log .now) ((c4 .if1) .taken) ((c .before .unit-part) .result)
+    ((c .before .unit-part) .ensures)
 
 returns-2 : tie.Need-returns-2
 returns-2 c = part-empty ((c .before .before .args) .unit) ((c .before .before .args) .price) ((c .before .before .args) .log .now) ((c .if1) .left)

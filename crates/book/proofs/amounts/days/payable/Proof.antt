@@ -36,7 +36,8 @@ returns c =
     let c4 = c .before .before .before .before in
     let c5 = c4 .before in
     let c6 = c5 .before in
-    sym (every-no 24 ((c5 .loop) .j) (λ (j : ℕ). paid (placeIn ((c6 .args) .t1) j) (priceFor ((c6 .args) .t2) j)) ((c4 .loop-test) .taken) (sym ((c .before .hour-payable) .ensures) ∙ not-true _ ((c .if1) .taken)))
+    sym (every-no 24 ((c5 .loop) .j) (λ (j : ℕ). paid (placeIn ((c6 .args) .t1) j) (priceFor ((c6 .args) .t2) j)) ((c4 .loop-test) .taken)
+    (sym ((c .before .hour-payable) .ensures) ∙ not-true _ ((c .if1) .taken)))
 
 add-j : tie.Need-add-j Inv-loop μ-loop
 add-j c = search needs

@@ -1,6 +1,6 @@
 use mathlib.Core.Path.{sym, ap}
-use Rattle.book.specs.tables.Worked.{chargeReply}
 use borrow.Author.Needs.{needs}
+use Rattle.book.specs.tables.Worked.{chargeReply}
 use Rattle.book.proofs.amounts.failures.answer_of.Statement.{statement}
 use Rattle.book.proofs.amounts.failures.answer_of.Tie as tie
 

@@ -2,13 +2,13 @@ use Prim.Native.Nat.{ℕ, _-_, _≤_}
 use mathlib.Core.Path.{refl, ap, _∙_}
 use mathlib.Core.List.{List}
 use lib.ListN.{getD, length}
+use borrow.Author.Needs.{needs}
+use native.Mathlib.Omega.{arith}
 use Rattle.book.specs.Layer.{chargeIn}
 use Rattle.book.specs.tables.Worked.{ticksOf, noSpot}
 use Rattle.book.proofs.Inserting.{unmapped}
 use Rattle.book.proofs.log.Survey.{to-end}
 use Rattle.book.proofs.amounts.failures.Lemmas.{spot-inside, Charging, charging-start, charging-more, charging-end}
-use borrow.Author.Needs.{needs}
-use native.Mathlib.Omega.{arith}
 use Rattle.book.proofs.amounts.failures.charges_at.Statement.{statement}
 use Rattle.book.proofs.amounts.failures.charges_at.Tie as tie
 
@@ -28,10 +28,13 @@ element-copy-out-x : tie.Need-element-copy-out-x Inv-loop μ-loop
 element-copy-out-x c = omega (arith, (c .loop-test) .taken, (c .before .before .before .pre) .few)
 
 sub-failure-charge : tie.Need-sub-failure-charge Inv-loop μ-loop
-sub-failure-charge c = spot-inside (c .before .before .before .before .pre) (search (needs, unmapped)) ((c .before .before .loop) .i) ((c .before .loop-test) .taken) noSpot
+sub-failure-charge c = spot-inside (c .before .before .before .before .pre) (search (needs, unmapped)) ((c .before .before .loop) .i)
+    ((c .before .loop-test) .taken) noSpot
 
 part-failure-charge-start : tie.Need-part-failure-charge-start Inv-loop μ-loop
-part-failure-charge-start c = let w : getD ((c .before .before .before .before .args) .t2 .at) ((c .before .before .loop) .i) noSpot .start ≤ length ((c .before .before .before .before .args) .log .now) = spot-inside (c .before .before .before .before .pre) (search (needs, unmapped)) ((c .before .before .loop) .i) ((c .before .loop-test) .taken) noSpot in omega arith
+part-failure-charge-start c = let w : getD ((c .before .before .before .before .args) .t2 .at) ((c .before .before .loop) .i) noSpot .start ≤ length
+    ((c .before .before .before .before .args) .log .now) = spot-inside (c .before .before .before .before .pre) (search (needs, unmapped))
+    ((c .before .before .loop) .i) ((c .before .loop-test) .taken) noSpot in omega arith
 
 part-failure-charge-end : tie.Need-part-failure-charge-end Inv-loop μ-loop
 part-failure-charge-end c = search needs
@@ -65,7 +68,12 @@ loop-less : tie.Need-loop-less Inv-loop μ-loop
 loop-less c = omega (arith, (c .before .before .before .before .loop-test) .taken)
 
 loop-again : tie.Need-loop-again Inv-loop μ-loop
-loop-again c = charging-more ((c .before .before .before .before .before .loop) .inv) (c .before .before .before .before .before .before .before .pre) (search (needs, unmapped)) ((c .before .before .before .before .loop-test) .taken) noSpot _ ((c .ticks-of) .ensures ∙ ap ticksOf ((c .before .failure-charge) .ensures ∙ ap (λ (u : List ℕ). chargeIn ((c .before .before .before .before .before .before .before .args) .mark) u ((c .before .before .before .before .before .before .before .args) .prices)) (to-end (getD ((c .before .before .before .before .before .before .before .args) .t2 .at) ((c .before .before .before .before .before .loop) .i) noSpot .start) ((c .before .before .before .before .before .before .before .args) .log .now))))
+loop-again c = charging-more ((c .before .before .before .before .before .loop) .inv) (c .before .before .before .before .before .before .before .pre) (search
+    (needs, unmapped)) ((c .before .before .before .before .loop-test) .taken) noSpot _ ((c .ticks-of) .ensures ∙ ap ticksOf
+    ((c .before .failure-charge) .ensures ∙ ap (λ (u : List ℕ). chargeIn ((c .before .before .before .before .before .before .before .args) .mark) u
+    ((c .before .before .before .before .before .before .before .args) .prices)) (to-end
+    (getD ((c .before .before .before .before .before .before .before .args) .t2 .at) ((c .before .before .before .before .before .loop) .i) noSpot .start)
+    ((c .before .before .before .before .before .before .before .args) .log .now))))
 
 returns : tie.Need-returns Inv-loop μ-loop
 returns c = charging-end ((c .before .loop) .inv) (c .before .before .before .pre) ((c .loop-test) .left) (search (needs, unmapped))

@@ -1,5 +1,5 @@
-use Rattle.book.proofs.amounts.Handed.{charges-none}
 use borrow.Author.Needs.{needs}
+use Rattle.book.proofs.amounts.Handed.{charges-none}
 use Rattle.book.proofs.amounts.failures.no_charge_list.Statement.{statement}
 use Rattle.book.proofs.amounts.failures.no_charge_list.Tie as tie
 

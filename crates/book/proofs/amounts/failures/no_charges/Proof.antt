@@ -1,5 +1,5 @@
-use Rattle.book.proofs.amounts.Handed.{no-charges}
 use borrow.Author.Needs.{needs}
+use Rattle.book.proofs.amounts.Handed.{no-charges}
 use Rattle.book.proofs.amounts.failures.no_charges.Statement.{statement}
 use Rattle.book.proofs.amounts.failures.no_charges.Tie as tie
 

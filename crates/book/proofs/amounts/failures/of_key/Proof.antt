@@ -1,12 +1,12 @@
 use Prim.Native.Nat.{ℕ}
 use mathlib.Core.Path.{ap, _∙_}
 use mathlib.Core.List.{List}
+use native.Mathlib.Omega.{arith}
+use borrow.Author.Needs.{needs}
 use Rattle.book.specs.Layer.{chargeIn}
 use Rattle.book.proofs.log.Survey.{to-end}
 use Rattle.book.proofs.amounts.prices.Lemmas.{sought-inside}
 use Rattle.book.proofs.amounts.failures.Lemmas.{key-absent, key-unpriced, key-charged}
-use native.Mathlib.Omega.{arith}
-use borrow.Author.Needs.{needs}
 use Rattle.book.proofs.amounts.failures.of_key.Statement.{statement}
 use Rattle.book.proofs.amounts.failures.of_key.Tie as tie
 
@@ -42,7 +42,10 @@ returns c =
     let c5 = c4 .before in
     let c6 = c5 .before in
     let c8 = c6 .before .before in
-    λ l g b q w. (c .answer-of) .ensures ∙ key-charged ((c6 .find-in) .ensures) ((c8 .pre) .1) ((c5 .if1) .taken) ((c4 .if2) .taken) ((c .before .failure-charge) .result) ((c .before .failure-charge) .ensures ∙ ap (λ (u : List ℕ). chargeIn ((c8 .args) .key .mark) u ((c8 .args) .price .prices)) (to-end ((c6 .find-in) .result .start) ((c8 .args) .log .now))) l g b q w
+    λ l g b q w. (c .answer-of) .ensures ∙ key-charged ((c6 .find-in) .ensures) ((c8 .pre) .1) ((c5 .if1) .taken) ((c4 .if2) .taken)
+    ((c .before .failure-charge) .result) ((c .before .failure-charge) .ensures ∙ ap
+    (λ (u : List ℕ). chargeIn ((c8 .args) .key .mark) u ((c8 .args) .price .prices)) (to-end ((c6 .find-in) .result .start) ((c8 .args) .log .now))) l g b q
+    w
 
 returns-2 : tie.Need-returns-2
 returns-2 c =

@@ -1,6 +1,6 @@
 use mathlib.Core.Path.{sym, ap}
-use Rattle.book.specs.tables.Worked.{ticksOf}
 use borrow.Author.Needs.{needs}
+use Rattle.book.specs.tables.Worked.{ticksOf}
 use Rattle.book.proofs.amounts.failures.ticks_of.Statement.{statement}
 use Rattle.book.proofs.amounts.failures.ticks_of.Tie as tie
 

@@ -1,17 +1,17 @@
 use Prim.Native.Nat.{_-_}
 use mathlib.Core.Path.{refl, ap, _∙_}
-use Rattle.book.specs.laws.Built.{Filling, fill-start, fill-more, fill-all}
 use Prim.Native.Nat.{ℕ}
 use mathlib.Core.Path.{_≡_}
 use mathlib.Core.List.{List}
 use lib.ListN.{length, getD}
+use borrow.Author.Needs.{needs}
+use native.Mathlib.Omega.{arith}
+use Rattle.records.specs.Amounts.{noImport}
+use Rattle.book.specs.laws.Built.{Filling, fill-start, fill-more, fill-all}
 use Rattle.book.specs.Layer.{EntryAnswer, offsetEntryIn}
 use Rattle.book.proofs.log.Survey.{to-end}
 use Rattle.book.specs.tables.Worked.{entryAt, entriesIn, noSpot}
 use Rattle.book.proofs.Inserting.{unmapped}
-use Rattle.records.specs.Amounts.{noImport}
-use borrow.Author.Needs.{needs}
-use native.Mathlib.Omega.{arith}
 use Rattle.book.proofs.amounts.guarantees.entries_at.Statement.{statement}
 use Rattle.book.proofs.amounts.guarantees.entries_at.Tie as tie
 
@@ -83,11 +83,15 @@ loop-again c =
     let c4 = c .before .before .before .before in
     let c5 = c4 .before in
     let c10 = c5 .before .before .before .before .before in
-    fill-more ((c5 .loop) .inv) ((c4 .loop-test) .taken) ((c10 .pre) .few) (ap (λ (a : EntryAnswer). a .entry) ((c .before .offset-entry2) .ensures) ∙ ap (λ (x : List ℕ). offsetEntryIn x ((c10 .args) .prices) .entry) (to-end (getD ((c10 .args) .t2 .at) ((c5 .loop) .i) noSpot .start) ((c10 .args) .log .now)))
+    fill-more ((c5 .loop) .inv) ((c4 .loop-test) .taken) ((c10 .pre) .few) (ap (λ (a : EntryAnswer). a .entry) ((c .before .offset-entry2) .ensures) ∙ ap
+    (λ (x : List ℕ). offsetEntryIn x ((c10 .args) .prices) .entry)
+    (to-end (getD ((c10 .args) .t2 .at) ((c5 .loop) .i) noSpot .start) ((c10 .args) .log .now)))
 
 returns : tie.Need-returns Inv-loop μ-loop
 unfolding entriesIn
-returns c = let la : length ((c .before .before .before .before .before .before .args) .t2 .at) ≡ 16 = search (needs, unmapped) in fill-all ((c .before .loop) .inv) ((c .loop-test) .left) ((c .before .before .before .before .before .before .pre) .few) (omega (arith, la, (c .before .before .before .before .before .before .pre) .few))
+returns c = let la : length ((c .before .before .before .before .before .before .args) .t2 .at) ≡ 16 = search (needs, unmapped) in fill-all
+    ((c .before .loop) .inv) ((c .loop-test) .left) ((c .before .before .before .before .before .before .pre) .few)
+    (omega (arith, la, (c .before .before .before .before .before .before .pre) .few))
 
 pub entries-at-spec : {M : Type 1} → statement M
 entries-at-spec =

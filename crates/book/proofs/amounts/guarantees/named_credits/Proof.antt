@@ -1,12 +1,12 @@
 use Prim.Native.Nat.{_-_}
 use mathlib.Core.Path.{_≡_}
 use lib.ListN.{length}
+use native.Mathlib.Omega.{arith}
+use borrow.Author.Needs.{needs}
 use Rattle.book.specs.tables.Places.{maxPlaces}
 use Rattle.book.specs.Handed.{maxCredits}
-use native.Mathlib.Omega.{arith}
 use Rattle.book.proofs.amounts.guarantees.Pairing.{Naming, credits-start, naming-more, naming-all, credits-whole}
 use Rattle.book.proofs.Inserting.{unmapped}
-use borrow.Author.Needs.{needs}
 use Rattle.book.proofs.amounts.guarantees.named_credits.Statement.{statement}
 use Rattle.book.proofs.amounts.guarantees.named_credits.Tie as tie
 
@@ -69,8 +69,12 @@ returns : tie.Need-returns Inv-loop μ-loop
 returns c =
     let few = c .before .before .before .pre in
     let la : length ((c .before .before .before .args) .t1 .at) ≡ maxPlaces = search (needs, unmapped) in
-    let lt : length ((c .before .before .before .args) .t2) ≡ maxCredits = search (needs, unmapped) in
-    (naming-all ((c .before .loop) .inv) ((c .loop-test) .left) few (omega (arith, la, few)) (omega (arith, lt, few)), few, credits-whole ((c .before .loop) .inv) ((c .loop-test) .left) few)
+    let lt : length ((c .before .before .before .args) .t2) ≡ maxCredits = search (needs, unmapped) in (
+      naming-all ((c .before .loop) .inv) ((c .loop-test) .left) few (omega (arith, la, few)) (omega (arith, lt, few)),
+      few,
+      credits-whole
+          ((c .before .loop) .inv) ((c .loop-test) .left) few,
+    )
 
 pub named-credits-spec : {M : Type 1} → statement M
 named-credits-spec =

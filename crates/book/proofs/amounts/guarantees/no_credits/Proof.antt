@@ -1,5 +1,5 @@
-use Rattle.book.proofs.amounts.Handed.{credits-none}
 use borrow.Author.Needs.{needs}
+use Rattle.book.proofs.amounts.Handed.{credits-none}
 use Rattle.book.proofs.amounts.guarantees.no_credits.Statement.{statement}
 use Rattle.book.proofs.amounts.guarantees.no_credits.Tie as tie
 

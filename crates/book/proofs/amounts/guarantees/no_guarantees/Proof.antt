@@ -1,5 +1,5 @@
-use Rattle.book.proofs.amounts.Handed.{no-credits}
 use borrow.Author.Needs.{needs}
+use Rattle.book.proofs.amounts.Handed.{no-credits}
 use Rattle.book.proofs.amounts.guarantees.no_guarantees.Statement.{statement}
 use Rattle.book.proofs.amounts.guarantees.no_guarantees.Tie as tie
 

@@ -4,13 +4,13 @@ use Prim.Native.Nat.{ℕ}
 use mathlib.Core.Path.{_≡_}
 use mathlib.Core.List.{List}
 use lib.ListN.{length, getD}
+use borrow.Author.Needs.{needs}
+use native.Mathlib.Omega.{arith}
 use Rattle.book.specs.Layer.{TotalsAnswer, totalsWithIn}
 use Rattle.book.proofs.log.Survey.{to-end}
 use Rattle.book.specs.tables.Worked.{noSpot}
 use Rattle.book.proofs.Totalling.{Totalling, totalling-start, totalling-more, totalling-all}
 use Rattle.book.proofs.Inserting.{unmapped}
-use borrow.Author.Needs.{needs}
-use native.Mathlib.Omega.{arith}
 use Rattle.book.proofs.amounts.guarantees.totals_at.Statement.{statement}
 use Rattle.book.proofs.amounts.guarantees.totals_at.Tie as tie
 
@@ -52,7 +52,15 @@ loop-less : tie.Need-loop-less Inv-loop μ-loop
 loop-less c = omega (arith, (c .before .before .before .before .loop-test) .taken)
 
 loop-again : tie.Need-loop-again Inv-loop μ-loop
-loop-again c = let la : length ((c .before .before .before .before .before .before .before .args) .t2 .at) ≡ 16 = search (needs, unmapped) in totalling-more ((c .before .before .before .before .before .loop) .inv) ((c .before .before .before .before .loop-test) .taken) (omega (arith, la, (c .before .before .before .before .before .before .before .pre) .few)) (ap (λ (a : TotalsAnswer). a .totals) ((c .before .totals-with-export) .ensures) ∙ ap (λ (x : List ℕ). totalsWithIn x ((c .before .before .before .before .before .loop) .sums) .totals) (to-end (getD ((c .before .before .before .before .before .before .before .args) .t2 .at) ((c .before .before .before .before .before .loop) .i) noSpot .start) ((c .before .before .before .before .before .before .before .args) .log .now)))
+loop-again c = let la : length ((c .before .before .before .before .before .before .before .args) .t2 .at) ≡ 16 = search (needs, unmapped) in totalling-more
+    ((c .before .before .before .before .before .loop) .inv) ((c .before .before .before .before .loop-test) .taken) (omega (
+      arith,
+      la,
+      (c .before .before .before .before .before .before .before .pre) .few,
+    )) (ap (λ (a : TotalsAnswer). a .totals) ((c .before .totals-with-export) .ensures) ∙
+    ap (λ (x : List ℕ). totalsWithIn x ((c .before .before .before .before .before .loop) .sums) .totals) (to-end
+    (getD ((c .before .before .before .before .before .before .before .args) .t2 .at) ((c .before .before .before .before .before .loop) .i) noSpot .start)
+    ((c .before .before .before .before .before .before .before .args) .log .now)))
 
 returns : tie.Need-returns Inv-loop μ-loop
 returns c = totalling-all ((c .before .loop) .inv) ((c .loop-test) .left)

@@ -1,9 +1,9 @@
 use mathlib.Core.Path.{_≡_, sym, _∙_}
 use lib.ListN.{length}
+use borrow.Author.Needs.{needs}
 use Rattle.book.proofs.Inserting.{unmapped}
 use Rattle.book.proofs.amounts.guarantees.Lemmas.{worked-offset, worked-is, never-refused}
 use Rattle.book.proofs.amounts.Handed.{with-credits}
-use borrow.Author.Needs.{needs}
 use Rattle.book.proofs.amounts.guarantees.worked.Statement.{statement}
 use Rattle.book.proofs.amounts.guarantees.worked.Tie as tie
 
@@ -35,20 +35,45 @@ no-guarantees-requires : tie.Need-no-guarantees-requires
 no-guarantees-requires c κs = search needs
 
 returns : tie.Need-returns
-returns c = let la : length ((c .before .before .before .before .before .before .before .before .before .before .args) .imports .at) ≡ 16 = search (needs, unmapped) in (
-  λ w. worked-is ((c .before .before .before .before .before .before .before .before .before .before .args) .log .now) ((c .before .before .before .before .before .before .before .before .before .before .args) .imports) ((c .before .before .before .before .before .before .before .before .before .before .args) .exports) ((c .before .before .before .before .before .before .before .before .before .before .args) .prices) ((c .before .before .before .before .before .before .before .before .entries-at) .result) ((c .before .before .before .before .before .before .before .before .entries-at) .ensures) ((c .before .credits-of) .result) ((c .before .credits-of) .ensures) ((c .named-credits) .result) ((c .named-credits) .ensures .0) _
-      (sym ((c .before .before .before .a) .given .1) ∙ (c .before .before .before .before .before .hour-offset) .ensures ∙ worked-offset ((c .before .before .before .before .before .before .before .before .before .before .args) .log .now) ((c .before .before .before .before .before .before .before .before .before .before .args) .imports) ((c .before .before .before .before .before .before .before .before .before .before .args) .exports) ((c .before .before .before .before .before .before .before .before .before .before .args) .prices) w ((c .before .before .before .before .before .before .before .before .before .before .pre) .0 .few) la ((c .before .before .before .before .before .before .before .before .entries-at) .result) ((c .before .before .before .before .before .before .before .before .entries-at) .ensures) ((c .before .before .before .before .before .before .before .totals-at) .result) ((c .before .before .before .before .before .before .before .totals-at) .ensures)),
-  (c .named-credits) .ensures .1,
-  with-credits ((c .named-credits) .result) _ ((c .named-credits) .ensures .2),
-)
+returns c = let la : length ((c .before .before .before .before .before .before .before .before .before .before .args) .imports .at) ≡ 16 = search
+    (needs, unmapped) in (
+      λ w. worked-is ((c .before .before .before .before .before .before .before .before .before .before .args) .log .now)
+          ((c .before .before .before .before .before .before .before .before .before .before .args) .imports)
+          ((c .before .before .before .before .before .before .before .before .before .before .args) .exports)
+          ((c .before .before .before .before .before .before .before .before .before .before .args) .prices)
+          ((c .before .before .before .before .before .before .before .before .entries-at) .result)
+          ((c .before .before .before .before .before .before .before .before .entries-at) .ensures) ((c .before .credits-of) .result)
+          ((c .before .credits-of) .ensures) ((c .named-credits) .result) ((c .named-credits) .ensures .0) _
+          (sym ((c .before .before .before .a) .given .1) ∙ (c .before .before .before .before .before .hour-offset) .ensures ∙ worked-offset
+          ((c .before .before .before .before .before .before .before .before .before .before .args) .log .now)
+          ((c .before .before .before .before .before .before .before .before .before .before .args) .imports)
+          ((c .before .before .before .before .before .before .before .before .before .before .args) .exports)
+          ((c .before .before .before .before .before .before .before .before .before .before .args) .prices) w
+          ((c .before .before .before .before .before .before .before .before .before .before .pre) .0 .few) la
+          ((c .before .before .before .before .before .before .before .before .entries-at) .result)
+          ((c .before .before .before .before .before .before .before .before .entries-at) .ensures)
+          ((c .before .before .before .before .before .before .before .totals-at) .result)
+          ((c .before .before .before .before .before .before .before .totals-at) .ensures)),
+      (c .named-credits) .ensures .1,
+      with-credits ((c .named-credits) .result) _ ((c .named-credits) .ensures .2),
+    )
 
 returns-2 : tie.Need-returns-2
-returns-2 c = let la : length ((c .before .before .before .before .before .before .before .before .before .args) .imports .at) ≡ 16 = search (needs, unmapped) in (
-  λ w. never-refused
-      (sym ((c .before .before .a2) .given .1) ∙ (c .before .before .before .before .hour-offset) .ensures ∙ worked-offset ((c .before .before .before .before .before .before .before .before .before .args) .log .now) ((c .before .before .before .before .before .before .before .before .before .args) .imports) ((c .before .before .before .before .before .before .before .before .before .args) .exports) ((c .before .before .before .before .before .before .before .before .before .args) .prices) w ((c .before .before .before .before .before .before .before .before .before .pre) .0 .few) la ((c .before .before .before .before .before .before .before .entries-at) .result) ((c .before .before .before .before .before .before .before .entries-at) .ensures) ((c .before .before .before .before .before .before .totals-at) .result) ((c .before .before .before .before .before .before .totals-at) .ensures)),
-  (c .no-guarantees) .ensures .1,
-  (c .no-guarantees) .ensures .2,
-)
+returns-2 c = let la : length ((c .before .before .before .before .before .before .before .before .before .args) .imports .at) ≡ 16 = search
+    (needs, unmapped) in (
+      λ w. never-refused
+          (sym ((c .before .before .a2) .given .1) ∙ (c .before .before .before .before .hour-offset) .ensures ∙ worked-offset
+          ((c .before .before .before .before .before .before .before .before .before .args) .log .now)
+          ((c .before .before .before .before .before .before .before .before .before .args) .imports)
+          ((c .before .before .before .before .before .before .before .before .before .args) .exports)
+          ((c .before .before .before .before .before .before .before .before .before .args) .prices) w
+          ((c .before .before .before .before .before .before .before .before .before .pre) .0 .few) la
+          ((c .before .before .before .before .before .before .before .entries-at) .result)
+          ((c .before .before .before .before .before .before .before .entries-at) .ensures)
+          ((c .before .before .before .before .before .before .totals-at) .result) ((c .before .before .before .before .before .before .totals-at) .ensures)),
+      (c .no-guarantees) .ensures .1,
+      (c .no-guarantees) .ensures .2,
+    )
 
 pub worked-spec : {M : Type 1} → statement M
 worked-spec =

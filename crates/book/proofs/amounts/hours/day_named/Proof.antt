@@ -62,8 +62,10 @@ loop-again c =
     let c3 = c .before .before .before in
     let c4 = c3 .before in
     ⊎-elim
-    (λ x. subst⁻¹ (Dayed _ _ _ _ _ _) (x .2) (dayed-put ((c4 .loop) .inv) ((c3 .loop-test) .taken) ((c .before .hour-for) .ensures) (x .0 .taken) (x .1 .ensures .0)))
-    (λ x. subst⁻¹ (Dayed _ _ _ _ _ _) (x .1) (dayed-skip ((c4 .loop) .inv) ((c3 .loop-test) .taken) ((c .before .hour-for) .ensures) (x .0 .left))) ((c .if1) .came)
+    (λ x. subst⁻¹ (Dayed _ _ _ _ _ _) (x .2)
+    (dayed-put ((c4 .loop) .inv) ((c3 .loop-test) .taken) ((c .before .hour-for) .ensures) (x .0 .taken) (x .1 .ensures .0)))
+    (λ x. subst⁻¹ (Dayed _ _ _ _ _ _) (x .1) (dayed-skip ((c4 .loop) .inv) ((c3 .loop-test) .taken) ((c .before .hour-for) .ensures) (x .0 .left)))
+    ((c .if1) .came)
 
 returns : tie.Need-returns Inv-loop μ-loop
 returns c = dayed-end ((c .before .loop) .inv) ((c .loop-test) .left)

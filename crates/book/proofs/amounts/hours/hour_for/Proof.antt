@@ -3,10 +3,10 @@ use mathlib.Core.Path.{ap, _∙_}
 use mathlib.Core.Bool.{true, false}
 use native.Mathlib.Omega.{arith}
 use lib.ListN.{drop}
+use borrow.Author.Needs.{needs}
 use Rattle.book.specs.Layer.{begins}
 use Rattle.book.proofs.log.Survey.{to-end}
 use Rattle.book.proofs.amounts.hours.Lemmas.{hour-marked, name-hourless, name-starts}
-use borrow.Author.Needs.{needs}
 use Rattle.book.proofs.amounts.hours.hour_for.Statement.{statement}
 use Rattle.book.proofs.amounts.hours.hour_for.Tie as tie
 
@@ -28,13 +28,23 @@ sub-starts : tie.Need-sub-starts
 sub-starts c =
     let c2 = c .before .before in
     let c5 = c2 .before .before .before in
-    omega (arith, (c .place-in) .ensures .0, (c5 .pre) (hour-marked ((c5 .args) .row) ((c5 .args) .mark) ((c5 .args) .name .now) ((c5 .args) .log .now) ((c2 .hour-in) .ensures) ((c .before .if1) .left)))
+    omega (
+      arith,
+      (c .place-in) .ensures .0,
+      (c5 .pre)
+          (hour-marked ((c5 .args) .row) ((c5 .args) .mark) ((c5 .args) .name .now) ((c5 .args) .log .now) ((c2 .hour-in) .ensures) ((c .before .if1) .left)),
+    )
 
 part-starts-start : tie.Need-part-starts-start
 part-starts-start c =
     let c2 = c .before .before in
     let c5 = c2 .before .before .before in
-    omega (arith, (c .place-in) .ensures .0, (c5 .pre) (hour-marked ((c5 .args) .row) ((c5 .args) .mark) ((c5 .args) .name .now) ((c5 .args) .log .now) ((c2 .hour-in) .ensures) ((c .before .if1) .left)))
+    omega (
+      arith,
+      (c .place-in) .ensures .0,
+      (c5 .pre)
+          (hour-marked ((c5 .args) .row) ((c5 .args) .mark) ((c5 .args) .name .now) ((c5 .args) .log .now) ((c2 .hour-in) .ensures) ((c .before .if1) .left)),
+    )
 
 part-starts-end : tie.Need-part-starts-end
 part-starts-end c = search needs
@@ -48,7 +58,9 @@ returns-2 c =
     let c4 = c3 .before in
     let c5 = c4 .before in
     let c8 = c5 .before .before .before in
-    name-starts ((c8 .args) .row) ((c8 .args) .mark) ((c8 .args) .name .now) ((c8 .args) .log .now) ((c5 .hour-in) .ensures) ((c4 .if1) .left) ((c .before .starts) .ensures ∙ ap (begins ((c8 .args) .name .now)) (to-end ((c3 .place-in) .result + 3) ((c8 .args) .log .now)) ∙ ap (λ (x : ℕ). begins ((c8 .args) .name .now) (drop (x + 3) ((c8 .args) .log .now))) ((c3 .place-in) .ensures .0)) true ((c .if2) .taken)
+    name-starts ((c8 .args) .row) ((c8 .args) .mark) ((c8 .args) .name .now) ((c8 .args) .log .now) ((c5 .hour-in) .ensures) ((c4 .if1) .left)
+    ((c .before .starts) .ensures ∙ ap (begins ((c8 .args) .name .now)) (to-end ((c3 .place-in) .result + 3) ((c8 .args) .log .now)) ∙ ap
+    (λ (x : ℕ). begins ((c8 .args) .name .now) (drop (x + 3) ((c8 .args) .log .now))) ((c3 .place-in) .ensures .0)) true ((c .if2) .taken)
 
 returns-3 : tie.Need-returns-3
 returns-3 c =
@@ -56,7 +68,9 @@ returns-3 c =
     let c4 = c3 .before in
     let c5 = c4 .before in
     let c8 = c5 .before .before .before in
-    name-starts ((c8 .args) .row) ((c8 .args) .mark) ((c8 .args) .name .now) ((c8 .args) .log .now) ((c5 .hour-in) .ensures) ((c4 .if1) .left) ((c .before .starts) .ensures ∙ ap (begins ((c8 .args) .name .now)) (to-end ((c3 .place-in) .result + 3) ((c8 .args) .log .now)) ∙ ap (λ (x : ℕ). begins ((c8 .args) .name .now) (drop (x + 3) ((c8 .args) .log .now))) ((c3 .place-in) .ensures .0)) false ((c .if2) .left)
+    name-starts ((c8 .args) .row) ((c8 .args) .mark) ((c8 .args) .name .now) ((c8 .args) .log .now) ((c5 .hour-in) .ensures) ((c4 .if1) .left)
+    ((c .before .starts) .ensures ∙ ap (begins ((c8 .args) .name .now)) (to-end ((c3 .place-in) .result + 3) ((c8 .args) .log .now)) ∙ ap
+    (λ (x : ℕ). begins ((c8 .args) .name .now) (drop (x + 3) ((c8 .args) .log .now))) ((c3 .place-in) .ensures .0)) false ((c .if2) .left)
 
 pub hour-for-spec : {M : Type 1} → statement M
 hour-for-spec =

@@ -1,5 +1,5 @@
-use Rattle.book.proofs.amounts.hours.Lemmas.{hour-below, hour-other, hour-own}
 use borrow.Author.Needs.{needs}
+use Rattle.book.proofs.amounts.hours.Lemmas.{hour-below, hour-other, hour-own}
 use Rattle.book.proofs.amounts.hours.hour_in.Statement.{statement}
 use Rattle.book.proofs.amounts.hours.hour_in.Tie as tie
 

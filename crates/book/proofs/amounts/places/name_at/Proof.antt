@@ -1,8 +1,8 @@
 use mathlib.Core.Path.{_∙_, ap}
+use borrow.Author.Needs.{needs}
 use Rattle.book.specs.Layer.{KeyAnswer, keyAnswer}
 use Rattle.book.specs.tables.LayerTables.{headKey}
 use Rattle.book.proofs.log.Survey.{to-end}
-use borrow.Author.Needs.{needs}
 use Rattle.book.proofs.amounts.places.name_at.Statement.{statement}
 use Rattle.book.proofs.amounts.places.name_at.Tie as tie
 

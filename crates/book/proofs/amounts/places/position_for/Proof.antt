@@ -1,11 +1,11 @@
-use Rattle.book.specs.tables.Places.{putSpot}
-use Rattle.book.proofs.Inserting.{unmapped, Sought, sought-start}
-use Rattle.book.proofs.amounts.places.Lemmas.{slot-here, slot-on, slot-end}
 use Prim.Native.Nat.{_-_}
 use lib.ListN.{length}
 use mathlib.Core.Path.{_≡_}
 use borrow.Author.Needs.{needs}
 use native.Mathlib.Omega.{arith}
+use Rattle.book.specs.tables.Places.{putSpot}
+use Rattle.book.proofs.Inserting.{unmapped, Sought, sought-start}
+use Rattle.book.proofs.amounts.places.Lemmas.{slot-here, slot-on, slot-end}
 use Rattle.book.proofs.amounts.places.position_for.Statement.{statement}
 use Rattle.book.proofs.amounts.places.position_for.Tie as tie
 
@@ -28,7 +28,13 @@ comes-before-requires : tie.Need-comes-before-requires Inv-loop μ-loop
 comes-before-requires c κs = search needs
 
 returns : tie.Need-returns Inv-loop μ-loop
-returns c = let z : length ((c .before .before .before .before .before .args) .t1 .at) ≡ 16 = search (needs, unmapped) in (omega (arith, (c .before .before .before .loop-test) .taken), slot-here ((c .before .before .before .before .before .args) .s) ((c .before .before .before .before .before .args) .t1) ((c .before .before .before .before .loop) .i) ((c .before .before .before .before .loop) .inv) (omega arith) _ ((c .before .before .before .loop-test) .taken) _ ((c .before .comes-before) .ensures) ((c .if1) .taken))
+returns c = let z : length ((c .before .before .before .before .before .args) .t1 .at) ≡ 16 = search (needs, unmapped) in (
+  omega
+      (arith, (c .before .before .before .loop-test) .taken),
+  slot-here ((c .before .before .before .before .before .args) .s)
+      ((c .before .before .before .before .before .args) .t1) ((c .before .before .before .before .loop) .i) ((c .before .before .before .before .loop) .inv)
+      (omega arith) _ ((c .before .before .before .loop-test) .taken) _ ((c .before .comes-before) .ensures) ((c .if1) .taken),
+)
 
 add-i : tie.Need-add-i Inv-loop μ-loop
 add-i c = search needs
@@ -37,10 +43,17 @@ loop-less : tie.Need-loop-less Inv-loop μ-loop
 loop-less c = omega (arith, (c .before .before .before .loop-test) .taken)
 
 loop-again : tie.Need-loop-again Inv-loop μ-loop
-loop-again c = let z : length ((c .before .before .before .before .before .args) .t1 .at) ≡ 16 = search (needs, unmapped) in slot-on ((c .before .before .before .before .before .args) .s) ((c .before .before .before .before .before .args) .t1) ((c .before .before .before .before .loop) .i) ((c .before .before .before .before .loop) .inv) (omega arith) _ ((c .before .before .before .loop-test) .taken) _ ((c .before .comes-before) .ensures) ((c .if1) .left)
+loop-again c = let z : length ((c .before .before .before .before .before .args) .t1 .at) ≡ 16 = search (needs, unmapped) in slot-on
+    ((c .before .before .before .before .before .args) .s) ((c .before .before .before .before .before .args) .t1)
+    ((c .before .before .before .before .loop) .i) ((c .before .before .before .before .loop) .inv) (omega arith) _
+    ((c .before .before .before .loop-test) .taken) _ ((c .before .comes-before) .ensures) ((c .if1) .left)
 
 returns-2 : tie.Need-returns-2 Inv-loop μ-loop
-returns-2 c = let z : length ((c .before .before .args) .t1 .at) ≡ 16 = search (needs, unmapped) in (omega arith, slot-end ((c .before .before .args) .s) ((c .before .before .args) .t1) ((c .before .loop) .i) ((c .before .loop) .inv) (omega arith) ((c .loop-test) .left))
+returns-2 c = let z : length ((c .before .before .args) .t1 .at) ≡ 16 = search (needs, unmapped) in (
+  omega arith,
+  slot-end ((c .before .before .args) .s)
+      ((c .before .before .args) .t1) ((c .before .loop) .i) ((c .before .loop) .inv) (omega arith) ((c .loop-test) .left),
+)
 
 pub position-for-spec : {M : Type 1} → statement M
 position-for-spec =

@@ -1,8 +1,8 @@
 use mathlib.Core.Path.{sym, ap, _∙_}
 use native.Mathlib.Omega.{arith}
+use borrow.Author.Needs.{needs}
 use Rattle.book.specs.tables.Places.{putSpot, spots}
 use Rattle.book.proofs.amounts.places.Gathering.{spot-read}
-use borrow.Author.Needs.{needs}
 use Rattle.book.proofs.amounts.places.with_row.Statement.{statement}
 use Rattle.book.proofs.amounts.places.with_row.Tie as tie
 
@@ -22,12 +22,12 @@ returns : tie.Need-returns
 returns c =
     let c2 = c .before .before in
     let c3 = c2 .before in
-    let c5 = c3 .before .before in
-    (
-  omega (arith, (c .inserted) .ensures .0, (c5 .pre) .0),
-  (c .inserted) .ensures .1 ∙ sym ((c .before .position-for) .ensures .1)
-      ∙ ap (λ y. putSpot y (spots ((c5 .args) .p))) (spot-read ((c5 .args) .log .now) ((c5 .args) .row) ((c3 .place-in) .result) ((c2 .name-at) .result) ((c3 .place-in) .ensures .0) ((c2 .name-at) .ensures)),
-)
+    let c5 = c3 .before .before in (
+      omega (arith, (c .inserted) .ensures .0, (c5 .pre) .0),
+      (c .inserted) .ensures .1 ∙ sym ((c .before .position-for) .ensures .1)
+          ∙ ap (λ y. putSpot y (spots ((c5 .args) .p))) (spot-read ((c5 .args) .log .now) ((c5 .args) .row) ((c3 .place-in) .result) ((c2 .name-at) .result)
+          ((c3 .place-in) .ensures .0) ((c2 .name-at) .ensures)),
+    )
 
 pub with-row-spec : {M : Type 1} → statement M
 with-row-spec =

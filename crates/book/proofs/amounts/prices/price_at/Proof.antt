@@ -1,7 +1,7 @@
 use mathlib.Core.Path.{ap}
 use mathlib.Core.Bool.{true}
-use Rattle.book.specs.Layer.{HourPrices}
 use borrow.Author.Needs.{needs}
+use Rattle.book.specs.Layer.{HourPrices}
 use Rattle.book.proofs.amounts.prices.price_at.Statement.{statement}
 use Rattle.book.proofs.amounts.prices.price_at.Tie as tie
 

@@ -1,5 +1,5 @@
-use Rattle.book.proofs.amounts.prices.Lemmas.{hour-below, hour-other, hour-own}
 use borrow.Author.Needs.{needs}
+use Rattle.book.proofs.amounts.prices.Lemmas.{hour-below, hour-other, hour-own}
 use Rattle.book.proofs.amounts.prices.price_hour.Statement.{statement}
 use Rattle.book.proofs.amounts.prices.price_hour.Tie as tie
 

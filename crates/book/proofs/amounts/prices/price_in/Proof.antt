@@ -1,5 +1,5 @@
-use Rattle.book.proofs.amounts.prices.Lemmas.{sought-inside, price-formed, price-there, price-missing}
 use borrow.Author.Needs.{needs}
+use Rattle.book.proofs.amounts.prices.Lemmas.{sought-inside, price-formed, price-there, price-missing}
 use Rattle.book.proofs.amounts.prices.price_in.Statement.{statement}
 use Rattle.book.proofs.amounts.prices.price_in.Tie as tie
 

@@ -1,9 +1,9 @@
 use mathlib.Core.Path.{refl, subst⁻¹}
 use mathlib.Core.Logic.{⊎-elim}
 use Prim.Native.Nat.{_-_}
-use Rattle.book.proofs.amounts.prices.Lemmas.{Tabling, tabling-start, tabling-few, tabling-within, tabling-hour, tabling-put, tabling-skip, tabling-end}
 use borrow.Author.Needs.{needs}
 use native.Mathlib.Omega.{arith}
+use Rattle.book.proofs.amounts.prices.Lemmas.{Tabling, tabling-start, tabling-few, tabling-within, tabling-hour, tabling-put, tabling-skip, tabling-end}
 use Rattle.book.proofs.amounts.prices.price_table.Statement.{statement}
 use Rattle.book.proofs.amounts.prices.price_table.Tie as tie
 
@@ -75,8 +75,10 @@ loop-again c =
     let c3 = c .before .before .before in
     let c4 = c3 .before in
     ⊎-elim
-    (λ x. subst⁻¹ (Tabling _ _ _ _ _) (x .3) (tabling-put ((c4 .loop) .inv) ((c3 .loop-test) .taken) ((c .before .price-hour) .ensures) (x .0 .taken) (x .1 .ensures .0) _ (x .2 .ensures)))
-    (λ x. subst⁻¹ (Tabling _ _ _ _ _) (x .1) (tabling-skip ((c4 .loop) .inv) ((c3 .loop-test) .taken) ((c .before .price-hour) .ensures) (x .0 .left))) ((c .if1) .came)
+    (λ x. subst⁻¹ (Tabling _ _ _ _ _) (x .3)
+    (tabling-put ((c4 .loop) .inv) ((c3 .loop-test) .taken) ((c .before .price-hour) .ensures) (x .0 .taken) (x .1 .ensures .0) _ (x .2 .ensures)))
+    (λ x. subst⁻¹ (Tabling _ _ _ _ _) (x .1) (tabling-skip ((c4 .loop) .inv) ((c3 .loop-test) .taken) ((c .before .price-hour) .ensures) (x .0 .left)))
+    ((c .if1) .came)
 
 returns : tie.Need-returns Inv-loop μ-loop
 returns c = tabling-end ((c .before .loop) .inv) ((c .loop-test) .left) ((c .before .before .no-price) .ensures)

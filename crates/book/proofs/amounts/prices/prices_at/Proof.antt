@@ -1,7 +1,7 @@
 use mathlib.Core.Path.{ap, _∙_}
+use borrow.Author.Needs.{needs}
 use Rattle.book.specs.Layer.{PricesAnswer, pricesIn}
 use Rattle.book.proofs.log.Survey.{to-end}
-use borrow.Author.Needs.{needs}
 use Rattle.book.proofs.amounts.prices.prices_at.Statement.{statement}
 use Rattle.book.proofs.amounts.prices.prices_at.Tie as tie
 

@@ -1,5 +1,5 @@
-use Rattle.book.proofs.amounts.Handed.{names-none}
 use borrow.Author.Needs.{needs}
+use Rattle.book.proofs.amounts.Handed.{names-none}
 use Rattle.book.proofs.amounts.units.no_names.Statement.{statement}
 use Rattle.book.proofs.amounts.units.no_names.Tie as tie
 

@@ -1,8 +1,8 @@
-use Rattle.book.specs.UnitNames.{namesIn}
-use Rattle.book.proofs.amounts.places.Lemmas.{taken-up, left-out}
 use mathlib.Core.Path.{sym, _∙_}
 use native.Mathlib.Omega.{arith}
 use borrow.Author.Needs.{needs}
+use Rattle.book.specs.UnitNames.{namesIn}
+use Rattle.book.proofs.amounts.places.Lemmas.{taken-up, left-out}
 use Rattle.book.proofs.amounts.units.with_name.Statement.{statement}
 use Rattle.book.proofs.amounts.units.with_name.Tie as tie
 
@@ -15,12 +15,12 @@ inserted-requires c κs = search needs
 returns : tie.Need-returns
 returns c =
     let c2 = c .before .before in
-    let c3 = c2 .before in
-    (
-  omega (arith, (c .inserted) .ensures .0),
-  (c .inserted) .ensures .1 ∙ taken-up ((c2 .position-of) .result .new) _ (namesIn ((c3 .args) .u)) ((c .before .if1) .taken) ∙ sym ((c2 .position-of) .ensures .1),
-  (c .inserted) .ensures .2,
-)
+    let c3 = c2 .before in (
+      omega (arith, (c .inserted) .ensures .0),
+      (c .inserted) .ensures .1 ∙ taken-up ((c2 .position-of) .result .new) _ (namesIn ((c3 .args) .u)) ((c .before .if1) .taken) ∙ sym
+          ((c2 .position-of) .ensures .1),
+      (c .inserted) .ensures .2,
+    )
 
 returns-2 : tie.Need-returns-2
 returns-2 c = (

@@ -49,10 +49,13 @@ loop-less : tie.Need-loop-less Inv-loop μ-loop
 loop-less c = omega (arith, (c .before .before .loop-test) .taken)
 
 loop-again : tie.Need-loop-again Inv-loop μ-loop
-loop-again c = let z : length ((c .before .before .before .before .before .before .args) .t4 .names) ≡ 512 = search (needs, unmapped) in dealt-more ((c .before .before .before .loop) .inv) ((c .before .before .before .before .before .before .pre) .1 .few) z ((c .before .before .loop-test) .taken) _ ((c .of-unit) .result) ((c .of-unit) .ensures)
+loop-again c = let z : length ((c .before .before .before .before .before .before .args) .t4 .names) ≡ 512 = search (needs, unmapped) in dealt-more
+    ((c .before .before .before .loop) .inv) ((c .before .before .before .before .before .before .pre) .1 .few) z ((c .before .before .loop-test) .taken) _
+    ((c .of-unit) .result) ((c .of-unit) .ensures)
 
 returns : tie.Need-returns Inv-loop μ-loop
-returns c = let z : length ((c .before .before .before .before .args) .t4 .names) ≡ 512 = search (needs, unmapped) in dealt-end ((c .before .loop) .inv) ((c .before .before .before .before .pre) .1 .few) z ((c .loop-test) .left)
+returns c = let z : length ((c .before .before .before .before .args) .t4 .names) ≡ 512 = search (needs, unmapped) in dealt-end ((c .before .loop) .inv)
+    ((c .before .before .before .before .pre) .1 .few) z ((c .loop-test) .left)
 
 pub units-of-spec : {M : Type 1} → statement M
 units-of-spec =

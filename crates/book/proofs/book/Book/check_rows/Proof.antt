@@ -1,9 +1,9 @@
 use mathlib.Core.Path.{sym}
-use Rattle.book.proofs.book.Rows.{rowed-by}
 use lib.Seq.{length-take-le}
+use borrow.Author.Needs.{needs}
+use Rattle.book.proofs.book.Rows.{rowed-by}
 use Rattle.book.specs.laws.LoadLaws.{load-short, load-long}
 use Rattle.book.proofs.log.replay.Lemmas.{astray-rowed}
-use borrow.Author.Needs.{needs}
 use Rattle.book.proofs.book.Book.check_rows.Statement.{statement}
 use Rattle.book.proofs.book.Book.check_rows.Tie as tie
 

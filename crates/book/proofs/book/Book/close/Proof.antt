@@ -1,10 +1,10 @@
 use mathlib.Core.Path.{sym, ap, _∙_}
-use Rattle.book.specs.Register.{closing}
+use borrow.Author.Needs.{needs}
 use Rattle.records.specs.Changes.{noKey}
+use Rattle.book.specs.Register.{closing}
 use Rattle.book.proofs.book.Lemmas.{leaves-16}
 use Rattle.book.proofs.book.Rows.{is-rowed, not-rowed}
 use Rattle.book.proofs.log.held.Lemmas.{held-from, close-refused, makes-by}
-use borrow.Author.Needs.{needs}
 use Rattle.book.proofs.book.Book.close.Statement.{statement}
 use Rattle.book.proofs.book.Book.close.Tie as tie
 
@@ -19,7 +19,8 @@ returns c =
     let c2 = c .before .before in
     let c3 = c2 .before in
     let c7 = c3 .before .before .before .before in
-    close-refused ((c7 .args) .self) ((c7 .args) .log .now) (is-rowed _ _ ((c3 .check-rows) .ensures) ((c2 .if1) .taken)) ((c7 .args) .rec .now) ((c .before .parse-close) .ensures) ((c .if2) .taken)
+    close-refused ((c7 .args) .self) ((c7 .args) .log .now) (is-rowed _ _ ((c3 .check-rows) .ensures) ((c2 .if1) .taken)) ((c7 .args) .rec .now)
+    ((c .before .parse-close) .ensures) ((c .if2) .taken)
 
 held-close-requires : tie.Need-held-close-requires
 held-close-requires c κs = search needs
@@ -29,7 +30,8 @@ returns-2 c =
     let c2 = c .before .before in
     let c3 = c2 .before in
     let c4 = c3 .before in
-    makes-by (ap closing (sym ((c2 .parse-close) .ensures) ∙ (c .before .if2) .left)) ((c .held-close) .ensures _ _ noKey (held-from _ _ ((c4 .check-rows) .ensures) ((c3 .if1) .taken))) .leaves
+    makes-by (ap closing (sym ((c2 .parse-close) .ensures) ∙ (c .before .if2) .left))
+    ((c .held-close) .ensures _ _ noKey (held-from _ _ ((c4 .check-rows) .ensures) ((c3 .if1) .taken))) .leaves
 
 returns-3 : tie.Need-returns-3
 returns-3 c =

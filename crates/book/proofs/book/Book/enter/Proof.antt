@@ -1,7 +1,7 @@
+use borrow.Author.Needs.{needs}
 use Rattle.book.proofs.book.Lemmas.{leaves-16}
 use Rattle.book.proofs.book.Rows.{is-rowed, not-rowed}
 use Rattle.book.proofs.log.held.Lemmas.{held-from, since-all, parse-refused, parse-taken}
-use borrow.Author.Needs.{needs}
 use Rattle.book.proofs.book.Book.enter.Statement.{statement}
 use Rattle.book.proofs.book.Book.enter.Tie as tie
 
@@ -20,7 +20,8 @@ returns c =
     let c3 = c2 .before in
     let c4 = c3 .before in
     let c9 = c4 .before .before .before .before .before in
-    parse-refused ((c9 .args) .self) ((c9 .args) .log .now) (is-rowed _ _ ((c4 .check-rows) .ensures) ((c3 .if1) .taken)) ((c9 .args) .rec .now) ((c9 .args) .want) ((c2 .parse-change) .result) ((c2 .parse-change) .ensures) ((c .if2) .taken)
+    parse-refused ((c9 .args) .self) ((c9 .args) .log .now) (is-rowed _ _ ((c4 .check-rows) .ensures) ((c3 .if1) .taken)) ((c9 .args) .rec .now)
+    ((c9 .args) .want) ((c2 .parse-change) .result) ((c2 .parse-change) .ensures) ((c .if2) .taken)
 
 cast-n : tie.Need-cast-n
 cast-n c = search needs
@@ -32,7 +33,16 @@ held-enter-requires c κs =
     let c7 = c6 .before in
     let c8 = c7 .before in
     let c13 = c8 .before .before .before .before .before in
-    let h = held-from ((c13 .args) .self) ((c13 .args) .log .now) ((c8 .check-rows) .ensures) ((c7 .if1) .taken) in (h, (since-all h _, record { want = _; change = parse-taken ((c13 .args) .want) ((c13 .args) .rec .now) ((c6 .parse-change) .result) ((c6 .parse-change) .ensures) ((c4 .if2) .left) }))
+    let h = held-from ((c13 .args) .self) ((c13 .args) .log .now) ((c8 .check-rows) .ensures) ((c7 .if1) .taken) in (
+      h,
+      (
+        since-all h _,
+        record {
+          want = _;
+          change = parse-taken ((c13 .args) .want) ((c13 .args) .rec .now) ((c6 .parse-change) .result) ((c6 .parse-change) .ensures) ((c4 .if2) .left);
+        },
+      ),
+    )
 
 same-length-2 : tie.Need-same-length-2
 same-length-2 c = search needs
@@ -43,7 +53,8 @@ returns-2 c =
     let c7 = c2 .before .before .before .before .before in
     let c9 = c7 .before .before in
     let c16 = c9 .before .before .before .before .before .before .before in
-    ((c2 .held-enter) .ensures ((c16 .args) .want) (parse-taken ((c16 .args) .want) ((c16 .args) .rec .now) ((c9 .parse-change) .result) ((c9 .parse-change) .ensures) ((c7 .if2) .left))) .leaves
+    ((c2 .held-enter) .ensures ((c16 .args) .want)
+    (parse-taken ((c16 .args) .want) ((c16 .args) .rec .now) ((c9 .parse-change) .result) ((c9 .parse-change) .ensures) ((c7 .if2) .left))) .leaves
 
 same-length-3 : tie.Need-same-length-3
 same-length-3 c = search needs

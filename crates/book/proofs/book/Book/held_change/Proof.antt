@@ -1,6 +1,6 @@
+use borrow.Author.Needs.{needs}
 use Rattle.book.specs.Layer.{Any}
 use Rattle.book.proofs.log.held.Lemmas.{only-back, only-close, only-record, only-none, makes-by}
-use borrow.Author.Needs.{needs}
 use Rattle.book.proofs.book.Book.held_change.Statement.{statement}
 use Rattle.book.proofs.book.Book.held_change.Tie as tie
 

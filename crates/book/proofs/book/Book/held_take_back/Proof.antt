@@ -1,5 +1,5 @@
-use Rattle.book.proofs.log.held.Lemmas.{held-log, back-closed, back-none, above, last-few, back-makes}
 use borrow.Author.Needs.{needs}
+use Rattle.book.proofs.log.held.Lemmas.{held-log, back-closed, back-none, above, last-few, back-makes}
 use Rattle.book.proofs.book.Book.held_take_back.Statement.{statement}
 use Rattle.book.proofs.book.Book.held_take_back.Tie as tie
 

@@ -1,10 +1,10 @@
 use mathlib.Core.Path.{sym, ap, _∙_}
-use Rattle.book.specs.Register.{takenBack}
+use borrow.Author.Needs.{needs}
 use Rattle.records.specs.Changes.{noKey}
+use Rattle.book.specs.Register.{takenBack}
 use Rattle.book.proofs.book.Lemmas.{leaves-16}
 use Rattle.book.proofs.book.Rows.{is-rowed, not-rowed}
 use Rattle.book.proofs.log.held.Lemmas.{held-from, back-refused, makes-by}
-use borrow.Author.Needs.{needs}
 use Rattle.book.proofs.book.Book.take_back.Statement.{statement}
 use Rattle.book.proofs.book.Book.take_back.Tie as tie
 
@@ -19,7 +19,8 @@ returns c =
     let c2 = c .before .before in
     let c3 = c2 .before in
     let c7 = c3 .before .before .before .before in
-    back-refused ((c7 .args) .self) ((c7 .args) .log .now) (is-rowed _ _ ((c3 .check-rows) .ensures) ((c2 .if1) .taken)) ((c7 .args) .rec .now) ((c .before .parse-take-back) .ensures) ((c .if2) .taken)
+    back-refused ((c7 .args) .self) ((c7 .args) .log .now) (is-rowed _ _ ((c3 .check-rows) .ensures) ((c2 .if1) .taken)) ((c7 .args) .rec .now)
+    ((c .before .parse-take-back) .ensures) ((c .if2) .taken)
 
 held-take-back-requires : tie.Need-held-take-back-requires
 held-take-back-requires c κs = held-from _ _ ((c .before .before .before .before .check-rows) .ensures) ((c .before .before .before .if1) .taken)

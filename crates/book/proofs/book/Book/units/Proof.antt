@@ -1,11 +1,11 @@
+use mathlib.Core.List.{[]}
+use mathlib.Core.Path.{sym, ap}
+use borrow.Author.Needs.{needs}
 use Rattle.book.proofs.book.Rows.{is-rowed, not-rowed, rowed-log, rowed-logged}
 use Rattle.book.specs.Meaning.{load}
 use Rattle.book.specs.UnitNames.{unitNames, namesIn}
 use Rattle.book.proofs.amounts.Handed.{with-units, no-names-few}
-use mathlib.Core.List.{[]}
 use Rattle.book.proofs.amounts.units.Lemmas.{units-at}
-use mathlib.Core.Path.{sym, ap}
-use borrow.Author.Needs.{needs}
 use Rattle.book.proofs.book.Book.units.Statement.{statement}
 use Rattle.book.proofs.book.Book.units.Tie as tie
 
@@ -36,7 +36,8 @@ returns c =
     let w = (c5 .check-rows) .ensures in
     let x = is-rowed (a .self) (a .log .now) w ((c4 .if1) .taken) in
     let u = (c .names-in) .result in (
-      units-at (load (a .self) (a .log .now)) (x .list) (x .is) ((c .before .key-of) .result) ((c .before .key-of) .ensures) u ((c .names-in) .ensures .0 (x .list) (rowed-logged (a .self) (a .log .now) w x)),
+      units-at (load (a .self) (a .log .now)) (x .list) (x .is) ((c .before .key-of) .result) ((c .before .key-of) .ensures) u
+          ((c .names-in) .ensures .0 (x .list) (rowed-logged (a .self) (a .log .now) w x)),
       (c .names-in) .ensures .1,
       with-units 0 u (namesIn u) ((c .names-in) .ensures .2),
     )

@@ -1,8 +1,8 @@
 use mathlib.Core.Path.{refl, sym, _∙_}
-use Rattle.book.proofs.log.rows.Lemmas.{ruled-few, begins-there}
-use Rattle.book.proofs.log.held.Restoring.{Backward, backward-start, backward-end, back-inside, back-skip, back-within, back-other, back-hit}
 use native.Mathlib.Omega.{arith}
 use borrow.Author.Needs.{needs}
+use Rattle.book.proofs.log.rows.Lemmas.{ruled-few, begins-there}
+use Rattle.book.proofs.log.held.Restoring.{Backward, backward-start, backward-end, back-inside, back-skip, back-within, back-other, back-hit}
 use Rattle.book.proofs.log.held.written_before.Statement.{statement}
 use Rattle.book.proofs.log.held.written_before.Tie as tie
 
@@ -43,7 +43,8 @@ sub-starts c =
     let c4 = c2 .before .before in
     let c5 = c4 .before in
     let c8 = c5 .before .before .before in
-    back-within ((c5 .loop) .inv) ((c4 .loop-test) .taken) _ refl (sym ((c2 .wrote-in) .ensures) ∙ (c .before .if1) .taken) _ ((c .place-in) .ensures .0) ((c8 .pre) .0)
+    back-within ((c5 .loop) .inv) ((c4 .loop-test) .taken) _ refl (sym ((c2 .wrote-in) .ensures) ∙ (c .before .if1) .taken) _ ((c .place-in) .ensures .0)
+    ((c8 .pre) .0)
 
 part-starts-start : tie.Need-part-starts-start Inv-loop μ-loop
 part-starts-start c =
@@ -51,7 +52,11 @@ part-starts-start c =
     let c4 = c2 .before .before in
     let c5 = c4 .before in
     let c8 = c5 .before .before .before in
-    omega (arith, back-within ((c5 .loop) .inv) ((c4 .loop-test) .taken) _ refl (sym ((c2 .wrote-in) .ensures) ∙ (c .before .if1) .taken) _ ((c .place-in) .ensures .0) ((c8 .pre) .0))
+    omega (
+      arith,
+      back-within ((c5 .loop) .inv) ((c4 .loop-test) .taken) _ refl (sym ((c2 .wrote-in) .ensures) ∙ (c .before .if1) .taken) _
+          ((c .place-in) .ensures .0) ((c8 .pre) .0),
+    )
 
 part-starts-end : tie.Need-part-starts-end Inv-loop μ-loop
 part-starts-end c = search needs
@@ -67,7 +72,8 @@ returns c =
     let c7 = c5 .before .before in
     let c8 = c7 .before in
     let c11 = c8 .before .before .before in
-    back-hit ((c8 .loop) .inv) ((c7 .loop-test) .taken) _ refl (sym ((c5 .wrote-in) .ensures) ∙ (c4 .if1) .taken) _ ((c3 .place-in) .ensures .0) (begins-there ((c11 .args) .head .now) ((c11 .args) .log .now) ((c3 .place-in) .result) ((c .before .starts) .ensures) ((c .if2) .taken))
+    back-hit ((c8 .loop) .inv) ((c7 .loop-test) .taken) _ refl (sym ((c5 .wrote-in) .ensures) ∙ (c4 .if1) .taken) _ ((c3 .place-in) .ensures .0)
+    (begins-there ((c11 .args) .head .now) ((c11 .args) .log .now) ((c3 .place-in) .result) ((c .before .starts) .ensures) ((c .if2) .taken))
 
 loop-less : tie.Need-loop-less Inv-loop μ-loop
 loop-less c = omega (arith, (c .before .before .before .before .before .before .before .loop-test) .taken)
@@ -80,7 +86,8 @@ loop-again c =
     let c7 = c5 .before .before in
     let c8 = c7 .before in
     let c11 = c8 .before .before .before in
-    back-other ((c8 .loop) .inv) ((c7 .loop-test) .taken) _ refl (sym ((c5 .wrote-in) .ensures) ∙ (c4 .if1) .taken) _ ((c3 .place-in) .ensures .0) (begins-there ((c11 .args) .head .now) ((c11 .args) .log .now) ((c3 .place-in) .result) ((c .before .starts) .ensures) ((c .if2) .left))
+    back-other ((c8 .loop) .inv) ((c7 .loop-test) .taken) _ refl (sym ((c5 .wrote-in) .ensures) ∙ (c4 .if1) .taken) _ ((c3 .place-in) .ensures .0)
+    (begins-there ((c11 .args) .head .now) ((c11 .args) .log .now) ((c3 .place-in) .result) ((c .before .starts) .ensures) ((c .if2) .left))
 
 loop-less-2 : tie.Need-loop-less-2 Inv-loop μ-loop
 loop-less-2 c = omega (arith, (c .before .before .before .loop-test) .taken)

@@ -1,5 +1,5 @@
-use Rattle.book.proofs.log.refusal.Lemmas.{withdrawal-by}
 use borrow.Author.Needs.{needs}
+use Rattle.book.proofs.log.refusal.Lemmas.{withdrawal-by}
 use Rattle.book.proofs.log.held.wrote_in.Statement.{statement}
 use Rattle.book.proofs.log.held.wrote_in.Tie as tie
 

@@ -1,8 +1,8 @@
 use Prim.Native.Nat.{_-_}
 use mathlib.Core.Path.{subst}
-use Rattle.book.proofs.log.index.Lemmas.{Weighing, weighing-start, byte-weighs, weighing-next, weighing-end}
 use borrow.Author.Needs.{needs}
 use native.Mathlib.Omega.{arith}
+use Rattle.book.proofs.log.index.Lemmas.{Weighing, weighing-start, byte-weighs, weighing-next, weighing-end}
 use Rattle.book.proofs.log.index.bucket_of.Statement.{statement}
 use Rattle.book.proofs.log.index.bucket_of.Tie as tie
 
@@ -30,7 +30,12 @@ mul-sum c = omega (arith, byte-weighs ((c .wide) .result) ((c .before .before .l
 add-sum : tie.Need-add-sum Inv-loop μ-loop
 add-sum c =
     let c2 = c .before .before in
-    omega (arith, byte-weighs ((c .wide) .result) ((c2 .loop) .weight) ((c .wide) .ensures .1) ((c2 .loop) .inv .light), (c2 .loop) .inv .most, (c .before .loop-test) .taken)
+    omega (
+      arith,
+      byte-weighs ((c .wide) .result) ((c2 .loop) .weight) ((c .wide) .ensures .1) ((c2 .loop) .inv .light),
+      (c2 .loop) .inv .most,
+      (c .before .loop-test) .taken,
+    )
 
 mul-weight : tie.Need-mul-weight Inv-loop μ-loop
 mul-weight c = omega (arith, (c .before .before .loop) .inv .light)
@@ -42,10 +47,13 @@ loop-less : tie.Need-loop-less Inv-loop μ-loop
 loop-less c = omega arith
 
 loop-again : tie.Need-loop-again Inv-loop μ-loop
-loop-again c = weighing-next _ _ ((c .before .before .loop) .sum) ((c .before .before .loop) .weight) ((c .before .before .loop) .i) _ ((c .wide) .result) (search needs) ((c .before .before .loop) .inv) ((c .before .loop-test) .taken) ((c .wide) .ensures .0) ((c .wide) .ensures .1)
+loop-again c = weighing-next _ _ ((c .before .before .loop) .sum) ((c .before .before .loop) .weight) ((c .before .before .loop) .i) _ ((c .wide) .result)
+    (search needs) ((c .before .before .loop) .inv) ((c .before .loop-test) .taken) ((c .wide) .ensures .0) ((c .wide) .ensures .1)
 
 returns : tie.Need-returns Inv-loop μ-loop
-returns c = weighing-end ((c .before .before .before .before .before .args) .key) ((c .before .loop) .sum) ((c .before .loop) .weight) ((c .before .loop) .i) (search needs) (subst (λ n. Weighing n ((c .before .before .before .before .before .args) .key .name .bytes) ((c .before .loop) .sum) ((c .before .loop) .weight) ((c .before .loop) .i)) ((c .before .before .hour-slot) .ensures .0) ((c .before .loop) .inv)) ((c .loop-test) .left)
+returns c = weighing-end ((c .before .before .before .before .before .args) .key) ((c .before .loop) .sum) ((c .before .loop) .weight) ((c .before .loop) .i)
+    (search needs) (subst (λ n. Weighing n ((c .before .before .before .before .before .args) .key .name .bytes) ((c .before .loop) .sum)
+    ((c .before .loop) .weight) ((c .before .loop) .i)) ((c .before .before .hour-slot) .ensures .0) ((c .before .loop) .inv)) ((c .loop-test) .left)
 
 pub bucket-of-spec : {M : Type 1} → statement M
 bucket-of-spec =

@@ -1,6 +1,6 @@
-use Rattle.book.proofs.log.index.Lemmas.{order-low}
 use native.Mathlib.Omega.{arith}
 use borrow.Author.Needs.{needs}
+use Rattle.book.proofs.log.index.Lemmas.{order-low}
 use Rattle.book.proofs.log.index.hour_slot.Statement.{statement}
 use Rattle.book.proofs.log.index.hour_slot.Tie as tie
 
@@ -22,8 +22,11 @@ add-result c = search needs
 returns : tie.Need-returns
 returns c =
     let c2 = c .before .before in
-    let c3 = c2 .before in
-    (omega (arith, (c .before .wide) .ensures .0, (c .wide2) .ensures .0, (c2 .order) .ensures), omega (arith, (c .before .wide) .ensures .0, (c .wide2) .ensures .1, (c2 .order) .ensures, order-low ((c3 .args) .key .mark)))
+    let c3 = c2 .before in (
+      omega (arith, (c .before .wide) .ensures .0, (c .wide2) .ensures .0, (c2 .order) .ensures),
+      omega
+          (arith, (c .before .wide) .ensures .0, (c .wide2) .ensures .1, (c2 .order) .ensures, order-low ((c3 .args) .key .mark)),
+    )
 
 pub hour-slot-spec : {M : Type 1} → statement M
 hour-slot-spec =

@@ -1,8 +1,8 @@
 use mathlib.Core.Path.{refl}
-use Rattle.book.proofs.log.refusal.Lemmas.{filing-by, withdrawal-by, count-1, count-2, count-3}
-use Rattle.book.specs.Layer.{kindIn}
 use native.Mathlib.Omega.{arith}
 use borrow.Author.Needs.{needs}
+use Rattle.book.proofs.log.refusal.Lemmas.{filing-by, withdrawal-by, count-1, count-2, count-3}
+use Rattle.book.specs.Layer.{kindIn}
 use Rattle.book.proofs.log.replay.count_with.Statement.{statement}
 use Rattle.book.proofs.log.replay.count_with.Tie as tie
 
@@ -58,7 +58,8 @@ returns-4 c =
     let c4 = c3 .before in
     let c5 = c4 .before in
     let e = (c4 .kind-of) .ensures in
-    count-2 (kindIn ((c5 .args) .view .act)) _ (filing-by e ((c3 .is-filing) .ensures) ((c2 .if1) .left)) (withdrawal-by e ((c .before .is-withdrawal) .ensures) ((c .if2) .left))
+    count-2 (kindIn ((c5 .args) .view .act)) _ (filing-by e ((c3 .is-filing) .ensures) ((c2 .if1) .left))
+    (withdrawal-by e ((c .before .is-withdrawal) .ensures) ((c .if2) .left))
 
 pub count-with-spec : {M : Type 1} → statement M
 count-with-spec =

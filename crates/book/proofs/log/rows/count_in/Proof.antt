@@ -1,7 +1,7 @@
 use Prim.Native.Nat.{_-_}
 use native.Mathlib.Omega.{arith}
-use Rattle.book.proofs.log.rows.Lemmas.{Counting, counting-start, counting-room, counting-next, counting-end}
 use borrow.Author.Needs.{needs}
+use Rattle.book.proofs.log.rows.Lemmas.{Counting, counting-start, counting-room, counting-next, counting-end}
 use Rattle.book.proofs.log.rows.count_in.Statement.{statement}
 use Rattle.book.proofs.log.rows.count_in.Tie as tie
 

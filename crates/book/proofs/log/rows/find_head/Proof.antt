@@ -41,7 +41,8 @@ sub-starts c =
     let c4 = c2 .before .before in
     let c5 = c4 .before in
     let c8 = c5 .before .before .before in
-    seeking-within ((c5 .loop) .inv) ((c4 .loop-test) .taken) _ refl (sym ((c2 .stands-in) .ensures) ∙ (c .before .if1) .taken) _ ((c .place-in) .ensures .0) ((c8 .pre) .0)
+    seeking-within ((c5 .loop) .inv) ((c4 .loop-test) .taken) _ refl (sym ((c2 .stands-in) .ensures) ∙ (c .before .if1) .taken) _ ((c .place-in) .ensures .0)
+    ((c8 .pre) .0)
 
 part-starts-start : tie.Need-part-starts-start Inv-loop μ-loop
 part-starts-start c =
@@ -49,7 +50,11 @@ part-starts-start c =
     let c4 = c2 .before .before in
     let c5 = c4 .before in
     let c8 = c5 .before .before .before in
-    omega (arith, seeking-within ((c5 .loop) .inv) ((c4 .loop-test) .taken) _ refl (sym ((c2 .stands-in) .ensures) ∙ (c .before .if1) .taken) _ ((c .place-in) .ensures .0) ((c8 .pre) .0))
+    omega (
+      arith,
+      seeking-within ((c5 .loop) .inv) ((c4 .loop-test) .taken) _ refl (sym ((c2 .stands-in) .ensures) ∙ (c .before .if1) .taken) _
+          ((c .place-in) .ensures .0) ((c8 .pre) .0),
+    )
 
 part-starts-end : tie.Need-part-starts-end Inv-loop μ-loop
 part-starts-end c = search needs
@@ -65,7 +70,8 @@ returns c =
     let c7 = c5 .before .before in
     let c8 = c7 .before in
     let c11 = c8 .before .before .before in
-    seeking-hit ((c8 .loop) .inv) ((c7 .loop-test) .taken) _ refl (sym ((c5 .stands-in) .ensures) ∙ (c4 .if1) .taken) _ ((c3 .place-in) .ensures .0) (begins-there ((c11 .args) .head .now) ((c11 .args) .log .now) ((c3 .place-in) .result) ((c .before .starts) .ensures) ((c .if2) .taken))
+    seeking-hit ((c8 .loop) .inv) ((c7 .loop-test) .taken) _ refl (sym ((c5 .stands-in) .ensures) ∙ (c4 .if1) .taken) _ ((c3 .place-in) .ensures .0)
+    (begins-there ((c11 .args) .head .now) ((c11 .args) .log .now) ((c3 .place-in) .result) ((c .before .starts) .ensures) ((c .if2) .taken))
 
 loop-less : tie.Need-loop-less Inv-loop μ-loop
 loop-less c = omega (arith, (c .before .before .before .before .before .before .before .loop-test) .taken)
@@ -78,7 +84,8 @@ loop-again c =
     let c7 = c5 .before .before in
     let c8 = c7 .before in
     let c11 = c8 .before .before .before in
-    seeking-other ((c8 .loop) .inv) ((c7 .loop-test) .taken) _ refl (sym ((c5 .stands-in) .ensures) ∙ (c4 .if1) .taken) _ ((c3 .place-in) .ensures .0) (begins-there ((c11 .args) .head .now) ((c11 .args) .log .now) ((c3 .place-in) .result) ((c .before .starts) .ensures) ((c .if2) .left))
+    seeking-other ((c8 .loop) .inv) ((c7 .loop-test) .taken) _ refl (sym ((c5 .stands-in) .ensures) ∙ (c4 .if1) .taken) _ ((c3 .place-in) .ensures .0)
+    (begins-there ((c11 .args) .head .now) ((c11 .args) .log .now) ((c3 .place-in) .result) ((c .before .starts) .ensures) ((c .if2) .left))
 
 loop-less-2 : tie.Need-loop-less-2 Inv-loop μ-loop
 loop-less-2 c = omega (arith, (c .before .before .before .loop-test) .taken)
@@ -96,7 +103,8 @@ returns-2 : tie.Need-returns-2 Inv-loop μ-loop
 returns-2 c =
     let c2 = c .before .before in
     let c5 = c2 .before .before .before in
-    λ k l w. subst⁻¹ (λ (r : Seek). Sought ((c5 .args) .rows .now) ((c5 .args) .n) k r l) ((c .not-found) .ensures) (seeking-end ((c2 .loop) .inv) ((c .before .loop-test) .left) k l w)
+    λ k l w. subst⁻¹ (λ (r : Seek). Sought ((c5 .args) .rows .now) ((c5 .args) .n) k r l) ((c .not-found) .ensures)
+    (seeking-end ((c2 .loop) .inv) ((c .before .loop-test) .left) k l w)
 
 pub find-head-spec : {M : Type 1} → statement M
 find-head-spec =

@@ -24,8 +24,11 @@ returns : tie.Need-returns
 returns c =
     let c2 = c .before .before in
     let c3 = c2 .before in
-    let c4 = c3 .before in
-    (ap (λ x. x + 2) ((c .start-in) .ensures .0) ∙ place-co (rowKind ((c4 .args) .row)) (rowStart ((c4 .args) .row)) (correction-by ((c3 .kind-in) .ensures) ((c2 .is-correction) .ensures) ((c .before .if1) .taken)), omega (arith, (c .start-in) .ensures .1))
+    let c4 = c3 .before in (
+      ap (λ x. x + 2) ((c .start-in) .ensures .0) ∙ place-co (rowKind ((c4 .args) .row)) (rowStart ((c4 .args) .row))
+          (correction-by ((c3 .kind-in) .ensures) ((c2 .is-correction) .ensures) ((c .before .if1) .taken)),
+      omega (arith, (c .start-in) .ensures .1),
+    )
 
 start-in-requires-2 : tie.Need-start-in-requires-2
 start-in-requires-2 c κs = search needs
@@ -34,8 +37,11 @@ returns-2 : tie.Need-returns-2
 returns-2 c =
     let c2 = c .before .before in
     let c3 = c2 .before in
-    let c4 = c3 .before in
-    ((c .start-in2) .ensures .0 ∙ place-filed (rowKind ((c4 .args) .row)) (rowStart ((c4 .args) .row)) (correction-by ((c3 .kind-in) .ensures) ((c2 .is-correction) .ensures) ((c .before .if1) .left)), omega (arith, (c .start-in2) .ensures .1))
+    let c4 = c3 .before in (
+      (c .start-in2) .ensures .0 ∙ place-filed (rowKind ((c4 .args) .row)) (rowStart ((c4 .args) .row))
+          (correction-by ((c3 .kind-in) .ensures) ((c2 .is-correction) .ensures) ((c .before .if1) .left)),
+      omega (arith, (c .start-in2) .ensures .1),
+    )
 
 pub place-in-spec : {M : Type 1} → statement M
 place-in-spec =

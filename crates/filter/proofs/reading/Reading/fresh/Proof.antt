@@ -1,6 +1,6 @@
 use mathlib.Core.Path.{ap}
-use Rattle.book.specs.declared.book.Book.{Book}
 use borrow.Author.Needs.{needs}
+use Rattle.book.specs.declared.book.Book.{Book}
 use Rattle.filter.proofs.reading.Reading.fresh.Statement.{statement}
 use Rattle.filter.proofs.reading.Reading.fresh.Tie as tie
 

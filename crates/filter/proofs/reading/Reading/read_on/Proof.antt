@@ -1,6 +1,6 @@
 use mathlib.Core.Path.{sym, _∙_}
-use Rattle.filter.proofs.reading.Lemmas.{over, waiting, going}
 use borrow.Author.Needs.{needs}
+use Rattle.filter.proofs.reading.Lemmas.{over, waiting, going}
 use Rattle.filter.proofs.reading.Reading.read_on.Statement.{statement}
 use Rattle.filter.proofs.reading.Reading.read_on.Tie as tie
 
@@ -27,7 +27,8 @@ returns-2 c =
     let c5 = c4 .before in
     let c6 = c5 .before in
     let c9 = c6 .before .before .before in
-    waiting ((c9 .args) .self) ((c9 .args) .log .now) ((c9 .args) .input .now) ((c9 .args) .n) ((c4 .end-at) .result) ((c4 .end-at) .ensures) (sym ((c6 .is-over) .ensures) ∙ (c5 .if1) .left) (sym ((c .if2) .taken) ∙ (c .before .waits-at) .ensures)
+    waiting ((c9 .args) .self) ((c9 .args) .log .now) ((c9 .args) .input .now) ((c9 .args) .n) ((c4 .end-at) .result) ((c4 .end-at) .ensures)
+    (sym ((c6 .is-over) .ensures) ∙ (c5 .if1) .left) (sym ((c .if2) .taken) ∙ (c .before .waits-at) .ensures)
 
 feed-front-requires : tie.Need-feed-front-requires
 feed-front-requires c κs = search needs
@@ -54,7 +55,9 @@ returns-3 c =
     let c16 = c15 .before in
     let c17 = c16 .before in
     let c20 = c17 .before .before .before in
-    going ((c20 .args) .self) ((c20 .args) .log .now) ((c20 .args) .input .now) ((c20 .args) .n) ((c15 .end-at) .result) ((c15 .end-at) .ensures) ((c8 .feed-front) .result) (sym ((c17 .is-over) .ensures) ∙ (c16 .if1) .left) (sym ((c11 .if2) .left) ∙ (c12 .waits-at) .ensures) ((c8 .feed-front) .ensures) ((c4 .to-front) .ensures) ((c .plus) .ensures)
+    going ((c20 .args) .self) ((c20 .args) .log .now) ((c20 .args) .input .now) ((c20 .args) .n) ((c15 .end-at) .result) ((c15 .end-at) .ensures)
+    ((c8 .feed-front) .result) (sym ((c17 .is-over) .ensures) ∙ (c16 .if1) .left) (sym ((c11 .if2) .left) ∙ (c12 .waits-at) .ensures)
+    ((c8 .feed-front) .ensures) ((c4 .to-front) .ensures) ((c .plus) .ensures)
 
 pub read-on-spec : {M : Type 1} → statement M
 read-on-spec =

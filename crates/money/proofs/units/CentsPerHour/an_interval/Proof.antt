@@ -1,9 +1,9 @@
 use lib.IntN.{pos}
 use mir.Syntax.{w32}
 use mir.Val.{Fits}
-use Rattle.laws.specs.Exp.{u32, var, _⊗_, fits, same}
 use native.Mathlib.Omega.{arith}
 use borrow.Author.Needs.{needs}
+use Rattle.laws.specs.Exp.{u32, var, _⊗_, fits, same}
 use Rattle.money.proofs.units.CentsPerHour.an_interval.Statement.{statement}
 use Rattle.money.proofs.units.CentsPerHour.an_interval.Tie as tie
 

@@ -1,6 +1,6 @@
-use Rattle.laws.specs.Exp.{i32, u32, _⊗_, fits, same, size}
 use native.Mathlib.Omega.{arith}
 use borrow.Author.Needs.{needs}
+use Rattle.laws.specs.Exp.{i32, u32, _⊗_, fits, same, size}
 use Rattle.money.proofs.units.Price.for_quantity.Statement.{statement}
 use Rattle.money.proofs.units.Price.for_quantity.Tie as tie
 

@@ -1,8 +1,8 @@
 use lib.IntN.{negsuc}
 use mir.Syntax.{w32}
 use mir.Val.{SFits}
-use Rattle.laws.specs.Held as h
 use borrow.Author.Needs.{needs}
+use Rattle.laws.specs.Held as h
 use Rattle.money.proofs.units.Price.in_range.Statement.{statement}
 use Rattle.money.proofs.units.Price.in_range.Tie as tie
 

@@ -1,8 +1,8 @@
 use mathlib.Core.Path.{_≡_, sym, _∙_}
 use mathlib.Core.Bool.{true, false}
 use mir.Facts.{toZ-ofZ}
-use Rattle.money.specs.Units.{priceOk}
 use borrow.Author.Needs.{needs}
+use Rattle.money.specs.Units.{priceOk}
 use Rattle.money.proofs.units.Price.new.Statement.{statement}
 use Rattle.money.proofs.units.Price.new.Tie as tie
 

@@ -1,7 +1,7 @@
 use lib.IntN.{pos}
-use Rattle.laws.specs.Exp.{i32, u32, var, _⊗_, fits, same}
 use native.Mathlib.Omega.{arith}
 use borrow.Author.Needs.{needs}
+use Rattle.laws.specs.Exp.{i32, u32, var, _⊗_, fits, same}
 use Rattle.money.proofs.units.PriceGap.for_an_hour.Statement.{statement}
 use Rattle.money.proofs.units.PriceGap.for_an_hour.Tie as tie
 

@@ -1,8 +1,8 @@
 use mir.Syntax.{w32}
 use mir.Val.{SFits}
+use borrow.Author.Needs.{needs}
 use Rattle.laws.specs.Ints.{minℤ}
 use Rattle.laws.specs.Held as h
-use borrow.Author.Needs.{needs}
 use Rattle.money.proofs.units.PriceGap.lesser.Statement.{statement}
 use Rattle.money.proofs.units.PriceGap.lesser.Tie as tie
 

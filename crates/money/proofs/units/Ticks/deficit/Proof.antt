@@ -1,10 +1,10 @@
 use mathlib.Core.Path.{_∙_}
 use lib.IntN.{pos}
+use native.Mathlib.Omega.{arith}
 use Rattle.laws.specs.IntLaws.{lt-true, lt-false}
 use Rattle.laws.specs.Held as h
 use Rattle.laws.specs.Exp.{i64, neg, fits, same, carried}
 use Rattle.money.specs.laws.UnitLaws.{lacks, lacks-none}
-use native.Mathlib.Omega.{arith}
 use Rattle.money.proofs.units.Ticks.deficit.Statement.{statement}
 use Rattle.money.proofs.units.Ticks.deficit.Tie as tie
 

@@ -4,11 +4,11 @@ use mathlib.Core.Path.{ap, _∙_}
 use Prim.Native.Nat.{_+_}
 use mir.Syntax.{w64}
 use mir.Val.{SFits}
+use borrow.Author.Needs.{needs}
+use native.Mathlib.Omega.{arith}
 use Rattle.laws.specs.Held as h
 use Rattle.laws.specs.IntLaws.{lt-true, lt-false}
 use Rattle.money.specs.laws.UnitLaws.{flip-abs, flip-above, abs-most, flipped}
-use borrow.Author.Needs.{needs}
-use native.Mathlib.Omega.{arith}
 use Rattle.money.proofs.units.Ticks.magnitude.Statement.{statement}
 use Rattle.money.proofs.units.Ticks.magnitude.Tie as tie
 

@@ -1,5 +1,5 @@
-use Rattle.laws.specs.Exp.{i64, _⊕_, fits, same}
 use native.Mathlib.Omega.{arith}
+use Rattle.laws.specs.Exp.{i64, _⊕_, fits, same}
 use Rattle.money.proofs.units.Ticks.plus.Statement.{statement}
 use Rattle.money.proofs.units.Ticks.plus.Tie as tie
 

@@ -2,9 +2,9 @@ use mathlib.Core.Path.{sym, ap}
 use lib.IntN.{ℤ}
 use mir.Syntax.{w64}
 use mir.Val.{SFits, ofZ}
+use borrow.Author.Needs.{needs}
 use Rattle.laws.specs.Held as h
 use Rattle.money.specs.laws.UnitLaws.{same-true, same-false}
-use borrow.Author.Needs.{needs}
 use Rattle.money.proofs.units.Ticks.same.Statement.{statement}
 use Rattle.money.proofs.units.Ticks.same.Tie as tie
 
