@@ -203,7 +203,7 @@ pub record Turn : Type 0 where
   pub call : Call
   pub lent : ℕ
 
--- the register after a list of calls, and what each of them was repliesOf
+-- the register after a list of calls, and what each of them was told
 unfoldable pub run : List Turn → Reg
 run [] = fresh
 run (t ∷ ts) = after (called (t .call) (t .lent) (run ts)) (run ts)

@@ -54,11 +54,11 @@ pub record Agrees (ts : List Turn) (rs : List Reply) (b : Book) (held : List ℕ
   pub valid : Valid (run ts .list)
   -- "The book's standing records are what its key questions find": the answer for a key shows its standing record, and every standing record's key can be asked for
   pub finds : (k : Key) → Shows (pick k (standing (run ts .list))) held (placeOf k (run ts .list))
-  pub reached : (k : Key) (x : Rec) → pick k (standing (run ts .list)) ≡ is x → keyAsked (markBytes (x .key .mark)) (x .key .hour) (askBytes (x .key)) ≡ got
-      (x .key) []
+  pub reached : (k : Key) (x : Rec) → pick k (standing (run ts .list)) ≡ is x
+      → keyAsked (markBytes (x .key .mark)) (x .key .hour) (askBytes (x .key)) ≡ got (x .key) []
   -- "its free bytes and amounts what the question for free bytes and the last three answer, whenever all used bytes are lent": so every question
-  pub questions : (q : Question) (s : List ℕ) → take (length held) s ≡ held → (b′ : Book) (r : Reply) (s′ : List ℕ) → Meets (ask q) b s b′ r s′ → r ≡ answer q
-      (length s) (run ts)
+  pub questions : (q : Question) (s : List ℕ) → take (length held) s ≡ held → (b′ : Book) (r : Reply) (s′ : List ℕ) → Meets (ask q) b s b′ r s′
+      → r ≡ answer q (length s) (run ts)
 
 -- after n takings back: all are accepted, and the register's list, book and bytes are those before the last n changes
 pub record Restored (ts : List Turn) (rs : List Reply) (n : ℕ) (us : List Turn) (qs : List Reply) (d : Book) (kept : List ℕ) : Type 0 where
@@ -69,8 +69,8 @@ pub record Restored (ts : List Turn) (rs : List Reply) (n : ℕ) (us : List Turn
 pub record Holds {ts : List Turn} {rs : List Reply} {b : Book} {held : List ℕ} (σ : Session ts rs b held) : Type 0 where
   pub agrees : Agrees ts rs b held
   -- an open book, and every n up to its number of changes
-  pub back : b .closed ≡ false → {n : ℕ} {us : List Turn} {qs : List Reply} {d : Book} {kept : List ℕ} → n ≤ b .changes → Undo σ n us qs d kept → Restored ts rs
-      n us qs d kept
+  pub back : b .closed ≡ false → {n : ℕ} {us : List Turn} {qs : List Reply} {d : Book} {kept : List ℕ} → n ≤ b .changes → Undo σ n us qs d kept
+      → Restored ts rs n us qs d kept
 
 -- it holds after each call of the list
 unfoldable pub Throughout : {ts : List Turn} {rs : List Reply} {b : Book} {held : List ℕ} → Session ts rs b held → Type 0

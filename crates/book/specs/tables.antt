@@ -1,7 +1,7 @@
 pub mod LayerTables
 pub mod Tables
 pub mod Index
-pub mod Held
+pub mod Checked
 pub mod Places
 pub mod Rows
 pub mod Worked

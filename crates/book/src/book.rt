@@ -9,6 +9,9 @@ ghost use Rattle.book.specs.tables.Rows.{Rowed};
 // Changes in a book, at most.
 pub const CHANGES_MAX: usize = 512;
 
+// Bytes that a book uses, at most, however many are lent.
+pub const USED_MAX: usize = 65535;
+
 // What the book carries: its number of changes, its used bytes, and whether it is closed.
 pub struct Book {
     pub changes: u16,

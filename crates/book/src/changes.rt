@@ -29,7 +29,7 @@ impl Book {
             }
             let view = p.view;
             let n = self.changes as usize;
-            return self.held_enter(log, &mut rows, n, view, rec);
+            return self.checked_enter(log, &mut rows, n, view, rec);
         }
         Done {
             book: self,
@@ -67,7 +67,7 @@ impl Book {
                     answer: Answer::Refused(m),
                 };
             }
-            return self.held_take_back(log, &mut rows);
+            return self.checked_take_back(log, &mut rows);
         }
         Done {
             book: self,
@@ -87,7 +87,7 @@ impl Book {
                     answer: Answer::Refused(m),
                 };
             }
-            return self.held_close();
+            return self.checked_close();
         }
         Done {
             book: self,
@@ -110,7 +110,7 @@ impl Book {
             }
             let view = p.view;
             let n = self.changes as usize;
-            return self.held_change(log, &mut rows, n, view, rec);
+            return self.checked_change(log, &mut rows, n, view, rec);
         }
         Done {
             book: self,

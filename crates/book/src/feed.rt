@@ -11,7 +11,7 @@ ghost use Prim.Native.Nat.{ℕ, _≤_};
 ghost use lib.ListN.{length};
 ghost use Rattle.book.specs.Layer.{Change};
 ghost use Rattle.book.specs.Meaning.{belongs, load};
-ghost use Rattle.book.specs.tables.Held.{Checked};
+ghost use Rattle.book.specs.tables.Checked.{Checked};
 ghost use Rattle.book.specs.Feed.{feeding};
 ghost use Rattle.book.specs.FeedPromise.{Ends, Feeds};
 
@@ -45,9 +45,10 @@ fn search_from(latest: u16, changes: u16) -> usize
 }
 
 // Takes the records into a book that was checked, up to the first that is refused. Each is read once.
-fn feed_held(mut book: Book, log: &mut [u8], rows: &mut [u32; CHANGES_MAX], input: &[u8]) -> Fed
+fn feed_checked(mut book: Book, log: &mut [u8], rows: &mut [u32; CHANGES_MAX], input: &[u8]) -> Fed
     requires { ⌜ Checked book (now log) (now rows) ⌝ }
-    ensures { λ r. ⌜ ((l : List Change) → load book (now (log .entry)) ≡ belongs l → Ends (feeding (length (now (log .entry))) (record { list = l; closed = book .closed }) (now (input .entry))) (now (log .entry)) r (now (log .exit))) ⌝ }
+    ensures { λ r. ⌜ ((l : List Change) → load book (now (log .entry)) ≡ belongs l → Ends (feeding (length (now (log .entry)))
+        (record { list = l; closed = book .closed }) (now (input .entry))) (now (log .entry)) r (now (log .exit))) ⌝ }
 {
     let mut latest = [book.changes; 8192];
     let mut count: u64 = 0;
@@ -60,9 +61,9 @@ fn feed_held(mut book: Book, log: &mut [u8], rows: &mut [u32; CHANGES_MAX], inpu
         let ordinal = count + 1;
         let end = at + f.end;
         let view = f.view;
-        let slot = bucket_of(view.key);
-        let from = search_from(latest[slot], book.changes);
-        let done = book.held_change(log, rows, from, view, &input[at..end]);
+        let bucket = bucket_of(view.key);
+        let from = search_from(latest[bucket], book.changes);
+        let done = book.checked_change(log, rows, from, view, &input[at..end]);
         let answer = done.answer;
         let number = refusal_in(answer);
         let next = done.book;
@@ -70,7 +71,7 @@ fn feed_held(mut book: Book, log: &mut [u8], rows: &mut [u32; CHANGES_MAX], inpu
         if number != 0 {
             return fed_so(book, count, at, number);
         }
-        latest[slot] = book.changes;
+        latest[bucket] = book.changes;
         count = ordinal;
         at = end;
     }
@@ -86,7 +87,7 @@ pub fn feed(mut book: Book, log: &mut [u8], input: &[u8]) -> Fed
     }
     let mut rows = [0u32; CHANGES_MAX];
     if book.check_rows(log, &mut rows) {
-        return feed_held(book, log, &mut rows, input);
+        return feed_checked(book, log, &mut rows, input);
     }
     fed_so(book, 0, 0, NOT_TOGETHER)
 }

@@ -46,8 +46,8 @@ module _ (a b : List ℕ) {x y : NameAnswer} (e : x ≡ nameAnswer (storedName (
   pub order-before : {t : Bool} → t ≡ nameBefore (decodedBytes (x .name)) (decodedBytes (y .name)) → t ≡ true → 0 ≡ orderOf a b
   order-before p q = sym (ap (λ (t : Bool). cond t 0 (cond (sameName (x .name) (y .name)) 1 2)) (sym p ∙ q)) ∙ ordered
 
-  pub order-rest : {t s : Bool} (n : ℕ) → t ≡ nameBefore (decodedBytes (x .name)) (decodedBytes (y .name)) → t ≡ false → s ≡ sameName (x .name) (y .name) → n ≡
-      cond s 1 2 → n ≡ orderOf a b
+  pub order-rest : {t s : Bool} (n : ℕ) → t ≡ nameBefore (decodedBytes (x .name)) (decodedBytes (y .name)) → t ≡ false → s ≡ sameName (x .name) (y .name)
+      → n ≡ cond s 1 2 → n ≡ orderOf a b
   order-rest n p q r z =
       z ∙ ap (λ (s : Bool). cond s 1 2) r ∙ sym (ap (λ (t : Bool). cond t 0 (cond (sameName (x .name) (y .name)) 1 2)) (sym p ∙ q)) ∙ ordered
 

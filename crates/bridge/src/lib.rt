@@ -548,7 +548,8 @@ pub extern "C" fn pewatuno_guarantees(
     amounts: &mut [i64],
 ) -> u32
     ensures { λ r. ⌜ r ≡ replied (asked (hourGuarantees (hourIn hour)) (now (state .entry)) (now (lent .entry))) ⌝ }
-    ensures { λ r. ⌜ now (sizes .exit) ≡ hourSizes (bookIn (now (state .entry))) (now (lent .entry)) (hourIn hour) (asked (hourGuarantees (hourIn hour)) (now (state .entry)) (now (lent .entry))) (now (sizes .entry)) ⌝ }
+    ensures { λ r. ⌜ now (sizes .exit) ≡ hourSizes (bookIn (now (state .entry))) (now (lent .entry)) (hourIn hour)
+        (asked (hourGuarantees (hourIn hour)) (now (state .entry)) (now (lent .entry))) (now (sizes .entry)) ⌝ }
     ensures { λ r. ⌜ now (amounts .exit) ≡ hourAmounts (asked (hourGuarantees (hourIn hour)) (now (state .entry)) (now (lent .entry))) (now (amounts .entry)) ⌝ }
 {
     let b = book_in(state);

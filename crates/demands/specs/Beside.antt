@@ -62,8 +62,8 @@ AsAsked l p r = chargeOf (r .key) (standing l) (priceOf (standing l)) ≡ charge
 
 -- the charges of a mark and hour with its `PR`: one for each failure that stands, by name
 pub record ChargesByKey (b : Book) (s : List ℕ) (m : Mark) (h : ℕ) (c : ChargesReply) : Type 0 where
-  pub lines : (l : List Change) → load b s ≡ belongs l → isFailure m ≡ true → askHourOf m h ≡ got (hourKey m h) [] → (p : HourPrices) → priceOf (standing l) h ≡
-      priced p
+  pub lines : (l : List Change) → load b s ≡ belongs l → isFailure m ≡ true → askHourOf m h ≡ got (hourKey m h) [] → (p : HourPrices)
+      → priceOf (standing l) h ≡ priced p
       → c ≡ charged (map (chargeLine p) (byName (hourKey m h) (standing l)))
-  pub each : (l : List Change) → load b s ≡ belongs l → (p : HourPrices) → priceOf (standing l) h ≡ priced p → All (AsAsked l p)
-      (byName (hourKey m h) (standing l))
+  pub each : (l : List Change) → load b s ≡ belongs l → (p : HourPrices) → priceOf (standing l) h ≡ priced p
+      → All (AsAsked l p) (byName (hourKey m h) (standing l))

@@ -124,16 +124,16 @@ pub record Afterwards (ts : List Turn) (b : Book) (held : List ℕ) : Type 0 whe
       → (s : List ℕ) → take (length held) s ≡ held → (b′ : Book) (r : Reply) (s′ : List ℕ) → Meets (ask (recordOf m h n)) b s b′ r s′
       → Shows (pick k (standing (run ts .list))) held r
   -- and the key of every standing record can be asked for
-  pub reached : (k : Key) (x : Rec) → pick k (standing (run ts .list)) ≡ is x → keyAsked (markBytes (x .key .mark)) (x .key .hour) (askBytes (x .key)) ≡ got
-      (x .key) []
+  pub reached : (k : Key) (x : Rec) → pick k (standing (run ts .list)) ≡ is x
+      → keyAsked (markBytes (x .key .mark)) (x .key .hour) (askBytes (x .key)) ≡ got (x .key) []
   -- free bytes: "the lent length of the call (above 65,535 counted as 65,535) less" the used bytes
   pub free : (s : List ℕ) → take (length held) s ≡ held → (b′ : Book) (r : Reply) (s′ : List ℕ) → Meets (ask freeBytes) b s b′ r s′
       → r ≡ number (capped (length s) - length (writeAll (run ts .list)))
   -- every amount is the formula's, over the register's standing records
   pub amounts : (s : List ℕ) → take (length held) s ≡ held → Amounts b s (run ts .list)
   -- and every question gets the register's answer
-  pub asked : (q : Question) (s : List ℕ) → take (length held) s ≡ held → (b′ : Book) (r : Reply) (s′ : List ℕ) → Meets (ask q) b s b′ r s′ → r ≡ answer q
-      (length s) (run ts)
+  pub asked : (q : Question) (s : List ℕ) → take (length held) s ≡ held → (b′ : Book) (r : Reply) (s′ : List ℕ) → Meets (ask q) b s b′ r s′
+      → r ≡ answer q (length s) (run ts)
   -- "what the book carries equals the register's, and the used part is the register's list as written"
   pub carried : b ≡ bookOf (run ts)
   pub used : held ≡ writeAll (run ts .list)
@@ -177,5 +177,5 @@ pub record Demanded (call : Call) (b : Book) (s : List ℕ) (b′ : Book) (r : R
   -- demand 1, for each book and each buffer length
   pub one : Demand1 call b s b′ r s′
   -- and demand 3 with this call, whatever list of calls came before on this book
-  pub three : {ts : List Turn} {rs : List Reply} {held : List ℕ} (σ : Session ts rs b held) (h : take (length held) s ≡ take (length s) held) → Demand3
-      (next σ call s h b′ r s′ meets)
+  pub three : {ts : List Turn} {rs : List Reply} {held : List ℕ} (σ : Session ts rs b held) (h : take (length held) s ≡ take (length s) held)
+      → Demand3 (next σ call s h b′ r s′ meets)

@@ -20,6 +20,7 @@ use Rattle.money.specs.declared.offers.Offer.{Offer}
 use Rattle.money.specs.declared.production.Reserve.{Reserve}
 use Rattle.money.specs.declared.production.UnitHour.{UnitHour}
 use Rattle.money.specs.declared.failure.Failure.{Failure}
+use Rattle.money.specs.Failure.{dayAheadQuantity, preDispatchQuantity, dayAheadPrice, preDispatchPrice}
 use Rattle.records.specs.Views.{importOf}
 use Rattle.records.specs.Amounts.{chargeTicksFor}
 use Rattle.book.specs.Layer.{Rec, HourPrices, Quantity, Import, Fi, Fe, quantityAt, entry, offset, creditTicks, unitHourOf, exportOf, reversal, decodedBytes, nameBefore}
@@ -95,10 +96,10 @@ pub record Formulas : Type 0 where
   pub reversed : (total : ℤ) → reversal total ≡ maxℤ (pos 0) (negℤ total)
   -- "dev = max(0, day-ahead quantity - pre-dispatch quantity)";
   -- "Import: min(max(0, PD market price - DA offer), max(0, PD offer - DA offer)) × dev × 12 ticks"
-  pub import-charge : (f : Failure) (p : HourPrices) (dev : ℕ) → dev ≡ max0 (pos (f .«day_ahead_quantity» .0) -ℤ pos (f .«pre_dispatch_quantity» .0))
-      → chargeTicksFor Fi f p ≡ minℤ (maxℤ (pos 0) (p .pd .0 -ℤ f .«day_ahead_price» .0)) (maxℤ (pos 0) (f .«pre_dispatch_price» .0 -ℤ f .«day_ahead_price» .0))
+  pub import-charge : (f : Failure) (p : HourPrices) (dev : ℕ) → dev ≡ max0 (pos (dayAheadQuantity f) -ℤ pos (preDispatchQuantity f))
+      → chargeTicksFor Fi f p ≡ minℤ (maxℤ (pos 0) (p .pd .0 -ℤ dayAheadPrice f)) (maxℤ (pos 0) (preDispatchPrice f -ℤ dayAheadPrice f))
       *ℤ pos dev *ℤ pos 12
   -- "Export: the same with (DA bid - PD market price) and (DA bid - PD bid)"
-  pub export-charge : (f : Failure) (p : HourPrices) (dev : ℕ) → dev ≡ max0 (pos (f .«day_ahead_quantity» .0) -ℤ pos (f .«pre_dispatch_quantity» .0))
-      → chargeTicksFor Fe f p ≡ minℤ (maxℤ (pos 0) (f .«day_ahead_price» .0 -ℤ p .pd .0)) (maxℤ (pos 0) (f .«day_ahead_price» .0 -ℤ f .«pre_dispatch_price» .0))
+  pub export-charge : (f : Failure) (p : HourPrices) (dev : ℕ) → dev ≡ max0 (pos (dayAheadQuantity f) -ℤ pos (preDispatchQuantity f))
+      → chargeTicksFor Fe f p ≡ minℤ (maxℤ (pos 0) (dayAheadPrice f -ℤ p .pd .0)) (maxℤ (pos 0) (dayAheadPrice f -ℤ preDispatchPrice f))
       *ℤ pos dev *ℤ pos 12

@@ -1,5 +1,7 @@
--- An expression of `i64`s as code computes it, for a proof to name: what it is in ℤ (`value`), what the machine computes (`raw`) and reads back (`read`), a bound of its magnitude (`bound`), and what has to hold for all of it to fit (`Ok`), which `omega arith` proves.
--- A leaf has a number and a bound of its magnitude. `var` is a literal or a loop's variable, `toZ w64 x`; `i64` a parameter, an element or a call's result; `i32` and `u32` such a one that is cast to `i64`; `got` any number that `Carried` knows, as a call's result by its `ensures`.
+-- An expression of `i64`s as code computes it, for a proof to name: what it is in ℤ (`value`), what the machine computes (`raw`) and reads back
+-- (`read`), a bound of its magnitude (`bound`), and what has to hold for all of it to fit (`Ok`), which `omega arith` proves.
+-- A leaf has a number and a bound of its magnitude. `var` is a literal or a loop's variable, `toZ w64 x`; `i64` a parameter, an element or a call's
+-- result; `i32` and `u32` such a one that is cast to `i64`; `got` any number that `Carried` knows, as a call's result by its `ensures`.
 -- Assumes nothing.
 use mathlib.Core.Path.{_≡_}
 use Prim.Native.Nat.{ℕ, _+_, _*_, _^_, _≤_, _<_}
@@ -7,8 +9,8 @@ use native.Mathlib.Omega.{arith}
 use lib.IntN.{ℤ, pos, negℤ, natAbs, _+ℤ_, _-ℤ_, _*ℤ_}
 use mir.Syntax.{w32, w64}
 use mir.Val.{SFits, toZ, ofZ}
-use Rattle.laws.specs.Held as H
-use Rattle.laws.specs.Held.{Carried}
+use Rattle.laws.specs.Carried as H
+use Rattle.laws.specs.Carried.{Carried}
 
 infixl 6 _⊕_ _⊖_
 infixl 7 _⊗_

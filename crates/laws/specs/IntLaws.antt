@@ -334,7 +334,8 @@ cancel-l = by₂ _ (λ a a′ b b′. simp ints (omega arith))
 pub cancel-r : (x y : ℤ) → negℤ x +ℤ (x +ℤ y) ≡ y
 cancel-r = by₂ _ (λ a a′ b b′. simp ints (omega arith))
 
--- `simp ring` multiplies out and sorts, whatever the terms are, so it proves what is a rearrangement. It adds up no like terms, and cancels x only against a −x beside it: for the rest go by `by₁` .. `by₅`
+-- `simp ring` multiplies out and sorts, whatever the terms are, so it proves what is a rearrangement. It adds up no like terms, and
+-- cancels x only against a −x beside it: for the rest go by `by₁` .. `by₅`
 pub ruleset ring = (
   +ℤ-assoc,
   +ℤ-comm,

@@ -1,7 +1,7 @@
 pub mod Text
 pub mod Ints
 pub mod IntLaws
-pub mod Held
+pub mod Carried
 pub mod Exp
 pub mod Sums
 pub mod SumLaws

@@ -211,25 +211,34 @@ impl Ticks {
         false
     }
 
-    pub fn magnitude(self) -> u64
-        ensures { λ r. ⌜ r ≡ natAbs (self .0) ⌝ ∗ ⌜ r ≤ 9223372036854775808 ⌝ }
-    {
-        if self.0 < 0 {
-            return (-1 - self.0) as u64 + 1;
-        }
-        self.0 as u64
-    }
-
     // Rounded half away from zero.
     pub fn cents(self) -> Cents
         ensures { λ r. ⌜ r .0 ≡ centsOf (self .0) ⌝ }
     {
-        let whole = ((self.magnitude() + 60) / 120) as i64;
+        let whole = ((magnitude(self.0) + 60) / 120) as i64;
         if self.0 < 0 {
             return Cents(-whole);
         }
         Cents(whole)
     }
+}
+
+impl Cents {
+    pub fn magnitude(self) -> u64
+        ensures { λ r. ⌜ r ≡ natAbs (self .0) ⌝ ∗ ⌜ r ≤ 9223372036854775808 ⌝ }
+    {
+        magnitude(self.0)
+    }
+}
+
+// The size of a signed number, of the least one too, which has no negative.
+pub fn magnitude(n: i64) -> u64
+    ensures { λ r. ⌜ r ≡ natAbs n ⌝ ∗ ⌜ r ≤ 9223372036854775808 ⌝ }
+{
+    if n < 0 {
+        return (-1 - n) as u64 + 1;
+    }
+    n as u64
 }
 
 pub(crate) fn prices_ok(prices: [Price; INTERVALS]) -> bool
@@ -261,7 +270,7 @@ pub(crate) fn quantities_ok(qs: [Quantity; INTERVALS]) -> bool
 }
 
 // No quantity lies beyond the last of a list.
-pub(crate) fn within_ok(qs: [Quantity; INTERVALS], last: Quantity) -> bool
+pub fn within_ok(qs: [Quantity; INTERVALS], last: Quantity) -> bool
     ensures { λ r. ⌜ r ≡ withinOk qs (last .0) ⌝ }
 {
     let mut k: usize = 0;

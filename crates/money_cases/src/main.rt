@@ -23,6 +23,7 @@ use money::units::CentsPerStart;
 use money::units::Price;
 use money::units::Quantity;
 use money::units::Ticks;
+use money::units::magnitude;
 ghost use mathlib.Core.Path.{_≡_};
 ghost use Prim.Native.Nat.{_≤_};
 ghost use lib.ListN.{take};
@@ -34,7 +35,7 @@ fn print_signed(t: Ticks) {
     if t.0 < 0 {
         io::write_all(1, b"-");
     }
-    io::print_decimal(1, t.magnitude());
+    io::print_decimal(1, magnitude(t.0));
 }
 
 fn print_amount(t: Ticks) {

@@ -9,7 +9,6 @@ use crate::lists::list_then;
 use crate::marks::Mark;
 use crate::rows::prices_then;
 use crate::rows::quantities_then;
-use crate::rows::within;
 use money::failure::Failure;
 use money::offers::Offer;
 use money::production::Reserve;
@@ -20,6 +19,7 @@ use money::units::CentsPerStart;
 use money::units::INTERVALS;
 use money::units::Price;
 use money::units::Quantity;
+use money::units::within_ok;
 ghost use mathlib.Core.Path.{_≡_};
 ghost use Prim.Native.Nat.{_≤_};
 ghost use Rattle.records.specs.Layouts.{hourPrices, import, export, failure, schedules, reserveRows, fewest, lists, within, allWithin, unitOf, unit, layout};
@@ -131,7 +131,8 @@ pub(crate) fn import_then(s: &[u8], e: End) -> ImportRead
     let e2 = o.end;
     let mqsi = v.values;
     let offer = o.offer;
-    let ok = within(mqsi, last_quantity(offer));
+    let last = Quantity(last_quantity(offer));
+    let ok = within_ok(mqsi, last);
     let end = guard_end(e2, ok, BEYOND_LIST);
     ImportRead {
         end,
@@ -232,7 +233,11 @@ fn reserve_rows_then(s: &[u8], e: End) -> ReserveRowsRead
 fn fewest_of(schedules: [Quantity; INTERVALS]) -> u32
     ensures { λ r. ⌜ r ≡ fewest schedules ⌝ }
 {
-    if within(schedules, 0) { 0 } else { 1 }
+    if within_ok(schedules, Quantity(0)) {
+        0
+    } else {
+        1
+    }
 }
 
 fn lists_then(
@@ -276,7 +281,7 @@ fn inside_list(o: Offer, values: [Quantity; INTERVALS]) -> bool
     ensures { λ r. ⌜ r ≡ within o values ⌝ }
 {
     let q = last_quantity(o);
-    within(values, q)
+    within_ok(values, Quantity(q))
 }
 
 // D within both lists, each reserve schedule within its own.

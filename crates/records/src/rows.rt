@@ -8,7 +8,6 @@ use money::units::INTERVALS;
 use money::units::Price;
 use money::units::Quantity;
 ghost use mathlib.Core.Path.{_≡_};
-ghost use Rattle.money.specs.Units.{withinOk};
 ghost use Rattle.records.specs.Reading.{from, many};
 ghost use Rattle.records.specs.Numbers.{price, quantity};
 ghost use Rattle.records.specs.tables.Inner.{shown, EndIn, then};
@@ -29,7 +28,7 @@ fn read_prices(s: &[u8], at: usize) -> PriceRow
     let mut values = [Price(0); INTERVALS];
     let mut next = at;
     let mut i: usize = 0;
-    while i < 12 {
+    while i < INTERVALS {
         let p = read_price(s, next);
         match p {
             PriceAt::Got(v, n) => {
@@ -57,7 +56,7 @@ fn read_quantities(s: &[u8], at: usize) -> QuantityRow
     let mut values = [Quantity(0); INTERVALS];
     let mut next = at;
     let mut i: usize = 0;
-    while i < 12 {
+    while i < INTERVALS {
         let q = read_quantity(s, next);
         match q {
             QuantityAt::Got(v, n) => {
@@ -107,19 +106,4 @@ pub(crate) fn quantities_then(s: &[u8], e: End) -> QuantityRow
             }
         }
     }
-}
-
-// No quantity of a row lies beyond the last of a list.
-pub(crate) fn within(values: [Quantity; INTERVALS], last: u32) -> bool
-    ensures { λ r. ⌜ r ≡ withinOk values last ⌝ }
-{
-    let mut i: usize = 0;
-    while i < 12 {
-        let q = values[i];
-        if last < q.0 {
-            return false;
-        }
-        i += 1;
-    }
-    true
 }

@@ -18,7 +18,7 @@ pub shows-none : {i : Input} {log lent : List ℕ} {b : Bool} → b ≡ failed i
 shows-none {i} {log} {lent} f t =
     record { fails = sym t ∙ f; writes = subst (λ (b : Bool). Writes b i log lent lent none) (sym t ∙ f) (record { written = refl; kept = refl }) }
 
-pub shows-output : {i : Input} {log lent left : List ℕ} {w : Written} {b : Bool} → b ≡ failed i → b ≡ false → Prints statementOf longestStatement (i .reading)
-    (load (i .reading .book) log) lent left w
+pub shows-output : {i : Input} {log lent left : List ℕ} {w : Written} {b : Bool} → b ≡ failed i → b ≡ false
+    → Prints statementOf longestStatement (i .reading) (load (i .reading .book) log) lent left w
     → Shows i log lent left (record { written = w; failed = false })
 shows-output {i} {log} {lent} {left} {w} f t m = record { fails = sym t ∙ f; writes = subst (λ (b : Bool). Writes b i log lent left w) (sym t ∙ f) m }

@@ -96,15 +96,6 @@ fn is_number(kind: Kind) -> bool
     }
 }
 
-fn magnitude(amount: Cents) -> u64
-    ensures { λ r. ⌜ (r ≡ natAbs (amount .0)) × (r ≤ 9223372036854775808) ⌝ }
-{
-    if amount.0 < 0 {
-        return (-1 - amount.0) as u64 + 1;
-    }
-    amount.0 as u64
-}
-
 fn put_sign(out: &mut [u8], at: usize, cents: Cents) -> usize
     requires { ⌜ at < length (now out) ⌝ }
     ensures { λ r. ⌜ Writes (now (out .entry)) at (sign (cents .0)) (now (out .exit)) r ⌝ }
@@ -120,7 +111,7 @@ fn put_figure(out: &mut [u8], at: usize, kind: Kind, cents: Cents) -> usize
     requires { ⌜ at + 21 ≤ length (now out) ⌝ }
     ensures { λ r. ⌜ Writes (now (out .entry)) at (figure kind (cents .0)) (now (out .exit)) r × (natAbs (cents .0) ≤ 9223372036854775808) ⌝ }
 {
-    let n = magnitude(cents);
+    let n = cents.magnitude();
     let first = put_sign(out, at, cents);
     if is_number(kind) {
         return put_decimal(out, first, n);

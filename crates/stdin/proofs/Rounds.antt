@@ -39,8 +39,8 @@ pub reached-none : {i : Input} → i ≡ unread → (log bytes : List ℕ) → l
 reached-none e log bytes h = subst (λ (i : Input). Reached mostReads i log bytes) (sym e)
     (record { pieces = _; rounds = none log bytes h; left-is = omega arith; made = omega arith })
 
-pub reached-more : {left : ℕ} {i i′ : Input} {log log′ bytes lent bytes′ : List ℕ} {got : ℤ} → Reached left i log bytes → 0 < left → i .more ≡ true → length
-    lent ≡ 65536
+pub reached-more : {left : ℕ} {i i′ : Input} {log log′ bytes lent bytes′ : List ℕ} {got : ℤ} → Reached left i log bytes → 0 < left → i .more ≡ true
+    → length lent ≡ 65536
     → take (i .reading .held) lent ≡ take (i .reading .held) bytes → TakesIn i got log lent i′ log′ bytes′ → Reached (left - 1) i′ log′ bytes′
 reached-more {left} x h m e f t = record
     { pieces = _; rounds = round (x .rounds) m _ _ e f _ _ _ t; left-is = omega (arith, x .left-is); made = omega (arith, x .left-is, x .made) }

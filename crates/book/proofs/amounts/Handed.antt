@@ -54,8 +54,8 @@ pub with-charges : (a : ChargeList) → a ≡ chargeListOf (take (a .n) (a .list
     → _≡_ {A = Charges} (record { number = 0; charges = a }) (chargesFrom (charged (take (a .n) (a .list))))
 with-charges a e = ap (λ (x : ChargeList). record { number = 0; charges = x }) e
 
-pub with-units : (n : ℕ) (u : Units) (ns : List Name) → u ≡ unitsOf ns → _≡_ {A = UnitList} (record { number = n; units = u })
-    (record { number = n; units = unitsOf ns })
+pub with-units : (n : ℕ) (u : Units) (ns : List Name) → u ≡ unitsOf ns
+    → _≡_ {A = UnitList} (record { number = n; units = u }) (record { number = n; units = unitsOf ns })
 with-units n u ns e = ap (λ (x : Units). record { number = n; units = x }) e
 
 -- ---- beside any number

@@ -55,8 +55,8 @@ module _ (f : ℕ → Reg → Step) (b : Book) (s : List ℕ) where
       }
 
 -- a call that is a mark only: m is its first fault
-pub bare-fault : (b : Book) (s : List ℕ) (x : Loaded b s) (m n : ℕ) → n ≡ m → (f : ℕ → Reg → Step) (st : Step) → f (length s) (regOf b s x) ≡ unless-closed m
-    (regOf b s x) st
+pub bare-fault : (b : Book) (s : List ℕ) (x : Loaded b s) (m n : ℕ) → n ≡ m → (f : ℕ → Reg → Step) (st : Step)
+    → f (length s) (regOf b s x) ≡ unless-closed m (regOf b s x) st
     → (n ≡ 0 → ⊥) → stepped f b s (load b s) ≡ answered (refused n)
 bare-fault b s x m n q f st e z = step-is f b s x ∙ e ∙ go m q
   where
@@ -89,8 +89,8 @@ module _ (b : Book) (s mark : List ℕ) (h : ℕ) (x : Loaded b s) (r : KeyAnswe
     pub record-none : r .number ≡ 0 → (v : Survey) → v ≡ survey (r .key) (x .list) → v .found ≡ false → Meets (ask (recordOf mark h name)) b s b (refused 11) s
     record-none z v ev f = leaves-answered _ b s _ (record-step z v ev ∙ ap (λ (y : Bool). answered (cond y (place (v .start) (v .len)) (refused 11))) f)
 
-    pub record-at : r .number ≡ 0 → (v : Survey) → v ≡ survey (r .key) (x .list) → v .found ≡ true → Meets (ask (recordOf mark h name)) b s b
-        (place (v .start) (v .len)) s
+    pub record-at : r .number ≡ 0 → (v : Survey) → v ≡ survey (r .key) (x .list) → v .found ≡ true
+        → Meets (ask (recordOf mark h name)) b s b (place (v .start) (v .len)) s
     record-at z v ev f = leaves-answered _ b s _ (record-step z v ev ∙ ap (λ (y : Bool). answered (cond y (place (v .start) (v .len)) (refused 11))) f)
 
   module _ (e : r ≡ keyAnswer (askHour mark h)) where

@@ -17,7 +17,7 @@ use Rattle.book.specs.Register.{Reg, change, general, Reply, refused, St
 use Rattle.book.specs.Meaning.{belongs, mismatched, load, Valid, bookOf, Meets, replyOf}
 use Rattle.book.specs.Replies.{replied}
 use Rattle.book.specs.laws.ReplayLaws.{called-valid}
-use Rattle.book.specs.tables.Held.{Checked, Makes, Since, IsEntry}
+use Rattle.book.specs.tables.Checked.{Checked, Makes, Since, IsEntry}
 use Rattle.book.specs.tables.Index.{bucket, latestOf}
 use Rattle.book.specs.laws.RegisterLaws.{by-test}
 use Rattle.book.specs.laws.LoadLaws.{Loaded, loaded-from}
@@ -26,7 +26,7 @@ use Rattle.book.specs.Feed.{front, firstRecord, FeedReply, stopped, late
 use Rattle.book.specs.laws.FeedLaws.{first-front, first-within, first-some, first-whole, first-then, none-before, both-before}
 use Rattle.book.specs.FeedPromise.{Ends, Feeds}
 use Rattle.book.proofs.log.index.Lemmas.{latest-few}
-use Rattle.book.proofs.log.held.Lemmas.{unread-refused}
+use Rattle.book.proofs.log.checked.Lemmas.{unread-refused}
 
 -- ---- the first record
 
@@ -171,13 +171,13 @@ finishes f s₀ input b s n at x size kept all =
     })
 
 module _ {b₀ : Book} {s₀ input : List ℕ} {b : Book} {rows latest s : List ℕ} {n at : ℕ} (g : Going b₀ s₀ input b rows latest s n at) where
-  pub finished : length input ≤ at → (l : List Change) → load b₀ s₀ ≡ belongs l → Ends (feeding (length s₀) (record { list = l; closed = b₀ .closed }) input) s₀
-      (record { book = b; count = n; taken = at; number = 0 }) s
+  pub finished : length input ≤ at → (l : List Change) → load b₀ s₀ ≡ belongs l
+      → Ends (feeding (length s₀) (record { list = l; closed = b₀ .closed }) input) s₀ (record { book = b; count = n; taken = at; number = 0 }) s
   finished h l e = finishes _ s₀ input b s n at (g .on l e) (g .size) (g .kept) (omega (arith, g .within))
 
   -- where the search for a key starts
-  pub since : {k : Key} {m : ℕ} → m ≡ bucket k → m < 8192 → {from : ℕ} → (from ≤ b .changes) × ((j : ℕ) → j ≤ getD latest m 0 → j ≤ b .changes → j ≤ from) →
-      Since b s k from
+  pub since : {k : Key} {m : ℕ} → m ≡ bucket k → m < 8192 → {from : ℕ} → (from ≤ b .changes) × ((j : ℕ) → j ≤ getD latest m 0 → j ≤ b .changes → j ≤ from)
+      → Since b s k from
   since {k} {m} em lt w = record {
     inside = w .0;
     none = λ l p.
@@ -228,8 +228,8 @@ module _ {b₀ : Book} {s₀ input : List ℕ} {b : Book} {rows latest s : List 
             → Ends (feeding (length s₀) (record { list = l; closed = b₀ .closed }) input) s₀ (record { book = r .book; count = n; taken = at; number = k }) s′
         stops y l e = ends _ s₀ input b s n at (g .on l e) (g .size) (g .kept) some (r .book) (replyOf (r .answer)) s′ said k q y
 
-        pub continues : k ≡ 0 → {j : ℕ} → j ≡ bucket (f .view .key) → j < 8192 → Going b₀ s₀ input (r .book) rows′ (set latest j (r .book .changes)) s′ (n + 1)
-            (at + f .end)
+        pub continues : k ≡ 0 → {j : ℕ} → j ≡ bucket (f .view .key) → j < 8192
+            → Going b₀ s₀ input (r .book) rows′ (set latest j (r .book .changes)) s′ (n + 1) (at + f .end)
         continues y {j} ej lt = record {
           size = m .leaves .size ∙ g .size;
           within = end-within;
@@ -274,8 +274,8 @@ pub fed-checked : {b : Book} {s input rows : List ℕ} → Checked b s rows → 
 fed-checked h w = record { together = w; apart = λ d. let z : _≡_ {A = ℕ} 0 1 = cc (h .base .is) in absurd (omega arith) }
 
 -- book and bytes do not belong together
-pub fed-astray : (b : Book) (s input : List ℕ) → load b s ≡ mismatched → (length input ≡ 0 → ⊥) → Feeds b s input
-    (record { book = b; count = 0; taken = 0; number = 16 }) s
+pub fed-astray : (b : Book) (s input : List ℕ) → load b s ≡ mismatched → (length input ≡ 0 → ⊥)
+    → Feeds b s input (record { book = b; count = 0; taken = 0; number = 16 }) s
 fed-astray b s input e some = record {
   together = λ l d. let z : _≡_ {A = ℕ} 0 1 = cc in absurd (omega arith);
   apart = λ d. record { count = refl; taken = refl; number = ap (λ (t : Bool). cond t 0 16) (sym (ne-eqb (length input) 0 some)); book = refl; bytes = refl };

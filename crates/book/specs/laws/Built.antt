@@ -27,8 +27,8 @@ pub built-all : {A B : Type 0} {f : A → B} {xs : List A} {d : A} {row : List B
     → Built f xs d row e n → n ≤ length row → n ≤ length xs → take n row ≡ map f (take n xs)
 built-all {A} {B} {f} {xs} {d} {row} {e} n b lr lx = go n xs row lr lx (b .each)
   where
-    go : (n : ℕ) (xs : List A) (row : List B) → n ≤ length row → n ≤ length xs → ((j : ℕ) → j < n → getD row j e ≡ f (getD xs j d)) → take n row ≡ map f
-        (take n xs)
+    go : (n : ℕ) (xs : List A) (row : List B) → n ≤ length row → n ≤ length xs → ((j : ℕ) → j < n → getD row j e ≡ f (getD xs j d))
+        → take n row ≡ map f (take n xs)
     go zero xs row lr lx h = refl
     go (suc n) [] row lr lx h = absurd (not-suc-le-zero lx)
     go (suc n) (x ∷ xs) [] lr lx h = absurd (not-suc-le-zero lr)

@@ -84,8 +84,8 @@ decided-change s lent g = decided-called (change s) lent g (go (begins takeBackB
 -- ---- 16, and then the others
 
 -- what cannot be read is refused for that
-pub called-unread : (s : List ℕ) (lent : ℕ) (g : Reg) (j : ℕ) → Unread s j → called (change s) lent g ≡ answered
-    (refused (cond (ltb lent (length (writeAll (g .list)))) 16 j))
+pub called-unread : (s : List ℕ) (lent : ℕ) (g : Reg) (j : ℕ) → Unread s j
+    → called (change s) lent g ≡ answered (refused (cond (ltb lent (length (writeAll (g .list)))) 16 j))
 unfolding called
 called-unread s lent g j u = go (ltb lent (length (writeAll (g .list))))
   where
@@ -129,8 +129,8 @@ module _ (g : Reg) (s : List ℕ) (v : Valid (g .list)) (h : take (length (write
 
 -- ---- a question, of a book and bytes that belong together
 
-pub question-loaded : (q : Question) (b : Book) (s : List ℕ) (l : List Change) (r : Reply) → load b s ≡ belongs l → Meets (ask q) b s b r s → r ≡ answer q
-    (length s) (record { list = l; closed = b .closed })
+pub question-loaded : (q : Question) (b : Book) (s : List ℕ) (l : List Change) (r : Reply) → load b s ≡ belongs l → Meets (ask q) b s b r s
+    → r ≡ answer q (length s) (record { list = l; closed = b .closed })
 unfolding outcome
 question-loaded q b s l r e m = m .answer ∙ ap (λ (x : Load). leaving b s (stepped (asking q) b s x) .answer) e
 
@@ -144,8 +144,8 @@ guarantees-fault h lent g n = go (askHourOf Im h) refl
     worked unpriced (i ∷ is) es e = let q : 15 ≡ n = cc in omega arith
     worked (priced p) (i ∷ is) es e = let z : _≡_ {A = ℕ} 0 1 = cc in absurd (omega arith)
 
-    go : (x : Asked) → askHourOf Im h ≡ x → keyed x (λ (k : Key). guaranteesOf (standing (g .list)) (priceOf (standing (g .list))) (k .hour)) ≡ refused n → 0 <
-        n
+    go : (x : Asked) → askHourOf Im h ≡ x → keyed x (λ (k : Key). guaranteesOf (standing (g .list)) (priceOf (standing (g .list))) (k .hour)) ≡ refused n
+        → 0 < n
     go (bad m) e q = let z : m ≡ n = cc in omega (arith, askHourOf-fault Im h m e)
     go (got k t) e q =
         worked (priceOf (standing (g .list)) (k .hour)) (byName (hourKey Im (k .hour)) (standing (g .list)))

@@ -30,8 +30,8 @@ abbrev pub ticksAt : HourPrices → Rec → Ticks
 ticksAt p r = record { 0 = chargeTicks r p }
 
 -- the charge of a failure that is written at a place
-charge-at : {s : List ℕ} (p : HourPrices) → PricesFit p → (m : Mark) → isFailure m ≡ true → (x : ℕ) (r : Rec) → At s x r → m ≡ r .key .mark → chargeIn m
-    (drop x s) p ≡ Amount (ticksAt p r)
+charge-at : {s : List ℕ} (p : HourPrices) → PricesFit p → (m : Mark) → isFailure m ≡ true → (x : ℕ) (r : Rec) → At s x r → m ≡ r .key .mark
+    → chargeIn m (drop x s) p ≡ Amount (ticksAt p r)
 charge-at p f m b x r w e = ap₂ (λ (a : Mark) (u : List ℕ). chargeIn a u p) e (w .bytes) ∙ charge-written r p (w .rest) (w .good) (sym (ap isFailure e) ∙ b) f
 
 -- ---- a list of failures: no price is needed for none
@@ -69,8 +69,8 @@ module _ {s : List ℕ} {l : List Change} (o : Begun s l) where
 
   -- ---- of a mark and hour
 
-  charges-are : (p : HourPrices) → PricesFit p → (k : Key) → isFailure (k .mark) ≡ true → (rs : List Rec) → All (Here o k) rs → chargesIn s (k .mark) p
-      (map (spotOf l) rs) ≡ map (ticksAt p) rs
+  charges-are : (p : HourPrices) → PricesFit p → (k : Key) → isFailure (k .mark) ≡ true → (rs : List Rec) → All (Here o k) rs
+      → chargesIn s (k .mark) p (map (spotOf l) rs) ≡ map (ticksAt p) rs
   unfolding chargesIn
   charges-are p f k b [] a = refl
   charges-are p f k b (r ∷ rs) (also c a) =

@@ -126,8 +126,8 @@ module _ {s : List ℕ} {l : List Change} (o : Begun s l) where
 
     -- ---- the day
 
-    pub day-is : (ts : List Ticks) (ss : List CentsPerStart) → Parts s u t ts ss 24 → every 24 (λ (j : ℕ). payable (unitAt k (standing l) j) (price (1 + j))) ≡
-        true
+    pub day-is : (ts : List Ticks) (ss : List CentsPerStart) → Parts s u t ts ss 24
+        → every 24 (λ (j : ℕ). payable (unitAt k (standing l) j) (price (1 + j))) ≡ true
         → totalReply (dayAnswer ts ss) ≡ unitDay (dayTotal k (standing l) price) (reversal (dayTotal k (standing l) price))
     unfolding dayTotal
     day-is ts ss ps h =

@@ -69,14 +69,14 @@ enough (suc n) (suc m) lent g (b ∷ s) h k =
     less : (n : ℕ) → length (b ∷ s) ≤ suc n → length (drop (length p) (b ∷ s)) ≤ n
     less n h = omega (arith, length-drop (length p) (b ∷ s), first-some (b ∷ s) (omega arith))
 
-    go : ((x : Reg) → fed n lent x (drop (length p) (b ∷ s)) ≡ fed m lent x (drop (length p) (b ∷ s))) → (st : Step) → feedOn g p (b ∷ s) (fed n lent) st ≡
-        feedOn g p (b ∷ s) (fed m lent) st
+    go : ((x : Reg) → fed n lent x (drop (length p) (b ∷ s)) ≡ fed m lent x (drop (length p) (b ∷ s))) → (st : Step)
+        → feedOn g p (b ∷ s) (fed n lent) st ≡ feedOn g p (b ∷ s) (fed m lent) st
     go ih (answered r) = refl
     go ih (becomes x) = ap (later 1 (length p)) (ih x)
 
 -- a record, and then the others
-pub first-then : (lent : ℕ) (g : Reg) (s : List ℕ) → 0 < length s → feeding lent g s ≡ feedOn g (firstRecord s) s (feeding lent)
-    (called (change (firstRecord s)) lent g)
+pub first-then : (lent : ℕ) (g : Reg) (s : List ℕ) → 0 < length s
+    → feeding lent g s ≡ feedOn g (firstRecord s) s (feeding lent) (called (change (firstRecord s)) lent g)
 unfolding fed
 first-then lent g [] h = absurd (omega arith)
 first-then lent g (b ∷ s) h = go (called (change p) lent g)

@@ -33,8 +33,8 @@ named-in-order n r (x ∷ xs) = go (nameBefore (decodedBytes (r .key .name)) (de
     both true = refl
     both false = refl
 
-    go : (b p q : Bool) → sameName n (r .key .name) ≡ p → sameName n (x .key .name) ≡ q → named n (inOrder r xs) ≡ cond (sameName n (r .key .name)) true
-        (named n xs)
+    go : (b p q : Bool) → sameName n (r .key .name) ≡ p → sameName n (x .key .name) ≡ q
+        → named n (inOrder r xs) ≡ cond (sameName n (r .key .name)) true (named n xs)
         → named n (cond b (r ∷ x ∷ xs) (x ∷ inOrder r xs)) ≡ cond p true (cond q true (named n xs))
     go true p q ep eq w = ap₂ (λ (a b : Bool). cond a true (cond b true (named n xs))) ep eq
     go false p true ep eq w = ap (λ (b : Bool). cond b true (named n (inOrder r xs))) eq ∙ both p
@@ -119,8 +119,8 @@ none-picked k = refl
 
 module _ (l : List Change) (r : Rec) where
   -- 10 and 12 are all that it meets where there is room
-  pub filing-refused : roomFor l 65535 (filed r) ≡ 0 → (f w : Bool) → stands (r .key) (standing l) ≡ f → ltb (count (r .key) (standing l)) (limitOf (r .key)) ≡
-      w
+  pub filing-refused : roomFor l 65535 (filed r) ≡ 0 → (f w : Bool) → stands (r .key) (standing l) ≡ f
+      → ltb (count (r .key) (standing l)) (limitOf (r .key)) ≡ w
       → refusal l 65535 (filed r) ≡ cond f 10 (cond w 0 12)
   unfolding refusal
   filing-refused z f w p q = (λ i. cond (p i) 10 (cond (q i) (z i) 12))
@@ -133,8 +133,8 @@ module _ (l : List Change) (r : Rec) where
   unfolding writeAll
   filing-length = length-append (writeAll l) (write (filed r))
 
-  pub filing-named : (k : Key) (b : Bool) → sameHour k (r .key) ≡ b → byName k (standing (filed r ∷ l)) ≡ cond b (inOrder r (byName k (standing l)))
-      (byName k (standing l))
+  pub filing-named : (k : Key) (b : Bool) → sameHour k (r .key) ≡ b
+      → byName k (standing (filed r ∷ l)) ≡ cond b (inOrder r (byName k (standing l))) (byName k (standing l))
   unfolding standing byName
   filing-named k b e = ap (λ (t : Bool). cond t (inOrder r (byName k (standing l))) (byName k (standing l))) e
 

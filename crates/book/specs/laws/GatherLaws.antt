@@ -48,8 +48,8 @@ unfolding writeAll
 grows [] l = omega arith
 grows (c ∷ cs) l = omega (arith, grows cs l, length-append (writeAll (cs ++ l)) (write c))
 
-passed : (k : Key) (newer l : List Change) → touched k newer ≡ false → (survey k (newer ++ l) .found ≡ survey k l .found) ×
-    (survey k (newer ++ l) .start ≡ survey k l .start)
+passed : (k : Key) (newer l : List Change) → touched k newer ≡ false
+    → (survey k (newer ++ l) .found ≡ survey k l .found) × (survey k (newer ++ l) .start ≡ survey k l .start)
 unfolding touched survey
 passed k [] l h = (refl, refl)
 passed k (c ∷ cs) l h =
@@ -73,8 +73,8 @@ beyond k (c ∷ cs) l h =
     (survey k (cs ++ l) .start)) (sym t)
     (beyond k cs l (sym (ap (λ (b : Bool). cond b true (touched k cs)) t) ∙ h)))
   where
-    go : (b : Bool) → length (writeAll l) ≤ length (writeAll (cs ++ l)) → length (writeAll l) ≤ cond b (length (writeAll (cs ++ l)) + 2)
-        (length (writeAll (cs ++ l)))
+    go : (b : Bool) → length (writeAll l) ≤ length (writeAll (cs ++ l))
+        → length (writeAll l) ≤ cond b (length (writeAll (cs ++ l)) + 2) (length (writeAll (cs ++ l)))
     go true g = omega arith
     go false g = g
 
@@ -105,8 +105,8 @@ left-snoc newer c (r ∷ rs) =
     ∙ sym (ap (λ (b : Bool). left newer (cond b (without (keyOf c) rs) (r ∷ without (keyOf c) rs))) t))
 
 -- what the newest change of a key says of it
-own : (c : Change) (l : List Change) → isWithdrawal (kindOf c) ≡ false → (survey (keyOf c) (c ∷ l) .found ≡ true) ×
-    (survey (keyOf c) (c ∷ l) .start ≡ length (writeAll l) + leadLength (kindOf c))
+own : (c : Change) (l : List Change) → isWithdrawal (kindOf c) ≡ false
+    → (survey (keyOf c) (c ∷ l) .found ≡ true) × (survey (keyOf c) (c ∷ l) .start ≡ length (writeAll l) + leadLength (kindOf c))
 unfolding survey
 own (filed r) l n = (
   ap (λ (b : Bool). cond b true (survey (r .key) l .found)) (same-refl (r .key)),

@@ -36,8 +36,8 @@ module _ {A : Type 0} {put : List A → List A} {at : List A} {n i : ℕ} (h : S
       sought-at s (ap put z ∙ e ∙ ap (λ y. s ∷ y) (sym z))
 
   module _ (d : A) (le : n ≤ length at) (lt : i < n) where
-    pub sought-here : (s : A) → ((xs : List A) → put (getD at i d ∷ xs) ≡ s ∷ getD at i d ∷ xs) → put (take n at) ≡ take i (take n at) ++
-        (s ∷ drop i (take n at))
+    pub sought-here : (s : A) → ((xs : List A) → put (getD at i d ∷ xs) ≡ s ∷ getD at i d ∷ xs)
+        → put (take n at) ≡ take i (take n at) ++ (s ∷ drop i (take n at))
     sought-here s e = let w = here at n i d le lt in sought-at s (ap put w ∙ e (drop (suc i) (take n at)) ∙ ap (λ y. s ∷ y) (sym w))
 
     pub sought-there : ((xs : List A) → put (getD at i d ∷ xs) ≡ getD at i d ∷ xs) → put (take n at) ≡ take n at

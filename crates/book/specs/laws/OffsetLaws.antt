@@ -78,8 +78,8 @@ module _ (s : List ℕ) where
   unfolding entriesIn
   entries-mapped p xs = refl
 
-  pub entries-at : (p : HourPrices) {xs : List Spot} {rs : List Rec} → Each (λ (x : Spot) (r : Rec). entryAt s p x ≡ offsetEntry p r) xs rs → entriesIn s p xs ≡
-      map (offsetEntry p) rs
+  pub entries-at : (p : HourPrices) {xs : List Spot} {rs : List Rec} → Each (λ (x : Spot) (r : Rec). entryAt s p x ≡ offsetEntry p r) xs rs
+      → entriesIn s p xs ≡ map (offsetEntry p) rs
   unfolding entriesIn
   entries-at p none = refl
   entries-at p (more w e) = ap₂ _∷_ w (entries-at p e)

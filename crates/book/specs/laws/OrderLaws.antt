@@ -100,8 +100,8 @@ two-in-order a b h (x ∷ xs) = go (two-in-order a b h xs) (before b x) refl (be
 any-two : (a b : Rec) → (decodedBytes (a .key .name) ≡ decodedBytes (b .key .name) → ⊥) → (xs : List Rec) → inOrder a (inOrder b xs) ≡ inOrder b (inOrder a xs)
 any-two a b d xs = go (name-tri (decodedBytes (a .key .name)) (decodedBytes (b .key .name)))
   where
-    go : (before a b ≡ true) ⊎ ((decodedBytes (a .key .name) ≡ decodedBytes (b .key .name)) ⊎ (before b a ≡ true)) → inOrder a (inOrder b xs) ≡ inOrder b
-        (inOrder a xs)
+    go : (before a b ≡ true) ⊎ ((decodedBytes (a .key .name) ≡ decodedBytes (b .key .name)) ⊎ (before b a ≡ true))
+        → inOrder a (inOrder b xs) ≡ inOrder b (inOrder a xs)
     go (inl h) = two-in-order a b h xs
     go (inr (inl e)) = absurd (d e)
     go (inr (inr h)) = sym (two-in-order b a h xs)

@@ -52,16 +52,16 @@ module _ (lent : ℕ) where
       ∙ ap (feedOn g (firstRecord xs) (xs ++ ys) (feeding lent)) e
       ∙ ap (λ (x : List ℕ). later 1 (length (firstRecord xs)) (feeding lent h x)) (drop-append-le (length (firstRecord xs)) xs ys (first-within xs))
 
-  at-first : (g : Reg) (xs : List ℕ) → 0 < length xs → (st : Step) → called (change (firstRecord xs)) lent g ≡ st → feeding lent g xs ≡ feedOn g
-      (firstRecord xs) xs (feeding lent) st
+  at-first : (g : Reg) (xs : List ℕ) → 0 < length xs → (st : Step) → called (change (firstRecord xs)) lent g ≡ st
+      → feeding lent g xs ≡ feedOn g (firstRecord xs) xs (feeding lent) st
   at-first g xs some st e = first-then lent g xs some ∙ ap (feedOn g (firstRecord xs) xs (feeding lent)) e
 
   less : (n : ℕ) (xs : List ℕ) → 0 < length xs → length xs ≤ suc n → length (drop (length (firstRecord xs)) xs) ≤ n
   less n xs some h = omega (arith, length-drop (length (firstRecord xs)) xs, first-some xs some)
 
   -- wherever reading stopped, it goes on from there
-  goes-on : (ys : List ℕ) (n : ℕ) (g : Reg) (xs : List ℕ) → length xs ≤ n → feeding lent g (xs ++ ys) ≡ resumed lent (feeding lent g xs)
-      (drop (feeding lent g xs .taken) xs ++ ys)
+  goes-on : (ys : List ℕ) (n : ℕ) (g : Reg) (xs : List ℕ) → length xs ≤ n
+      → feeding lent g (xs ++ ys) ≡ resumed lent (feeding lent g xs) (drop (feeding lent g xs .taken) xs ++ ys)
   unfolding fed
   goes-on ys zero g [] h = none-before (feeding lent g ys)
   goes-on ys (suc n) g [] h = none-before (feeding lent g ys)
@@ -122,8 +122,8 @@ module _ (lent : ℕ) where
   unfolding firstRecord
   stays ys g xs some r e z = go (readEntry xs) refl (ltb lent (length (writeAll (g .list)))) refl
     where
-      go : (i : Res Entry) → readEntry xs ≡ i → (b : Bool) → ltb lent (length (writeAll (g .list))) ≡ b → called (change (firstRecord (xs ++ ys))) lent g ≡
-          answered r
+      go : (i : Res Entry) → readEntry xs ≡ i → (b : Bool) → ltb lent (length (writeAll (g .list))) ≡ b
+          → called (change (firstRecord (xs ++ ys))) lent g ≡ answered r
       go (got x t) q b w = ap (λ (l : List ℕ). called (change l) lent g) (first-more xs ys x t q) ∙ e
       go (bad j) q true w = called-short (change (firstRecord (xs ++ ys))) lent g w ∙ sym (called-short (change (firstRecord xs)) lent g w) ∙ e
       go (bad j) q false w =
@@ -135,8 +135,8 @@ module _ (lent : ℕ) where
           ap (λ (i : Res Entry). called (change (front (xs ++ ys) i)) lent g) f
           ∙ called-unread (xs ++ ys) lent g j (entry-bad (xs ++ ys) j f) ∙ ap (λ (b : Bool). answered (refused (cond b 16 j))) w ∙ ap answered (sym y)
 
-  remains : (ys : List ℕ) (n : ℕ) (g : Reg) (xs : List ℕ) → length xs ≤ n → (feeding lent g xs .number ≡ 0 → ⊥) → (feeding lent g xs .number ≡ 1 → ⊥) → feeding
-      lent g (xs ++ ys) ≡ feeding lent g xs
+  remains : (ys : List ℕ) (n : ℕ) (g : Reg) (xs : List ℕ) → length xs ≤ n → (feeding lent g xs .number ≡ 0 → ⊥) → (feeding lent g xs .number ≡ 1 → ⊥)
+      → feeding lent g (xs ++ ys) ≡ feeding lent g xs
   unfolding fed
   remains ys zero g [] h z o = absurd (z refl)
   remains ys (suc n) g [] h z o = absurd (z refl)
@@ -207,8 +207,8 @@ any-pieces lent g left (xs ∷ xss) =
     w : Pieces lent g (left ++ xs) (joined xss)
     w = pieces lent g (left ++ xs) (joined xss)
 
-    go : (n : ℕ) → f .number ≡ n → piecewise lent (f .reg) (drop (f .taken) (left ++ xs)) xss ≡ feeding lent (f .reg)
-        (drop (f .taken) (left ++ xs) ++ joined xss)
+    go : (n : ℕ) → f .number ≡ n
+        → piecewise lent (f .reg) (drop (f .taken) (left ++ xs)) xss ≡ feeding lent (f .reg) (drop (f .taken) (left ++ xs) ++ joined xss)
         → unless-refused f n (later (f .count) (f .taken) (piecewise lent (f .reg) (drop (f .taken) (left ++ xs)) xss)) ≡ feeding lent g
         ((left ++ xs) ++ joined xss)
     go zero e ih =

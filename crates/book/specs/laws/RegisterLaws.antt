@@ -230,8 +230,8 @@ hour-few k (filed r ∷ l) v =
     (spaceFault (length l) (length (writeAll l)) (length (write (filed r))) 65535) (v .1)) in
     go (sameHour k (r .key)) refl few (hour-few k l (v .2))
   where
-    go : (b : Bool) → sameHour k (r .key) ≡ b → count (r .key) (standing l) < limitOf (r .key) → count k (standing l) ≤ limitOf k → cond b
-        (count k (standing l) + 1) (count k (standing l)) ≤ limitOf k
+    go : (b : Bool) → sameHour k (r .key) ≡ b → count (r .key) (standing l) < limitOf (r .key) → count k (standing l) ≤ limitOf k
+        → cond b (count k (standing l) + 1) (count k (standing l)) ≤ limitOf k
     go true e few all = omega (arith, count-same k (r .key) (standing l) e, limit-same k (r .key) e)
     go false e few all = all
 hour-few k (corrected r ∷ l) v =

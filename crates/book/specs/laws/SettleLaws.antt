@@ -30,8 +30,8 @@ still-valid (suc n) lent g (b ∷ s) h v =
     p : List ℕ
     p = firstRecord (b ∷ s)
 
-    go : ((x : Reg) → Valid (x .list) → Valid (feeding lent x (drop (length p) (b ∷ s)) .reg .list)) → (st : Step) → Valid (after st g .list) → Valid
-        (feedOn g p (b ∷ s) (feeding lent) st .reg .list)
+    go : ((x : Reg) → Valid (x .list) → Valid (feeding lent x (drop (length p) (b ∷ s)) .reg .list)) → (st : Step) → Valid (after st g .list)
+        → Valid (feedOn g p (b ∷ s) (feeding lent) st .reg .list)
     go ih (answered r) w = w
     go ih (becomes x) w = ih x w
 
@@ -55,8 +55,8 @@ abbrev pub Told : Settled → Result → List ℕ → Type 0
 Told (statement g) r s′ = Stated g r s′
 Told (ref n k) r s′ = (r .count + 1 ≡ n) × (r .number ≡ k)
 
-pub settles : (s input : List ℕ) (r : Result) (s′ : List ℕ) → length s ≡ 65535 → Feeds (record { changes = 0; used = 0; closed = false }) s input r s′ → Told
-    (settled input) r s′
+pub settles : (s input : List ℕ) (r : Result) (s′ : List ℕ) → length s ≡ 65535 → Feeds (record { changes = 0; used = 0; closed = false }) s input r s′
+    → Told (settled input) r s′
 unfolding settled
 settles s input r s′ e m =
     go (feeding 65535 fresh input) (subst (λ (n : ℕ). Ends (feeding n fresh input) s r s′) e (m .together [] (load-fresh s)))

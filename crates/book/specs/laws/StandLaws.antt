@@ -70,8 +70,8 @@ pick-key k (x ∷ xs) r e =
     (λ t. pick-key k xs r (sym (ap (λ (b : Bool). cond b (is x) (pick k xs)) t) ∙ e))
 
 -- the key of a record that stands can be asked for
-pub standing-asked : (k : Key) (l : List Change) → Valid l → (r : Rec) → pick k (standing l) ≡ is r → keyAsked (markBytes (r .key .mark)) (r .key .hour)
-    (askBytes (r .key)) ≡ got (r .key) []
+pub standing-asked : (k : Key) (l : List Change) → Valid l → (r : Rec) → pick k (standing l) ≡ is r
+    → keyAsked (markBytes (r .key .mark)) (r .key .hour) (askBytes (r .key)) ≡ got (r .key) []
 standing-asked k l v r e = asked (filed r) (all-pick k r (standing-good l v) e)
 
 -- ---- each record is the one that stands under its key
@@ -212,8 +212,8 @@ all-at done d i h = absurd (not-suc-le-zero h)
 all-at (also p a) d zero h = p
 all-at (also p a) d (suc i) h = all-at a d i (le-of-suc-le-suc h)
 
-pub apart-at : {rs : List Rec} → Apart rs → (d : Rec) (i j : ℕ) → i < length rs → j < i → decodedBytes (getD rs j d .key .name) ≡ decodedBytes
-    (getD rs i d .key .name) → ⊥
+pub apart-at : {rs : List Rec} → Apart rs → (d : Rec) (i j : ℕ) → i < length rs → j < i
+    → decodedBytes (getD rs j d .key .name) ≡ decodedBytes (getD rs i d .key .name) → ⊥
 apart-at lone d i j h l = absurd (not-suc-le-zero h)
 apart-at (apart n u) d zero j h l = absurd (not-suc-le-zero l)
 apart-at (apart n u) d (suc i) zero h l = all-at n d i (le-of-suc-le-suc h)

@@ -35,8 +35,8 @@ stops-from (suc n) lent g (b ∷ s) h =
     p : List ℕ
     p = firstRecord (b ∷ s)
 
-    go : ((x : Reg) → Stops (feeding lent x (drop (length p) (b ∷ s))) (length (drop (length p) (b ∷ s)))) → (st : Step) → Stops
-        (feedOn g p (b ∷ s) (feeding lent) st) (length (b ∷ s))
+    go : ((x : Reg) → Stops (feeding lent x (drop (length p) (b ∷ s))) (length (drop (length p) (b ∷ s)))) → (st : Step)
+        → Stops (feedOn g p (b ∷ s) (feeding lent) st) (length (b ∷ s))
     go ih (answered r) = record { within = omega arith; few = omega arith; refused = λ z. omega arith }
     go ih (becomes x) =
         let i = ih x in

@@ -100,8 +100,8 @@ hour-fits l v h =
     record { guaranteed = g .is; imports = i .is; exports = e .is; few-credits = g .few; few-imports = i .few; few-exports = e .few }
 
 -- the j-th of n hours from h on
-pub hours-at : {A B : Type 0} (f : ℕ → A) (g : A → B) (z d : B) (n m h j : ℕ) → j < n → n ≤ m → getD (pad z m (map g (map f (hoursFrom h n)))) j d ≡ g
-    (f (h + j))
+pub hours-at : {A B : Type 0} (f : ℕ → A) (g : A → B) (z d : B) (n m h j : ℕ) → j < n → n ≤ m
+    → getD (pad z m (map g (map f (hoursFrom h n)))) j d ≡ g (f (h + j))
 unfolding hoursFrom
 hours-at f g z d zero m h j lt le = absurd (not-suc-le-zero lt)
 hours-at f g z d (suc n) zero h j lt le = absurd (not-suc-le-zero le)

@@ -20,8 +20,8 @@ use Rattle.book.specs.tables.Worked.{Begun, noSpot, Inside, entryAt, ent
 use Rattle.book.specs.laws.StandLaws.{all-map, all-at, Stands, all-stand, all-by-name}
 use Rattle.book.specs.laws.OffsetLaws.{getD-mapped, each-own, entries-at, Adds, totals-at}
 
-pub named-are : (l : List Change) (p : HourPrices) (rs : List Rec) → namedOf (map (spotOf l) rs) (map entryCredit (map (offsetEntry p) rs)) ≡ map (creditAt p)
-    rs
+pub named-are : (l : List Change) (p : HourPrices) (rs : List Rec)
+    → namedOf (map (spotOf l) rs) (map entryCredit (map (offsetEntry p) rs)) ≡ map (creditAt p) rs
 unfolding namedOf
 named-are l p [] = refl
 named-are l p (r ∷ rs) = ap (λ (x : List NamedAmount). creditAt p r ∷ x) (named-are l p rs)
@@ -60,8 +60,8 @@ module _ {s : List ℕ} {l : List Change} (o : Begun s l) where
 
   -- ---- entries
 
-  pub entries-are : (p : HourPrices) → PricesFit p → (h : ℕ) (rs : List Rec) → All (Here (hourKey Im h)) rs → entriesIn s p (map (spotOf l) rs) ≡ map
-      (offsetEntry p) rs
+  pub entries-are : (p : HourPrices) → PricesFit p → (h : ℕ) (rs : List Rec) → All (Here (hourKey Im h)) rs
+      → entriesIn s p (map (spotOf l) rs) ≡ map (offsetEntry p) rs
   entries-are p f h rs a = entries-at s p (each-own (spotOf l) (all-map at a))
     where
       at : (r : Rec) → Here (hourKey Im h) r → entryAt s p (spotOf l r) ≡ offsetEntry p r

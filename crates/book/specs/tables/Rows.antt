@@ -27,7 +27,7 @@ abbrev pub kindAt : ℕ → Kind
 kindAt code = cond (eqb code 1) File (cond (eqb code 2) Correct Withdraw)
 
 abbrev pub packed : Bool → Kind → ℕ → ℕ → ℕ
-packed live kind bucket q = cond live 134217728 0 + kindCode kind * 33554432 + bucket * 65536 + q
+packed live kind slot q = cond live 134217728 0 + kindCode kind * 33554432 + slot * 65536 + q
 
 abbrev pub rowStart : ℕ → ℕ
 rowStart row = row % 65536

@@ -1,4 +1,5 @@
 // Where a replay looks for a key: by a number of the key, and by mark and hour.
+use money::names::NAME_MAX;
 use records::keys::Key;
 use records::marks::order;
 ghost use mathlib.Core.Path.{_≡_};
@@ -26,7 +27,7 @@ pub(crate) fn bucket_of(key: Key) -> usize
     let mut sum = hour_slot(key);
     let mut weight: usize = 449;
     let mut i: usize = 0;
-    while i < 12 {
+    while i < NAME_MAX {
         sum = sum + wide(bytes[i]) * weight;
         weight = weight * 31 % 8192;
         i = i + 1;

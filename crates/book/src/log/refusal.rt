@@ -1,4 +1,5 @@
 // The numbers 10 to 13.
+use crate::book::USED_MAX;
 use money::refusals::HOUR_FULL;
 use money::refusals::KEY_STANDS;
 use money::refusals::NO_SPACE;
@@ -14,8 +15,8 @@ ghost use Rattle.book.specs.tables.Tables.{changeFault};
 pub(crate) fn capacity(lent: usize) -> usize
     ensures { λ r. ⌜ r ≡ capped lent ⌝ }
 {
-    if 65535 < lent {
-        return 65535;
+    if USED_MAX < lent {
+        return USED_MAX;
     }
     lent
 }

@@ -1,5 +1,6 @@
 // The one pass over a book's used part.
 use crate::book::CHANGES_MAX;
+use crate::book::USED_MAX;
 use crate::log::index::bucket_of;
 use crate::log::index::hour_slot;
 use crate::log::refusal::change_fault;
@@ -56,19 +57,19 @@ pub(crate) fn replayed_rows(part: &[u8], n: u16, rows: &mut [u32; CHANGES_MAX]) 
         if !is_record(v) {
             return false;
         }
-        let slot = bucket_of(v.key);
-        let near = latest[slot] as usize;
+        let bucket = bucket_of(v.key);
+        let near = latest[bucket] as usize;
         let s = find_in(part, rows, i, near, v.key);
         let hour = hour_slot(v.key);
         let count = counts[hour];
         let most = limit_of(v.key);
-        if change_fault(v, s.found, count, most, i, q, 65535) != 0 {
+        if change_fault(v, s.found, count, most, i, q, USED_MAX) != 0 {
             return false;
         }
         clear_row(rows, s);
         let row = row_for(v, hour, q);
         rows[i] = row;
-        latest[slot] = (i + 1) as u16;
+        latest[bucket] = (i + 1) as u16;
         counts[hour] = count_with(v, count);
         q = q + v.len;
         i = i + 1;

@@ -63,20 +63,20 @@ pub(crate) fn place_in(row: u32) -> usize
 }
 
 // Whether the record that it wrote stands, and is of the mark and hour.
-pub(crate) fn stands_in(row: u32, bucket: usize) -> bool
-    ensures { λ r. ⌜ r ≡ (rowLive row && eqb (rowSlot row) bucket) ⌝ }
+pub(crate) fn stands_in(row: u32, slot: usize) -> bool
+    ensures { λ r. ⌜ r ≡ (rowLive row && eqb (rowSlot row) slot) ⌝ }
 {
     if row < 134217728 {
         return false;
     }
-    (row / 65536 % 512) as usize == bucket
+    (row / 65536 % 512) as usize == slot
 }
 
-fn counted(row: u32, bucket: usize, count: usize) -> usize
+fn counted(row: u32, slot: usize, count: usize) -> usize
     requires { ⌜ count < 65536 ⌝ }
-    ensures { λ r. ⌜ r ≡ cond (rowLive row && eqb (rowSlot row) bucket) (count + 1) count ⌝ }
+    ensures { λ r. ⌜ r ≡ cond (rowLive row && eqb (rowSlot row) slot) (count + 1) count ⌝ }
 {
-    if stands_in(row, bucket) {
+    if stands_in(row, slot) {
         return count + 1;
     }
     count
@@ -87,11 +87,11 @@ pub(crate) fn count_in(rows: &[u32; CHANGES_MAX], n: usize, key: Key) -> usize
     requires { ⌜ Rules (now rows) n ⌝ }
     ensures { λ r. ⌜ ((l : List Change) → Ruled (now (rows .entry)) n l → key .hour < 32 → r ≡ count key (standing l)) ⌝ }
 {
-    let bucket = hour_slot(key);
+    let slot = hour_slot(key);
     let mut sum: usize = 0;
     let mut i: usize = 0;
     while i < n {
-        sum = counted(rows[i], bucket, sum);
+        sum = counted(rows[i], slot, sum);
         i = i + 1;
     }
     sum
@@ -129,18 +129,18 @@ fn find_head(
     rows: &[u32; CHANGES_MAX],
     n: usize,
     from: usize,
-    bucket: usize,
+    slot: usize,
     head: &[u8],
 ) -> Seek
     requires { ⌜ Log (now log) (now rows) n ⌝ ∗ ⌜ from ≤ n ⌝ }
-    ensures { λ r. ⌜ ((k : Key) (l : List Change) → Search (now (log .entry)) (now (rows .entry)) n from bucket (now (head .entry)) k l
+    ensures { λ r. ⌜ ((k : Key) (l : List Change) → Search (now (log .entry)) (now (rows .entry)) n from slot (now (head .entry)) k l
         → Sought (now (rows .entry)) n k r l) ⌝ }
 {
     let mut i: usize = from;
     while 0 < i {
         let j = i - 1;
         let row = rows[j];
-        if stands_in(row, bucket) {
+        if stands_in(row, slot) {
             let start = place_in(row);
             if starts(&log[start..], head) {
                 return Seek {
@@ -170,20 +170,20 @@ pub(crate) fn find_in(
     if from == 0 {
         return not_found();
     }
-    let bucket = hour_slot(key);
+    let slot = hour_slot(key);
     let h = record_head(key);
     let len = h.len;
     let bytes = h.bytes;
-    find_head(log, rows, n, from, bucket, &bytes[..len])
+    find_head(log, rows, n, from, slot, &bytes[..len])
 }
 
 // A change at q whose record stands, unless it is a withdrawal.
-pub(crate) fn row_for(view: View, bucket: usize, q: usize) -> u32
-    requires { ⌜ (bucket < 512) × (q < 65536) ⌝ }
-    ensures { λ r. ⌜ r ≡ packed (not (isWithdrawal (kindIn (view .act)))) (kindIn (view .act)) bucket q ⌝ }
+pub(crate) fn row_for(view: View, slot: usize, q: usize) -> u32
+    requires { ⌜ (slot < 512) × (q < 65536) ⌝ }
+    ensures { λ r. ⌜ r ≡ packed (not (isWithdrawal (kindIn (view .act)))) (kindIn (view .act)) slot q ⌝ }
 {
     let kind = kind_of(view);
-    let row = code_of(kind) * 33554432 + bucket as u32 * 65536 + q as u32;
+    let row = code_of(kind) * 33554432 + slot as u32 * 65536 + q as u32;
     if is_withdrawal(kind) {
         return row;
     }

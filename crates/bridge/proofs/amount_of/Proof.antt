@@ -21,8 +21,8 @@ returns c =
     let c2 = c .before .before in
     let c4 = c2 .before .before in
     let c7 = c4 .before .before .before in
-    rw (sym ((c2 .begins-with) .ensures) ∙ (c .before .if1) .taken) ((c .import-credit) .ensures ∙ ap (λ (p : HourPrices). creditIn ((c7 .args) .bytes .now) p)
-    (ap (λ (a : PricesAnswer). a .prices) ((c4 .prices-of) .ensures)))
+    rw (sym (c2 .begins-with .ensures) ∙ (c .before .if1) .taken) (c .import-credit .ensures ∙ ap (λ (p : HourPrices). creditIn (c7 .args .bytes .now) p)
+    (ap (λ (a : PricesAnswer). a .prices) (c4 .prices-of .ensures)))
 
 begins-with-requires-2 : tie.Need-begins-with-requires-2
 begins-with-requires-2 c κs = search needs
@@ -37,8 +37,8 @@ returns-2 c =
     let c4 = c3 .before in
     let c6 = c4 .before .before in
     let c9 = c6 .before .before .before in
-    rw (sym ((c4 .begins-with) .ensures) ∙ (c3 .if1) .left, sym ((c2 .begins-with2) .ensures) ∙ (c .before .if2) .taken) ((c .unit-amount) .ensures ∙ ap
-    (λ (p : HourPrices). unitAmountIn ((c9 .args) .bytes .now) p) (ap (λ (a : PricesAnswer). a .prices) ((c6 .prices-of) .ensures)))
+    rw (sym (c4 .begins-with .ensures) ∙ (c3 .if1) .left, sym (c2 .begins-with2 .ensures) ∙ (c .before .if2) .taken) (c .unit-amount .ensures ∙ ap
+    (λ (p : HourPrices). unitAmountIn (c9 .args .bytes .now) p) (ap (λ (a : PricesAnswer). a .prices) (c6 .prices-of .ensures)))
 
 begins-with-requires-3 : tie.Need-begins-with-requires-3
 begins-with-requires-3 c κs = search needs
@@ -56,12 +56,12 @@ returns-3 c =
     let c8 = c6 .before .before in
     let c11 = c8 .before .before .before in
     rw (
-      sym ((c6 .begins-with) .ensures) ∙ (c5 .if1) .left,
-      sym ((c4 .begins-with2) .ensures) ∙ (c3 .if2) .left,
-      sym ((c2 .begins-with3) .ensures) ∙
+      sym (c6 .begins-with .ensures) ∙ (c5 .if1) .left,
+      sym (c4 .begins-with2 .ensures) ∙ (c3 .if2) .left,
+      sym (c2 .begins-with3 .ensures) ∙
           (c .before .if3) .taken,
-    ) ((c .failure-charge) .ensures ∙ ap (λ (p : HourPrices). chargeIn Fi ((c11 .args) .bytes .now) p)
-    (ap (λ (a : PricesAnswer). a .prices) ((c8 .prices-of) .ensures)))
+    ) (c .failure-charge .ensures ∙ ap (λ (p : HourPrices). chargeIn Fi (c11 .args .bytes .now) p)
+    (ap (λ (a : PricesAnswer). a .prices) (c8 .prices-of .ensures)))
 
 failure-charge-requires-2 : tie.Need-failure-charge-requires-2
 failure-charge-requires-2 c κs = search needs
@@ -76,12 +76,12 @@ returns-4 c =
     let c8 = c6 .before .before in
     let c11 = c8 .before .before .before in
     rw (
-      sym ((c6 .begins-with) .ensures) ∙ (c5 .if1) .left,
-      sym ((c4 .begins-with2) .ensures) ∙ (c3 .if2) .left,
-      sym ((c2 .begins-with3) .ensures) ∙
+      sym (c6 .begins-with .ensures) ∙ (c5 .if1) .left,
+      sym (c4 .begins-with2 .ensures) ∙ (c3 .if2) .left,
+      sym (c2 .begins-with3 .ensures) ∙
           (c .before .if3) .left,
-    ) ((c .failure-charge2) .ensures ∙ ap (λ (p : HourPrices). chargeIn Fe ((c11 .args) .bytes .now) p)
-    (ap (λ (a : PricesAnswer). a .prices) ((c8 .prices-of) .ensures)))
+    ) (c .failure-charge2 .ensures ∙ ap (λ (p : HourPrices). chargeIn Fe (c11 .args .bytes .now) p)
+    (ap (λ (a : PricesAnswer). a .prices) (c8 .prices-of .ensures)))
 
 pub amount-of-spec : {M : Type 1} → statement M
 amount-of-spec =

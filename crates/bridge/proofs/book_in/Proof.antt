@@ -9,7 +9,7 @@ no-book-requires c κs = search needs
 
 returns : tie.Need-returns
 unfolding bookIn
-returns c = rw (lt-ltb _ _ ((c .before .if1) .taken)) ((c .no-book) .ensures)
+returns c = rw (lt-ltb _ _ (c .before .if1 .taken)) (c .no-book .ensures)
 
 shared-slice-read-book-of : tie.Need-shared-slice-read-book-of
 shared-slice-read-book-of c = search needs
@@ -25,7 +25,7 @@ book-of-requires c κs = search needs
 
 returns-2 : tie.Need-returns-2
 unfolding bookIn
-returns-2 c = rw (le-ltb _ _ ((c .before .before .before .before .if1) .left)) ((c .book-of) .ensures)
+returns-2 c = rw (le-ltb _ _ (c .before .before .before .before .if1 .left)) (c .book-of .ensures)
 
 pub book-in-spec : {M : Type 1} → statement M
 book-in-spec =

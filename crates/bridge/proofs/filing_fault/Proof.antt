@@ -13,7 +13,7 @@ cast-result : tie.Need-cast-result
 cast-result c = search needs
 
 returns : tie.Need-returns
-returns c = rw (lt-ltb _ _ ((c .if1) .taken))
+returns c = rw (lt-ltb _ _ (c .if1 .taken))
 
 cast-result-2 : tie.Need-cast-result-2
 cast-result-2 c = search needs
@@ -21,8 +21,8 @@ cast-result-2 c = search needs
 returns-2 : tie.Need-returns-2
 returns-2 c =
     let c3 = c .before .before .before in
-    rw (le-ltb _ _ ((c .before .if1) .left))
-    (sym (ap (λ (b : Bool). cond b (parsedOf (parse (Only File) ((c3 .args) .bytes .now)) .number) 2) (not-true ((c3 .args) .marked) ((c .if2) .taken))))
+    rw (le-ltb _ _ (c .before .if1 .left))
+    (sym (ap (λ (b : Bool). cond b (parsedOf (parse (Only File) (c3 .args .bytes .now)) .number) 2) (not-true (c3 .args .marked) (c .if2 .taken))))
 
 parse-change-requires : tie.Need-parse-change-requires
 parse-change-requires c κs = search needs
@@ -35,8 +35,8 @@ returns-3 c =
     let c2 = c .before .before in
     let c3 = c2 .before in
     let c5 = c3 .before .before in
-    rw (le-ltb _ _ ((c3 .if1) .left)) (ap (λ (x : Parsed). x .number) ((c .before .parse-change) .ensures) ∙ sym
-    (ap (λ (b : Bool). cond b (parsedOf (parse (Only File) ((c5 .args) .bytes .now)) .number) 2) (not-false ((c5 .args) .marked) ((c2 .if2) .left))))
+    rw (le-ltb _ _ (c3 .if1 .left)) (ap (λ (x : Parsed). x .number) (c .before .parse-change .ensures) ∙ sym
+    (ap (λ (b : Bool). cond b (parsedOf (parse (Only File) (c5 .args .bytes .now)) .number) 2) (not-false (c5 .args .marked) (c2 .if2 .left))))
 
 pub filing-fault-spec : {M : Type 1} → statement M
 filing-fault-spec =

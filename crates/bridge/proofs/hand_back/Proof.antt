@@ -35,9 +35,9 @@ returns c =
     let c11 = c7 .before .before .before .before in
     let c14 = c11 .before .before .before in
     let b = (c14 .args) .b in
-    (c2 .set3) .ensures ∙ ap (λ (s : List ℕ). stored s 2 ((c3 .flag) .result))
-    ((c7 .set2) .ensures ∙ ap (λ (s : List ℕ). stored s 1 (b .used)) ((c11 .set) .ensures))
-    ∙ ap (λ (k : ℕ). stored (stored (stored ((c14 .args) .state .now) 0 (b .changes)) 1 (b .used)) 2 k) ((c3 .flag) .ensures)
+    (c2 .set3) .ensures ∙ ap (λ (s : List ℕ). stored s 2 (c3 .flag .result))
+    (c7 .set2 .ensures ∙ ap (λ (s : List ℕ). stored s 1 (b .used)) (c11 .set .ensures))
+    ∙ ap (λ (k : ℕ). stored (stored (stored (c14 .args .state .now) 0 (b .changes)) 1 (b .used)) 2 k) (c3 .flag .ensures)
 
 pub hand-back-spec : {M : Type 1} → statement M
 hand-back-spec =

@@ -5,7 +5,7 @@ use Rattle.bridge.proofs.hand_back_fed.Statement.{statement}
 use Rattle.bridge.proofs.hand_back_fed.Tie as tie
 
 returns : tie.Need-returns
-returns c = rw (eq-eqb _ _ ((c .if1) .taken)) refl
+returns c = rw (eq-eqb _ _ (c .if1 .taken)) refl
 
 hand-back-requires : tie.Need-hand-back-requires
 hand-back-requires c κs = search needs
@@ -14,7 +14,7 @@ same-length : tie.Need-same-length
 same-length c = search needs
 
 returns-2 : tie.Need-returns-2
-returns-2 c = rw (ne-eqb _ _ ((c .before .before .before .before .if1) .left)) ((c .before .before .hand-back) .ensures)
+returns-2 c = rw (ne-eqb _ _ (c .before .before .before .before .if1 .left)) (c .before .before .hand-back .ensures)
 
 pub hand-back-fed-spec : {M : Type 1} → statement M
 hand-back-fed-spec =

@@ -5,7 +5,7 @@ use Rattle.bridge.proofs.mark_alone.Statement.{statement}
 use Rattle.bridge.proofs.mark_alone.Tie as tie
 
 returns : tie.Need-returns
-returns c = (refl, told-no _ _ _ ((c .if1) .taken))
+returns c = (refl, told-no _ _ _ (c .if1 .taken))
 
 set-requires : tie.Need-set-requires
 set-requires c κs = search needs

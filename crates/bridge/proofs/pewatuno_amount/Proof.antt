@@ -21,10 +21,10 @@ unfolding amountNumber
 returns c =
     let c2 = c .before .before in
     let c5 = c2 .before .before .before in
-    let e = (c .before .filing-fault) .ensures ∙ ap (λ (b : Bool). filingNumber ((c5 .args) .prices .now) b) ((c2 .begins-with) .ensures) in
-    let k = kept (orElse (filingNumber ((c5 .args) .bytes .now) (hasAmount ((c5 .args) .bytes .now)))
-    (answerNumber (amountIn ((c5 .args) .prices .now) ((c5 .args) .bytes .now)))) e ((c .if1) .taken) in
-    (k, if-no _ _ k ((c .if1) .taken))
+    let e = (c .before .filing-fault) .ensures ∙ ap (λ (b : Bool). filingNumber (c5 .args .prices .now) b) (c2 .begins-with .ensures) in
+    let k = kept (orElse (filingNumber (c5 .args .bytes .now) (hasAmount (c5 .args .bytes .now)))
+    (answerNumber (amountIn (c5 .args .prices .now) (c5 .args .bytes .now)))) e (c .if1 .taken) in
+    (k, if-no _ _ k (c .if1 .taken))
 
 has-amount-requires : tie.Need-has-amount-requires
 has-amount-requires c κs = search needs
@@ -40,13 +40,13 @@ returns-2 c =
     let c4 = c3 .before in
     let c5 = c4 .before in
     let c8 = c5 .before .before .before in
-    let e = (c4 .filing-fault) .ensures ∙ ap (λ (b : Bool). filingNumber ((c8 .args) .prices .now) b) ((c5 .begins-with) .ensures) in
-    let f = (c .before .filing-fault2) .ensures ∙ ap (λ (b : Bool). filingNumber ((c8 .args) .bytes .now) b) ((c2 .has-amount) .ensures) in
+    let e = (c4 .filing-fault) .ensures ∙ ap (λ (b : Bool). filingNumber (c8 .args .prices .now) b) (c5 .begins-with .ensures) in
+    let f = (c .before .filing-fault2) .ensures ∙ ap (λ (b : Bool). filingNumber (c8 .args .bytes .now) b) (c2 .has-amount .ensures) in
     let k =
-    kept (answerNumber (amountIn ((c8 .args) .prices .now) ((c8 .args) .bytes .now))) f ((c .if2) .taken)
-    ∙ ap (λ (n : ℕ). orElse n (orElse (filingNumber ((c8 .args) .bytes .now) (hasAmount ((c8 .args) .bytes .now)))
-    (answerNumber (amountIn ((c8 .args) .prices .now) ((c8 .args) .bytes .now))))) (sym ((c3 .if1) .left) ∙ e) in
-    (k, if-no _ _ k ((c .if2) .taken))
+    kept (answerNumber (amountIn (c8 .args .prices .now) (c8 .args .bytes .now))) f (c .if2 .taken)
+    ∙ ap (λ (n : ℕ). orElse n (orElse (filingNumber (c8 .args .bytes .now) (hasAmount (c8 .args .bytes .now)))
+    (answerNumber (amountIn (c8 .args .prices .now) (c8 .args .bytes .now))))) (sym (c3 .if1 .left) ∙ e) in
+    (k, if-no _ _ k (c .if2 .taken))
 
 amount-of-requires : tie.Need-amount-of-requires
 amount-of-requires c κs = search needs
@@ -68,17 +68,17 @@ returns-3 c =
     let c8 = c7 .before in
     let c9 = c8 .before in
     let c12 = c9 .before .before .before in
-    let e = (c8 .filing-fault) .ensures ∙ ap (λ (b : Bool). filingNumber ((c12 .args) .prices .now) b) ((c9 .begins-with) .ensures) in
-    let f = (c5 .filing-fault2) .ensures ∙ ap (λ (b : Bool). filingNumber ((c12 .args) .bytes .now) b) ((c6 .has-amount) .ensures) in
+    let e = (c8 .filing-fault) .ensures ∙ ap (λ (b : Bool). filingNumber (c12 .args .prices .now) b) (c9 .begins-with .ensures) in
+    let f = (c5 .filing-fault2) .ensures ∙ ap (λ (b : Bool). filingNumber (c12 .args .bytes .now) b) (c6 .has-amount .ensures) in
     let k =
-    (c .before .tell-amount) .ensures .0 ∙ ap (λ (a : Answer). answerNumber a) ((c2 .amount-of) .ensures)
-    ∙ ap (λ (n : ℕ). orElse n (answerNumber (amountIn ((c12 .args) .prices .now) ((c12 .args) .bytes .now)))) (sym ((c4 .if2) .left) ∙ f)
-    ∙ ap (λ (n : ℕ). orElse n (orElse (filingNumber ((c12 .args) .bytes .now) (hasAmount ((c12 .args) .bytes .now)))
-    (answerNumber (amountIn ((c12 .args) .prices .now) ((c12 .args) .bytes .now))))) (sym ((c7 .if1) .left) ∙ e) in
+    (c .before .tell-amount) .ensures .0 ∙ ap (λ (a : Answer). answerNumber a) (c2 .amount-of .ensures)
+    ∙ ap (λ (n : ℕ). orElse n (answerNumber (amountIn (c12 .args .prices .now) (c12 .args .bytes .now)))) (sym (c4 .if2 .left) ∙ f)
+    ∙ ap (λ (n : ℕ). orElse n (orElse (filingNumber (c12 .args .bytes .now) (hasAmount (c12 .args .bytes .now)))
+    (answerNumber (amountIn (c12 .args .prices .now) (c12 .args .bytes .now))))) (sym (c7 .if1 .left) ∙ e) in
     let a = (c2 .amount-of) .ensures in (
       k,
-      (c .before .tell-amount) .ensures .1 ∙ ap (λ (x : Answer). ticksTold x ((c12 .args) .amounts .now)) a
-          ∙ ticks-if (amountIn ((c12 .args) .prices .now) ((c12 .args) .bytes .now)) ((c12 .args) .amounts .now)
+      (c .before .tell-amount) .ensures .1 ∙ ap (λ (x : Answer). ticksTold x (c12 .args .amounts .now)) a
+          ∙ ticks-if (amountIn (c12 .args .prices .now) (c12 .args .bytes .now)) (c12 .args .amounts .now)
           (sym k ∙ (c .before .tell-amount) .ensures .0 ∙ ap (λ (x : Answer). answerNumber x) a),
     )
 

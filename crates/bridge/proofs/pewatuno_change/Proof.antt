@@ -30,8 +30,8 @@ returns c =
     let c5 = c4 .before in
     let c7 = c5 .before .before in
     let c12 = c7 .before .before .before .before .before in
-    change-refused ((c12 .args) .bytes .now) ((c12 .args) .state .now) ((c12 .args) .lent .now) _ ((c12 .args) .method) ((c5 .method-of) .ensures)
-    ((c7 .book-in) .ensures) ((c4 .make-change) .ensures .meets) ((c .before .refusal-in) .ensures) ((c .if1) .taken)
+    change-refused (c12 .args .bytes .now) (c12 .args .state .now) (c12 .args .lent .now) _ (c12 .args .method) (c5 .method-of .ensures)
+    (c7 .book-in .ensures) (c4 .make-change .ensures .meets) (c .before .refusal-in .ensures) (c .if1 .taken)
 
 hand-back-requires : tie.Need-hand-back-requires
 hand-back-requires c κs = search needs
@@ -51,8 +51,8 @@ returns-2 c =
     let c10 = c9 .before in
     let c12 = c10 .before .before in
     let c17 = c12 .before .before .before .before .before in
-    change-accepted ((c17 .args) .bytes .now) ((c17 .args) .state .now) ((c17 .args) .lent .now) _ ((c17 .args) .method) ((c10 .method-of) .ensures)
-    ((c12 .book-in) .ensures) ((c9 .make-change) .ensures .meets) ((c6 .refusal-in) .ensures) ((c5 .if1) .left) ((c2 .hand-back) .ensures)
+    change-accepted (c17 .args .bytes .now) (c17 .args .state .now) (c17 .args .lent .now) _ (c17 .args .method) (c10 .method-of .ensures)
+    (c12 .book-in .ensures) (c9 .make-change .ensures .meets) (c6 .refusal-in .ensures) (c5 .if1 .left) (c2 .hand-back .ensures)
 
 pub pewatuno-change-spec : {M : Type 1} → statement M
 pewatuno-change-spec =

@@ -17,9 +17,9 @@ cast-result c = search needs
 returns : tie.Need-returns
 returns c =
     let c5 = c .before .before .before .before .before in (
-      kept (nameNumber ((c5 .args) .b .now)) (ap (λ (x : NameAnswer). x .number) ((c .before .ask-name) .ensures)) ((c .if1) .taken),
+      kept (nameNumber (c5 .args .b .now)) (ap (λ (x : NameAnswer). x .number) (c .before .ask-name .ensures)) (c .if1 .taken),
       told-no _ _ _
-          ((c .if1) .taken),
+          (c .if1 .taken),
     )
 
 ask-name-requires-2 : tie.Need-ask-name-requires-2
@@ -32,8 +32,8 @@ returns-2 : tie.Need-returns-2
 returns-2 c =
     let c2 = c .before .before in
     let c3 = c2 .before in
-    rw (sym (ap (λ (x : NameAnswer). x .number) ((c3 .ask-name) .ensures)) ∙ (c2 .if1) .left)
-    (ap (λ (x : NameAnswer). x .number) ((c .before .ask-name2) .ensures), told-no _ _ _ ((c .if2) .taken))
+    rw (sym (ap (λ (x : NameAnswer). x .number) (c3 .ask-name .ensures)) ∙ (c2 .if1) .left)
+    (ap (λ (x : NameAnswer). x .number) (c .before .ask-name2 .ensures), told-no _ _ _ (c .if2 .taken))
 
 order-of-requires : tie.Need-order-of-requires
 order-of-requires c κs = search needs
@@ -54,11 +54,11 @@ returns-3 c =
     let c8 = c7 .before in
     let c12 = c8 .before .before .before .before in
     rw (
-      sym (ap (λ (x : NameAnswer). x .number) ((c8 .ask-name) .ensures)) ∙ (c7 .if1) .left,
+      sym (ap (λ (x : NameAnswer). x .number) (c8 .ask-name .ensures)) ∙ (c7 .if1) .left,
       sym
-          (ap (λ (x : NameAnswer). x .number) ((c6 .ask-name2) .ensures)) ∙ (c5 .if2) .left,
+          (ap (λ (x : NameAnswer). x .number) (c6 .ask-name2 .ensures)) ∙ (c5 .if2) .left,
     )
-    (refl, (c2 .set) .ensures ∙ ap (λ (n : ℕ). stored ((c12 .args) .sizes .now) 0 n) ((c3 .order-of) .ensures))
+    (refl, (c2 .set) .ensures ∙ ap (λ (n : ℕ). stored (c12 .args .sizes .now) 0 n) (c3 .order-of .ensures))
 
 pub pewatuno-compare-spec : {M : Type 1} → statement M
 pewatuno-compare-spec =

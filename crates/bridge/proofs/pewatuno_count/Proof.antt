@@ -30,9 +30,9 @@ returns c =
     let c4 = c3 .before in
     let c6 = c4 .before .before in
     let c11 = c6 .before .before .before .before .before in
-    let p = (c3 .count-of) .ensures .answer ∙ (λ i. outcome (stepOf (ask (countOf ((c11 .args) .mark .now) ((c4 .hour-of) .ensures i))))
-    ((c6 .book-in) .ensures i) ((c11 .args) .lent .now) .answer) in
-    ((c2 .tell-said) .ensures .0 ∙ ap (λ (r : Reply). replied r) p, (c2 .tell-said) .ensures .1 ∙ ap (λ (r : Reply). sizesTold r ((c11 .args) .sizes .now)) p)
+    let p = (c3 .count-of) .ensures .answer ∙ (λ i. outcome (stepOf (ask (countOf (c11 .args .mark .now) (c4 .hour-of .ensures i))))
+    (c6 .book-in .ensures i) (c11 .args .lent .now) .answer) in
+    (c2 .tell-said .ensures .0 ∙ ap (λ (r : Reply). replied r) p, (c2 .tell-said) .ensures .1 ∙ ap (λ (r : Reply). sizesTold r (c11 .args .sizes .now)) p)
 
 pub pewatuno-count-spec : {M : Type 1} → statement M
 pewatuno-count-spec =

@@ -30,11 +30,11 @@ returns c =
     let c5 = c3 .before .before in
     let c10 = c5 .before .before .before .before .before in
     let p = (c2 .failure-charge) .ensures .answer ∙ (λ i. outcome
-    (stepOf (ask (failureCharge ((c10 .args) .mark .now) ((c3 .hour-of) .ensures i) ((c10 .args) .name .now)))) ((c5 .book-in) .ensures i)
-    ((c10 .args) .lent .now) .answer) in (
+    (stepOf (ask (failureCharge (c10 .args .mark .now) (c3 .hour-of .ensures i) (c10 .args .name .now)))) (c5 .book-in .ensures i)
+    (c10 .args .lent .now) .answer) in (
       (c .before .tell-amounts) .ensures .0 ∙ ap (λ (r : Reply). replied r) p,
       (c .before .tell-amounts) .ensures .1 ∙ ap
-          (λ (r : Reply). amountsTold r ((c10 .args) .amounts .now)) p,
+          (λ (r : Reply). amountsTold r (c10 .args .amounts .now)) p,
     )
 
 pub pewatuno-failure-charge-spec : {M : Type 1} → statement M

@@ -51,15 +51,15 @@ returns c =
     let s = (c23 .args) .lent .now in
     let input = (c23 .args) .input .now in
     let state = (c23 .args) .state .now in
-    let e = fed-is b s input _ ((c15 .feed) .result) ((c15 .feed) .ensures) ∙ ap (λ (x : Book). feedOf (load x s) x (length s) input)
-    ((c17 .book-in) .ensures) in (
+    let e = fed-is b s input _ (c15 .feed .result) (c15 .feed .ensures) ∙ ap (λ (x : Book). feedOf (load x s) x (length s) input)
+    (c17 .book-in .ensures) in (
       ap (λ (f : Fed). f .number) e,
       (
         (c3 .hand-back-fed) .ensures ∙ ap (λ (f : Fed). feedState f state) e,
         (
-          fed-bytes-of b s input _ ((c15 .feed) .result) ((c15 .feed) .ensures) ((c17 .book-in) .ensures),
-          (c7 .set2) .ensures ∙ ap (λ (row : List ℕ). stored row 1 ((c15 .feed) .result .taken)) ((c11 .set) .ensures) ∙ ap
-              (λ (f : Fed). feedSizes f ((c23 .args) .sizes .now)) e,
+          fed-bytes-of b s input _ (c15 .feed .result) (c15 .feed .ensures) (c17 .book-in .ensures),
+          (c7 .set2) .ensures ∙ ap (λ (row : List ℕ). stored row 1 (c15 .feed .result .taken)) (c11 .set .ensures) ∙ ap
+              (λ (f : Fed). feedSizes f (c23 .args .sizes .now)) e,
         ),
       ),
     )

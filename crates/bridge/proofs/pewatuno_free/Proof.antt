@@ -26,8 +26,8 @@ returns c =
     let c3 = c2 .before in
     let c5 = c3 .before .before in
     let c9 = c5 .before .before .before .before in
-    let p = (c3 .free-bytes) .ensures .answer ∙ (λ i. outcome (stepOf (ask freeBytes)) ((c5 .book-in) .ensures i) ((c9 .args) .lent .now) .answer) in
-    ((c2 .tell-said) .ensures .0 ∙ ap (λ (r : Reply). replied r) p, (c2 .tell-said) .ensures .1 ∙ ap (λ (r : Reply). sizesTold r ((c9 .args) .sizes .now)) p)
+    let p = (c3 .free-bytes) .ensures .answer ∙ (λ i. outcome (stepOf (ask freeBytes)) (c5 .book-in .ensures i) (c9 .args .lent .now) .answer) in
+    (c2 .tell-said .ensures .0 ∙ ap (λ (r : Reply). replied r) p, (c2 .tell-said) .ensures .1 ∙ ap (λ (r : Reply). sizesTold r (c9 .args .sizes .now)) p)
 
 pub pewatuno-free-spec : {M : Type 1} → statement M
 pewatuno-free-spec =

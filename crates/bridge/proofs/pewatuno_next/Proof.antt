@@ -13,7 +13,7 @@ cast-result : tie.Need-cast-result
 cast-result c = search needs
 
 returns : tie.Need-returns
-returns c = (ap (λ (f : Front). f .number) ((c .before .first-change) .ensures), told-no _ _ _ ((c .if1) .taken))
+returns c = (ap (λ (f : Front). f .number) (c .before .first-change .ensures), told-no _ _ _ (c .if1 .taken))
 
 set-requires : tie.Need-set-requires
 set-requires c κs = search needs
@@ -27,9 +27,9 @@ returns-2 c =
     let c4 = c2 .before .before in
     let c5 = c4 .before in
     let c8 = c5 .before .before .before in (
-      sym ((c4 .if1) .left) ∙ ap (λ (f : Front). f .number) ((c5 .first-change) .ensures),
+      sym (c4 .if1 .left) ∙ ap (λ (f : Front). f .number) (c5 .first-change .ensures),
       (c2 .set) .ensures ∙ ap
-          (λ (f : Front). stored ((c8 .args) .sizes .now) 0 (f .end)) ((c5 .first-change) .ensures),
+          (λ (f : Front). stored (c8 .args .sizes .now) 0 (f .end)) (c5 .first-change .ensures),
     )
 
 pub pewatuno-next-spec : {M : Type 1} → statement M

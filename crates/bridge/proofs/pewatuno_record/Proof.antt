@@ -31,9 +31,9 @@ returns c =
     let c6 = c4 .before .before in
     let c12 = c6 .before .before .before .before .before .before in
     let p = (c3 .record-of) .ensures .answer ∙ (λ i. outcome
-    (stepOf (ask (recordOf ((c12 .args) .mark .now) ((c4 .hour-of) .ensures i) ((c12 .args) .name .now)))) ((c6 .book-in) .ensures i)
-    ((c12 .args) .lent .now) .answer) in
-    ((c2 .tell-said) .ensures .0 ∙ ap (λ (r : Reply). replied r) p, (c2 .tell-said) .ensures .1 ∙ ap (λ (r : Reply). sizesTold r ((c12 .args) .sizes .now)) p)
+    (stepOf (ask (recordOf (c12 .args .mark .now) (c4 .hour-of .ensures i) (c12 .args .name .now)))) (c6 .book-in .ensures i)
+    (c12 .args .lent .now) .answer) in
+    (c2 .tell-said .ensures .0 ∙ ap (λ (r : Reply). replied r) p, (c2 .tell-said) .ensures .1 ∙ ap (λ (r : Reply). sizesTold r (c12 .args .sizes .now)) p)
 
 pub pewatuno-record-spec : {M : Type 1} → statement M
 pewatuno-record-spec =

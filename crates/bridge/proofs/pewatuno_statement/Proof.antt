@@ -27,9 +27,9 @@ returns c =
     let c3 = c .before .before .before in
     let c5 = c3 .before .before in
     let c10 = c5 .before .before .before .before .before in
-    let e = ap (λ (b : Book). outcomeOf (load b ((c10 .args) .lent .now)) ((c10 .args) .out .now)) ((c5 .book-in) .ensures) in (
+    let e = ap (λ (b : Book). outcomeOf (load b (c10 .args .lent .now)) (c10 .args .out .now)) (c5 .book-in .ensures) in (
       (c3 .statement) .ensures .number ∙ ap (λ (o : Outcome). o .number) e,
-      ((c3 .statement) .ensures .bytes ∙ ap (λ (o : Outcome). o .bytes) e, told-no _ _ _ ((c .if1) .taken)),
+      (c3 .statement .ensures .bytes ∙ ap (λ (o : Outcome). o .bytes) e, told-no _ _ _ (c .if1 .taken)),
     )
 
 set-requires : tie.Need-set-requires
@@ -49,11 +49,11 @@ returns-2 c =
     let c7 = c4 .before .before .before in
     let c9 = c7 .before .before in
     let c14 = c9 .before .before .before .before .before in
-    let e = ap (λ (b : Book). outcomeOf (load b ((c14 .args) .lent .now)) ((c14 .args) .out .now)) ((c9 .book-in) .ensures) in (
-      sym ((c4 .if1) .left) ∙ (c7 .statement) .ensures .number ∙ ap (λ (o : Outcome). o .number) e,
+    let e = ap (λ (b : Book). outcomeOf (load b (c14 .args .lent .now)) (c14 .args .out .now)) (c9 .book-in .ensures) in (
+      sym (c4 .if1 .left) ∙ (c7 .statement) .ensures .number ∙ ap (λ (o : Outcome). o .number) e,
       (
         (c7 .statement) .ensures .bytes ∙ ap (λ (o : Outcome). o .bytes) e,
-        (c2 .set) .ensures ∙ ap (λ (n : ℕ). stored ((c14 .args) .sizes .now) 0 n) ((c7 .statement) .ensures .len ∙ ap (λ (o : Outcome). o .len) e),
+        (c2 .set) .ensures ∙ ap (λ (n : ℕ). stored (c14 .args .sizes .now) 0 n) (c7 .statement .ensures .len ∙ ap (λ (o : Outcome). o .len) e),
       ),
     )
 

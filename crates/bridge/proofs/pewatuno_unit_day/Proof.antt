@@ -26,10 +26,10 @@ returns c =
     let c4 = c2 .before .before in
     let c8 = c4 .before .before .before .before in
     let p = (c2 .unit-day) .ensures .0 .answer ∙
-    (λ i. outcome (stepOf (ask (dayOf ((c8 .args) .name .now)))) ((c4 .book-in) .ensures i) ((c8 .args) .lent .now) .answer) in (
+    (λ i. outcome (stepOf (ask (dayOf (c8 .args .name .now)))) (c4 .book-in .ensures i) (c8 .args .lent .now) .answer) in (
       (c .before .tell-day) .ensures .0 ∙ ap (λ (r : Reply). replied r) p,
       (c .before .tell-day) .ensures .1 ∙ ap
-          (λ (r : Reply). amountsTold r ((c8 .args) .amounts .now)) p,
+          (λ (r : Reply). amountsTold r (c8 .args .amounts .now)) p,
     )
 
 pub pewatuno-unit-day-spec : {M : Type 1} → statement M

@@ -17,7 +17,7 @@ returns : tie.Need-returns
 returns c =
     let c4 = c .before .before .before .before in
     let c7 = c4 .before .before .before in
-    rw (eq-eqb _ _ ((c7 .if1) .taken)) ((c4 .write-any) .ensures)
+    rw (eq-eqb _ _ (c7 .if1 .taken)) (c4 .write-any .ensures)
 
 parse-take-back-requires : tie.Need-parse-take-back-requires
 parse-take-back-requires c κs = search needs
@@ -34,8 +34,8 @@ returns-2 c =
     let c4 = c2 .before .before in
     let c5 = c4 .before in
     let c6 = c5 .before in
-    rw (ne-eqb _ _ ((c6 .if1) .left), eq-eqb _ _ ((c5 .if2) .taken))
-    ((c2 .mark-alone) .ensures .0 ∙ (c4 .parse-take-back) .ensures, (refl, (c2 .mark-alone) .ensures .1))
+    rw (ne-eqb _ _ (c6 .if1 .left), eq-eqb _ _ (c5 .if2 .taken))
+    (c2 .mark-alone .ensures .0 ∙ (c4 .parse-take-back) .ensures, (refl, (c2 .mark-alone) .ensures .1))
 
 parse-close-requires : tie.Need-parse-close-requires
 parse-close-requires c κs = search needs
@@ -53,8 +53,8 @@ returns-3 c =
     let c5 = c4 .before in
     let c6 = c5 .before in
     let c7 = c6 .before in
-    rw (ne-eqb _ _ ((c7 .if1) .left), ne-eqb _ _ ((c6 .if2) .left), eq-eqb _ _ ((c5 .if3) .taken))
-    ((c2 .mark-alone2) .ensures .0 ∙ (c4 .parse-close) .ensures, (refl, (c2 .mark-alone2) .ensures .1))
+    rw (ne-eqb _ _ (c7 .if1 .left), ne-eqb _ _ (c6 .if2 .left), eq-eqb _ _ (c5 .if3 .taken))
+    (c2 .mark-alone2 .ensures .0 ∙ (c4 .parse-close) .ensures, (refl, (c2 .mark-alone2) .ensures .1))
 
 wanted-by-requires : tie.Need-wanted-by-requires
 wanted-by-requires c κs = search needs
@@ -75,7 +75,7 @@ returns-4 c =
     let c8 = c7 .before in
     let c9 = c8 .before in
     let c10 = c9 .before in
-    rw (ne-eqb _ _ ((c10 .if1) .left), ne-eqb _ _ ((c9 .if2) .left), ne-eqb _ _ ((c8 .if3) .left), ← ((c7 .wanted-by) .ensures)) ((c4 .write-change) .ensures)
+    rw (ne-eqb _ _ (c10 .if1 .left), ne-eqb _ _ (c9 .if2 .left), ne-eqb _ _ (c8 .if3 .left), ← (c7 .wanted-by .ensures)) (c4 .write-change .ensures)
 
 pub pewatuno-write-spec : {M : Type 1} → statement M
 pewatuno-write-spec =

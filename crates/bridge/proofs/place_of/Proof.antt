@@ -24,13 +24,13 @@ array-share-prefix-bytes : tie.Need-array-share-prefix-bytes
 array-share-prefix-bytes c =
     let c3 = c .before .before .before in
     let c5 = c3 .before .before in
-    let s = c3 .spell-name in fits ((c5 .args) .name) (s .result) (s .ensures) .within
+    let s = c3 .spell-name in fits (c5 .args .name) (s .result) (s .ensures) .within
 
 slice-aggregate-record-of-2 : tie.Need-slice-aggregate-record-of-2
 slice-aggregate-record-of-2 c =
     let c4 = c .before .before .before .before in
     let c6 = c4 .before .before in
-    let s = c4 .spell-name in fits ((c6 .args) .name) (s .result) (s .ensures) .all
+    let s = c4 .spell-name in fits (c6 .args .name) (s .result) (s .ensures) .all
 
 record-of-requires : tie.Need-record-of-requires
 record-of-requires c κs = search needs
@@ -43,7 +43,7 @@ returns c =
     let args = c7 .args in
     let asked : Spelling → Reply = λ s. outcome (stepOf (ask (recordOf (markBytes Im) (args .hour) (take (s .len) (s .bytes))))) (args .b)
     (args .lent .now) .answer in
-    (c .record-of) .ensures .answer ∙ ap asked ((c5 .spell-name) .ensures)
+    (c .record-of) .ensures .answer ∙ ap asked (c5 .spell-name .ensures)
 
 pub place-of-spec : {M : Type 1} → statement M
 place-of-spec =

@@ -22,7 +22,7 @@ same-length : tie.Need-same-length
 same-length c = search needs
 
 returns-2 : tie.Need-returns-2
-returns-2 c = rw ((c .before .before .before .before .a2) .given .1) (refl, (c .before .set-amount) .ensures)
+returns-2 c = rw (c .before .before .before .before .a2 .given .1) (refl, (c .before .set-amount) .ensures)
 
 pub tell-amount-spec : {M : Type 1} → statement M
 tell-amount-spec =

@@ -40,7 +40,7 @@ same-length : tie.Need-same-length
 same-length c = search needs
 
 returns-5 : tie.Need-returns-5
-returns-5 c = rw ((c .before .before .before .before .a4) .given .1) (refl, (c .before .set-amount) .ensures)
+returns-5 c = rw (c .before .before .before .before .a4 .given .1) (refl, (c .before .set-amount) .ensures)
 
 pub tell-amounts-spec : {M : Type 1} → statement M
 tell-amounts-spec =

@@ -58,9 +58,9 @@ returns c =
     let args = c .before .before .before .before .before .before .before .before .args in
     let v = (c .before .loop) .inv in
     let long : length (args .t4 .list) ≡ maxCredits = search (needs, unmapped) in
-    let t = all-told _ _ _ _ _ _ _ (v .5) ((c .loop-test) .left) (omega (arith, v .1)) in
+    let t = all-told _ _ _ _ _ _ _ (v .5) (c .loop-test .left) (omega (arith, v .1)) in
     let told = creditsSizes (args .b) (args .lent .now) (args .hour) 0 (take (args .t4 .n) (args .t4 .list)) in
-    (t .0 ∙ ap told ((c .before .before .before .before .set) .ensures), t .1)
+    (t .0 ∙ ap told (c .before .before .before .before .set .ensures), t .1)
 
 pub tell-credits-spec : {M : Type 1} → statement M
 tell-credits-spec =

@@ -11,7 +11,7 @@ cast-result : tie.Need-cast-result
 cast-result c = search needs
 
 returns : tie.Need-returns
-returns c = rw (ne-eqb _ _ ((c .if1) .taken)) (refl, refl)
+returns c = rw (ne-eqb _ _ (c .if1 .taken)) (refl, refl)
 
 set-amount-requires : tie.Need-set-amount-requires
 set-amount-requires c κs = search needs
@@ -27,8 +27,8 @@ returns-2 c =
     let c4 = c .before .before .before .before in
     let c6 = c4 .before .before in
     let c7 = c6 .before in
-    rw (eq-eqb _ _ ((c6 .if1) .left))
-    (refl, (c .before .set-amount2) .ensures ∙ ap (λ (s : List ℤ). stored s 1 ((c7 .args) .d .reversal .0)) ((c4 .set-amount) .ensures))
+    rw (eq-eqb _ _ (c6 .if1 .left))
+    (refl, (c .before .set-amount2) .ensures ∙ ap (λ (s : List ℤ). stored s 1 (c7 .args .d .reversal .0)) (c4 .set-amount .ensures))
 
 pub tell-day-spec : {M : Type 1} → statement M
 tell-day-spec =

@@ -17,7 +17,7 @@ cast-result : tie.Need-cast-result
 cast-result c = search needs
 
 returns : tie.Need-returns
-returns c = rw (ne-eqb _ _ ((c .if1) .taken)) (refl, (refl, refl))
+returns c = rw (ne-eqb _ _ (c .if1 .taken)) (refl, (refl, refl))
 
 set-amount-requires : tie.Need-set-amount-requires
 set-amount-requires c κs = search needs
@@ -39,13 +39,13 @@ returns-2 c =
     let long : length (a .list) ≡ maxCredits = search (needs, unmapped) in
     let n : length (take (a .n) (a .list)) ≡ a .n = length-take-le (a .n) (a .list) (omega (arith, few)) in
     let said = (c .before .before .before .tell-credits) .ensures in
-    rw (eq-eqb _ _ ((c .before .before .before .before .before .before .before .before .before .if1) .left)) (
+    rw (eq-eqb _ _ (c .before .before .before .before .before .before .before .before .before .if1 .left)) (
       refl,
       (
         said .0
             ∙ ap (λ (k : ℕ). creditsSizes (args .b) (args .lent .now) (args .hour) 0 (take (a .n) (a .list)) (stored (args .sizes .now) 0 k)) (sym n),
         said .1 ∙ ap (λ (s : List ℤ). creditsAmounts 0 (take (a .n) (a .list)) s)
-            ((c .before .before .before .before .before .before .before .set-amount) .ensures),
+            (c .before .before .before .before .before .before .before .set-amount .ensures),
       ),
     )
 

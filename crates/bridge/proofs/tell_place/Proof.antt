@@ -56,7 +56,7 @@ returns-3 c =
     let c12 = c9 .before .before .before in
     let i = (c12 .args) .i in
     let a = c9 .a2 in
-    rw (a .given .1) ((c2 .set2) .ensures ∙ ap (λ (s : List ℕ). stored s (2 * i + 2) (a .given .0 .1 .0)) ((c6 .set) .ensures))
+    rw (a .given .1) (c2 .set2 .ensures ∙ ap (λ (s : List ℕ). stored s (2 * i + 2) (a .given .0 .1 .0)) (c6 .set .ensures))
 
 returns-4 : tie.Need-returns-4
 returns-4 c = search needs

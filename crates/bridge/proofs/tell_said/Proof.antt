@@ -47,13 +47,13 @@ returns-3 c =
     let c2 = c .before .before in
     let c6 = c2 .before .before .before .before in
     let c9 = c6 .before .before .before in
-    rw ((c9 .a2) .given .1) (refl, (c2 .set2) .ensures ∙ ap (λ (s : List ℕ). stored s 1 ((c9 .a2) .given .0 .1 .0)) ((c6 .set) .ensures))
+    rw (c9 .a2 .given .1) (refl, (c2 .set2) .ensures ∙ ap (λ (s : List ℕ). stored s 1 (c9 .a2 .given .0 .1 .0)) (c6 .set .ensures))
 
 same-length-2 : tie.Need-same-length-2
 same-length-2 c = search needs
 
 returns-4 : tie.Need-returns-4
-returns-4 c = rw ((c .before .before .before .before .before .a3) .given .1) (refl, (c .before .before .set3) .ensures)
+returns-4 c = rw (c .before .before .before .before .before .a3 .given .1) (refl, (c .before .before .set3) .ensures)
 
 returns-5 : tie.Need-returns-5
 returns-5 c = search needs

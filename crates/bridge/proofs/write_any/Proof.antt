@@ -19,9 +19,9 @@ returns : tie.Need-returns
 returns c =
     let c5 = c .before .before .before .before .before in
     let s = (c5 .args) .bytes .now in
-    let e = ap (λ (x : Parsed). x .number) ((c .before .parse-any) .ensures) in (
-      kept (cond (not (isRecord (entryOf (parseAny s) .view .act))) 0 (putNumber (parse Any s) 0 ((c5 .args) .out .now))) e ((c .if1) .taken),
-      (if-no _ _ e ((c .if1) .taken), told-no _ _ _ ((c .if1) .taken)),
+    let e = ap (λ (x : Parsed). x .number) (c .before .parse-any .ensures) in (
+      kept (cond (not (isRecord (entryOf (parseAny s) .view .act))) 0 (putNumber (parse Any s) 0 (c5 .args .out .now))) e (c .if1 .taken),
+      (if-no _ _ e (c .if1 .taken), told-no _ _ _ (c .if1 .taken)),
     )
 
 is-record-requires : tie.Need-is-record-requires
@@ -40,9 +40,9 @@ returns-2 c =
     let c5 = c4 .before in
     let c7 = c5 .before .before in
     let c8 = c7 .before in
-    let z = sym (ap (λ (x : Parsed). x .number) ((c8 .parse-any) .ensures)) ∙ (c7 .if1) .left in
-    let k = sym (ap (λ (x : Parsed). not (isRecord (x .view .act))) ((c8 .parse-any) .ensures)) ∙ sym (ap not ((c5 .is-record) .ensures)) ∙ (c4 .if2) .taken in
-    rw (z, k) ((c2 .mark-alone) .ensures .0, (refl, (c2 .mark-alone) .ensures .1))
+    let z = sym (ap (λ (x : Parsed). x .number) (c8 .parse-any .ensures)) ∙ (c7 .if1) .left in
+    let k = sym (ap (λ (x : Parsed). not (isRecord (x .view .act))) (c8 .parse-any .ensures)) ∙ sym (ap not (c5 .is-record .ensures)) ∙ (c4 .if2) .taken in
+    rw (z, k) (c2 .mark-alone .ensures .0, (refl, (c2 .mark-alone) .ensures .1))
 
 write-change-requires : tie.Need-write-change-requires
 write-change-requires c κs = search needs
@@ -60,9 +60,9 @@ returns-3 c =
     let c8 = c7 .before in
     let c10 = c8 .before .before in
     let c11 = c10 .before in
-    let z = sym (ap (λ (x : Parsed). x .number) ((c11 .parse-any) .ensures)) ∙ (c10 .if1) .left in
-    let k = sym (ap (λ (x : Parsed). not (isRecord (x .view .act))) ((c11 .parse-any) .ensures)) ∙ sym (ap not ((c8 .is-record) .ensures)) ∙ (c7 .if2) .left in
-    rw (z, k) ((c4 .write-change) .ensures)
+    let z = sym (ap (λ (x : Parsed). x .number) (c11 .parse-any .ensures)) ∙ (c10 .if1) .left in
+    let k = sym (ap (λ (x : Parsed). not (isRecord (x .view .act))) (c11 .parse-any .ensures)) ∙ sym (ap not (c8 .is-record .ensures)) ∙ (c7 .if2) .left in
+    rw (z, k) (c4 .write-change .ensures)
 
 pub write-any-spec : {M : Type 1} → statement M
 write-any-spec =

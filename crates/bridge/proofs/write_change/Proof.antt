@@ -19,7 +19,7 @@ same-length : tie.Need-same-length
 same-length c = search needs
 
 returns : tie.Need-returns
-returns c = ((c .before .before .before .put) .ensures .0, ((c .before .before .before .put) .ensures .1, told-no _ _ _ ((c .if1) .taken)))
+returns c = (c .before .before .before .put .ensures .0, (c .before .before .before .put .ensures .1, told-no _ _ _ (c .if1 .taken)))
 
 set-requires : tie.Need-set-requires
 set-requires c κs = search needs
@@ -37,8 +37,8 @@ returns-2 c =
     let c7 = c4 .before .before .before in
     let c10 = c7 .before .before .before in
     let c14 = c10 .before .before .before .before in (
-      sym ((c4 .if1) .left) ∙ (c7 .put) .ensures .0,
-      ((c7 .put) .ensures .1, (c2 .set) .ensures ∙ ap (λ (p : Parsed). stored ((c14 .args) .sizes .now) 0 (p .view .len)) ((c10 .parse-change) .ensures)),
+      sym (c4 .if1 .left) ∙ (c7 .put) .ensures .0,
+      (c7 .put .ensures .1, (c2 .set) .ensures ∙ ap (λ (p : Parsed). stored (c14 .args .sizes .now) 0 (p .view .len)) (c10 .parse-change .ensures)),
     )
 
 pub write-change-spec : {M : Type 1} → statement M

@@ -7,7 +7,7 @@ charges-requires : tie.Need-charges-requires
 charges-requires c κs = search needs
 
 returns : tie.Need-returns
-returns c = charges-by-key _ _ _ _ _ ((c .charges) .ensures .0)
+returns c = charges-by-key _ _ _ _ _ (c .charges .ensures .0)
 
 pub hour-charges-spec : {M : Type 1} → statement M
 hour-charges-spec = tie.close (tie.spec charges-requires returns)

@@ -21,7 +21,7 @@ blank l = record { number = 0; credits = record { n = 0; list = l }; offset = re
 returns : tie.Need-returns
 unfolding creditsOf
 returns c =
-    ap (λ (x : Name). blank (replicate maxCredits (record { name = x; ticks = noTicks }))) ((c .no-name) .ensures) ∙ ap blank (pad-none noAmount maxCredits)
+    ap (λ (x : Name). blank (replicate maxCredits (record { name = x; ticks = noTicks }))) (c .no-name .ensures) ∙ ap blank (pad-none noAmount maxCredits)
 
 pub no-guarantees-spec : {M : Type 1} → statement M
 no-guarantees-spec = tie.close (tie.spec no-name-requires returns)

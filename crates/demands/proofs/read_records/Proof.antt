@@ -10,7 +10,7 @@ same-length : tie.Need-same-length
 same-length c = search needs
 
 returns : tie.Need-returns
-returns c = read-as-calls _ _ _ _ _ ((c .before .before .feed) .ensures)
+returns c = read-as-calls _ _ _ _ _ (c .before .before .feed .ensures)
 
 pub read-records-spec : {M : Type 1} → statement M
 read-records-spec = tie.close (tie.spec feed-requires same-length returns)

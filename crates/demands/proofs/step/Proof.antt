@@ -21,7 +21,7 @@ returns : tie.Need-returns
 returns c =
     let c5 = c .before .before .before .before .before in
     let c7 = c5 .before .before in
-    rw (lt-ltb _ _ ((c7 .if1) .taken)) ((c5 .make-change) .ensures, ((c .before .no-guarantees) .ensures, (c .no-day) .ensures))
+    rw (lt-ltb _ _ (c7 .if1 .taken)) (c5 .make-change .ensures, (c .before .no-guarantees .ensures, (c .no-day) .ensures))
 
 guarantees-requires : tie.Need-guarantees-requires
 guarantees-requires c κs = search needs
@@ -36,8 +36,8 @@ returns-2 : tie.Need-returns-2
 returns-2 c =
     let c3 = c .before .before .before in
     let c4 = c3 .before in
-    rw (le-ltb _ _ ((c4 .if1) .left), eq-eqb _ _ ((c3 .if2) .taken))
-    (demanded _ _ _ _ _ _ ((c .before .guarantees) .ensures .0), (refl, (c .before .guarantees) .ensures .2, (c .no-day2) .ensures))
+    rw (le-ltb _ _ (c4 .if1 .left), eq-eqb _ _ (c3 .if2 .taken))
+    (demanded _ _ _ _ _ _ (c .before .guarantees .ensures .0), (refl, (c .before .guarantees) .ensures .2, (c .no-day2) .ensures))
 
 unit-day-requires : tie.Need-unit-day-requires
 unit-day-requires c κs = search needs
@@ -53,8 +53,8 @@ returns-3 c =
     let c3 = c .before .before .before in
     let c4 = c3 .before in
     let c5 = c4 .before in
-    rw (le-ltb _ _ ((c5 .if1) .left), ne-eqb _ _ ((c4 .if2) .left), eq-eqb _ _ ((c3 .if3) .taken))
-    (demanded _ _ _ _ _ _ ((c .before .unit-day) .ensures .0), (refl, (c .no-guarantees2) .ensures, (c .before .unit-day) .ensures .1))
+    rw (le-ltb _ _ (c5 .if1 .left), ne-eqb _ _ (c4 .if2 .left), eq-eqb _ _ (c3 .if3 .taken))
+    (demanded _ _ _ _ _ _ (c .before .unit-day .ensures .0), (refl, (c .no-guarantees2) .ensures, (c .before .unit-day) .ensures .1))
 
 put-question-requires : tie.Need-put-question-requires
 put-question-requires c κs = search needs
@@ -74,8 +74,8 @@ returns-4 c =
     let c4 = c2 .before .before in
     let c5 = c4 .before in
     let c6 = c5 .before in
-    rw (le-ltb _ _ ((c6 .if1) .left), ne-eqb _ _ ((c5 .if2) .left), ne-eqb _ _ ((c4 .if3) .left))
-    ((c2 .put-question) .ensures, ((c .before .no-guarantees3) .ensures, (c .no-day3) .ensures))
+    rw (le-ltb _ _ (c6 .if1 .left), ne-eqb _ _ (c5 .if2 .left), ne-eqb _ _ (c4 .if3 .left))
+    (c2 .put-question .ensures, (c .before .no-guarantees3 .ensures, (c .no-day3) .ensures))
 
 pub step-spec : {M : Type 1} → statement M
 step-spec =

@@ -85,8 +85,8 @@ listed-judged want s lent g = go (parse want s) refl
 back-judged : (m lent : ℕ) (g : Reg) → Judged (first (backChecks g m)) (takenBack m lent g)
 back-judged m lent g = go m (g .closed) (g .list)
   where
-    go : (n : ℕ) (b : Bool) (l : List Change) → Judged (first (backChecks (record { list = l; closed = b }) n))
-        (unless-closed n (record { list = l; closed = b }) (shorter b l))
+    go : (n : ℕ) (b : Bool) (l : List Change)
+        → Judged (first (backChecks (record { list = l; closed = b }) n)) (unless-closed n (record { list = l; closed = b }) (shorter b l))
     go zero true l = refl
     go zero false [] = refl
     go zero false (c ∷ l) = tt
@@ -113,8 +113,8 @@ any-judged s lent g = go (begins takeBackBytes s) (begins closeBytes s)
 
 -- ---- questions
 
-keyed-told : (x : Asked) → ((n : ℕ) → x ≡ bad n → 0 < n) → (f : Key → Reply) (cs : Key → List Check) → ((k : Key) → Told (first (cs k)) (f k)) → Told
-    (first (keyFirst x cs)) (keyed x f)
+keyed-told : (x : Asked) → ((n : ℕ) → x ≡ bad n → 0 < n) → (f : Key → Reply) (cs : Key → List Check) → ((k : Key) → Told (first (cs k)) (f k))
+    → Told (first (keyFirst x cs)) (keyed x f)
 keyed-told (bad zero) h f cs t = absurd (omega (arith, h zero refl))
 keyed-told (bad (suc n)) h f cs t = refl
 keyed-told (got k rest) h f cs t = t k
@@ -168,8 +168,8 @@ module _ (lent : ℕ) (g : Reg) where
 
 -- ---- demand 1
 
-step-of : (call : Call) (b : Book) (s : List ℕ) (b′ : Book) (r : Reply) (s′ : List ℕ) → Meets call b s b′ r s′ → (st : Step) → stepped (stepOf call) b s
-    (load b s) ≡ st
+step-of : (call : Call) (b : Book) (s : List ℕ) (b′ : Book) (r : Reply) (s′ : List ℕ) → Meets call b s b′ r s′ → (st : Step)
+    → stepped (stepOf call) b s (load b s) ≡ st
     → (b′ ≡ leaving b s st .book) × (r ≡ leaving b s st .answer) × (take (length (leaving b s st .kept)) s′ ≡ leaving b s st .kept)
 unfolding outcome
 step-of call b s b′ r s′ m st e = (
@@ -230,8 +230,8 @@ module _ (call : Call) (b : Book) (s : List ℕ) (b′ : Book) (r : Reply) (s′
           holds = ap (λ (x : Book). load x s′) (w .0) ∙ load-whole h s′ (next-valid h f) (w .2);
         }
 
-    changed : (Taken call b s b′ r s′ → Done call b s b′ r s′) → Judged (first (callChecks call (length s) g)) (stepOf call (length s) g) → Verdict
-        (first (callChecks call (length s) g))
+    changed : (Taken call b s b′ r s′ → Done call b s b′ r s′) → Judged (first (callChecks call (length s) g)) (stepOf call (length s) g)
+        → Verdict (first (callChecks call (length s) g))
     changed d = go (first (callChecks call (length s) g)) (stepOf call (length s) g) refl
       where
         go : (n : ℕ) (st : Step) → stepOf call (length s) g ≡ st → Judged n st → Verdict n

@@ -86,8 +86,8 @@ made-by (t ∷ ts) n h = go (λ m k. made-by ts m k) (run ts .list) (run (t ∷ 
     Before : Type 0
     Before = (m : ℕ) → m < length (run ts .list) → Moment ts m
 
-    later : (m : ℕ) → Moment ts m → drop m (run ts .list) ≡ drop n (run (t ∷ ts) .list) → drop (suc m) (run ts .list) ≡ drop (suc n) (run (t ∷ ts) .list) →
-        Moment (t ∷ ts) n
+    later : (m : ℕ) → Moment ts m → drop m (run ts .list) ≡ drop n (run (t ∷ ts) .list) → drop (suc m) (run ts .list) ≡ drop (suc n) (run (t ∷ ts) .list)
+        → Moment (t ∷ ts) n
     later m w e f = record { before = w .before; by = w .by; earlier = since t (w .earlier); made = w .made ∙ e; list = w .list ∙ f }
 
     deeper : Before → (a : List Change) (c : Change) → run ts .list ≡ a → run (t ∷ ts) .list ≡ c ∷ a → (j : ℕ) → n ≡ j → Moment (t ∷ ts) n

@@ -17,7 +17,7 @@ use Rattle.book.specs.laws.ReplayLaws.{called-valid, outcome-is}
 use Rattle.book.specs.Session.{Session, start, next}
 use Rattle.book.specs.laws.SessionLaws.{held-is, book-is, answer-is}
 
--- ---- what is accepted has spaceFault in what is lent
+-- ---- what is accepted has room in what is lent
 
 -- a step that leaves no more than is lent
 abbrev Fits : ℕ → Step → Type 0

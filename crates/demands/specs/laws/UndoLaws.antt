@@ -20,8 +20,8 @@ pub record Undoable {ts : List Turn} {rs : List Reply} {b : Book} {held : List �
   pub kept : List ℕ
   pub is : Undo σ n turns replies book kept
 
-pub undoable : {ts : List Turn} {rs : List Reply} {b : Book} {held : List ℕ} (σ : Session ts rs b held) → b .closed ≡ false → (n : ℕ) → n ≤ length
-    (run ts .list) → Undoable σ n
+pub undoable : {ts : List Turn} {rs : List Reply} {b : Book} {held : List ℕ} (σ : Session ts rs b held) → b .closed ≡ false → (n : ℕ)
+    → n ≤ length (run ts .list) → Undoable σ n
 undoable {ts} {rs} {b} {held} σ op zero le = record { turns = ts; replies = rs; book = b; kept = held; is = undone }
 undoable {ts} {rs} {b} {held} σ op (suc n) le =
     let u = undoable σ op n (omega arith) in

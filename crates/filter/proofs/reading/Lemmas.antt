@@ -32,8 +32,8 @@ over r log input n e =
 pub none-waits : (s : List ℕ) (n : ℕ) → n ≡ 0 → false ≡ waits (take n s)
 none-waits s n e = sym (ap (λ (k : ℕ). waits (take k s)) e)
 
-pub some-waits : (s : List ℕ) (n : ℕ) → n ≤ length s → (n ≡ 0 → ⊥) → {f : Front} → f ≡ frontOf (take n s) (entry (take n s)) → eqb (f .number) 1 ≡ waits
-    (take n s)
+pub some-waits : (s : List ℕ) (n : ℕ) → n ≤ length s → (n ≡ 0 → ⊥) → {f : Front} → f ≡ frontOf (take n s) (entry (take n s))
+    → eqb (f .number) 1 ≡ waits (take n s)
 some-waits s n h z {f} e =
     ap (λ (a : Front). eqb (a .number) 1) e ∙ go (entry (take n s)) ∙ sym (rw (ne-eqb (length (take n s)) 0 (λ y. z (omega (arith, length-take-le n s h)))))
   where
@@ -46,16 +46,16 @@ module _ (r : Reading) (log input : List ℕ) (n end : ℕ) (e : end ≡ min (r 
   hand-is : take end input ≡ atHand r n input
   hand-is = ap (λ (k : ℕ). take k input) e ∙ take-least (r .held + n) input
 
-  reads-on : {w : Bool} {r′ : Reading} {log′ input′ : List ℕ} → isOver r ≡ false → w ≡ waits (take end input) → Reads false w r log input n r′ log′ input′ →
-      ReadsOn r log input n r′ log′ input′
+  reads-on : {w : Bool} {r′ : Reading} {log′ input′ : List ℕ} → isOver r ≡ false → w ≡ waits (take end input) → Reads false w r log input n r′ log′ input′
+      → ReadsOn r log input n r′ log′ input′
   reads-on {w} {r′} {log′} {input′} g v x =
       let y : Reads false (waits (atHand r n input)) r log input n r′ log′ input′ = subst (λ (b : Bool). Reads false b r log input n r′ log′ input′)
       (v ∙ ap waits hand-is) x in
       record { reads = subst⁻¹ (λ (b : Bool). Reads b (waits (atHand r n input)) r log input n r′ log′ input′) g y }
 
   -- they are held
-  pub waiting : isOver r ≡ false → true ≡ waits (take end input) → ReadsOn r log input n (record { book = r .book; count = r .count; held = end; number = 1 })
-      log input
+  pub waiting : isOver r ≡ false → true ≡ waits (take end input)
+      → ReadsOn r log input n (record { book = r .book; count = r .count; held = end; number = 1 }) log input
   waiting g w =
       let h : end ≡ length (atHand r n input) = omega (arith, e, length-take (r .held + n) input) in
       reads-on g w (record { reading = λ i. record { book = r .book; count = r .count; held = h i; number = 1 }; kept = refl; rest = refl })
@@ -86,8 +86,8 @@ module _ (t : List Change → List ℕ) (longest : ℕ) (r : Reading) (x : Load)
       let e = eq-eqb (r .number) 0 z in
       record { number = rw e (a .number); len = rw e (a .len); bytes = rw e (a .bytes); most = λ l q. rw e (a .most l q) }
 
-  pub prints-refusal : (n : ℕ) → 66 ≤ longest → (r .number ≡ 0 → ⊥) → n ≡ ordinal r → Fits (refusalLine n (r .number)) lent left w ×
-      (length (refusalLine n (r .number)) ≤ 66)
+  pub prints-refusal : (n : ℕ) → 66 ≤ longest → (r .number ≡ 0 → ⊥) → n ≡ ordinal r
+      → Fits (refusalLine n (r .number)) lent left w × (length (refusalLine n (r .number)) ≤ 66)
       → Prints t longest r x lent left w
   prints-refusal n h z q a =
       let e = ne-eqb (r .number) 0 z in

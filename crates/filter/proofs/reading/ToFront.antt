@@ -17,8 +17,8 @@ pub record Moving (d e : List ℕ) (from stop i : ℕ) : Type 0 where
 pub moving-none : (d : List ℕ) (from stop : ℕ) → Moving d d from stop 0
 moving-none d from stop = record { size = refl; bytes = put-none d 0 (omega arith) }
 
-pub moving-next : (d e : List ℕ) (from stop i : ℕ) → Moving d e from stop i → i < stop - from → stop ≤ length d → Moving d (set e i (getD e (from + i) 0)) from
-    stop (i + 1)
+pub moving-next : (d e : List ℕ) (from stop i : ℕ) → Moving d e from stop i → i < stop - from → stop ≤ length d
+    → Moving d (set e i (getD e (from + i) 0)) from stop (i + 1)
 moving-next d e from stop i m h f =
     let xs : List ℕ = part from stop d in
     let n : length xs ≡ stop - from = part-length from stop d f in
@@ -32,8 +32,8 @@ moving-next d e from stop i m h f =
     record { size = ap length z ∙ put-length d 0 (take (i + 1) xs); bytes = z }
 
 -- all of them are
-pub moved-all : (d e : List ℕ) (from end stop i : ℕ) → Moving d e from stop i → stop ≡ min end (length d) → stop - from ≤ i → i ≤ stop - from → from < stop →
-    (e ≡ put d 0 (part from end d)) × (stop - from ≡ length (part from end d))
+pub moved-all : (d e : List ℕ) (from end stop i : ℕ) → Moving d e from stop i → stop ≡ min end (length d) → stop - from ≤ i → i ≤ stop - from → from < stop
+    → (e ≡ put d 0 (part from end d)) × (stop - from ≡ length (part from end d))
 moved-all d e from end stop i m s h l f =
     let p : part from stop d ≡ part from end d = ap (λ (k : ℕ). part from k d) s ∙ part-least from end d in
     let n : length (part from stop d) ≡ stop - from = part-length from stop d (omega arith) in

@@ -118,8 +118,8 @@ module _ (lent : ℕ) where
       same-reg = ap (λ (b : Book). record { list = reached s .reg .list; closed = b .closed }) (x .book)
 
       -- they are the beginning of a record
-      held-on : waits (atHand r (length p) space) ≡ true → (r′ : Reading) (log′ input′ : List ℕ) → Waits r log space (length p) r′ log′ input′ → Stands (s ++ p)
-          r′ log′ input′
+      held-on : waits (atHand r (length p) space) ≡ true → (r′ : Reading) (log′ input′ : List ℕ) → Waits r log space (length p) r′ log′ input′
+          → Stands (s ++ p) r′ log′ input′
       held-on u r′ log′ input′ y =
           let g = reached s in
           let used : length (writeAll (g .reg .list)) ≤ lent = omega (arith, loaded-size (r .book) log (g .reg .list) (x .loaded), x .size) in
@@ -167,13 +167,13 @@ module _ (lent : ℕ) where
           short : (k : ℕ) → length (drop k t) ≤ length space
           short k = omega (arith, length-drop k t, ap length at-hand, length-take (r .held + length p) space)
 
-  stands-next : (s p : List ℕ) (r : Reading) (log input : List ℕ) → Stands s r log input → (space : List ℕ) → take (r .held + length p) space ≡ take (r .held)
-      input ++ p
+  stands-next : (s p : List ℕ) (r : Reading) (log input : List ℕ) → Stands s r log input → (space : List ℕ)
+      → take (r .held + length p) space ≡ take (r .held) input ++ p
       → (r′ : Reading) (log′ input′ : List ℕ) → ReadsOn r log space (length p) r′ log′ input′ → Stands (s ++ p) r′ log′ input′
   stands-next s p r log input x space q r′ log′ input′ m = go (isOver r) refl (waits (atHand r (length p) space)) refl (m .reads)
     where
-      go : (b : Bool) → isOver r ≡ b → (w : Bool) → waits (atHand r (length p) space) ≡ w → Reads b w r log space (length p) r′ log′ input′ → Stands (s ++ p) r′
-          log′ input′
+      go : (b : Bool) → isOver r ≡ b → (w : Bool) → waits (atHand r (length p) space) ≡ w → Reads b w r log space (length p) r′ log′ input′
+          → Stands (s ++ p) r′ log′ input′
       go true o w u y = still s p r log input x space q o r′ log′ input′ y
       go false o true u y = held-on s p r log input x space q o u r′ log′ input′ y
       go false o false u y = more s p r log input x space q o r′ log′ input′ y
@@ -220,8 +220,8 @@ module _ (t : List Change → List ℕ) (longest : ℕ) where
     unfolding outputBy
     text-is = go (reached 65535 s .number) refl ∙ sym (ap (printedBy t) (settled-is s))
       where
-        go : (n : ℕ) → reached 65535 s .number ≡ n → textIn t r (reached 65535 s .reg .list) ≡ printedBy t
-            (verdict (reached 65535 s .reg) (reached 65535 s .count) n)
+        go : (n : ℕ) → reached 65535 s .number ≡ n
+            → textIn t r (reached 65535 s .reg .list) ≡ printedBy t (verdict (reached 65535 s .reg) (reached 65535 s .count) n)
         go zero e = rw (x .number ∙ e)
         go (suc n) e =
             let k = stops 65535 fresh s in
@@ -254,8 +254,8 @@ module _ (t : List Change → List ℕ) (longest : ℕ) where
           record { fits = f; most = n; whole = λ k. front-is (outputBy t s) lent left w f (omega arith) }
 
   -- the theorem, of a program that prints the text t: for every list of pieces, from a fresh book over 65,535 bytes, what is written at the end is the output of the whole input
-  pub every-input : {ps : List (List ℕ)} {r : Reading} {log input : List ℕ} → Run ps r log input → length log ≡ 65535 → length (inputOf ps) <
-      18446744073709551616
+  pub every-input : {ps : List (List ℕ)} {r : Reading} {log input : List ℕ} → Run ps r log input → length log ≡ 65535
+      → length (inputOf ps) < 18446744073709551616
       → (lent left : List ℕ) (w : Written) → Prints t longest r (load (r .book) log) lent left w → Settles t longest (inputOf ps) lent left w
   every-input {ps} {r} {log} {input} run e h lent left w m =
       settles (inputOf ps) r log input (subst (λ (n : ℕ). Stands n (inputOf ps) r log input) e (stands run)) h lent left w m

@@ -17,7 +17,7 @@ no-records-requires : tie.Need-no-records-requires Inv-loop μ-loop
 no-records-requires c κs = search needs
 
 loop-holds : tie.Need-loop-holds Inv-loop μ-loop
-loop-holds c = started ((c .before .before .args) .records .now) _ ((c .no-records) .ensures)
+loop-holds c = started (c .before .before .args .records .now) _ (c .no-records .ensures)
 
 sub-first-of-hour : tie.Need-sub-first-of-hour Inv-loop μ-loop
 sub-first-of-hour c = omega (arith, (c .before .loop) .inv .within)
@@ -36,8 +36,8 @@ returns c =
     let c3 = c .before .before .before in
     let c4 = c3 .before in
     let c7 = c4 .before .before .before in
-    faulty ((c7 .args) .records .now) ((c4 .loop) .tally) ((c4 .loop) .hour) ((c4 .loop) .at) ((c4 .loop) .inv) ((c3 .loop-test) .taken)
-    ((c .before .first-of-hour) .result) ((c .before .first-of-hour) .ensures) ((c .if1) .taken)
+    faulty (c7 .args .records .now) (c4 .loop .tally) (c4 .loop .hour) (c4 .loop .at) (c4 .loop .inv) (c3 .loop-test .taken)
+    (c .before .first-of-hour .result) (c .before .first-of-hour .ensures) (c .if1 .taken)
 
 add-end : tie.Need-add-end Inv-loop μ-loop
 add-end c =
@@ -47,8 +47,8 @@ add-end c =
     let c8 = c5 .before .before .before in
     omega (
       arith,
-      end-within ((c8 .args) .records .now) ((c5 .loop) .tally) ((c5 .loop) .hour) ((c5 .loop) .at) ((c5 .loop) .inv) ((c4 .loop-test) .taken)
-          ((c2 .first-of-hour) .result) ((c2 .first-of-hour) .ensures) ((c .before .if1) .left),
+      end-within (c8 .args .records .now) (c5 .loop .tally) (c5 .loop .hour) (c5 .loop .at) (c5 .loop .inv) (c4 .loop-test .taken)
+          (c2 .first-of-hour .result) (c2 .first-of-hour .ensures) (c .before .if1 .left),
       (c8 .good),
     )
 
@@ -62,8 +62,8 @@ returns-2 c =
     let c7 = c5 .before .before in
     let c8 = c7 .before in
     let c11 = c8 .before .before .before in
-    stops ((c11 .args) .records .now) ((c8 .loop) .tally) ((c8 .loop) .hour) ((c8 .loop) .at) ((c8 .loop) .inv) ((c7 .loop-test) .taken)
-    ((c5 .first-of-hour) .result) ((c5 .first-of-hour) .ensures) ((c4 .if1) .left) _ ((c .before .with-record) .ensures) ((c .if2) .taken)
+    stops (c11 .args .records .now) (c8 .loop .tally) (c8 .loop .hour) (c8 .loop .at) (c8 .loop .inv) (c7 .loop-test .taken)
+    (c5 .first-of-hour .result) (c5 .first-of-hour .ensures) (c4 .if1 .left) _ (c .before .with-record .ensures) (c .if2 .taken)
 
 loop-less : tie.Need-loop-less Inv-loop μ-loop
 loop-less c =
@@ -74,11 +74,11 @@ loop-less c =
     let c12 = c9 .before .before .before in
     omega (
       arith,
-      end-after ((c12 .args) .records .now) ((c9 .loop) .tally) ((c9 .loop) .hour) ((c9 .loop) .at) ((c9 .loop) .inv) ((c8 .loop-test) .taken)
-          ((c6 .first-of-hour) .result) ((c6 .first-of-hour) .ensures) ((c5 .if1) .left),
-      end-within ((c12 .args) .records .now) ((c9 .loop) .tally)
-          ((c9 .loop) .hour) ((c9 .loop) .at) ((c9 .loop) .inv) ((c8 .loop-test) .taken) ((c6 .first-of-hour) .result) ((c6 .first-of-hour) .ensures)
-          ((c5 .if1) .left),
+      end-after (c12 .args .records .now) (c9 .loop .tally) (c9 .loop .hour) (c9 .loop .at) (c9 .loop .inv) (c8 .loop-test .taken)
+          (c6 .first-of-hour .result) (c6 .first-of-hour .ensures) (c5 .if1 .left),
+      end-within (c12 .args .records .now) (c9 .loop .tally)
+          (c9 .loop .hour) (c9 .loop .at) (c9 .loop .inv) (c8 .loop-test .taken) (c6 .first-of-hour .result) (c6 .first-of-hour .ensures)
+          (c5 .if1 .left),
     )
 
 loop-again : tie.Need-loop-again Inv-loop μ-loop
@@ -89,20 +89,20 @@ loop-again c =
     let c8 = c6 .before .before in
     let c9 = c8 .before in
     let c12 = c9 .before .before .before in
-    continues ((c12 .args) .records .now) ((c9 .loop) .tally) ((c9 .loop) .hour) ((c9 .loop) .at) ((c9 .loop) .inv) ((c8 .loop-test) .taken)
-    ((c6 .first-of-hour) .result) ((c6 .first-of-hour) .ensures) ((c5 .if1) .left) _ ((c2 .with-record) .ensures) ((c .before .if2) .left)
+    continues (c12 .args .records .now) (c9 .loop .tally) (c9 .loop .hour) (c9 .loop .at) (c9 .loop .inv) (c8 .loop-test .taken)
+    (c6 .first-of-hour .result) (c6 .first-of-hour .ensures) (c5 .if1 .left) _ (c2 .with-record .ensures) (c .before .if2 .left)
 
 at-end-requires : tie.Need-at-end-requires Inv-loop μ-loop
 at-end-requires c κs =
     let c4 = c .before .before .before .before in
-    ready ((c4 .args) .records .now) ((c .before .loop) .tally) ((c .before .loop) .hour) ((c .before .loop) .at) ((c .before .loop) .inv)
+    ready (c4 .args .records .now) (c .before .loop .tally) (c .before .loop .hour) (c .before .loop .at) (c .before .loop .inv)
 
 returns-3 : tie.Need-returns-3 Inv-loop μ-loop
 returns-3 c =
     let c2 = c .before .before in
     let c5 = c2 .before .before .before in
-    (c .at-end) .ensures ∙ finished ((c5 .args) .records .now) ((c2 .loop) .tally) ((c2 .loop) .hour) ((c2 .loop) .at) ((c2 .loop) .inv)
-    ((c .before .loop-test) .left)
+    (c .at-end) .ensures ∙ finished (c5 .args .records .now) (c2 .loop .tally) (c2 .loop .hour) (c2 .loop .at) (c2 .loop .inv)
+    (c .before .loop-test .left)
 
 pub offset-of-hour-spec : {M : Type 1} → statement M
 offset-of-hour-spec =

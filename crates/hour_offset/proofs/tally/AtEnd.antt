@@ -39,8 +39,8 @@ module _ (s : List ℕ) (t : Tally) (rd : Ready s t) (z : length (t .imports .at
     pub end-unpriced : t .priced ≡ false → Refused 15 ≡ endOf s (sheetOf t)
     end-unpriced e = by-tests false false (ne-eqb (t .imports .n) 0 h) e
 
-    pub end-worked : t .priced ≡ true → (p : HourPrices) → p ≡ pricesIn (drop (t .price) s) → (es : List Import) → take (t .imports .n) es ≡ entriesIn s p
-        (spots (t .imports))
+    pub end-worked : t .priced ≡ true → (p : HourPrices) → p ≡ pricesIn (drop (t .price) s) → (es : List Import)
+        → take (t .imports .n) es ≡ entriesIn s p (spots (t .imports))
         → (ts : List Quantity) → ts ≡ totalsIn s (spots (t .exports)) → offsetAnswer (t .imports .n) es (p .emp) ts ≡ endOf s (sheetOf t)
     end-worked e p ep es ee ts et =
         answer-front (t .imports .n) es (entriesIn s p (spots (t .imports)))

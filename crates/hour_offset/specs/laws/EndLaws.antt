@@ -33,16 +33,16 @@ use Rattle.hour_offset.specs.laws.TallyLaws.{Stood, Priced, Hour, unknow
 
 -- ---- what is read at the places
 
-entries-read : (s : List ℕ) (p : HourPrices) → PricesFit p → (h : ℕ) {xs : List Spot} {rs : List Rec} → Each (Stood s) xs rs → All (InHour (hourKey Im h)) rs →
-    entriesIn s p xs ≡ map (offsetEntry p) rs
+entries-read : (s : List ℕ) (p : HourPrices) → PricesFit p → (h : ℕ) {xs : List Spot} {rs : List Rec} → Each (Stood s) xs rs → All (InHour (hourKey Im h)) rs
+    → entriesIn s p xs ≡ map (offsetEntry p) rs
 entries-read s p f h e a = entries-at s p (each-with read e a)
   where
     read : (x : Spot) (r : Rec) → Stood s x r → InHour (hourKey Im h) r → entryAt s p x ≡ offsetEntry p r
     read x r w b = ap (λ (y : EntryAnswer). y .entry)
         (read-entry r (drop (x .start) s) (w .rest) (w .front) (sym (hour-parts (hourKey Im h) (r .key) (b .1) .0)) p f)
 
-totals-read : (s : List ℕ) (h : ℕ) {xs : List Spot} {rs : List Rec} → Each (Stood s) xs rs → All (InHour (hourKey Ex h)) rs → length rs ≤ 16 → totalsIn s xs ≡
-    totalsOf rs
+totals-read : (s : List ℕ) (h : ℕ) {xs : List Spot} {rs : List Rec} → Each (Stood s) xs rs → All (InHour (hourKey Ex h)) rs → length rs ≤ 16
+    → totalsIn s xs ≡ totalsOf rs
 totals-read s h e a few = totals-at s (each-with read e a) few
   where
     read : (x : Spot) (r : Rec) → Stood s x r → InHour (hourKey Ex h) r → Adds s x r
@@ -118,8 +118,8 @@ module _ (s : List ℕ) (o : ℕ) (l : List Change) (h : Sheet) (b : Booked s o 
       (ne-eqb o 0 (λ z. omega arith))
       ∙ ap (λ (a : Res Key). answerOf (offsetIn (keyed a (λ (k : Key). guaranteesOf (standing l) (priceOf (standing l)) (k .hour))))) (hour-key Im o lo hi))
 
-pub ended : (s : List ℕ) (h : Sheet) {o : ℕ} {l : List Change} → Hour o l → Booked s o l h → endOf s h ≡ answerOf
-    (atEnd o (record { list = l; closed = false }))
+pub ended : (s : List ℕ) (h : Sheet) {o : ℕ} {l : List Change} → Hour o l → Booked s o l h
+    → endOf s h ≡ answerOf (atEnd o (record { list = l; closed = false }))
 ended s h unknown b = by-tests s 0 [] h b true (h .priced) (eq-eqb (length (h .imports)) 0 (each-length (b .imports) ∙ ap length (none-named (hourKey Im 0))))
     refl
 ended s h (known o l lo hi) b = known-end s o l h b lo hi

@@ -91,7 +91,7 @@ priced-found : (s : List ℕ) (b : Bool) (at : ℕ) (q : Pick) → Priced s b at
 priced-found s b at nil e = e
 priced-found s b at (is r) e = e .0
 
--- ---- spaceFault for every record: at most 1 + 16 + 16 of at most 297 bytes
+-- ---- room for every record: at most 1 + 16 + 16 of at most 297 bytes
 
 roomy : (n used len : ℕ) → n ≤ 33 → used ≤ 297 * n → len ≤ 297 → spaceFault n used len 65535 ≡ 0
 roomy n used len a b c =
@@ -133,8 +133,8 @@ module _ (s : List ℕ) (l : List Change) (h : Sheet) (r : Rec) (g : Good (filed
       eq-orders w = eq-eqb (order n) (order m) w
 
   -- an import or an export
-  placed-is : (m : Mark) → k .mark ≡ m → (xs : List Spot) → Each (Stood s) xs (byName (hourKey m (k .hour)) rs) → refusal l 65535 (filed r) ≡ placedNumber
-      (k .name) xs
+  placed-is : (m : Mark) → k .mark ≡ m → (xs : List Spot) → Each (Stood s) xs (byName (hourKey m (k .hour)) rs)
+      → refusal l 65535 (filed r) ≡ placedNumber (k .name) xs
   placed-is m e xs w =
       filing-refused l r room-is (among (k .name) xs) (ltb (length xs) 16)
       (stands-named k (hourKey m (k .hour)) (mine m e) rs ∙ sym (among-named (k .name) w))
@@ -178,13 +178,13 @@ module _ (s : List ℕ) (l : List Change) (h : Sheet) (r : Rec) (g : Good (filed
         → Each (Stood s) xs (byName (hourKey n (k .hour)) (standing (filed r ∷ l)))
     others m n e q xs = subst (Each (Stood s) xs) (sym (filing-named l r (hourKey n (k .hour)) false (not-mine m n e q)))
 
-    one-more : (m : Mark) → k .mark ≡ m → (xs : List Spot) → Each (Stood s) xs (byName (hourKey m (k .hour)) rs) → Each (Stood s) (putSpot spot xs)
-        (byName (hourKey m (k .hour)) (standing (filed r ∷ l)))
+    one-more : (m : Mark) → k .mark ≡ m → (xs : List Spot) → Each (Stood s) xs (byName (hourKey m (k .hour)) rs)
+        → Each (Stood s) (putSpot spot xs) (byName (hourKey m (k .hour)) (standing (filed r ∷ l)))
     one-more m e xs w = subst (Each (Stood s) (putSpot spot xs)) (sym (filing-named l r (hourKey m (k .hour)) true (mine m e)))
         (each-put (λ x r p. p .name) spot r stood w)
 
-    same-price : (m : Mark) → k .mark ≡ m → eqb (order Pr) (order m) ≡ false → Priced s (h .priced) (h .price)
-        (pick (hourKey Pr (k .hour)) (standing (filed r ∷ l)))
+    same-price : (m : Mark) → k .mark ≡ m → eqb (order Pr) (order m) ≡ false
+        → Priced s (h .priced) (h .price) (pick (hourKey Pr (k .hour)) (standing (filed r ∷ l)))
     same-price m e q =
         subst (Priced s (h .priced) (h .price))
         (sym (filing-picked l r (hourKey Pr (k .hour)) false (same-by (hourKey Pr (k .hour)) k false (not-mine m Pr e q)))) (b .price)
@@ -210,8 +210,8 @@ module _ (s : List ℕ) (l : List Change) (h : Sheet) (r : Rec) (g : Good (filed
     pub stepped : Booked s (k .hour) (filed r ∷ l) (adding (k .mark) (record { name = k .name; start = at }) h)
     stepped = go (k .mark) refl o (sym added-is ∙ z)
       where
-        go : (m : Mark) → k .mark ≡ m → ofHour m ≡ true → addNumber m (k .name) h ≡ 0 → Booked s (k .hour) (filed r ∷ l)
-            (adding m (record { name = k .name; start = at }) h)
+        go : (m : Mark) → k .mark ≡ m → ofHour m ≡ true → addNumber m (k .name) h ≡ 0
+            → Booked s (k .hour) (filed r ∷ l) (adding m (record { name = k .name; start = at }) h)
         go Pr e o q = record {
           valid = filing-valid l r g z (b .valid);
           hour = hour-then;

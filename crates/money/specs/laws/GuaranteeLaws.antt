@@ -66,8 +66,8 @@ module _ {o : Offer} {ps : List Price} {q : ℕ → ℕ} (ready : Ready o ps q) 
   pub profits-room : {sum : ℤ} {k : ℕ} → Summed intervals (interval-profit o ps q) sum k → Moderate sum
   profits-room {k = k} u = rw (u .so-far) (omega (arith, some-size o ps q ready k (u .upto)))
 
-pub profits-all : (o : Offer) (ps : List Price) (q : ℕ → ℕ) {sum : ℤ} {k : ℕ} → Summed intervals (interval-profit o ps q) sum k → intervals ≤ k → sum ≡ profits
-    o ps q
+pub profits-all : (o : Offer) (ps : List Price) (q : ℕ → ℕ) {sum : ℤ} {k : ℕ} → Summed intervals (interval-profit o ps q) sum k → intervals ≤ k
+    → sum ≡ profits o ps q
 unfolding profits
 profits-all o ps q u h = summed-all u h
 
@@ -79,8 +79,8 @@ unfolding profits
 credit-ext o ps q q′ h = ap (λ (z : ℤ). negℤ (minℤ (pos 0) z)) (Σℤ-ext intervals _ _ (λ k l. ap (λ (x : ℕ). profit o (priceAt ps k) x) (h k l)))
 
 -- a credit that no check refuses
-pub credit-given : (o : Offer) (ps : List Price) (qs : List Quantity) → pricesOk ps ≡ true → quantitiesOk qs ≡ true → offerFault o ≡ 0 → withinOk qs (lastQ o) ≡
-    true
+pub credit-given : (o : Offer) (ps : List Price) (qs : List Quantity) → pricesOk ps ≡ true → quantitiesOk qs ≡ true → offerFault o ≡ 0
+    → withinOk qs (lastQ o) ≡ true
     → creditAnswer o ps qs ≡ Amount (record { 0 = credit o ps (quantityAt qs) })
 unfolding creditAnswer
 credit-given o ps qs a b c d = ap (λ (n : ℕ). answer n (credit o ps (quantityAt qs))) none

@@ -102,8 +102,8 @@ kept (e ∷ es) s h l =
       new = at (foldOf s′ es) (k .old (s .count) (omega arith) ∙ getD-set-same (s .entries) (s .count) e noImport (omega arith)) (k .new);
     })
   where
-    at : (t : Taken) → entry (t .entries) (s .count) ≡ e → ((j : ℕ) → j < length es → entry (t .entries) (s .count + 1 + j) ≡ entry es j) → (j : ℕ) → j < suc
-        (length es) → entry (t .entries) (s .count + j) ≡ entry (e ∷ es) j
+    at : (t : Taken) → entry (t .entries) (s .count) ≡ e → ((j : ℕ) → j < length es → entry (t .entries) (s .count + 1 + j) ≡ entry es j) → (j : ℕ)
+        → j < suc (length es) → entry (t .entries) (s .count + j) ≡ entry (e ∷ es) j
     at t f g zero m = subst (λ (i : ℕ). entry (t .entries) i ≡ e) (omega arith) f
     at t f g (suc j) m = subst (λ (i : ℕ). entry (t .entries) i ≡ entry es j) (omega arith) (g j (omega arith))
 

@@ -41,8 +41,8 @@ module _ (o : Offer) (good : Good o) where
 
 module _ (o : Offer) where
   -- if the pairs below s are full, and the others not
-  pub cost-cut : (q s : ℕ) → s ≤ o .count → ((j : ℕ) → j < s → Q o j ≤ q) → ((j : ℕ) → s ≤ j → j < o .count → q < Q o j) → cost o q ≡ Σℤ s (piece o) +ℤ partPair
-      o q s
+  pub cost-cut : (q s : ℕ) → s ≤ o .count → ((j : ℕ) → j < s → Q o j ≤ q) → ((j : ℕ) → s ≤ j → j < o .count → q < Q o j)
+      → cost o q ≡ Σℤ s (piece o) +ℤ partPair o q s
   unfolding cost fullPairs
   cost-cut q s l full over =
       let f : ℕ → ℤ = λ i. cond (leb (Q o i) q) (piece o i) (pos 0) in

@@ -72,12 +72,12 @@ module _ {n : ℕ} {es : List Import} {i : ℕ} {sums : List Quantity} {j : ℕ}
         Σℕ-within 100000 j (λ a. counted (entry es a) (entry es i) k) (λ a h. counted-size (entry es a) (entry es i) k (s .each a (omega arith)) m),
       )
 
-  pub reached-more : {row : List Quantity} → ((k : ℕ) → k < intervals → quantityAt row k ≡ quantityAt sums k + counted (entry es j) (entry es i) k) → Reached n
-      es i row (j + 1)
+  pub reached-more : {row : List Quantity} → ((k : ℕ) → k < intervals → quantityAt row k ≡ quantityAt sums k + counted (entry es j) (entry es i) k)
+      → Reached n es i row (j + 1)
   reached-more g = record { upto = omega arith; so-far = λ k m. omega (arith, g k m, r .so-far k m, Σℕ-more j (λ a. counted (entry es a) (entry es i) k)) }
 
-pub reached-all : {n : ℕ} {es : List Import} {i : ℕ} {sums : List Quantity} {j : ℕ} → Reached n es i sums j → n ≤ j → (k : ℕ) → k < intervals → quantityAt sums
-    k ≡ reach n es i k
+pub reached-all : {n : ℕ} {es : List Import} {i : ℕ} {sums : List Quantity} {j : ℕ} → Reached n es i sums j → n ≤ j → (k : ℕ) → k < intervals
+    → quantityAt sums k ≡ reach n es i k
 reached-all {n = n} {es = es} {i = i} {j = j} r h k m = let e : j ≡ n = omega (arith, r .upto) in r .so-far k m ∙ ap (λ (a : ℕ). reach a es i k) e
 
 -- ---- the offset
@@ -106,8 +106,8 @@ module _ (ps : List Price) (ts : List Quantity) {n : ℕ} {es : List Import} (s 
       pub gives-room : Moderate d
       gives-room = rw gives-is (omega (arith, gives-size i l))
 
-pub offsets-all : (n : ℕ) (es : List Import) (ps : List Price) (ts : List Quantity) {sum : ℤ} {i : ℕ} → Summed n (gives n es ps ts) sum i → n ≤ i → sum ≡ offset
-    n es ps ts
+pub offsets-all : (n : ℕ) (es : List Import) (ps : List Price) (ts : List Quantity) {sum : ℤ} {i : ℕ} → Summed n (gives n es ps ts) sum i → n ≤ i
+    → sum ≡ offset n es ps ts
 unfolding offset
 offsets-all n es ps ts r h = summed-all r h ∙ Σℤ-sub n (λ j. entry es j .credit .0) (λ j. credit (entry es j .offer) ps (adj n es ts j))
 
@@ -134,8 +134,8 @@ rates-of ps ts h = λ k l. price-in (getD ps k noPrice)
 
 -- ---- totals, and a list that no check refuses
 -- a row more, where no total comes to more than it may
-pub totals-more : (ts ms : List Quantity) (f : ℕ → ℕ) → ((k : ℕ) → k < intervals → quantityAt ts k ≡ f k) →
-    ((k : ℕ) → k < intervals → f k + quantityAt ms k ≤ maxTotal)
+pub totals-more : (ts ms : List Quantity) (f : ℕ → ℕ) → ((k : ℕ) → k < intervals → quantityAt ts k ≡ f k)
+    → ((k : ℕ) → k < intervals → f k + quantityAt ms k ≤ maxTotal)
     → totalsWith ts ms ≡ rowOf 0 intervals (λ (k : ℕ). f k + quantityAt ms k)
 unfolding totalsWith
 totals-more ts ms f h m =

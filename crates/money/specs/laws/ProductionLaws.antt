@@ -128,8 +128,8 @@ pub shortfall-is : (o : Offer) (p : ℤ) (noload q : ℕ) {l t r : ℤ} → l �
 unfolding shortfall
 shortfall-is o p noload q e f g = g ∙ (λ i. e i +ℤ f i)
 
-shortfall-size : (o : Offer) (p : ℤ) (noload q : ℕ) → Good o → q ≤ lastQ o → natAbs p ≤ 200000 → noload ≤ 100000000 → natAbs (shortfall o p noload q) ≤
-    441000000000
+shortfall-size : (o : Offer) (p : ℤ) (noload q : ℕ) → Good o → q ≤ lastQ o → natAbs p ≤ 200000 → noload ≤ 100000000
+    → natAbs (shortfall o p noload q) ≤ 441000000000
 unfolding shortfall
 shortfall-size o p noload q good within rate small = add-within (cost o q -ℤ p *ℤ pos q) (running noload q) (loss-size o q good within p rate)
     (running-size noload q small)
@@ -150,8 +150,8 @@ pub arranged-is : (da rt : Offer) (b a : ℕ) {x y r : ℤ} → x ≡ cost da b 
 unfolding arranged
 arranged-is da rt b a e f g = g ∙ (λ i. e i -ℤ f i)
 
-arranged-size : (da rt : Offer) (b a : ℕ) → Good da → Good rt → b ≤ lastQ da → a ≤ lastQ da → b ≤ lastQ rt → a ≤ lastQ rt → natAbs (arranged da rt b a) ≤
-    1680000000000
+arranged-size : (da rt : Offer) (b a : ℕ) → Good da → Good rt → b ≤ lastQ da → a ≤ lastQ da → b ≤ lastQ rt → a ≤ lastQ rt
+    → natAbs (arranged da rt b a) ≤ 1680000000000
 unfolding arranged
 arranged-size da rt b a g g′ h k h′ k′ = sub-within (cost da b -ℤ cost da a) (cost rt b -ℤ cost rt a) (step-size da b a g h k) (step-size rt b a g′ h′ k′)
 
@@ -306,8 +306,8 @@ pub profits-moderate : {o : Offer} {ps : List Price} {q : ℕ → ℕ} → Ready
 profits-moderate {o} {ps} {q} r e = rw e (omega (arith, profits-size o ps q r))
 
 -- the difference of two
-pub two-profits : {o : Offer} {ps : List Price} {q q′ : ℕ → ℕ} → Ready o ps q → Ready o ps q′ → {x y z : ℤ} → x ≡ profits o ps q → y ≡ profits o ps q′ → z ≡ x
-    -ℤ y → Moderate z
+pub two-profits : {o : Offer} {ps : List Price} {q q′ : ℕ → ℕ} → Ready o ps q → Ready o ps q′ → {x y z : ℤ} → x ≡ profits o ps q → y ≡ profits o ps q′
+    → z ≡ x -ℤ y → Moderate z
 two-profits {o} {ps} {q} {q′} r r′ e f g = rw (g ∙ (λ i. e i -ℤ f i))
     (omega (arith, sub-within (profits o ps q) (profits o ps q′) (profits-size o ps q r) (profits-size o ps q′ r′)))
 
@@ -323,8 +323,8 @@ turned : (n v c : ℤ) → n -ℤ (v -ℤ c) ≡ c -ℤ v +ℤ n
 turned = by₃ _ (λ a a′ b b′ c c′. simp ints (omega arith))
 
 -- C1 is the speed no-load less the profits
-pub sum1-is : (da : Offer) (ps : List Price) (noload : ℕ) (d r a m : ℕ → ℕ) → ((k : ℕ) → k < intervals → m k ≡ min (d k) (min (r k) (a k))) → {n p x : ℤ} → n ≡
-    Σℤ intervals (λ k. running noload (m k)) → p ≡ profits da ps m → x ≡ n -ℤ p
+pub sum1-is : (da : Offer) (ps : List Price) (noload : ℕ) (d r a m : ℕ → ℕ) → ((k : ℕ) → k < intervals → m k ≡ min (d k) (min (r k) (a k))) → {n p x : ℤ}
+    → n ≡ Σℤ intervals (λ k. running noload (m k)) → p ≡ profits da ps m → x ≡ n -ℤ p
     → x ≡ Σℤ intervals (λ k. component1 da (priceAt ps k) noload (d k) (r k) (a k))
 unfolding profits shortfall
 sum1-is da ps noload d r a m h e f g =
@@ -352,8 +352,8 @@ profits-differ : (o : Offer) (ps : List Price) (from to : ℕ → ℕ) {x y s : 
 unfolding profits
 profits-differ o ps from to e f g = g ∙ (λ i. e i -ℤ f i) ∙ sym (Σℤ-sub intervals (λ k. profit o (priceAt ps k) (from k)) (λ k. profit o (priceAt ps k) (to k)))
 
-pub sum2-is : (da rt : Offer) (ps : List Price) (d r a c to from : ℕ → ℕ) → ((k : ℕ) → k < intervals → to k ≡ min (d k) (c k)) →
-    ((k : ℕ) → k < intervals → from k ≡ min (to k) (max (r k) (a k)))
+pub sum2-is : (da rt : Offer) (ps : List Price) (d r a c to from : ℕ → ℕ) → ((k : ℕ) → k < intervals → to k ≡ min (d k) (c k))
+    → ((k : ℕ) → k < intervals → from k ≡ min (to k) (max (r k) (a k)))
     → {x y z w s t n : ℤ} → x ≡ profits da ps from → y ≡ profits da ps to → z ≡ profits rt ps from → w ≡ profits rt ps to → s ≡ x -ℤ y → t ≡ z -ℤ w → n ≡ s -ℤ t
     → n ≡ Σℤ intervals (λ k. component2 da rt (d k) (r k) (a k) (c k))
 sum2-is da rt ps d r a c to from h h′ e f e′ f′ g g′ m =
@@ -370,8 +370,8 @@ congestion-by rt p b a = swap (p *ℤ pos a) (cost rt a) (p *ℤ pos b) (cost rt
     swap : (v c w d : ℤ) → (v -ℤ c) -ℤ (w -ℤ d) ≡ (d -ℤ w) -ℤ (c -ℤ v)
     swap = by₄ _ (λ a a′ b b′ c c′ d d′. simp ints (omega arith))
 
-pub sum3-is : (rt : Offer) (ps : List Price) (d r u to from : ℕ → ℕ) → ((k : ℕ) → k < intervals → to k ≡ min (r k) (d k)) →
-    ((k : ℕ) → k < intervals → from k ≡ min (u k) (d k))
+pub sum3-is : (rt : Offer) (ps : List Price) (d r u to from : ℕ → ℕ) → ((k : ℕ) → k < intervals → to k ≡ min (r k) (d k))
+    → ((k : ℕ) → k < intervals → from k ≡ min (u k) (d k))
     → {x y n : ℤ} → x ≡ profits rt ps from → y ≡ profits rt ps to → n ≡ x -ℤ y → n ≡ Σℤ intervals (λ k. component3 rt (priceAt ps k) (d k) (r k) (u k))
 sum3-is rt ps d r u to from h h′ e f g =
     profits-differ rt ps from to e f g
@@ -403,13 +403,13 @@ module _ {s : Reserve} (u : Usable s) (left : ℕ → ℕ) where
   pub reserve-room : {x : ℤ} → x ≡ Σℤ intervals (reserved s left) → Moderate x
   reserve-room e = rw e (omega (arith, reserve-size))
 
-pub two-reserves : {s s′ : Reserve} → Usable s → Usable s′ → (left left′ : ℕ → ℕ) {x y z : ℤ} → x ≡ Σℤ intervals (reserved s left) → y ≡ Σℤ intervals
-    (reserved s′ left′) → z ≡ x +ℤ y → Moderate z
+pub two-reserves : {s s′ : Reserve} → Usable s → Usable s′ → (left left′ : ℕ → ℕ) {x y z : ℤ} → x ≡ Σℤ intervals (reserved s left)
+    → y ≡ Σℤ intervals (reserved s′ left′) → z ≡ x +ℤ y → Moderate z
 two-reserves {s} {s′} u u′ left left′ e f g = rw (g ∙ (λ i. e i +ℤ f i))
     (omega (arith, add-within (Σℤ intervals (reserved s left)) (Σℤ intervals (reserved s′ left′)) (reserve-size u left) (reserve-size u′ left′)))
 
-pub sum4-is : (r1 r2 r3 : Reserve) (d u l1 l2 l3 : ℕ → ℕ) → ((k : ℕ) → k < intervals → l1 k ≡ d k - u k) → ((k : ℕ) → k < intervals → l2 k ≡ l1 k - S r1 k) →
-    ((k : ℕ) → k < intervals → l3 k ≡ l2 k - S r2 k)
+pub sum4-is : (r1 r2 r3 : Reserve) (d u l1 l2 l3 : ℕ → ℕ) → ((k : ℕ) → k < intervals → l1 k ≡ d k - u k) → ((k : ℕ) → k < intervals → l2 k ≡ l1 k - S r1 k)
+    → ((k : ℕ) → k < intervals → l3 k ≡ l2 k - S r2 k)
     → {x y z s n : ℤ} → x ≡ Σℤ intervals (reserved r1 l1) → y ≡ Σℤ intervals (reserved r2 l2) → z ≡ Σℤ intervals (reserved r3 l3) → s ≡ x +ℤ y → n ≡ s +ℤ z
     → n ≡ Σℤ intervals (λ k. component4 r1 r2 r3 k (d k) (u k))
 sum4-is r1 r2 r3 d u l1 l2 l3 a b c e f g h m =
@@ -429,12 +429,12 @@ sum-size f h = Σℤ-within 2000000000000 intervals f h
 pub sum-room : (f : ℕ → ℤ) {x : ℤ} → ((k : ℕ) → k < intervals → Small (f k)) → x ≡ Σℤ intervals f → Moderate x
 sum-room f h e = rw e (omega (arith, sum-size f h))
 
-pub two-sums : (f g : ℕ → ℤ) {x y s : ℤ} → ((k : ℕ) → k < intervals → Small (f k)) → ((k : ℕ) → k < intervals → Small (g k)) → x ≡ Σℤ intervals f → y ≡ Σℤ
-    intervals g → s ≡ x +ℤ y → Moderate s
+pub two-sums : (f g : ℕ → ℤ) {x y s : ℤ} → ((k : ℕ) → k < intervals → Small (f k)) → ((k : ℕ) → k < intervals → Small (g k)) → x ≡ Σℤ intervals f
+    → y ≡ Σℤ intervals g → s ≡ x +ℤ y → Moderate s
 two-sums f g h k e e′ m = rw (m ∙ (λ i. e i +ℤ e′ i)) (omega (arith, add-within (Σℤ intervals f) (Σℤ intervals g) (sum-size f h) (sum-size g k)))
 
-pub hour-is : (h : UnitHour) (ps : List Price) {x y z w s t n : ℤ} → x ≡ Σℤ intervals (C1 h ps) → y ≡ Σℤ intervals (C2 h ps) → z ≡ Σℤ intervals (C3 h ps) → w ≡
-    Σℤ intervals (C4 h ps)
+pub hour-is : (h : UnitHour) (ps : List Price) {x y z w s t n : ℤ} → x ≡ Σℤ intervals (C1 h ps) → y ≡ Σℤ intervals (C2 h ps) → z ≡ Σℤ intervals (C3 h ps)
+    → w ≡ Σℤ intervals (C4 h ps)
     → s ≡ x +ℤ y → t ≡ z +ℤ w → n ≡ s -ℤ t → n ≡ hourAmount h ps
 unfolding hourAmount interval
 hour-is h ps a b c d e f g =
@@ -565,13 +565,13 @@ module _ (h : UnitHour) where
   numbers-fine a b c d e f g x y z =
       (λ i. le-leb (h .startup .0) maxCents a i && (le-leb (h .noload .0) maxCents b i && (c i && (d i && (e i && (f i && (g i && (x i && (y i && z i)))))))))
 
-  pub lists-fine : offerFault (h .aheadoffer) ≡ 0 → offerFault (h .realoffer) ≡ 0 → reserveFault (h .spinning) ≡ 0 → reserveFault (h .nonspinning) ≡ 0 →
-      reserveFault (h .thirty) ≡ 0 → listsFault h ≡ 0
+  pub lists-fine : offerFault (h .aheadoffer) ≡ 0 → offerFault (h .realoffer) ≡ 0 → reserveFault (h .spinning) ≡ 0 → reserveFault (h .nonspinning) ≡ 0
+      → reserveFault (h .thirty) ≡ 0 → listsFault h ≡ 0
   unfolding listsFault
   lists-fine a b c d e = (λ i. orElse (a i) (orElse (b i) (orElse (c i) (orElse (d i) (e i)))))
 
-  pub within-fine : withinOk (h .ahead) (lastQ (h .aheadoffer)) ≡ true → withinOk (h .ahead) (lastQ (h .realoffer)) ≡ true → withinOk (h .spinning .schedules)
-      (lastQ (h .spinning .offer)) ≡ true
+  pub within-fine : withinOk (h .ahead) (lastQ (h .aheadoffer)) ≡ true → withinOk (h .ahead) (lastQ (h .realoffer)) ≡ true
+      → withinOk (h .spinning .schedules) (lastQ (h .spinning .offer)) ≡ true
       → withinOk (h .nonspinning .schedules) (lastQ (h .nonspinning .offer)) ≡ true → withinOk (h .thirty .schedules) (lastQ (h .thirty .offer)) ≡ true →
       withinFine h ≡ true
   unfolding withinFine

@@ -13,7 +13,7 @@ use lib.Seq.{getD-set-same, getD-set-other}
 use mir.Syntax.{w64}
 use mir.Val.{SFits, toZ, ofZ}
 use mir.Facts.{toZ-ofZ}
-use Rattle.laws.specs.Held.{Carried}
+use Rattle.laws.specs.Carried.{Carried}
 use Rattle.laws.specs.Ints.{minℤ}
 use Rattle.laws.specs.IntLaws.{ints, by₁, by₂, dif, dif-abs, pos-dif, neg-*, le-true, ≤ℤ-antisym}
 use Rattle.laws.specs.Sums.{every, orElse}

@@ -170,8 +170,8 @@ module _ {M : Type 1} (𝓤 : URA M) (H : Heap 𝓤) (A : Atoms 𝓤) (W : Given
   abbrev refT : Ty
   refT = tyRef erased imm (pointee (RT .written))
 
-  exits : IsN k → IsT ys → IsP ps → IsQ ts → (r : Answer) (u : Val) → r ≡ offsetAnswer k (take k ys) ps ts → Is N.the-row r (u ∷ []) → ent 𝓤 (⋆ 𝓤 H A [])
-      (Post u)
+  exits : IsN k → IsT ys → IsP ps → IsQ ts → (r : Answer) (u : Val) → r ≡ offsetAnswer k (take k ys) ps ts → Is N.the-row r (u ∷ [])
+      → ent 𝓤 (⋆ 𝓤 H A []) (Post u)
   exits gk gt gp gq r u e gr =
       qed W [] ∵
       suffices ! _ (ends-at 𝓤 H A self.ended stayed (self.clauses 𝓤 H A heap run) W ((tt, tt, tt, (k, (ys, (ps, (ts, tt)))), at), tt) u r

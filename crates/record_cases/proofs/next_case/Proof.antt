@@ -31,7 +31,7 @@ array-borrow-prefix-buffer : tie.Need-array-borrow-prefix-buffer
 array-borrow-prefix-buffer c = search needs
 
 slice-aggregate-case-in : tie.Need-slice-aggregate-case-in
-slice-aggregate-case-in c = sym (length-take-le {A = ℕ} _ (replicate {A = ℕ} 2048 0) (rw (length-replicate {A = ℕ} 2048 0) ((c .before .if2) .left)))
+slice-aggregate-case-in c = sym (length-take-le {A = ℕ} _ (replicate {A = ℕ} 2048 0) (rw (length-replicate {A = ℕ} 2048 0) (c .before .if2 .left)))
 
 case-in-requires : tie.Need-case-in-requires
 case-in-requires c κs = search needs

@@ -11,7 +11,7 @@ write-all-requires : tie.Need-write-all-requires
 write-all-requires c κs = search needs
 
 slice-aggregate-print-bytes : tie.Need-slice-aggregate-print-bytes
-slice-aggregate-print-bytes c = sym (length-take-le _ _ ((c .before .if1) .taken))
+slice-aggregate-print-bytes c = sym (length-take-le _ _ (c .before .if1 .taken))
 
 print-bytes-requires : tie.Need-print-bytes-requires
 print-bytes-requires c κs = search needs

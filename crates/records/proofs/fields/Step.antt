@@ -14,8 +14,8 @@ first s (At n) v x k h = rw (← h)
 first s (No j) v x k h = rw (← h)
 
 -- f was run at the end e, and ended at d with v
-pub next : {A B : Type 0} (s : List ℕ) (e d : End) (v : A) (f : Reader A) (k : A → Reader B) → shown s d v ≡ then s e f → then s e (λ t. f t >>= k) ≡ then s d
-    (λ t. k v t)
+pub next : {A B : Type 0} (s : List ℕ) (e d : End) (v : A) (f : Reader A) (k : A → Reader B) → shown s d v ≡ then s e f
+    → then s e (λ t. f t >>= k) ≡ then s d (λ t. k v t)
 next s (At n) d v f k h = first s d v (f (from s n)) k h
 next s (No j) (At m) v f k h = absurd (let z : _≡_ {A = ℕ} 0 1 = cc in omega arith)
 next s (No j) (No m) v f k h = let e : j ≡ m = cc in ap bad e

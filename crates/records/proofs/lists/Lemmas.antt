@@ -91,7 +91,7 @@ pairs-all {s} {n} {at₀} {i} {at} {ps} {qs} h l m k p q =
     let x = offer-is n ps qs k (rw e at p) (rw e at q) in
     ap (λ o. got o (from s at)) x ∙ ap (λ r. r >>= λ xs t. got (offerOf xs) t) (filled-first h l m)
 
-pub pairs-bad : {s : List ℕ} {n at₀ i at k : ℕ} {xs : List (Price × Quantity)} → Filled pair s n at₀ xs i at → i < n → pair (from s at) ≡ bad k → bad k ≡ pairs
-    n (from s at₀)
+pub pairs-bad : {s : List ℕ} {n at₀ i at k : ℕ} {xs : List (Price × Quantity)} → Filled pair s n at₀ xs i at → i < n → pair (from s at) ≡ bad k
+    → bad k ≡ pairs n (from s at₀)
 unfolding pairs
 pairs-bad h l e = ap (λ r. r >>= λ xs t. got (offerOf xs) t) (filled-bad h l e)

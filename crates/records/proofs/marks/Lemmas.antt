@@ -99,8 +99,8 @@ inside-is s e m want k x h a =
     sym (ap (λ b. check b 2 (x >>= λ n t. got (record { kind = k; mark = n }) t)) a ∙ first s e m x (λ n t. got (record { kind = k; mark = n }) t) h ∙ last s e
     (record { kind = k; mark = m }))
 
-pub inside-not : (want : Wanted) (k : Kind) (x : Res Mark) → allowed want k ≡ false → _≡_ {A = Res Head} (bad 2)
-    (check (allowed want k) 2 (x >>= λ n t. got (record { kind = k; mark = n }) t))
+pub inside-not : (want : Wanted) (k : Kind) (x : Res Mark) → allowed want k ≡ false
+    → _≡_ {A = Res Head} (bad 2) (check (allowed want k) 2 (x >>= λ n t. got (record { kind = k; mark = n }) t))
 inside-not want k x a = sym (ap (λ b. check b 2 (x >>= λ n t. got (record { kind = k; mark = n }) t)) a)
 
 pub head-short : (want : Wanted) (s : List ℕ) → length s < 2 → bad 1 ≡ head want s
@@ -109,8 +109,8 @@ head-short want [] h = refl
 head-short want (a ∷ []) h = refl
 head-short want (a ∷ b ∷ s) h = absurd (omega arith)
 
-pub head-is : (want : Wanted) (s : List ℕ) → 2 ≤ length s → (p q : Bool) → is (67 ∷ 79 ∷ []) (getD s 0 0) (getD s 1 0) ≡ p → is (87 ∷ 68 ∷ []) (getD s 0 0)
-    (getD s 1 0) ≡ q
+pub head-is : (want : Wanted) (s : List ℕ) → 2 ≤ length s → (p q : Bool) → is (67 ∷ 79 ∷ []) (getD s 0 0) (getD s 1 0) ≡ p
+    → is (87 ∷ 68 ∷ []) (getD s 0 0) (getD s 1 0) ≡ q
     → cond p (inside want Correct (from s 2)) (cond q (inside want Withdraw (from s 2)) (inside want File (from s 0))) ≡ head want s
 unfolding head from
 head-is want [] h p q e f = absurd (omega arith)
@@ -150,8 +150,8 @@ module _ (x y : ℕ) where
   bare-short (a ∷ []) h = refl
   bare-short (a ∷ b ∷ s) h = absurd (omega arith)
 
-  pub bare-is : (s : List ℕ) → 2 ≤ length s → (p q : Bool) → is (x ∷ y ∷ []) (getD s 0 0) (getD s 1 0) ≡ p → eqb (length s) 2 ≡ q → cond p (cond q 0 8) 2 ≡ bare
-      (x ∷ y ∷ []) s
+  pub bare-is : (s : List ℕ) → 2 ≤ length s → (p q : Bool) → is (x ∷ y ∷ []) (getD s 0 0) (getD s 1 0) ≡ p → eqb (length s) 2 ≡ q
+      → cond p (cond q 0 8) 2 ≡ bare (x ∷ y ∷ []) s
   unfolding bare
   bare-is [] h p q e f = absurd (omega arith)
   bare-is (a ∷ []) h p q e f = absurd (omega arith)

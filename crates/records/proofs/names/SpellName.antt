@@ -25,8 +25,8 @@ pad-over (suc k) (x ∷ xs) h = ap (λ l. x ∷ l) (pad-over k xs (le-of-suc-le-
 pub spell-most : (n : Name) → n .len ≤ 12 → length (spell (bytesOf n)) ≤ 36
 spell-most n h = omega (arith, spell-length (bytesOf n), length-take (n .len) (n .bytes))
 
-pub spelled-in : (n : Name) (e : List ℕ) (m : ℕ) → nameOk n ≡ true → Wrote (pad 0 36 []) e 0 m (spell (bytesOf n)) → _≡_ {A = Spelling}
-    (record { number = 0; len = m; bytes = e }) (spellingOf n)
+pub spelled-in : (n : Name) (e : List ℕ) (m : ℕ) → nameOk n ≡ true → Wrote (pad 0 36 []) e 0 m (spell (bytesOf n))
+    → _≡_ {A = Spelling} (record { number = 0; len = m; bytes = e }) (spellingOf n)
 spelled-in n e m h w =
     let xs : List ℕ = spell (bytesOf n) in
     let l : length xs ≤ 36 = spell-most n (name-most n h) in

@@ -51,8 +51,8 @@ module _ (s : List ℕ) (want : Wanted) where
   unfolding parse
   parsed-8 v n e l = whole-8 (λ c. viewOf (seen c (length (write c)))) s (change want s) v n e l
 
-  pub parsed-fine : (v : View) (n : ℕ) → got v (from s n) ≡ changeView (change want s) → length s ≤ n → _≡_ {A = Parsed} (record { number = 0; view = v })
-      (parsedOf (parse want s))
+  pub parsed-fine : (v : View) (n : ℕ) → got v (from s n) ≡ changeView (change want s) → length s ≤ n
+      → _≡_ {A = Parsed} (record { number = 0; view = v }) (parsedOf (parse want s))
   unfolding parse
   parsed-fine v n e l =
       let x = whole-fine (λ c. viewOf (seen c (length (write c)))) s (change want s) v n e l in
@@ -67,15 +67,15 @@ module _ (s : List ℕ) where
   unfolding parseAny
   any-8 v n e l = whole-8 entryView s (entry s) v n e l
 
-  pub any-fine : (v : View) (n : ℕ) → got v (from s n) ≡ entryRead (entry s) → length s ≤ n → _≡_ {A = Parsed} (record { number = 0; view = v })
-      (entryOf (parseAny s))
+  pub any-fine : (v : View) (n : ℕ) → got v (from s n) ≡ entryRead (entry s) → length s ≤ n
+      → _≡_ {A = Parsed} (record { number = 0; view = v }) (entryOf (parseAny s))
   unfolding parseAny
   any-fine v n e l =
       let x = whole-fine entryView s (entry s) v n e l in
       ap (λ (w : View). record { number = 0; view = w }) (x .2) ∙ sym (ap entryOf (x .1))
 
-  front-go : (r : Res Entry) (v : View) (n : ℕ) → got v (from s n) ≡ entryRead r → n ≤ length s → _≡_ {A = Front} (record { number = 0; view = v; end = n })
-      (frontOf s r)
+  front-go : (r : Res Entry) (v : View) (n : ℕ) → got v (from s n) ≡ entryRead r → n ≤ length s
+      → _≡_ {A = Front} (record { number = 0; view = v; end = n }) (frontOf s r)
   front-go (bad k) v n e l = absurd (bad-got (sym e))
   front-go (got x t) v n e l =
       let p : v ≡ entryView x = cc in
@@ -84,8 +84,8 @@ module _ (s : List ℕ) where
       let d : n ≡ length s - length t = omega arith in
       λ i. record { number = 0; view = p i; end = d i }
 
-  pub front-at : (v : View) (n : ℕ) → got v (from s n) ≡ entryRead (entry s) → n ≤ length s → _≡_ {A = Front} (record { number = 0; view = v; end = n })
-      (frontOf s (entry s))
+  pub front-at : (v : View) (n : ℕ) → got v (from s n) ≡ entryRead (entry s) → n ≤ length s
+      → _≡_ {A = Front} (record { number = 0; view = v; end = n }) (frontOf s (entry s))
   front-at v n e l = front-go (entry s) v n e l
 
   front-bad : (r : Res Entry) (k : ℕ) → bad k ≡ entryRead r → _≡_ {A = Front} (record { number = k; view = viewOf unseen; end = 0 }) (frontOf s r)

@@ -36,8 +36,8 @@ module _ {A : Type 0} (s : List ℕ) (m : Mark) (f : Reader A) (e d : End) (w : 
 -- ---- an import as the offset takes it
 
 -- what is made of an amount doesn't hang on the bytes that follow
-given-any : {A : Type 0} (c : Res A → EntryAnswer) (a : Answer) (f : Ticks → A) (s t : List ℕ) → ((x : A) (s t : List ℕ) → c (got x s) ≡ c (got x t)) → c
-    (given a f s) ≡ c (given a f t)
+given-any : {A : Type 0} (c : Res A → EntryAnswer) (a : Answer) (f : Ticks → A) (s t : List ℕ) → ((x : A) (s t : List ℕ) → c (got x s) ≡ c (got x t))
+    → c (given a f s) ≡ c (given a f t)
 given-any c (Amount x) f s t h = h (f x) s t
 given-any c (Refused n) f s t h = refl
 

@@ -16,7 +16,7 @@ use Rattle.records.specs.Reading.{bad, got, _>>=_, from}
 use Rattle.records.specs.Names.{spell, bytesOf}
 use Rattle.records.specs.Marks.{hasName, order}
 use Rattle.records.specs.laws.MarkLaws.{mark-two}
-use Rattle.records.specs.Changes.{changeView, put, putNumber, putBytes, Change, kind, keyOf, bodyOf, number, made, leadBytes, noName, nameBytes, headBytes, bodyFor, change, write, Input, fine, fault, whole, parse, seen, unseen, begins, written, scan, viewOf, parsedOf}
+use Rattle.records.specs.Changes.{changeView, put, putNumber, putBytes, Change, kind, keyOf, bodyOf, made, leadBytes, noName, nameBytes, headBytes, bodyFor, change, write, Input, fine, fault, whole, parse, seen, unseen, begins, written, scan, viewOf, parsedOf}
 use Rattle.records.specs.Keys.{same, sameHour}
 use Rattle.records.specs.tables.Inner.{Wrote, HeadIs, changeShown, Placed, Stands, ReadIs}
 use Rattle.records.specs.declared.fields.End.the-variants.{At, No}
@@ -41,8 +41,8 @@ use Rattle.records.proofs.changes.Lemmas.{body-own, length-from}
 
 -- ---- copying
 
-pub copy-more : (d e s : List ℕ) (at i : ℕ) → i < length s → Wrote d e at (at + i) (take i s) → Wrote d (set e (at + i) (getD s i 0)) at (at + (i + 1))
-    (take (i + 1) s)
+pub copy-more : (d e s : List ℕ) (at i : ℕ) → i < length s → Wrote d e at (at + i) (take i s)
+    → Wrote d (set e (at + i) (getD s i 0)) at (at + (i + 1)) (take (i + 1) s)
 copy-more d e s at i h w =
     let n : at + i + 1 ≡ at + (i + 1) = omega arith in
     rw (add-one i, take-suc s i 0 h) (rw (n, add-one i) at (wrote-then w (wrote-one e (at + i) (getD s i 0))))
@@ -146,8 +146,8 @@ write-made File x y e = refl
 write-made Correct x y e = refl
 write-made Withdraw x y e = ap (λ l. headBytes Withdraw x ++ l) e
 
-made-view : (k : Kind) (x : Key) (y : List ℕ) (n : ℕ) → _≡_ {A = View} (record { act = Record (kind (made k x y)); key = keyOf (made k x y); len = n })
-    (record { act = Record k; key = x; len = n })
+made-view : (k : Kind) (x : Key) (y : List ℕ) (n : ℕ)
+    → _≡_ {A = View} (record { act = Record (kind (made k x y)); key = keyOf (made k x y); len = n }) (record { act = Record k; key = x; len = n })
 made-view File x y n = refl
 made-view Correct x y n = refl
 made-view Withdraw x y n = refl
@@ -251,8 +251,8 @@ module _ (i : Input Change) (at : ℕ) (d : List ℕ) where
       let f = lt-leb (at + length (write c)) (length d) h in
       (sym (ap (λ j. putNumber j at d) e ∙ ap (λ b. cond b 0 13) f), sym (ap (λ j. putBytes j at d) e ∙ ap (λ b. cond b (put d at (write c)) d) f))
 
-  pub put-done : (c : Change) (g : List ℕ) → i ≡ fine c → at + length (write c) ≤ length d → g ≡ put d at (write c) → (0 ≡ putNumber i at d) ×
-      (g ≡ putBytes i at d)
+  pub put-done : (c : Change) (g : List ℕ) → i ≡ fine c → at + length (write c) ≤ length d → g ≡ put d at (write c)
+      → (0 ≡ putNumber i at d) × (g ≡ putBytes i at d)
   put-done c g e h w =
       let f = le-leb (at + length (write c)) (length d) h in
       (sym (ap (λ j. putNumber j at d) e ∙ ap (λ b. cond b 0 13) f), w ∙ sym (ap (λ j. putBytes j at d) e ∙ ap (λ b. cond b (put d at (write c)) d) f))
@@ -283,12 +283,12 @@ head-fits {k} {x} {h} e = omega (arith, head-part e, length-take (h .len) (h .by
 pub first-fits : (at m k n t : ℕ) → t ≡ m → at ≤ n → m + k ≤ n - at → at + t ≤ n
 first-fits at m k n t e h l = omega arith
 
-pub rest-fits : {d e : List ℕ} {at next : ℕ} {xs : List ℕ} → Wrote d e at next xs → (m k : ℕ) (ys : List ℕ) → length xs ≡ m → at ≤ length d → m + k ≤ length d -
-    at → next + length (take k ys) ≤ length e
+pub rest-fits : {d e : List ℕ} {at next : ℕ} {xs : List ℕ} → Wrote d e at next xs → (m k : ℕ) (ys : List ℕ) → length xs ≡ m → at ≤ length d
+    → m + k ≤ length d - at → next + length (take k ys) ≤ length e
 rest-fits {d} {e} {at} {next} {xs} w m k ys l h f = omega (arith, w .after, wrote-length w, length-take k ys)
 
-pub both-put : (s : List ℕ) (want : Wanted) (n : ℕ) (c : Read) → Full s want n c → {d e g : List ℕ} {at m r : ℕ} (hd : List ℕ) → hd ≡ headBytes (c .kind)
-    (c .key)
+pub both-put : (s : List ℕ) (want : Wanted) (n : ℕ) (c : Read) → Full s want n c → {d e g : List ℕ} {at m r : ℕ} (hd : List ℕ)
+    → hd ≡ headBytes (c .kind) (c .key)
     → Wrote d e at m hd → Wrote e g m r (take (n - c .body) (drop (c .body) s)) → g ≡ put d at (write (readOf s n c))
 unfolding from
 both-put s want n c h {d} {e} {g} {at} {m} {r} hd q w v =

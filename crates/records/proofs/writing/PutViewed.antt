@@ -58,13 +58,13 @@ module _ (v : View) (at : ℕ) (s d : List ℕ) where
   pub viewed-full : isView v (length s) ≡ true → length d < at + v .len → (13 ≡ viewedNumber v at s d) × (d ≡ viewedBytes v at s d)
   viewed-full e h = let f = lt-leb (at + v .len) (length d) h in (rw (e, f) refl, rw (e, f) refl)
 
-  pub viewed-done : isView v (length s) ≡ true → at + v .len ≤ length d → (g : List ℕ) → g ≡ put d at (viewWritten v s) → (0 ≡ viewedNumber v at s d) ×
-      (g ≡ viewedBytes v at s d)
+  pub viewed-done : isView v (length s) ≡ true → at + v .len ≤ length d → (g : List ℕ) → g ≡ put d at (viewWritten v s)
+      → (0 ≡ viewedNumber v at s d) × (g ≡ viewedBytes v at s d)
   viewed-done e h g w = let f = le-leb (at + v .len) (length d) h in (rw (e, f) refl, rw (e, f) w)
 
   -- the head and then the body
-  pub viewed-both : {e g : List ℕ} {m r : ℕ} (b : ℕ) (hd : List ℕ) → hd ≡ viewHead v → Wrote d e at m hd → b ≡ length s - viewRest v → Wrote e g m r
-      (take (length s - b) (drop b s)) → g ≡ put d at (viewWritten v s)
+  pub viewed-both : {e g : List ℕ} {m r : ℕ} (b : ℕ) (hd : List ℕ) → hd ≡ viewHead v → Wrote d e at m hd → b ≡ length s - viewRest v
+      → Wrote e g m r (take (length s - b) (drop b s)) → g ≡ put d at (viewWritten v s)
   unfolding viewWritten
   viewed-both {e} {g} {m} {r} b hd q w l x =
       wrote-then w x .bytes ∙ ap (put d at) ((λ i. q i ++ take (length s - b) (drop b s)) ∙ ap (λ y. viewHead v ++ y)

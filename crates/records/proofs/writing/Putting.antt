@@ -40,8 +40,8 @@ pub wrote-two : (d : List ℕ) (at x y : ℕ) → Wrote d (set (set d at x) (at 
 unfolding put
 wrote-two d at x y = record { bytes = simp towards-suc; after = refl }
 
-pub wrote-mark : (d : List ℕ) (at x y : ℕ) (m : Mark) → (x ≡ getD (markBytes m) 0 0) × (y ≡ getD (markBytes m) 1 0) → Wrote d (set (set d at x) (at + 1) y) at
-    (at + 2) (markBytes m)
+pub wrote-mark : (d : List ℕ) (at x y : ℕ) (m : Mark) → (x ≡ getD (markBytes m) 0 0) × (y ≡ getD (markBytes m) 1 0)
+    → Wrote d (set (set d at x) (at + 1) y) at (at + 2) (markBytes m)
 wrote-mark d at x y m e = subst (Wrote d (set (set d at x) (at + 1) y) at (at + 2)) (sym (bytes-are m x y e)) (wrote-two d at x y)
 
 pub wrote-three : (d : List ℕ) (at x y z : ℕ) → Wrote d (set (set (set d at x) (at + 1) y) (at + 2) z) at (at + 3) (x ∷ y ∷ z ∷ [])

@@ -117,8 +117,8 @@ module _ (r : Rec) (p : HourPrices) (g : Good (filed r)) (e : r .key .mark ≡ G
 
 -- ---- a failure
 
-pub charge-amount : (r : Rec) (p : HourPrices) → Good (filed r) → isFailure (r .key .mark) ≡ true → PricesFit p → chargeOf r p ≡ Amount
-    (record { 0 = chargeTicks r p })
+pub charge-amount : (r : Rec) (p : HourPrices) → Good (filed r) → isFailure (r .key .mark) ≡ true → PricesFit p
+    → chargeOf r p ≡ Amount (record { 0 = chargeTicks r p })
 unfolding chargeTicks
 charge-amount r p g h f = ⊎-elim by-import by-export (failure-mark (r .key .mark) h)
   where

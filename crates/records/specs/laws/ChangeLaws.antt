@@ -238,8 +238,8 @@ pub scan-got : (s : List ℕ) (c : Change) (n : ℕ) → scan s ≡ seen c n →
 unfolding scan
 scan-got s c n = go (change Any s) refl
   where
-    go2 : (d : Change) (t : List ℕ) → change Any s ≡ got d t → (b : Bool) → begins (write d) s ≡ b → cond b (seen d (length (write d))) unseen ≡ seen c n →
-        Found s c n
+    go2 : (d : Change) (t : List ℕ) → change Any s ≡ got d t → (b : Bool) → begins (write d) s ≡ b → cond b (seen d (length (write d))) unseen ≡ seen c n
+        → Found s c n
     go2 d t q true f e =
         let p : d ≡ c = cc in
         let l : length (write d) ≡ n = cc in
@@ -269,8 +269,8 @@ head-kind want [] h t e = absurd (bad-got e)
 head-kind want (a ∷ []) h t e = absurd (bad-got e)
 head-kind want (a ∷ b ∷ s) h t e = go (is (67 ∷ 79 ∷ []) a b) (is (87 ∷ 68 ∷ []) a b) e
   where
-    go : (p q : Bool) → cond p (inside want Correct s) (cond q (inside want Withdraw s) (inside want File (a ∷ b ∷ s))) ≡ got h t → allowed want (h .kind) ≡
-        true
+    go : (p q : Bool) → cond p (inside want Correct s) (cond q (inside want Withdraw s) (inside want File (a ∷ b ∷ s))) ≡ got h t
+        → allowed want (h .kind) ≡ true
     go true q f = inside-kind want Correct s h t f
     go false true f = inside-kind want Withdraw s h t f
     go false false f = inside-kind want File (a ∷ b ∷ s) h t f

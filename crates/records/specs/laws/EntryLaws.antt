@@ -111,8 +111,8 @@ head-two want [] h t e = absurd (bad-got e)
 head-two want (a ∷ []) h t e = absurd (bad-got e)
 head-two want (a ∷ b ∷ s) h t e = go (is (leadBytes Correct) a b) (is (leadBytes Withdraw) a b) e
   where
-    go : (p q : Bool) → cond p (inside want Correct s) (cond q (inside want Withdraw s) (inside want File (a ∷ b ∷ s))) ≡ got h t → 2 + length t ≤ length
-        (a ∷ b ∷ s)
+    go : (p q : Bool) → cond p (inside want Correct s) (cond q (inside want Withdraw s) (inside want File (a ∷ b ∷ s))) ≡ got h t
+        → 2 + length t ≤ length (a ∷ b ∷ s)
     go true q f = omega (arith, inside-two want Correct s h t f)
     go false true f = omega (arith, inside-two want Withdraw s h t f)
     go false false f = inside-two want File (a ∷ b ∷ s) h t f
@@ -153,8 +153,8 @@ entry-got (a ∷ b ∷ s) x t e = go (is takeBackBytes a b) (is closeBytes a b) 
           good = λ d h. let v : changed c ≡ changed d = w ∙ h in let z : c ≡ d = cc in rw (← z) (change-good Any (a ∷ b ∷ s) c u q);
         }
 
-    go : (p q : Bool) → cond p (got takingBack s) (cond q (got closing s) (change Any (a ∷ b ∷ s) >>= λ c t. got (changed c) t)) ≡ got x t → Ahead (a ∷ b ∷ s) x
-        t
+    go : (p q : Bool) → cond p (got takingBack s) (cond q (got closing s) (change Any (a ∷ b ∷ s) >>= λ c t. got (changed c) t)) ≡ got x t
+        → Ahead (a ∷ b ∷ s) x t
     go true q f = bare-mark takingBack (λ c h. let z : _≡_ {A = ℕ} 0 1 = cc in omega arith) f
     go false true f = bare-mark closing (λ c h. let z : _≡_ {A = ℕ} 0 1 = cc in omega arith) f
     go false false f = one (change Any (a ∷ b ∷ s)) refl f

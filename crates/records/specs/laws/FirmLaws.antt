@@ -431,8 +431,8 @@ entry-bad s j e = record { no-back = back (begins takeBackBytes s) refl; no-clos
     unread (a ∷ []) f = let p : 1 ≡ j = cc in ap fault p
     unread (a ∷ b ∷ s) f = two (is takeBackBytes a b) (is closeBytes a b) f
       where
-        two : (p q : Bool) → cond p (got takingBack s) (cond q (got closing s) (change Any (a ∷ b ∷ s) >>= λ c t. got (changed c) t)) ≡ bad j → parse Any
-            (a ∷ b ∷ s) ≡ fault j
+        two : (p q : Bool) → cond p (got takingBack s) (cond q (got closing s) (change Any (a ∷ b ∷ s) >>= λ c t. got (changed c) t)) ≡ bad j
+            → parse Any (a ∷ b ∷ s) ≡ fault j
         two true q g = absurd (bad-got (sym g))
         two false true g = absurd (bad-got (sym g))
         two false false g = one (a ∷ b ∷ s) (change Any (a ∷ b ∷ s)) refl g

@@ -44,8 +44,8 @@ sound-any f = record { holds = λ s a t e. tt }
 sound-got : {A : Type 0} (P : A → Type 0) (a : A) → P a → Sound (λ s. got a s) P
 sound-got P a p = record { holds = λ s b t e. subst P (got-same e) p }
 
-sound-bind : {A B : Type 0} (f : Reader A) (g : A → Reader B) (P : A → Type 0) (Q : B → Type 0) → Sound f P → ((a : A) → P a → Sound (g a) Q) → Sound
-    (λ s. f s >>= g) Q
+sound-bind : {A B : Type 0} (f : Reader A) (g : A → Reader B) (P : A → Type 0) (Q : B → Type 0) → Sound f P → ((a : A) → P a → Sound (g a) Q)
+    → Sound (λ s. f s >>= g) Q
 sound-bind f g P Q h i = record {
   holds = λ s b t e. let x = bind-got (f s) g b t e in i (x .0) (h .holds s (x .0) (x .1) (x .2)) .holds (x .1) b t (x .3);
 }

@@ -68,8 +68,8 @@ fine-valid n p h =
 unnamed : (n : Name) → Padded n → n .len ≡ 0 → emptyName ≡ n
 unnamed n p z = sym (ap (λ (m : ℕ). nameFrom (take m (n .bytes))) z) ∙ p
 
-name-read : (m : Mark) (n : Name) → Padded n → cond (hasName m) (nameOk n) (eqb (n .len) 0) ≡ true → (u : List ℕ) → nameFor File m (nameBytes File m n ++ u) ≡
-    got n u
+name-read : (m : Mark) (n : Name) → Padded n → cond (hasName m) (nameOk n) (eqb (n .len) 0) ≡ true → (u : List ℕ)
+    → nameFor File m (nameBytes File m n ++ u) ≡ got n u
 unfolding nameFor nameBytes
 name-read m n p h u = go (hasName m) h
   where

@@ -1,7 +1,7 @@
 -- The records of one hour: what is read of one is what filing reads, and how long it is written.
 use mathlib.Core.Path.{_≡_, refl, sym, ap, _∙_, subst}
 use mathlib.Core.List.{List, [], _++_}
-use mathlib.Core.Bool.{true}
+use mathlib.Core.Bool.{true, true≢false}
 use Prim.Native.Nat.{ℕ, _+_, _-_, _≤_, _<_}
 use native.Mathlib.Omega.{arith}
 use lib.Dec.{leb, eqb}

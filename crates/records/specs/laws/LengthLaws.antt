@@ -290,8 +290,8 @@ judged-up-to n = record { four = go n }
     then n v k (bad j) h e = let p : j ≡ k = cc in h (ap bad p)
     then n v k (got vs u) h e = absurd (bad-got (sym e))
 
-    first : (n k : ℕ) (s : List ℕ) (r : Res ℕ) → one s ≡ r → ((t : List ℕ) → upTo n t ≡ bad k → k ≡ 4) → (r >>= λ v t. upTo n t >>= λ vs u. got (v ∷ vs) u) ≡
-        bad k → k ≡ 4
+    first : (n k : ℕ) (s : List ℕ) (r : Res ℕ) → one s ≡ r → ((t : List ℕ) → upTo n t ≡ bad k → k ≡ 4)
+        → (r >>= λ v t. upTo n t >>= λ vs u. got (v ∷ vs) u) ≡ bad k → k ≡ 4
     first n k s (bad j) q ih e = let p : j ≡ k = cc in judged-one .four s k (q ∙ ap bad p)
     first n k s (got v t) q ih e = then n v k (upTo n t) (ih t) e
 
@@ -383,8 +383,8 @@ brief-mark : Brief 2 mark
 unfolding mark
 brief-mark = brief-two 0 mark refl (λ a. refl) mark-behind
 
-brief-inside : (n : ℕ) (want : Wanted) (k : Kind) (f : Reader Mark) → Brief n f → Brief {A = Head} (n + 0)
-    (λ s. check (allowed want k) 2 (f s >>= λ m t. got (record { kind = k; mark = m }) t))
+brief-inside : (n : ℕ) (want : Wanted) (k : Kind) (f : Reader Mark) → Brief n f
+    → Brief {A = Head} (n + 0) (λ s. check (allowed want k) 2 (f s >>= λ m t. got (record { kind = k; mark = m }) t))
 brief-inside n want k f h = brief-check (n + 0) (allowed want k) 2 _ (λ z. omega arith) (λ e. brief-bind n 0 f _ h (λ m. brief-got _))
 
 head-behind : (want : Wanted) (a b : ℕ) → Brief 2 (λ s. head want (a ∷ b ∷ s))

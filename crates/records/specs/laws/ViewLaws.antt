@@ -54,8 +54,8 @@ unfolding layout
 view-failed-export = record { lawful = lawful-failure; same = λ s. refl }
 
 -- a record's fields, read where a change begins with it
-pub rec-view : {A : Type 0} (f : Reader A) (m : Mark) → Layout f m → (r : Rec) → r .key .mark ≡ m → Kept (filed r) → (u : List ℕ) → Viewed f (r .body ++ u)
-    (r .body) u
+pub rec-view : {A : Type 0} (f : Reader A) (m : Mark) → Layout f m → (r : Rec) → r .key .mark ≡ m → Kept (filed r) → (u : List ℕ)
+    → Viewed f (r .body ++ u) (r .body) u
 unfolding bodyFor
 rec-view f m l r e h u =
     taken-view f (l .lawful) (r .body ++ u) (r .body) u

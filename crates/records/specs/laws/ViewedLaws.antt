@@ -74,8 +74,8 @@ viewed-put want s v e at d = go (parse want s) refl e
           (λ i. cond (leb (at + x .len i) (length d)) (put d at (x .bytes i)) d),
     )
 
-    go : (i : Input Change) → parse want s ≡ i → parsedOf i ≡ record { number = 0; view = v } → (viewedNumber v at s d ≡ putNumber i at d) ×
-        (viewedBytes v at s d ≡ putBytes i at d)
+    go : (i : Input Change) → parse want s ≡ i → parsedOf i ≡ record { number = 0; view = v }
+        → (viewedNumber v at s d ≡ putNumber i at d) × (viewedBytes v at s d ≡ putBytes i at d)
     go (fine c) q f =
         let w : viewOf (seen c (length (write c))) ≡ v = ap (λ (p : Parsed). p .view) f in
         both c v (subst (λ (x : View). Right x s c) w (parse-right want s c q))
@@ -129,8 +129,8 @@ apart-of (a ∷ b ∷ s) x e = go (is takeBackBytes a b) refl (is closeBytes a b
         let v = is-both m n a b h in
         ((λ i. v .0 i ∷ v .1 i ∷ w .0 i), w .1)
 
-    read : (r : Res Change) → change Any (a ∷ b ∷ s) ≡ r → is takeBackBytes a b ≡ false → is closeBytes a b ≡ false → whole (r >>= λ c t. got (changed c) t) ≡
-        fine x → Apart (a ∷ b ∷ s) x
+    read : (r : Res Change) → change Any (a ∷ b ∷ s) ≡ r → is takeBackBytes a b ≡ false → is closeBytes a b ≡ false
+        → whole (r >>= λ c t. got (changed c) t) ≡ fine x → Apart (a ∷ b ∷ s) x
     read (bad k) q h i f = absurd (let z : _≡_ {A = ℕ} 0 1 = cc in omega arith)
     read (got d t) q h i f =
         let w = nothing-left (changed d) x t f in
@@ -196,8 +196,8 @@ module _ (s : List ℕ) where
       by-close takingBack z = absurd (let y : _≡_ {A = ℕ} 0 1 = cc in omega arith)
       by-close closing z = refl
 
-      by-change : (x : Entry) → Apart (take (length s - length t) s) x → (entryView x .act ≡ TakeBack → ⊥) → (entryView x .act ≡ Close → ⊥) → Alone
-          (take (length s - length t) s) (entryView x)
+      by-change : (x : Entry) → Apart (take (length s - length t) s) x → (entryView x .act ≡ TakeBack → ⊥) → (entryView x .act ≡ Close → ⊥)
+          → Alone (take (length s - length t) s) (entryView x)
       by-change (changed c) y a b = y .alone c refl
       by-change takingBack y a b = absurd (a refl)
       by-change closing y a b = absurd (b refl)

@@ -7,7 +7,7 @@ failed-requires : tie.Need-failed-requires
 failed-requires c κs = search needs
 
 returns : tie.Need-returns
-returns c = shows-none ((c .before .failed) .ensures) ((c .if1) .taken)
+returns c = shows-none (c .before .failed .ensures) (c .if1 .taken)
 
 output-requires : tie.Need-output-requires
 output-requires c κs = search needs
@@ -20,7 +20,7 @@ returns-2 c =
     let c2 = c .before .before in
     let c5 = c2 .before .before .before in
     let c6 = c5 .before in
-    shows-output ((c6 .failed) .ensures) ((c5 .if1) .left) ((c2 .output) .ensures)
+    shows-output (c6 .failed .ensures) (c5 .if1 .left) (c2 .output .ensures)
 
 pub print-input-spec : {M : Type 1} → statement M
 print-input-spec =

@@ -22,12 +22,12 @@ returns : tie.Need-returns
 returns c = search needs
 
 array-share-prefix-out : tie.Need-array-share-prefix-out
-array-share-prefix-out c = printed-short ((c .before .before .before .settle-input) .ensures) ((c .before .if1) .left)
+array-share-prefix-out c = printed-short (c .before .before .before .settle-input .ensures) (c .before .if1 .left)
 
 slice-aggregate-write-all-2 : tie.Need-slice-aggregate-write-all-2
 slice-aggregate-write-all-2 c =
     let s = c .before .before .before .before .settle-input in
-    sym (length-take-le {A = ℕ} (s .result .written .len) (s .last .0) (printed-short (s .ensures) ((c .before .before .if1) .left)))
+    sym (length-take-le {A = ℕ} (s .result .written .len) (s .last .0) (printed-short (s .ensures) (c .before .before .if1 .left)))
 
 write-all-requires-2 : tie.Need-write-all-requires-2
 write-all-requires-2 c κs = search needs

@@ -24,7 +24,7 @@ same-length c = search needs
 returns : tie.Need-returns
 returns c =
     let r = (c .before .before .before .before .before .before .read-input) .ensures in
-    printed (r .0) (r .1 ∙ length-replicate {A = ℕ} 65535 0) ((c .before .before .print-input) .ensures)
+    printed (r .0) (r .1 ∙ length-replicate {A = ℕ} 65535 0) (c .before .before .print-input .ensures)
 
 pub settle-input-spec : {M : Type 1} → statement M
 settle-input-spec =

@@ -21,8 +21,8 @@ use Rattle.settle.specs.Settle.{Writes, Shows, Outputs, Printed}
 use Rattle.settle.specs.declared.Settled.{Settled}
 
 -- the output of what was read
-pub printed : {i : Input} {log : List ℕ} → ReadAll i log → length log ≡ 65535 → {lent left : List ℕ} {r : Settled} → Shows i log lent left r → Printed lent left
-    r
+pub printed : {i : Input} {log : List ℕ} → ReadAll i log → length log ≡ 65535 → {lent left : List ℕ} {r : Settled} → Shows i log lent left r
+    → Printed lent left r
 printed {i} {log} x e {lent} {left} {r} s = record { input = i; log = log; read = x; fails = s .fails; outputs = go (failed i) (s .writes) }
   where
     go : (b : Bool) → Writes b i log lent left (r .written) → Outputs b (inputOf (x .pieces)) lent left (r .written)

@@ -46,12 +46,12 @@ pub record Copied (d e : List ℕ) (at i : ℕ) (xs : List ℕ) : Type 0 where
 pub copied-none : (d : List ℕ) (at : ℕ) (xs : List ℕ) → at ≤ length d → Copied d d at 0 xs
 copied-none d at xs h = record { same = refl; bytes = put-none d at h }
 
-pub copied-next : {d e : List ℕ} {at i : ℕ} {xs : List ℕ} → Copied d e at i xs → i < length xs → at + i < length d → Copied d (set e (at + i) (getD xs i 0)) at
-    (i + 1) xs
+pub copied-next : {d e : List ℕ} {at i : ℕ} {xs : List ℕ} → Copied d e at i xs → i < length xs → at + i < length d
+    → Copied d (set e (at + i) (getD xs i 0)) at (i + 1) xs
 copied-next {d} {e} {at} {i} {xs} p h f = record { same = simp length-set (p .same); bytes = put-next d e at i xs h f (p .bytes) }
 
-pub copied-all : {d e : List ℕ} {at i n : ℕ} {xs : List ℕ} → Copied d e at i xs → length xs ≤ i → n ≡ length xs → at + length xs ≤ length d → Writes d at xs e
-    (at + n)
+pub copied-all : {d e : List ℕ} {at i n : ℕ} {xs : List ℕ} → Copied d e at i xs → length xs ≤ i → n ≡ length xs → at + length xs ≤ length d
+    → Writes d at xs e (at + n)
 copied-all {d} {e} {at} {i} {n} {xs} p h q room = record { room = room; bytes = p .bytes ∙ ap (put d at) (take-all i xs h); behind = ap (λ (k : ℕ). at + k) q }
 
 -- ---- lines
@@ -66,8 +66,8 @@ pub lines-none : (d : List ℕ) (c : Cursor) → c .at ≤ length d → WritesLi
 lines-none d c h = record
     { text = subst (λ (xs : List ℕ). Writes d (c .at) xs d (c .at)) (sym text-none) (writes-none d (c .at) h); few = omega (arith, ap length text-none) }
 
-pub lines-one : {d e : List ℕ} {c : Cursor} {at : ℕ} (l : Line) → length (lineBytes l) ≤ 66 → Writes d (c .at) (lineBytes l) e at → WritesLines d c (l ∷ []) e
-    (record { at = at })
+pub lines-one : {d e : List ℕ} {c : Cursor} {at : ℕ} (l : Line) → length (lineBytes l) ≤ 66 → Writes d (c .at) (lineBytes l) e at
+    → WritesLines d c (l ∷ []) e (record { at = at })
 lines-one {d} {e} {c} {at} l h w =
     record { text = subst (λ (xs : List ℕ). Writes d (c .at) xs e at) (sym (text-one l)) w; few = omega (arith, ap length (text-one l)) }
 
@@ -86,8 +86,8 @@ map-snoc f [] x = refl
 map-snoc f (y ∷ xs) x = ap (λ (l : List Line). f y ∷ l) (map-snoc f xs x)
 
 -- a line for the next of a list
-pub next-line : {A : Type 0} (f : A → Line) (xs : List A) (i : ℕ) (d : A) → i < length xs → map f (take i xs) ++ (f (getD xs i d) ∷ []) ≡ map f
-    (take (i + 1) xs)
+pub next-line : {A : Type 0} (f : A → Line) (xs : List A) (i : ℕ) (d : A) → i < length xs
+    → map f (take i xs) ++ (f (getD xs i d) ∷ []) ≡ map f (take (i + 1) xs)
 next-line f xs i d h = sym (rw (add-one, take-suc xs i d h) (map-snoc f (take i xs) (getD xs i d)))
 
 pub few-lines : {A : Type 0} (f : A → Line) (n : ℕ) (xs : List A) → length (map f (take n xs)) ≤ n

@@ -67,8 +67,8 @@ pub few-hours : {b : Book} {s : List ℕ} {day : DayAmounts} → Held b s day �
 few-hours x = subst (λ (d : DayAmounts). FewInAll (d .hours)) (sym (x .amounts)) (day-few (x .list) (x .valid))
 
 -- what is written of it is the statement
-pub stated : {b : Book} {s d e : List ℕ} {day : DayAmounts} {r : Cursor} (x : Held b s day) → WritesLines d (record { at = 0 }) (linesOfDay day) e r → Writes d
-    0 (statementOf (x .list)) e (r .at)
+pub stated : {b : Book} {s d e : List ℕ} {day : DayAmounts} {r : Cursor} (x : Held b s day) → WritesLines d (record { at = 0 }) (linesOfDay day) e r
+    → Writes d 0 (statementOf (x .list)) e (r .at)
 stated {b} {s} {d} {e} {day} {r} x w =
     subst (λ (t : List ℕ). Writes d 0 t e (r .at)) (ap (λ (y : DayAmounts). textOf (linesOfDay y)) (x .amounts) ∙ day-text (x .list) (x .valid)) (w .text)
 
@@ -85,8 +85,8 @@ answers-astray {x} d e = subst (λ (y : Load). Answers y d d (record { number = 
   most = λ l q. let v : _≡_ {A = ℕ} 0 1 = cc in absurd (omega arith);
 })
 
-pub answers-fitted : {x : Load} {d e : List ℕ} {w : Written} (l : List Change) → x ≡ belongs l → length (statementOf l) ≤ longestStatement → Fits
-    (statementOf l) d e w → Answers x d e w
+pub answers-fitted : {x : Load} {d e : List ℕ} {w : Written} (l : List Change) → x ≡ belongs l → length (statementOf l) ≤ longestStatement
+    → Fits (statementOf l) d e w → Answers x d e w
 answers-fitted {x} {d} {e} {w} l q m f =
     subst (λ (y : Load). Answers y d e w) (sym q) (record {
       number = f .number;

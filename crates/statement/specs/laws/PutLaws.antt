@@ -38,8 +38,8 @@ put-more d at xs ys h =
     ∙ sym (put-whole d at (xs ++ ys) h)
 
 -- one more byte of a list
-pub put-next : (d e : List ℕ) (at i : ℕ) (xs : List ℕ) → i < length xs → at + i < length d → e ≡ put d at (take i xs) → set e (at + i) (getD xs i 0) ≡ put d at
-    (take (i + 1) xs)
+pub put-next : (d e : List ℕ) (at i : ℕ) (xs : List ℕ) → i < length xs → at + i < length d → e ≡ put d at (take i xs)
+    → set e (at + i) (getD xs i 0) ≡ put d at (take (i + 1) xs)
 put-next d e at i xs h f q =
     let m : length (take i xs) ≡ i = length-take-le i xs (omega arith) in
     let l : length e ≡ length d = ap length q ∙ put-length d at (take i xs) in

@@ -30,8 +30,8 @@ pub hours-none : (hs : List HourAmounts) → linesOfHours 0 hs ≡ []
 unfolding hoursTo
 hours-none hs = refl
 
-pub hours-more : (hs : List HourAmounts) (n : ℕ) (d : HourAmounts) → n < length hs → linesOfHours (n + 1) hs ≡ linesOfHours n hs ++ linesOfHour (n + 1)
-    (getD hs n d)
+pub hours-more : (hs : List HourAmounts) (n : ℕ) (d : HourAmounts) → n < length hs
+    → linesOfHours (n + 1) hs ≡ linesOfHours n hs ++ linesOfHour (n + 1) (getD hs n d)
 unfolding hoursTo
 hours-more hs n d h =
     let m : suc n - 1 ≡ n = omega arith in
@@ -46,8 +46,8 @@ pub units-none : linesOfUnits [] ≡ []
 unfolding linesOfUnits
 units-none = refl
 
-pub units-more : (us : List UnitAmounts) (i : ℕ) (d : UnitAmounts) → i < length us → linesOfUnits (take (i + 1) us) ≡ linesOfUnits (take i us) ++ linesOfUnit
-    (getD us i d)
+pub units-more : (us : List UnitAmounts) (i : ℕ) (d : UnitAmounts) → i < length us
+    → linesOfUnits (take (i + 1) us) ≡ linesOfUnits (take i us) ++ linesOfUnit (getD us i d)
 units-more us i d h = rw (add-one, take-suc us i d h) (unit-last (take i us) (getD us i d))
 
 -- ---- the statement

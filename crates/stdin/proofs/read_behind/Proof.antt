@@ -24,7 +24,7 @@ returns : tie.Need-returns
 returns c =
     let s = c .before .before .before .before .before in
     let bytes = (s .args) .bytes .now in
-    (search needs, take-put ((s .args) .held) (length bytes - (s .args) .held) bytes ((c .before .before .read) .last .1 .0) (s .pre))
+    (search needs, take-put ((s .args) .held) (length bytes - (s .args) .held) bytes (c .before .before .read .last .1 .0) (s .pre))
 
 pub read-behind-spec : {M : Type 1} → statement M
 read-behind-spec =

@@ -139,8 +139,8 @@ module _ {s : List ℕ} {l : List Change} (o : Begun s l) (k : Key) (u : Day) (d
 
 -- ---- the question
 
-pub unit-astray : (b : Book) (s name : List ℕ) → load b s ≡ mismatched → (d : UnitDay) → d ≡ unitDayFrom (refused 16) → Meets (ask (dayOf name)) b s b
-    (dayReply d) s
+pub unit-astray : (b : Book) (s name : List ℕ) → load b s ≡ mismatched → (d : UnitDay) → d ≡ unitDayFrom (refused 16)
+    → Meets (ask (dayOf name)) b s b (dayReply d) s
 unit-astray b s name e d ed = subst (λ (y : Reply). Meets (ask (dayOf name)) b s b y s) (sym (ap dayReply ed)) (leaves-16 (stepOf (ask (dayOf name))) b s e)
 
 module _ (b : Book) (s name : List ℕ) (x : Loaded b s) (r : KeyAnswer) (e : r ≡ keyAnswer (askUnit name)) where

@@ -46,8 +46,8 @@ spot-inside {s = s} {p = p} w long i lt d =
     subst (λ (x : Spot). x .start ≤ length s) (getD-same (p .at) i noSpot d (omega (arith, w .few))) (w .each i lt)
 
 module _ {s : List ℕ} {m : Mark} {q : HourPrices} {p : Places} {ticks : List Ticks} {i : ℕ} (c : Charging s m q p ticks i) (w : Inside s p) where
-  pub charging-more : length (p .at) ≡ 16 → i < p .n → (d : Spot) (t : Ticks) → t ≡ chargeAtSpot s m q (getD (p .at) i d) → Charging s m q p (set ticks i t)
-      (i + 1)
+  pub charging-more : length (p .at) ≡ 16 → i < p .n → (d : Spot) (t : Ticks) → t ≡ chargeAtSpot s m q (getD (p .at) i d)
+      → Charging s m q p (set ticks i t) (i + 1)
   charging-more long lt d t e = record {
     long = length-set ticks i t ∙ c .long;
     upto = omega arith;
@@ -90,8 +90,8 @@ module _ {s rows : List ℕ} {n : ℕ} {k : Key} {f : Seek} (ef : Finds s rows n
   key-absent h l g q = charge-absent (begun g) k q (sym (sought ef wk l g .found) ∙ h)
 
   module _ (hf : f .found ≡ true) {p : HourPrice} where
-    pub key-unpriced : p .known ≡ false → (l : List Change) → Logged s rows n l → (q : ℕ → HourPricing) → PriceIs (q (k .hour)) p → refused 15 ≡ chargeOf k
-        (standing l) q
+    pub key-unpriced : p .known ≡ false → (l : List Change) → Logged s rows n l → (q : ℕ → HourPricing) → PriceIs (q (k .hour)) p
+        → refused 15 ≡ chargeOf k (standing l) q
     key-unpriced h l g q w = charge-unpriced (begun g) k q (sym (sought ef wk l g .found) ∙ hf) (unknown-unpriced w h)
 
     pub key-charged : p .known ≡ true → (t : Answer) → t ≡ chargeIn (k .mark) (drop (f .start) s) (p .prices)
@@ -105,8 +105,8 @@ module _ {s rows : List ℕ} {n : ℕ} {k : Key} {f : Seek} (ef : Finds s rows n
 -- ---- of a mark and hour: p are the places of its failures
 
 module _ {s rows : List ℕ} {n h : ℕ} {m : Mark} {p : Places} (w : Passed s rows n m h p) where
-  pub hour-absent : p .n ≡ 0 → {r : ChargesReply} → r ≡ noCharges 0 → (l : List Change) → Logged s rows n l → (q : ℕ → HourPricing) → r ≡ chargesOf
-      (hourKey m h) (standing l) q
+  pub hour-absent : p .n ≡ 0 → {r : ChargesReply} → r ≡ noCharges 0 → (l : List Change) → Logged s rows n l → (q : ℕ → HourPricing)
+      → r ≡ chargesOf (hourKey m h) (standing l) q
   hour-absent z er l g q = er ∙ charges-absent (begun g) m h q (passed-size w g ∙ z)
 
   module _ (some : p .n ≡ 0 → ⊥) where
@@ -128,8 +128,8 @@ module _ {s rows : List ℕ} {n h : ℕ} {m : Mark} {p : Places} (w : Passed s r
 -- ---- the answers of the book
 
 module _ (b : Book) (s mark : List ℕ) (h : ℕ) (name : List ℕ) (x : Loaded b s) (r : KeyAnswer) (e : r ≡ keyAnswer (askFailure mark h name)) where
-  failure-step : (f : Reply) → answered f ≡ stepOf (ask (failureCharge mark h name)) (length s) (record { list = x .list; closed = b .closed }) → Meets
-      (ask (failureCharge mark h name)) b s b f s
+  failure-step : (f : Reply) → answered f ≡ stepOf (ask (failureCharge mark h name)) (length s) (record { list = x .list; closed = b .closed })
+      → Meets (ask (failureCharge mark h name)) b s b f s
   failure-step f q = leaves-answered _ b s f (step-is (stepOf (ask (failureCharge mark h name))) b s x ∙ sym q)
 
   pub failure-wrong : (r .number ≡ 0 → ⊥) → Meets (ask (failureCharge mark h name)) b s b (refused (r .number)) s
@@ -144,8 +144,8 @@ module _ (b : Book) (s mark : List ℕ) (h : ℕ) (name : List ℕ) (x : Loaded 
       go (got k t) q w = ap (λ (y : KeyAnswer). isFailure (y .key .mark)) w ∙ failure-marked mark h name k t q
       go (bad n) q w = absurd (omega (arith, askFailure-fault mark h name n q, sym (ap (λ (y : KeyAnswer). y .number) w) ∙ z))
 
-  pub failure-at : r .number ≡ 0 → (f : Reply) → f ≡ chargeOf (r .key) (standing (x .list)) (priceOf (standing (x .list))) → Meets
-      (ask (failureCharge mark h name)) b s b f s
+  pub failure-at : r .number ≡ 0 → (f : Reply) → f ≡ chargeOf (r .key) (standing (x .list)) (priceOf (standing (x .list)))
+      → Meets (ask (failureCharge mark h name)) b s b f s
   failure-at z f ef =
       failure-step f (ap answered (ef ∙ sym (keyed-right (askFailure mark h name) (λ (k : Key). chargeOf k (standing (x .list)) (priceOf (standing (x .list))))
       r (askFailure-fault mark h name) e z)))

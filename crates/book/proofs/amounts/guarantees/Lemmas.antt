@@ -71,8 +71,8 @@ module _ {s rows : List ℕ} {n h : ℕ} {i : Places} (wi : Passed s rows n Im h
   hour-none z l g q = no-imports (byName (hourKey Im h) (standing l)) (passed-size wi g ∙ z) (q h) (byName (hourKey Ex h) (standing l))
 
   module _ (some : i .n ≡ 0 → ⊥) {p : HourPrice} where
-    pub hour-unpriced : p .known ≡ false → (l : List Change) → Logged s rows n l → (q : ℕ → HourPricing) → PriceIs (q h) p → refused 15 ≡ guaranteesOf
-        (standing l) q h
+    pub hour-unpriced : p .known ≡ false → (l : List Change) → Logged s rows n l → (q : ℕ → HourPricing) → PriceIs (q h) p
+        → refused 15 ≡ guaranteesOf (standing l) q h
     unfolding guaranteesOf
     hour-unpriced t l g q w =
         some-unpriced (byName (hourKey Im h) (standing l)) (λ e. some (sym (passed-size wi g) ∙ e)) (byName (hourKey Ex h) (standing l))
@@ -131,8 +131,8 @@ module _ (b : Book) (s : List ℕ) (h : ℕ) (x : Loaded b s) (r : KeyAnswer) (e
   pub hour-wrong : (y : Reply) → y ≡ noGuarantees (r .number) → (r .number ≡ 0 → ⊥) → Meets (ask (hourGuarantees h)) b s b y s
   hour-wrong y ey z = hour-meets y (keyed-wrong (askHourOf Im h) hour-reply r e z ∙ sym (no-guarantees-for (r .number) z) ∙ sym ey)
 
-  pub hour-right : r .number ≡ 0 → (y : Reply) → y ≡ guaranteesOf (standing (x .list)) (priceOf (standing (x .list))) h → Meets (ask (hourGuarantees h)) b s b y
-      s
+  pub hour-right : r .number ≡ 0 → (y : Reply) → y ≡ guaranteesOf (standing (x .list)) (priceOf (standing (x .list))) h
+      → Meets (ask (hourGuarantees h)) b s b y s
   hour-right z y ey = hour-meets y (go (askHourOf Im h) refl e)
     where
       go : (a : Asked) → askHourOf Im h ≡ a → r ≡ keyAnswer a → keyed a hour-reply ≡ y

@@ -73,8 +73,8 @@ record Whole (size n : ℕ) (row : List NamedAmount) : Type 0 where
   count : length (take n row) ≡ n
   blank : row ≡ pad noAmount size (take n row)
 
-naming-whole : {size : ℕ} {p : Places} {ticks : List Ticks} {row : List NamedAmount} {i : ℕ} → Naming size p ticks row i → p .n ≤ i → p .n ≤ size → Whole size
-    (p .n) row
+naming-whole : {size : ℕ} {p : Places} {ticks : List Ticks} {row : List NamedAmount} {i : ℕ} → Naming size p ticks row i → p .n ≤ i → p .n ≤ size
+    → Whole size (p .n) row
 naming-whole {size} {p} {ticks} {row} {i} n h few =
     let all : i ≡ p .n = omega (arith, n .upto) in
     let behind = subst (λ (k : ℕ). drop k row ≡ drop k (pad noAmount size [])) all (n .behind) in

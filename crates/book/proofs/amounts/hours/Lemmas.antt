@@ -45,8 +45,8 @@ unfolding gather
 timed-start pick v none s rows n = record
     { is = λ l g. ap (gather (byHour pick v none) l) (sym (drop-of-length-le l {i = n - 0} (omega (arith, g .ruled .count)))) }
 
-pub timed-end : {A : Type 0} {pick : Key → Bool} {v : ℕ → A} {none : List A} {s rows : List ℕ} {n i : ℕ} {row : List A} → Timed pick v none s rows n i row → n ≤
-    i
+pub timed-end : {A : Type 0} {pick : Key → Bool} {v : ℕ → A} {none : List A} {s rows : List ℕ} {n i : ℕ} {row : List A} → Timed pick v none s rows n i row
+    → n ≤ i
     → (l : List Change) → Logged s rows n l → row ≡ gather (byHour pick v none) l l
 timed-end {pick = pick} {v = v} {none = none} {n = n} {i = i} h le l g = let w : n - i ≡ 0 = omega arith in h .is l g ∙ ap
     (λ (m : ℕ). gather (byHour pick v none) l (drop m l)) w
@@ -332,8 +332,8 @@ module _ (k : Key) (h : HeadOut) (e : (take (h .len) (h .bytes) ≡ recordHead (
       front-part 3 (h .len - 3) (h .bytes) ∙ ap (λ (i : ℕ). drop 3 (take i (h .bytes))) m ∙ ap (drop 3) head-is
 
 -- no record can have the key
-pub day-none : (k : Key) → Padded (k .name) → length (recordHead (atHour k 1)) < 3 → {s rows : List ℕ} {n : ℕ} (l : List Change) → Logged s rows n l → DayIs k l
-    (record { hours = replicate 24 noPlace })
+pub day-none : (k : Key) → Padded (k .name) → length (recordHead (atHour k 1)) < 3 → {s rows : List ℕ} {n : ℕ} (l : List Change) → Logged s rows n l
+    → DayIs k l (record { hours = replicate 24 noPlace })
 day-none k p short {s} l g = record {
   size = refl;
   each = λ j lt d. subst⁻¹ (PlaceIs (atHour k (1 + j)) l) (blank-at 24 j lt d) (record { known = sym (absent-at (1 + j)); start = λ h. true≠false h refl });
@@ -380,8 +380,8 @@ module _ (row m : ℕ) where
         go true false q = refl
         go false b q = refl
 
-    pub name-starts : {hr : ℕ} → hr ≡ markHour m row → (hr ≡ 0 → ⊥) → {b : Bool} → b ≡ begins name (drop (rowPlace row + 3) s) → (c : Bool) → b ≡ c → cond c hr
-        0 ≡ nameHour m name s row
+    pub name-starts : {hr : ℕ} → hr ≡ markHour m row → (hr ≡ 0 → ⊥) → {b : Bool} → b ≡ begins name (drop (rowPlace row + 3) s) → (c : Bool) → b ≡ c
+        → cond c hr 0 ≡ nameHour m name s row
     name-starts {hr} e z {b} eb c ec =
         let t = hour-marked e z in
         (λ j. cond c ((e ∙ ap (λ (y : Bool). cond y (rowSlot row % 32) 0) t) j) 0) ∙ sym

@@ -46,8 +46,8 @@ gathered-start s rows n slot p e z = record {
 }
 
 module _ {s rows : List ℕ} {n slot i : ℕ} {p : Places} (h : Gathered s rows n slot i p) where
-  pub gathered-end : n ≤ i → (k : Key) → slot ≡ hourSlot k → k .hour < 32 → (l : List Change) → Logged s rows n l → spots p ≡ map (spotOf l)
-      (byName k (standing l))
+  pub gathered-end : n ≤ i → (k : Key) → slot ≡ hourSlot k → k .hour < 32 → (l : List Change) → Logged s rows n l
+      → spots p ≡ map (spotOf l) (byName k (standing l))
   gathered-end le k ek hk l g =
       let w : n - i ≡ 0 = omega arith in h .is l g k ek hk ∙ ap (λ (m : ℕ). gather (hourPass k) l (drop m l)) w ∙ hour-standing k l
       (valid-new l (g .ruled .valid))
@@ -80,8 +80,8 @@ module _ {s rows : List ℕ} {n slot i : ℕ} {p : Places} (h : Gathered s rows 
     gathered-few o = ruled-few (o .logged .ruled) lt
 
     -- there is a place left for a record that stands, and it is written within the bytes
-    pub gathered-room : Log s rows n → (k : Key) → slot ≡ hourSlot k → k .hour < 32 → standsIn (getD rows i 0) slot ≡ true → (p .n < 16) ×
-        (rowPlace (getD rows i 0) ≤ length s)
+    pub gathered-room : Log s rows n → (k : Key) → slot ≡ hourSlot k → k .hour < 32 → standsIn (getD rows i 0) slot ≡ true
+        → (p .n < 16) × (rowPlace (getD rows i 0) ≤ length s)
     gathered-room o k ek hk t =
         let g = o .logged in
         let l = o .list in
@@ -125,6 +125,6 @@ module _ {s rows : List ℕ} {n slot i : ℕ} {p : Places} (h : Gathered s rows 
       is = λ l g k ek hk. sym (ap (λ (b : Bool). cond b (putSpot (spotIn s (getD rows i 0)) (spots p)) (spots p)) t) ∙ turn l g k ek hk;
     }
 
-pub spot-read : (s : List ℕ) (row x : ℕ) (name : Name) → x ≡ rowPlace row → name ≡ keyAt s x .name → _≡_ {A = Spot} (record { name = name; start = x })
-    (spotIn s row)
+pub spot-read : (s : List ℕ) (row x : ℕ) (name : Name) → x ≡ rowPlace row → name ≡ keyAt s x .name
+    → _≡_ {A = Spot} (record { name = name; start = x }) (spotIn s row)
 spot-read s row x name ex en = ap (λ (y : Name). record { name = y; start = x }) en ∙ ap (λ (y : ℕ). record { name = keyAt s y .name; start = y }) ex

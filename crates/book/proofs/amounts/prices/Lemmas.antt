@@ -96,8 +96,8 @@ collected-size s none all (r ∷ rs) = go (isPrice (r .key)) (collected-size s n
 
 module _ {s : List ℕ} {l : List Change} (o : Begun s l) (none : List HourPrice) (long : length none ≡ 24)
     (blank : (j : ℕ) → j < 24 → (d : HourPrice) → getD none j d .known ≡ false) where
-  collected : (rs : List Rec) → All (Stands o) rs → (j : ℕ) → j < 24 → (d : HourPrice) → PriceIs (priceOf rs (1 + j))
-      (getD (collect (tablePass s none) l rs) j d)
+  collected : (rs : List Rec) → All (Stands o) rs → (j : ℕ) → j < 24 → (d : HourPrice)
+      → PriceIs (priceOf rs (1 + j)) (getD (collect (tablePass s none) l rs) j d)
   unfolding collect priceOf pick sameHour
   collected [] a j lt d = price-unknown (blank j lt d)
   collected (r ∷ rs) (also w a) j lt d = go (isPrice (r .key)) refl (eqb (1 + j) (r .key .hour)) refl (collected rs a j lt d)
@@ -174,8 +174,8 @@ above zero z = absurd (z refl)
 above (suc m) z = omega arith
 
 -- the hour that a row tells
-price-row : {row : ℕ} {all : List Change} {q : ℕ} {c : Change} → Seen row all q c → priceHour row ≡ cond
-    (isPrice (keyOf c) && liveAt (survey (keyOf c) all) (kindOf c) q) (keyOf c .hour) 0
+price-row : {row : ℕ} {all : List Change} {q : ℕ} {c : Change} → Seen row all q c
+    → priceHour row ≡ cond (isPrice (keyOf c) && liveAt (survey (keyOf c) all) (kindOf c) q) (keyOf c .hour) 0
 price-row {row} {all} {q} {c} sn = ap₂ (λ (b : Bool) (x : ℕ). cond (b && ltb x 32) x 0) (sn .live) (sn .slot) ∙ go (liveAt (survey (keyOf c) all) (kindOf c) q)
     (isPrice (keyOf c)) refl
   where
@@ -268,8 +268,8 @@ blank-at zero b e j lt d = absurd (not-suc-le-zero lt)
 blank-at (suc m) b e zero lt d = e
 blank-at (suc m) b e (suc j) lt d = blank-at m b e j (le-of-suc-le-suc lt) d
 
-pub tabling-end : {s rows : List ℕ} {n : ℕ} {b : HourPrice} {hours : List HourPrice} {i : ℕ} → Tabling s rows n (replicate 24 b) i hours → n ≤ i → b .known ≡
-    false
+pub tabling-end : {s rows : List ℕ} {n : ℕ} {b : HourPrice} {hours : List HourPrice} {i : ℕ} → Tabling s rows n (replicate 24 b) i hours → n ≤ i
+    → b .known ≡ false
     → (l : List Change) → Logged s rows n l → TableOf (priceOf (standing l)) (record { hours = hours })
 tabling-end {s} {rows} {n} {b} {hours} {i} h le e l g =
     let w : n - i ≡ 0 = omega arith in

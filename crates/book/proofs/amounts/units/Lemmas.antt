@@ -145,8 +145,8 @@ module _ {s rows : List ℕ} {n mark i : ℕ} {u : Units} (h : Listed s rows n m
         (sym (sn .live) ∙ left-of (rowLive (getD rows i 0)) (eqb (rowSlot (getD rows i 0) / 32) mark) (eb ∙ t)))))
         ∙ ap (gather (markPass k) l) (sym (w .rest))
       where
-        go : {name own : Name} {old xs : List Name} {live : Bool} (b : Bool) → live ≡ b → xs ≡ old → (b ≡ true → name ≡ own) → cond b (addName name xs) xs ≡
-            cond live (addName own old) old
+        go : {name own : Name} {old xs : List Name} {live : Bool} (b : Bool) → live ≡ b → xs ≡ old → (b ≡ true → name ≡ own)
+            → cond b (addName name xs) xs ≡ cond live (addName own old) old
         go {own = own} {old = old} true e ex en = ap₂ addName (en refl) ex ∙ sym (ap (λ (y : Bool). cond y (addName own old) old) e)
         go {own = own} {old = old} false e ex en = ex ∙ sym (ap (λ (y : Bool). cond y (addName own old) old) e)
 
@@ -175,8 +175,8 @@ module _ {s rows : List ℕ} {n mark i : ℕ} {u : Units} (h : Listed s rows n m
       is = λ l g k ek. step l g k ek false f emptyName (λ t. true≠false t refl);
     }
 
-    pub listed-next : ofMark (getD rows i 0) mark ≡ true → (name : Name) → name ≡ keyAt s (rowPlace (getD rows i 0)) .name → (u′ : Units) → length (u′ .names) ≡
-        512
+    pub listed-next : ofMark (getD rows i 0) mark ≡ true → (name : Name) → name ≡ keyAt s (rowPlace (getD rows i 0)) .name → (u′ : Units)
+        → length (u′ .names) ≡ 512
         → (u′ .n ≤ u .n + 1) × (namesIn u′ ≡ addName name (namesIn u)) × (u ≡ unitsOf (namesIn u) → u′ ≡ unitsOf (namesIn u′)) → Listed s rows n mark (i + 1) u′
     listed-next t name en u′ size w = record {
       size = size;
@@ -187,6 +187,6 @@ module _ {s rows : List ℕ} {n mark i : ℕ} {u : Units} (h : Listed s rows n m
     }
 
 -- ---- the answer
-pub units-at : (d : Load) (l : List Change) → d ≡ belongs l → (k : Key) → k ≡ ghKey → (u : Units) → namesIn u ≡ namesOf k (standing l) → named (namesIn u) ≡
-    unitNames d
+pub units-at : (d : Load) (l : List Change) → d ≡ belongs l → (k : Key) → k ≡ ghKey → (u : Units) → namesIn u ≡ namesOf k (standing l)
+    → named (namesIn u) ≡ unitNames d
 units-at d l e k ek u eu = ap named (eu ∙ ap (λ (y : Key). namesOf y (standing l)) ek) ∙ sym (ap unitNames e)

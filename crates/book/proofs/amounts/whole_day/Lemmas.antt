@@ -100,8 +100,8 @@ pub record Dealt (s rows : List ℕ) (n : ℕ) (u : Units) (t : PriceTable) (row
   pub built : (l : List Change) → Logged s rows n l → (q : ℕ → HourPricing) → TableOf q t → Built (unitAs l q) (u .names) emptyName row noUnit i
   pub behind : drop i row ≡ drop i (pad noUnit 512 [])
 
-pub dealt-start : (s rows : List ℕ) (n : ℕ) (u : Units) (t : PriceTable) (x : UnitAmounts) → x ≡ noUnit → length (replicate 512 x) ≡ 512 → Dealt s rows n u t
-    (replicate 512 x) 0
+pub dealt-start : (s rows : List ℕ) (n : ℕ) (u : Units) (t : PriceTable) (x : UnitAmounts) → x ≡ noUnit → length (replicate 512 x) ≡ 512
+    → Dealt s rows n u t (replicate 512 x) 0
 dealt-start s rows n u t x e size = record
     { long = size; upto = omega arith; built = λ l g q w. built-none; behind = ap (replicate 512) e ∙ pad-none noUnit 512 }
 

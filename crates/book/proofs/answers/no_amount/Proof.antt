@@ -8,7 +8,7 @@ no-name-requires : tie.Need-no-name-requires
 no-name-requires c κs = search needs
 
 returns : tie.Need-returns
-returns c = ap (λ (y : Name). record { name = y; ticks = noTicks }) ((c .no-name) .ensures)
+returns c = ap (λ (y : Name). record { name = y; ticks = noTicks }) (c .no-name .ensures)
 
 pub no-amount-spec : {M : Type 1} → statement M
 no-amount-spec = tie.close (tie.spec no-name-requires returns)

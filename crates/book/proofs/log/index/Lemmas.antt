@@ -35,8 +35,8 @@ weighing-start start bytes h = record { so-far = refl; most = omega arith; light
 pub byte-weighs : (b weight : ℕ) → b < 256 → weight < 8192 → b * weight ≤ 2097152
 byte-weighs b weight h w = mul-le-mul {n₁ = b} {m₁ = weight} {n₂ = 256} {m₂ = 8192} (omega arith) (omega arith)
 
-pub weighing-next : (start : ℕ) (bytes : List ℕ) (sum weight i d b : ℕ) → length bytes ≡ 12 → Weighing start bytes sum weight i → i < 12 → b ≡ getD bytes i d →
-    b < 256
+pub weighing-next : (start : ℕ) (bytes : List ℕ) (sum weight i d b : ℕ) → length bytes ≡ 12 → Weighing start bytes sum weight i → i < 12 → b ≡ getD bytes i d
+    → b < 256
     → Weighing start bytes (sum + b * weight) (weight * 31 % 8192) (i + 1)
 unfolding weighed
 weighing-next start bytes sum weight i d b size h lt e w =
@@ -49,8 +49,8 @@ weighing-next start bytes sum weight i d b size h lt e w =
       inside = omega arith;
     }
 
-pub weighing-end : (k : Key) (sum weight i : ℕ) → length (k .name .bytes) ≡ 12 → Weighing (hourSlot k) (k .name .bytes) sum weight i → 12 ≤ i →
-    (sum % 8192 ≡ bucket k) × (sum % 8192 < 8192)
+pub weighing-end : (k : Key) (sum weight i : ℕ) → length (k .name .bytes) ≡ 12 → Weighing (hourSlot k) (k .name .bytes) sum weight i → 12 ≤ i
+    → (sum % 8192 ≡ bucket k) × (sum % 8192 < 8192)
 unfolding bucket weighed
 weighing-end k sum weight i size h le =
     (ap (λ (x : ℕ). x % 8192) (sym (ap (weighed sum weight) (drop-of-length-le (k .name .bytes) {i = i} (omega arith))) ∙ h .so-far), omega arith)
@@ -98,16 +98,16 @@ counts-next counts c l k n fits h j is e = by-test (sameHour k (keyOf c)) with-i
     after : ℕ → ℕ
     after m = cond (isFiling (kindOf c)) (m + 1) (cond (isWithdrawal (kindOf c)) (m - 1) m)
 
-    with-it : sameHour k (keyOf c) ≡ true → getD (set counts (hourSlot (keyOf c)) n) (hourSlot k) 0 ≡ cond (sameHour k (keyOf c)) (after (survey k l .count))
-        (survey k l .count)
+    with-it : sameHour k (keyOf c) ≡ true
+        → getD (set counts (hourSlot (keyOf c)) n) (hourSlot k) 0 ≡ cond (sameHour k (keyOf c)) (after (survey k l .count)) (survey k l .count)
     with-it t =
         let p = hour-parts k (keyOf c) t in
         let s : hourSlot k ≡ hourSlot (keyOf c) = λ i. order (p .0 i) * 32 + p .1 i in
         ap (λ (m : ℕ). getD (set counts (hourSlot (keyOf c)) n) m 0) s ∙ getD-set-same counts (hourSlot (keyOf c)) n 0 fits ∙ e
         ∙ ap after (ap (λ (m : ℕ). getD counts m 0) (sym s) ∙ is) ∙ sym (ap (λ (b : Bool). cond b (after (survey k l .count)) (survey k l .count)) t)
 
-    beside : sameHour k (keyOf c) ≡ false → getD (set counts (hourSlot (keyOf c)) n) (hourSlot k) 0 ≡ cond (sameHour k (keyOf c)) (after (survey k l .count))
-        (survey k l .count)
+    beside : sameHour k (keyOf c) ≡ false
+        → getD (set counts (hourSlot (keyOf c)) n) (hourSlot k) 0 ≡ cond (sameHour k (keyOf c)) (after (survey k l .count)) (survey k l .count)
     beside t =
         getD-set-other counts (hourSlot (keyOf c)) (hourSlot k) n 0 (λ w. apart k (keyOf c) j h t w) ∙ is
         ∙ sym (ap (λ (b : Bool). cond b (after (survey k l .count)) (survey k l .count)) t)

@@ -54,8 +54,8 @@ module _ (kind : Kind) (n most changes used len lent : ℕ) where
   unfolding changeFault
   judge-12 f k e h = simp (k, e, le-ltb n most h)
 
-  pub judge-filed : (f : Bool) → isFiling kind ≡ true → f ≡ false → n < most → spaceFault changes used len lent ≡ changeFault kind f n most changes used len
-      lent
+  pub judge-filed : (f : Bool) → isFiling kind ≡ true → f ≡ false → n < most
+      → spaceFault changes used len lent ≡ changeFault kind f n most changes used len lent
   unfolding changeFault
   judge-filed f k e h = sym
       (ap (λ (b : Bool). cond b (cond f 10 (cond (ltb n most) (spaceFault changes used len lent) 12)) (cond f (spaceFault changes used len lent) 11)) k
@@ -76,8 +76,8 @@ module _ (kind : Kind) (count : ℕ) where
   pub count-1 : isFiling kind ≡ true → count + 1 ≡ cond (isFiling kind) (count + 1) (cond (isWithdrawal kind) (count - 1) count)
   count-1 k = simp k
 
-  pub count-3 : (n : ℕ) → isFiling kind ≡ false → isWithdrawal kind ≡ true → n ≡ count - 1 → n ≡ cond (isFiling kind) (count + 1)
-      (cond (isWithdrawal kind) (count - 1) count)
+  pub count-3 : (n : ℕ) → isFiling kind ≡ false → isWithdrawal kind ≡ true → n ≡ count - 1
+      → n ≡ cond (isFiling kind) (count + 1) (cond (isWithdrawal kind) (count - 1) count)
   count-3 n j k e = simp (j, k) e
 
   pub count-2 : isFiling kind ≡ false → isWithdrawal kind ≡ false → count ≡ cond (isFiling kind) (count + 1) (cond (isWithdrawal kind) (count - 1) count)

@@ -125,8 +125,8 @@ module _ {s rows : List ℕ} {n : ℕ} {l : List Change} (g : Logged s rows n l)
       gone : ℕ
       gone = rowGone (getD rows (x .at) 0)
 
-      go : (b : Bool) → (b ≡ true → x .at < n) → getD (cond b (set rows (x .at) gone) rows) j 0 ≡ cond (b && eqb j (x .at)) (rowGone (getD rows j 0))
-          (getD rows j 0)
+      go : (b : Bool) → (b ≡ true → x .at < n)
+          → getD (cond b (set rows (x .at) gone) rows) j 0 ≡ cond (b && eqb j (x .at)) (rowGone (getD rows j 0)) (getD rows j 0)
       go false h = refl
       go true h =
           by-test (eqb j (x .at))
@@ -224,8 +224,8 @@ module _ {s rows : List ℕ} {n : ℕ} {l : List Change} (g : Logged s rows n l)
 
 -- ---- the loop over the changes
 
-judge-few : (kind : Kind) (f : Bool) (n most changes used len : ℕ) → changeFault kind f n most changes used len 65535 ≡ 0 → (changes < 512) ×
-    (used + len ≤ 65535)
+judge-few : (kind : Kind) (f : Bool) (n most changes used len : ℕ) → changeFault kind f n most changes used len 65535 ≡ 0
+    → (changes < 512) × (used + len ≤ 65535)
 unfolding changeFault
 judge-few kind f n most changes used len e = let r = room-facts changes used len 65535
     (judge-room (isFiling kind) f (ltb n most) (spaceFault changes used len 65535) e) in (r .0, r .2)
@@ -389,8 +389,8 @@ module _ {part : List ℕ} {n : ℕ} {rows latest counts : List ℕ} {q i : ℕ}
             pub head-row : (hour < 512) × (q < 65536)
             head-row = (omega (arith, eh, slot-few (v .key) low-key), omega (arith, head-few .1))
 
-            pub head-next : sl < 8192 → {rows′ : List ℕ} → rows′ ≡ cleared rows x → {row : ℕ} → row ≡ packed (not (isWithdrawal (kindIn (v .act))))
-                (kindIn (v .act)) hour q
+            pub head-next : sl < 8192 → {rows′ : List ℕ} → rows′ ≡ cleared rows x → {row : ℕ}
+                → row ≡ packed (not (isWithdrawal (kindIn (v .act)))) (kindIn (v .act)) hour q
                 → {m : ℕ} → m ≡ cond (isFiling (kindIn (v .act))) (getD counts hour 0 + 1)
                 (cond (isWithdrawal (kindIn (v .act))) (getD counts hour 0 - 1) (getD counts hour 0))
                 → Head part n (set rows′ i row) (set latest sl (i + 1)) (set counts hour m) (q + v .len) (i + 1)

@@ -363,15 +363,15 @@ pub record Seeking (s rows : List ℕ) (n from hs : ℕ) (head : List ℕ) (i : 
   pub is : (k : Key) (l : List Change) → Search s rows n from hs head k l → gather (findPass k) l l ≡ gather (findPass k) l (drop (n - i) l)
 
 -- no change newer than the latest of its number has the key
-skip-newer : (k : Key) → Padded (k .name) → (all l : List Change) → Valid l → (from : ℕ) → latestOf (keyNumber k) l ≤ from → from ≤ length l → gather
-    (findPass k) all l ≡ gather (findPass k) all (drop (length l - from) l)
+skip-newer : (k : Key) → Padded (k .name) → (all l : List Change) → Valid l → (from : ℕ) → latestOf (keyNumber k) l ≤ from → from ≤ length l
+    → gather (findPass k) all l ≡ gather (findPass k) all (drop (length l - from) l)
 unfolding gather latestOf Valid
 skip-newer k p all [] v from h le = ap (gather (findPass k) all) (sym (drop-of-length-le {A = Change} [] {i = length {A = Change} [] - from} (omega arith)))
 skip-newer k p all (c ∷ l) v from h le = by-test (leb from (length l)) (inside-it (λ w lt. skip-newer k p all l (v .2) from w lt))
     (λ t. let e : 0 ≡ length (c ∷ l) - from = omega (arith, leb-false from (length l) t) in ap (λ (m : ℕ). gather (findPass k) all (drop m (c ∷ l))) e)
   where
-    inside-it : (latestOf (keyNumber k) l ≤ from → from ≤ length l → gather (findPass k) all l ≡ gather (findPass k) all (drop (length l - from) l)) → leb from
-        (length l) ≡ true → gather (findPass k) all (c ∷ l) ≡ gather (findPass k) all (drop (length (c ∷ l) - from) (c ∷ l))
+    inside-it : (latestOf (keyNumber k) l ≤ from → from ≤ length l → gather (findPass k) all l ≡ gather (findPass k) all (drop (length l - from) l))
+        → leb from (length l) ≡ true → gather (findPass k) all (c ∷ l) ≡ gather (findPass k) all (drop (length (c ∷ l) - from) (c ∷ l))
     inside-it ih t =
         let lt = leb-true from (length l) t in
         let e : length (c ∷ l) - from ≡ suc (length l - from) = omega arith in
@@ -391,8 +391,8 @@ seeking-start s rows n from hs head le = record {
       (λ (m : ℕ). gather (findPass k) l (drop (m - from) l)) (w .logged .ruled .count);
 }
 
-pub seeking-end : {s rows : List ℕ} {n from hs : ℕ} {head : List ℕ} {i : ℕ} → Seeking s rows n from hs head i → i ≤ 0 → (k : Key) (l : List Change) → Search s
-    rows n from hs head k l
+pub seeking-end : {s rows : List ℕ} {n from hs : ℕ} {head : List ℕ} {i : ℕ} → Seeking s rows n from hs head i → i ≤ 0 → (k : Key) (l : List Change)
+    → Search s rows n from hs head k l
     → Sought rows n k (record { found = false; at = 0; start = 0 }) l
 unfolding gather
 seeking-end {n = n} {i = i} h z k l w =
@@ -406,8 +406,8 @@ seeking-end {n = n} {i = i} h z k l w =
     }
 
 -- no change has the number of the key
-pub seeking-none : {s rows : List ℕ} {n from : ℕ} → from ≤ n → from ≡ 0 → (k : Key) (l : List Change) → Logged s rows n l → k .hour < 32 → Padded (k .name) →
-    latestOf (keyNumber k) l ≤ from
+pub seeking-none : {s rows : List ℕ} {n from : ℕ} → from ≤ n → from ≡ 0 → (k : Key) (l : List Change) → Logged s rows n l → k .hour < 32 → Padded (k .name)
+    → latestOf (keyNumber k) l ≤ from
     → Sought rows n k (record { found = false; at = 0; start = 0 }) l
 seeking-none {s} {rows} {n} {from} le z k l g hk hp few =
     seeking-end (seeking-start s rows n from (hourSlot k) (recordHead k) le) (omega arith) k l
@@ -436,8 +436,8 @@ module _ {s rows : List ℕ} {n from hs : ℕ} {head : List ℕ} {i : ℕ} (h : 
       let e : n - i ≡ n - (j + 1) = omega arith in
       h .is k l w ∙ ap (λ (m : ℕ). gather (findPass k) l (drop m l)) e ∙ ap (gather (findPass k) l) (ruled-at (w .logged .ruled) turn-inside .rest)
 
-  skip : ((k : Key) (l : List Change) (w : Search s rows n from hs head k l) → (same k (keyOf (what (w .logged))) && live (w .logged)) ≡ false) → Seeking s rows
-      n from hs head j
+  skip : ((k : Key) (l : List Change) (w : Search s rows n from hs head k l) → (same k (keyOf (what (w .logged))) && live (w .logged)) ≡ false)
+      → Seeking s rows n from hs head j
   skip f = record {
     inside = omega (arith, turn-inside);
     is = λ k l w.
@@ -479,8 +479,8 @@ module _ {s rows : List ℕ} {n from hs : ℕ} {head : List ℕ} {i : ℕ} (h : 
     seeking-other t = skip (λ k l w. ap (λ (y : Bool). y && live (w .logged)) (sym (same-there k l w) ∙ t))
 
     -- of the key
-    pub seeking-hit : begins head (drop x s) ≡ true → (k : Key) (l : List Change) → Search s rows n from hs head k l → Sought rows n k
-        (record { found = true; at = j; start = x }) l
+    pub seeking-hit : begins head (drop x s) ≡ true → (k : Key) (l : List Change) → Search s rows n from hs head k l
+        → Sought rows n k (record { found = true; at = j; start = x }) l
     unfolding what begun-at live
     seeking-hit t k l w =
         let g = w .logged in

@@ -8,7 +8,7 @@ use Rattle.filter.proofs.reading.feed_front.Tie as tie
 slice-aggregate-feed : tie.Need-slice-aggregate-feed
 slice-aggregate-feed c =
     let c4 = c .before .before .before .before in
-    sym (length-take-le {A = ℕ} ((c4 .args) .end) ((c4 .args) .input .now) ((c4 .pre)))
+    sym (length-take-le {A = ℕ} (c4 .args .end) (c4 .args .input .now) ((c4 .pre)))
 
 feed-requires : tie.Need-feed-requires
 feed-requires c κs = search needs

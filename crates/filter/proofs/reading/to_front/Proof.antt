@@ -19,7 +19,7 @@ least-requires c κs = search needs
 returns : tie.Need-returns Inv-loop μ-loop
 returns c =
     let c3 = c .before .before .before in
-    moved-none ((c3 .args) .bytes .now) ((c3 .args) .from) ((c3 .args) .end) ((c .before .least) .result) ((c .before .least) .ensures) ((c .if1) .taken)
+    moved-none (c3 .args .bytes .now) (c3 .args .from) (c3 .args .end) (c .before .least .result) (c .before .least .ensures) (c .if1 .taken)
 
 sub-n : tie.Need-sub-n Inv-loop μ-loop
 sub-n c = search needs
@@ -30,8 +30,8 @@ loop-holds c = (
   search needs,
   search needs,
   (c .before .least) .ensures,
-  moving-none ((c .before .before .before .args) .bytes .now)
-      ((c .before .before .before .args) .from) ((c .before .least) .result),
+  moving-none (c .before .before .before .args .bytes .now)
+      (c .before .before .before .args .from) (c .before .least .result),
 )
 
 add-bytes : tie.Need-add-bytes Inv-loop μ-loop
@@ -55,9 +55,9 @@ loop-again c = (
   search needs,
   search needs,
   search needs,
-  moving-next ((c .before .before .before .before .before .before .args) .bytes .now)
-      ((c .before .before .loop) .bytes) ((c .before .before .before .before .before .before .args) .from) ((c .before .before .before .before .least) .result)
-      ((c .before .before .loop) .i) ((c .before .before .loop) .inv .4) (omega arith) (omega arith),
+  moving-next (c .before .before .before .before .before .before .args .bytes .now)
+      (c .before .before .loop .bytes) (c .before .before .before .before .before .before .args .from) (c .before .before .before .before .least .result)
+      (c .before .before .loop .i) (c .before .before .loop .inv .4) (omega arith) (omega arith),
 )
 
 same-length : tie.Need-same-length Inv-loop μ-loop
@@ -67,8 +67,8 @@ returns-2 : tie.Need-returns-2 Inv-loop μ-loop
 returns-2 c =
     let c3 = c .before .before .before in
     let c5 = c3 .before .before in
-    moved-all ((c5 .args) .bytes .now) ((c .before .loop) .bytes) ((c5 .args) .from) ((c5 .args) .end) ((c3 .least) .result) ((c .before .loop) .i)
-    ((c .before .loop) .inv .4) ((c3 .least) .ensures) (omega arith) (omega arith) (omega arith)
+    moved-all (c5 .args .bytes .now) (c .before .loop .bytes) (c5 .args .from) (c5 .args .end) (c3 .least .result) (c .before .loop .i)
+    (c .before .loop .inv .4) (c3 .least .ensures) (omega arith) (omega arith) (omega arith)
 
 pub to-front-spec : {M : Type 1} → statement M
 to-front-spec =

@@ -7,9 +7,9 @@ use Rattle.hour_offset.proofs.tally.at_end.Statement.{statement}
 use Rattle.hour_offset.proofs.tally.at_end.Tie as tie
 
 returns : tie.Need-returns
-returns c = let z : length ((c .before .before .before .before .args) .t .imports .at) ≡ 16 = search (needs, unmapped) in end-none
-    ((c .before .before .before .before .args) .s .now) ((c .before .before .before .before .args) .t) (c .before .before .before .before .pre) z
-    ((c .if1) .taken)
+returns c = let z : length (c .before .before .before .before .args .t .imports .at) ≡ 16 = search (needs, unmapped) in end-none
+    (c .before .before .before .before .args .s .now) (c .before .before .before .before .args .t) (c .before .before .before .before .pre) z
+    (c .if1 .taken)
 
 prices-at-requires : tie.Need-prices-at-requires
 prices-at-requires c κs = search needs
@@ -28,20 +28,20 @@ hour-offset-requires c κs = search needs
 
 returns-2 : tie.Need-returns-2
 returns-2 c =
-    let z : length ((c .before .before .before .before .before .before .before .before .before .before .before .args) .t .imports .at) ≡ 16 = search
+    let z : length (c .before .before .before .before .before .before .before .before .before .before .before .args .t .imports .at) ≡ 16 = search
     (needs, unmapped) in
     (c .hour-offset) .ensures
-    ∙ end-worked ((c .before .before .before .before .before .before .before .before .before .before .before .args) .s .now)
-    ((c .before .before .before .before .before .before .before .before .before .before .before .args) .t)
+    ∙ end-worked (c .before .before .before .before .before .before .before .before .before .before .before .args .s .now)
+    (c .before .before .before .before .before .before .before .before .before .before .before .args .t)
     (c .before .before .before .before .before .before .before .before .before .before .before .pre) z
-    ((c .before .before .before .before .before .before .before .if1) .left) ((c .before .before .before .before .before .before .if2) .taken) _
-    ((c .before .before .before .before .before .prices-at) .ensures)
-    _ ((c .before .before .before .entries-at) .ensures) _ ((c .before .before .totals-at) .ensures)
+    (c .before .before .before .before .before .before .before .if1 .left) (c .before .before .before .before .before .before .if2 .taken) _
+    (c .before .before .before .before .before .prices-at .ensures)
+    _ (c .before .before .before .entries-at .ensures) _ (c .before .before .totals-at .ensures)
 
 returns-3 : tie.Need-returns-3
-returns-3 c = let z : length ((c .before .before .before .before .before .args) .t .imports .at) ≡ 16 = search (needs, unmapped) in end-unpriced
-    ((c .before .before .before .before .before .args) .s .now) ((c .before .before .before .before .before .args) .t)
-    (c .before .before .before .before .before .pre) z ((c .before .if1) .left) ((c .if2) .left)
+returns-3 c = let z : length (c .before .before .before .before .before .args .t .imports .at) ≡ 16 = search (needs, unmapped) in end-unpriced
+    (c .before .before .before .before .before .args .s .now) (c .before .before .before .before .before .args .t)
+    (c .before .before .before .before .before .pre) z (c .before .if1 .left) (c .if2 .left)
 
 pub at-end-spec : {M : Type 1} → statement M
 at-end-spec =

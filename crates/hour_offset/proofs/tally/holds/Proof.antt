@@ -27,9 +27,9 @@ same-name-requires : tie.Need-same-name-requires Inv-loop μ-loop
 same-name-requires c κs = search needs
 
 returns : tie.Need-returns Inv-loop μ-loop
-returns c = let z : length ((c .before .before .before .before .before .args) .t1 .at) ≡ 16 = search (needs, unmapped) in passed-found
-    ((c .before .before .before .before .loop) .inv) (omega arith) ((c .before .before .before .loop-test) .taken) _ _ ((c .before .same-name) .ensures)
-    ((c .if1) .taken)
+returns c = let z : length (c .before .before .before .before .before .args .t1 .at) ≡ 16 = search (needs, unmapped) in passed-found
+    (c .before .before .before .before .loop .inv) (omega arith) (c .before .before .before .loop-test .taken) _ _ (c .before .same-name .ensures)
+    (c .if1 .taken)
 
 add-i : tie.Need-add-i Inv-loop μ-loop
 add-i c = search needs
@@ -38,13 +38,13 @@ loop-less : tie.Need-loop-less Inv-loop μ-loop
 loop-less c = omega (arith, (c .before .before .before .loop-test) .taken)
 
 loop-again : tie.Need-loop-again Inv-loop μ-loop
-loop-again c = let z : length ((c .before .before .before .before .before .args) .t1 .at) ≡ 16 = search (needs, unmapped) in passed-on
-    ((c .before .before .before .before .loop) .inv) (omega arith) ((c .before .before .before .loop-test) .taken) _ _ ((c .before .same-name) .ensures)
-    ((c .if1) .left)
+loop-again c = let z : length (c .before .before .before .before .before .args .t1 .at) ≡ 16 = search (needs, unmapped) in passed-on
+    (c .before .before .before .before .loop .inv) (omega arith) (c .before .before .before .loop-test .taken) _ _ (c .before .same-name .ensures)
+    (c .if1 .left)
 
 returns-2 : tie.Need-returns-2 Inv-loop μ-loop
-returns-2 c = let z : length ((c .before .before .args) .t1 .at) ≡ 16 = search (needs, unmapped) in passed-all ((c .before .loop) .inv) (omega arith)
-    ((c .loop-test) .left)
+returns-2 c = let z : length (c .before .before .args .t1 .at) ≡ 16 = search (needs, unmapped) in passed-all (c .before .loop .inv) (omega arith)
+    (c .loop-test .left)
 
 pub holds-spec : {M : Type 1} → statement M
 holds-spec =

@@ -11,7 +11,7 @@ no-spots-requires-2 : tie.Need-no-spots-requires-2
 no-spots-requires-2 c κs = search needs
 
 returns : tie.Need-returns
-returns c = none-tallied _ refl refl ((c .before .no-spots) .ensures) ((c .no-spots2) .ensures)
+returns c = none-tallied _ refl refl (c .before .no-spots .ensures) (c .no-spots2 .ensures)
 
 pub no-records-spec : {M : Type 1} → statement M
 no-records-spec = tie.close (tie.spec no-spots-requires no-spots-requires-2 returns)

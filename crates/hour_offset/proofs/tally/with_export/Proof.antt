@@ -9,7 +9,7 @@ returns : tie.Need-returns
 returns c =
     let c2 = c .before .before in
     let c4 = c2 .before .before in
-    adds-export ((c4 .args) .t) ((c4 .args) .s) _ (c4 .pre) ((c2 .with-place) .ensures)
+    adds-export (c4 .args .t) (c4 .args .s) _ (c4 .pre) (c2 .with-place .ensures)
 
 pub with-export-spec : {M : Type 1} → statement M
 with-export-spec = tie.close (tie.spec with-place-requires returns)

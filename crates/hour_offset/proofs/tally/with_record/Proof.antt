@@ -42,28 +42,28 @@ refused-requires-3 : tie.Need-refused-requires-3
 refused-requires-3 c κs = search needs
 
 returns : tie.Need-returns
-returns c = rw ((c .before .enum-told) .given .1) ((c .with-price) .ensures)
+returns c = rw (c .before .enum-told .given .1) (c .with-price .ensures)
 
 returns-2 : tie.Need-returns-2
-returns-2 c = rw ((c .before .enum-told2) .given .1) ((c .with-import) .ensures)
+returns-2 c = rw (c .before .enum-told2 .given .1) (c .with-import .ensures)
 
 returns-3 : tie.Need-returns-3
-returns-3 c = rw ((c .before .enum-told3) .given .1) ((c .with-export) .ensures)
+returns-3 c = rw (c .before .enum-told3 .given .1) (c .with-export .ensures)
 
 returns-4 : tie.Need-returns-4
 returns-4 c =
     let c4 = c .before .before .before .before in
-    rw ((c .before .enum-told4) .given .1) (adds-no 2 _ ((c4 .args) .t) _ 2 (c4 .pre) ((c .refused) .ensures) refl (λ q. omega arith))
+    rw (c .before .enum-told4 .given .1) (adds-no 2 _ (c4 .args .t) _ 2 (c4 .pre) (c .refused .ensures) refl (λ q. omega arith))
 
 returns-5 : tie.Need-returns-5
 returns-5 c =
     let c4 = c .before .before .before .before in
-    rw ((c .before .enum-told5) .given .1) (adds-no 2 _ ((c4 .args) .t) _ 2 (c4 .pre) ((c .refused2) .ensures) refl (λ q. omega arith))
+    rw (c .before .enum-told5 .given .1) (adds-no 2 _ (c4 .args .t) _ 2 (c4 .pre) (c .refused2 .ensures) refl (λ q. omega arith))
 
 returns-6 : tie.Need-returns-6
 returns-6 c =
     let c4 = c .before .before .before .before in
-    rw ((c .before .enum-told6) .given .1) (adds-no 2 _ ((c4 .args) .t) _ 2 (c4 .pre) ((c .refused3) .ensures) refl (λ q. omega arith))
+    rw (c .before .enum-told6 .given .1) (adds-no 2 _ (c4 .args .t) _ 2 (c4 .pre) (c .refused3 .ensures) refl (λ q. omega arith))
 
 pub with-record-spec : {M : Type 1} → statement M
 with-record-spec =

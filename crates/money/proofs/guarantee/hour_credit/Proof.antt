@@ -17,7 +17,7 @@ prices-ok-requires c κs = search needs
 
 returns : tie.Need-returns
 unfolding creditAnswer
-returns c = rw (sym ((c .before .prices-ok) .ensures) ∙ not-true _ ((c .if1) .taken))
+returns c = rw (sym (c .before .prices-ok .ensures) ∙ not-true _ (c .if1 .taken))
 
 quantities-ok-requires : tie.Need-quantities-ok-requires
 quantities-ok-requires c κs = search needs
@@ -27,7 +27,7 @@ unfolding creditAnswer
 returns-2 c =
     let c2 = c .before .before in
     let c3 = c2 .before in
-    rw (sym ((c3 .prices-ok) .ensures) ∙ not-false _ ((c2 .if1) .left), sym ((c .before .quantities-ok) .ensures) ∙ not-true _ ((c .if2) .taken))
+    rw (sym (c3 .prices-ok .ensures) ∙ not-false _ (c2 .if1 .left), sym (c .before .quantities-ok .ensures) ∙ not-true _ (c .if2 .taken))
 
 offer-fault-requires : tie.Need-offer-fault-requires
 offer-fault-requires c κs = search needs
@@ -40,13 +40,13 @@ returns-3 c =
     let c4 = c3 .before in
     let c5 = c4 .before in
     let c6 = c5 .before in
-    rw (sym ((c5 .prices-ok) .ensures) ∙ not-false _ ((c4 .if1) .left), sym ((c3 .quantities-ok) .ensures) ∙ not-false _ ((c2 .if2) .left))
-    (answer-fault (credit ((c6 .args) .o) ((c6 .args) .prices) (quantityAt ((c6 .args) .qs)))
-    (kept (unless (withinOk ((c6 .args) .qs) (lastQ ((c6 .args) .o))) 7 0) ((c .before .offer-fault) .ensures) ((c .if3) .taken)) ((c .if3) .taken))
+    rw (sym (c5 .prices-ok .ensures) ∙ not-false _ (c4 .if1 .left), sym (c3 .quantities-ok .ensures) ∙ not-false _ (c2 .if2 .left))
+    (answer-fault (credit (c6 .args .o) (c6 .args .prices) (quantityAt (c6 .args .qs)))
+    (kept (unless (withinOk (c6 .args .qs) (lastQ (c6 .args .o))) 7 0) (c .before .offer-fault .ensures) (c .if3 .taken)) (c .if3 .taken))
 
 last-of-requires : tie.Need-last-of-requires
 last-of-requires c κs =
-    let g = good-of ((c .before .before .before .before .before .before .args) .o) (sym ((c .before .offer-fault) .ensures) ∙ (c .if3) .left) in
+    let g = good-of (c .before .before .before .before .before .before .args .o) (sym (c .before .offer-fault .ensures) ∙ (c .if3) .left) in
     (g .some, g .most)
 
 within-ok-requires : tie.Need-within-ok-requires
@@ -63,12 +63,12 @@ returns-4 c =
     let c7 = c6 .before in
     let c8 = c7 .before in
     let c9 = c8 .before in
-    let w = within-is ((c9 .args) .o) ((c9 .args) .qs) ((c2 .last-of) .ensures) ((c .before .within-ok) .ensures) (not-true _ ((c .if4) .taken)) in
+    let w = within-is (c9 .args .o) (c9 .args .qs) (c2 .last-of .ensures) (c .before .within-ok .ensures) (not-true _ (c .if4 .taken)) in
     rw (
-      sym ((c8 .prices-ok) .ensures) ∙ not-false _ ((c7 .if1) .left),
-      sym ((c6 .quantities-ok) .ensures) ∙ not-false _ ((c5 .if2) .left),
+      sym (c8 .prices-ok .ensures) ∙ not-false _ (c7 .if1 .left),
+      sym (c6 .quantities-ok .ensures) ∙ not-false _ (c5 .if2 .left),
       sym
-          ((c4 .offer-fault) .ensures) ∙ (c3 .if3) .left,
+          (c4 .offer-fault .ensures) ∙ (c3 .if3) .left,
       w,
     )
 
@@ -80,9 +80,9 @@ credit-of-requires c κs =
     let c7 = c4 .before .before .before in
     let c8 = c7 .before in
     let c9 = c8 .before in
-    ready-of ((c9 .args) .prices) ((c9 .args) .o) ((c9 .args) .qs)
-    (prices-of ((c9 .args) .prices) (sym ((c8 .prices-ok) .ensures) ∙ not-false _ ((c7 .if1) .left))) (sym ((c4 .offer-fault) .ensures) ∙ (c3 .if3) .left)
-    (within-is ((c9 .args) .o) ((c9 .args) .qs) ((c2 .last-of) .ensures) ((c .before .within-ok) .ensures) (not-false _ ((c .if4) .left)))
+    ready-of (c9 .args .prices) (c9 .args .o) (c9 .args .qs)
+    (prices-of (c9 .args .prices) (sym (c8 .prices-ok .ensures) ∙ not-false _ (c7 .if1 .left))) (sym (c4 .offer-fault .ensures) ∙ (c3 .if3) .left)
+    (within-is (c9 .args .o) (c9 .args .qs) (c2 .last-of .ensures) (c .before .within-ok .ensures) (not-false _ (c .if4 .left)))
 
 returns-5 : tie.Need-returns-5
 unfolding creditAnswer
@@ -96,15 +96,15 @@ returns-5 c =
     let c8 = c7 .before in
     let c9 = c8 .before in
     let c10 = c9 .before in
-    let w = within-is ((c10 .args) .o) ((c10 .args) .qs) ((c3 .last-of) .ensures) ((c2 .within-ok) .ensures) (not-false _ ((c .before .if4) .left)) in
+    let w = within-is (c10 .args .o) (c10 .args .qs) (c3 .last-of .ensures) (c2 .within-ok .ensures) (not-false _ (c .before .if4 .left)) in
     rw (
-      sym ((c9 .prices-ok) .ensures) ∙ not-false _ ((c8 .if1) .left),
-      sym ((c7 .quantities-ok) .ensures) ∙ not-false _ ((c6 .if2) .left),
+      sym (c9 .prices-ok .ensures) ∙ not-false _ (c8 .if1 .left),
+      sym (c7 .quantities-ok .ensures) ∙ not-false _ (c6 .if2 .left),
       sym
-          ((c5 .offer-fault) .ensures) ∙ (c4 .if3) .left,
+          (c5 .offer-fault .ensures) ∙ (c4 .if3) .left,
       w,
     )
-    (ap (λ (z : ℤ). Amount (record { 0 = z })) ((c .credit-of) .ensures))
+    (ap (λ (z : ℤ). Amount (record { 0 = z })) (c .credit-of .ensures))
 
 pub hour-credit-spec : {M : Type 1} → statement M
 hour-credit-spec =

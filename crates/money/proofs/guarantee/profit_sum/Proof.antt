@@ -45,7 +45,7 @@ unfolding Σℤ
 loop-holds c =
     let c2 = c .before .before in
     let c5 = c2 .before .before .before in
-    starts _ _ ((c5 .pre) .good) ((c5 .pre) .within _ ((c2 .intervals-test) .taken))
+    starts _ _ (c5 .pre .good) (c5 .pre .within _ (c2 .intervals-test .taken))
 
 mul-w : tie.Need-mul-w Inv-loop μ-loop Inv-intervals μ-intervals
 mul-w c = omega (arith, (c .loop) .inv .below, (c .before .before .before .before .before .before .pre) .good .most)
@@ -78,7 +78,7 @@ between-requires c κs =
     let c12 = c9 .before .before .before in
     let w = (c6 .loop) .inv in
     let g = (c12 .pre) .good in
-    let m = (c12 .pre) .within _ ((c9 .intervals-test) .taken) in
+    let m = (c12 .pre) .within _ (c9 .intervals-test .taken) in
     (g .prices-in _ (w .below), (short _ _ g m _ _ _ w, in-range _ _ g m))
 
 plus-requires : tie.Need-plus-requires Inv-loop μ-loop Inv-intervals μ-intervals
@@ -87,7 +87,7 @@ plus-requires c κs =
     let c12 = c7 .before .before .before .before .before in
     let c13 = c12 .before in
     let l = (c7 .loop) .inv .below in
-    (pieces-room _ ((c13 .pre) .good) _ l ((c12 .costs-before) .ensures _ l), omega (arith, (c .between) .ensures .1))
+    (pieces-room _ (c13 .pre .good) _ l (c12 .costs-before .ensures _ l), omega (arith, (c .between) .ensures .1))
 
 add-i : tie.Need-add-i Inv-loop μ-loop Inv-intervals μ-intervals
 add-i c = search needs
@@ -100,14 +100,14 @@ loop-again c =
     let c4 = c .before .before .before .before in
     let c7 = c4 .before .before .before in
     let c10 = c7 .before .before .before in
-    found-on ((c10 .pre) .good) ((c10 .pre) .within _ ((c7 .intervals-test) .taken)) ((c4 .loop) .inv) (omega (arith, (c .if1) .left))
+    found-on (c10 .pre .good) (c10 .pre .within _ (c7 .intervals-test .taken)) (c4 .loop .inv) (omega (arith, (c .if1) .left))
 
 for-quantity-requires : tie.Need-for-quantity-requires Inv-loop μ-loop Inv-intervals μ-intervals
 for-quantity-requires c κs =
     let c11 = c .before .before .before .before .before .before .before .before .before .before .before in
     let c14 = c11 .before .before .before in
-    let m = (c14 .pre) .within _ ((c11 .intervals-test) .taken) in
-    ((c14 .pre) .prices _ ((c11 .intervals-test) .taken), in-range _ _ ((c14 .pre) .good) m)
+    let m = (c14 .pre) .within _ (c11 .intervals-test .taken) in
+    (c14 .pre .prices _ (c11 .intervals-test .taken), in-range _ _ (c14 .pre .good) m)
 
 minus-requires : tie.Need-minus-requires Inv-loop μ-loop Inv-intervals μ-intervals
 minus-requires c κs =
@@ -117,9 +117,9 @@ minus-requires c κs =
     let c12 = c9 .before .before .before in
     let c14 = c12 .before .before in
     let c15 = c14 .before in
-    let z = found ((c15 .pre) .good) ((c15 .pre) .within _ ((c12 .intervals-test) .taken)) ((c9 .loop) .inv)
-    ((c14 .costs-before) .ensures _ ((c9 .loop) .inv .below)) ((c5 .if1) .taken) ((c2 .between) .ensures .0) ((c .before .plus) .ensures) in
-    (omega (arith, (c .for-quantity) .ensures .1), spent-room _ _ ((c15 .pre) .good) ((c15 .pre) .within _ ((c12 .intervals-test) .taken)) z)
+    let z = found (c15 .pre .good) (c15 .pre .within _ (c12 .intervals-test .taken)) (c9 .loop .inv)
+    (c14 .costs-before .ensures _ (c9 .loop .inv .below)) (c5 .if1 .taken) (c2 .between .ensures .0) (c .before .plus .ensures) in
+    (omega (arith, (c .for-quantity) .ensures .1), spent-room _ _ (c15 .pre .good) (c15 .pre .within _ (c12 .intervals-test .taken)) z)
 
 plus-requires-2 : tie.Need-plus-requires-2 Inv-loop μ-loop Inv-intervals μ-intervals
 plus-requires-2 c κs =
@@ -131,12 +131,12 @@ plus-requires-2 c κs =
     let c14 = c13 .before in
     let c15 = c14 .before in
     let c16 = c15 .before in
-    let z = found ((c16 .pre) .good) ((c16 .pre) .within _ ((c13 .intervals-test) .taken)) ((c10 .loop) .inv)
-    ((c15 .costs-before) .ensures _ ((c10 .loop) .inv .below)) ((c6 .if1) .taken) ((c3 .between) .ensures .0) ((c2 .plus) .ensures) in (
-      profits-room ((c16 .pre)) ((c14 .intervals) .inv),
-      profit-room ((c16 .pre)) _ ((c13 .intervals-test) .taken) (profit-is ((c16 .args) .t1)
-          (priceAt ((c16 .args) .t2) ((c14 .intervals) .k)) (quantityAt ((c16 .args) .t3) ((c14 .intervals) .k)) ((c .before .for-quantity) .ensures .0) z
-          ((c .minus) .ensures)),
+    let z = found (c16 .pre .good) (c16 .pre .within _ (c13 .intervals-test .taken)) (c10 .loop .inv)
+    (c15 .costs-before .ensures _ (c10 .loop .inv .below)) (c6 .if1 .taken) (c3 .between .ensures .0) (c2 .plus .ensures) in (
+      profits-room ((c16 .pre)) (c14 .intervals .inv),
+      profit-room ((c16 .pre)) _ (c13 .intervals-test .taken) (profit-is (c16 .args .t1)
+          (priceAt (c16 .args .t2) (c14 .intervals .k)) (quantityAt (c16 .args .t3) (c14 .intervals .k)) (c .before .for-quantity .ensures .0) z
+          (c .minus .ensures)),
     )
 
 add-k : tie.Need-add-k Inv-loop μ-loop Inv-intervals μ-intervals
@@ -156,14 +156,14 @@ intervals-again c =
     let c15 = c14 .before in
     let c16 = c15 .before in
     let c17 = c16 .before in
-    let z = found ((c17 .pre) .good) ((c17 .pre) .within _ ((c14 .intervals-test) .taken)) ((c11 .loop) .inv)
-    ((c16 .costs-before) .ensures _ ((c11 .loop) .inv .below)) ((c7 .if1) .taken) ((c4 .between) .ensures .0) ((c3 .plus) .ensures) in
-    summed-more ((c15 .intervals) .inv) ((c14 .intervals-test) .taken) ((c .plus2) .ensures) (profit-is ((c17 .args) .t1)
-    (priceAt ((c17 .args) .t2) ((c15 .intervals) .k)) (quantityAt ((c17 .args) .t3) ((c15 .intervals) .k)) ((c2 .for-quantity) .ensures .0) z
-    ((c .before .minus) .ensures))
+    let z = found (c17 .pre .good) (c17 .pre .within _ (c14 .intervals-test .taken)) (c11 .loop .inv)
+    (c16 .costs-before .ensures _ (c11 .loop .inv .below)) (c7 .if1 .taken) (c4 .between .ensures .0) (c3 .plus .ensures) in
+    summed-more (c15 .intervals .inv) (c14 .intervals-test .taken) (c .plus2 .ensures) (profit-is (c17 .args .t1)
+    (priceAt (c17 .args .t2) (c15 .intervals .k)) (quantityAt (c17 .args .t3) (c15 .intervals .k)) (c2 .for-quantity .ensures .0) z
+    (c .before .minus .ensures))
 
 returns : tie.Need-returns Inv-loop μ-loop Inv-intervals μ-intervals
-returns c = profits-all _ _ _ ((c .before .intervals) .inv) ((c .intervals-test) .left)
+returns c = profits-all _ _ _ (c .before .intervals .inv) (c .intervals-test .left)
 
 pub profit-sum-spec : {M : Type 1} → statement M
 profit-sum-spec =

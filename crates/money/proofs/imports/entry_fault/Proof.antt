@@ -14,7 +14,7 @@ name-ok-requires c κs = search needs
 
 returns : tie.Need-returns
 unfolding entryFault
-returns c = rw (sym ((c .before .name-ok) .ensures) ∙ not-true _ ((c .if1) .taken))
+returns c = rw (sym (c .before .name-ok .ensures) ∙ not-true _ (c .if1 .taken))
 
 quantities-ok-requires : tie.Need-quantities-ok-requires
 quantities-ok-requires c κs = search needs
@@ -24,7 +24,7 @@ unfolding entryFault
 returns-2 c =
     let c3 = c .before .before .before in
     let c4 = c3 .before in
-    rw (sym ((c4 .name-ok) .ensures) ∙ not-false _ ((c3 .if1) .left), sym ((c .before .quantities-ok) .ensures) ∙ not-true _ ((c .if2) .taken))
+    rw (sym (c4 .name-ok .ensures) ∙ not-false _ (c3 .if1 .left), sym (c .before .quantities-ok .ensures) ∙ not-true _ (c .if2 .taken))
 
 offer-fault-requires : tie.Need-offer-fault-requires
 offer-fault-requires c κs = search needs
@@ -37,13 +37,13 @@ returns-3 c =
     let c6 = c4 .before .before in
     let c7 = c6 .before in
     let c9 = c7 .before .before in
-    rw (sym ((c7 .name-ok) .ensures) ∙ not-false _ ((c6 .if1) .left), sym ((c4 .quantities-ok) .ensures) ∙ not-false _ ((c3 .if2) .left))
-    (kept (scheduleFault ((c9 .args) .prices) ((c9 .args) .e)) ((c .before .offer-fault) .ensures) ((c .if3) .taken))
+    rw (sym (c7 .name-ok .ensures) ∙ not-false _ (c6 .if1 .left), sym (c4 .quantities-ok .ensures) ∙ not-false _ (c3 .if2 .left))
+    (kept (scheduleFault (c9 .args .prices) (c9 .args .e)) (c .before .offer-fault .ensures) (c .if3 .taken))
 
 last-of-requires : tie.Need-last-of-requires
 last-of-requires c κs =
     let c9 = c .before .before .before .before .before .before .before .before .before in
-    let g = good-of ((c9 .args) .e .offer) (sym ((c .before .offer-fault) .ensures) ∙ (c .if3) .left) in
+    let g = good-of (c9 .args .e .offer) (sym (c .before .offer-fault .ensures) ∙ (c .if3) .left) in
     (g .some, g .most)
 
 within-ok-requires : tie.Need-within-ok-requires
@@ -60,13 +60,13 @@ returns-4 c =
     let c9 = c7 .before .before in
     let c10 = c9 .before in
     let c12 = c10 .before .before in
-    let w = within-is ((c12 .args) .e .offer) ((c12 .args) .e .quantities) ((c2 .last-of) .ensures) ((c .before .within-ok) .ensures)
-    (not-true _ ((c .if4) .taken)) in
+    let w = within-is (c12 .args .e .offer) (c12 .args .e .quantities) (c2 .last-of .ensures) (c .before .within-ok .ensures)
+    (not-true _ (c .if4 .taken)) in
     rw (
-      sym ((c10 .name-ok) .ensures) ∙ not-false _ ((c9 .if1) .left),
-      sym ((c7 .quantities-ok) .ensures) ∙ not-false _ ((c6 .if2) .left),
+      sym (c10 .name-ok .ensures) ∙ not-false _ (c9 .if1 .left),
+      sym (c7 .quantities-ok .ensures) ∙ not-false _ (c6 .if2 .left),
       sym
-          ((c4 .offer-fault) .ensures) ∙ (c3 .if3) .left,
+          (c4 .offer-fault .ensures) ∙ (c3 .if3) .left,
       w,
     )
 
@@ -77,9 +77,9 @@ credit-of-requires c κs =
     let c4 = c3 .before in
     let c5 = c4 .before in
     let c13 = c5 .before .before .before .before .before .before .before .before in
-    ready-of ((c13 .args) .prices) ((c13 .args) .e .offer) ((c13 .args) .e .quantities) ((c13 .pre)) (sym ((c5 .offer-fault) .ensures) ∙ (c4 .if3) .left)
-    (within-is ((c13 .args) .e .offer) ((c13 .args) .e .quantities) ((c3 .last-of) .ensures) ((c2 .within-ok) .ensures)
-    (not-false _ ((c .before .if4) .left)))
+    ready-of (c13 .args .prices) (c13 .args .e .offer) (c13 .args .e .quantities) ((c13 .pre)) (sym (c5 .offer-fault .ensures) ∙ (c4 .if3) .left)
+    (within-is (c13 .args .e .offer) (c13 .args .e .quantities) (c3 .last-of .ensures) (c2 .within-ok .ensures)
+    (not-false _ (c .before .if4 .left)))
 
 same-requires : tie.Need-same-requires
 same-requires c κs = search needs
@@ -98,15 +98,15 @@ returns-5 c =
     let c13 = c11 .before .before in
     let c14 = c13 .before in
     let c16 = c14 .before .before in
-    let w = within-is ((c16 .args) .e .offer) ((c16 .args) .e .quantities) ((c6 .last-of) .ensures) ((c5 .within-ok) .ensures)
-    (not-false _ ((c4 .if4) .left)) in
-    let s = same-as ((c16 .args) .e .credit .0) (credit ((c16 .args) .e .offer) ((c16 .args) .prices) (mqsi ((c16 .args) .e))) ((c2 .credit-of) .ensures)
-    ((c .before .same) .ensures) (not-true _ ((c .if5) .taken)) in
+    let w = within-is (c16 .args .e .offer) (c16 .args .e .quantities) (c6 .last-of .ensures) (c5 .within-ok .ensures)
+    (not-false _ (c4 .if4 .left)) in
+    let s = same-as (c16 .args .e .credit .0) (credit (c16 .args .e .offer) (c16 .args .prices) (mqsi (c16 .args .e))) (c2 .credit-of .ensures)
+    (c .before .same .ensures) (not-true _ (c .if5 .taken)) in
     rw (
-      sym ((c14 .name-ok) .ensures) ∙ not-false _ ((c13 .if1) .left),
-      sym ((c11 .quantities-ok) .ensures) ∙ not-false _ ((c10 .if2) .left),
+      sym (c14 .name-ok .ensures) ∙ not-false _ (c13 .if1 .left),
+      sym (c11 .quantities-ok .ensures) ∙ not-false _ (c10 .if2 .left),
       sym
-          ((c8 .offer-fault) .ensures) ∙ (c7 .if3) .left,
+          (c8 .offer-fault .ensures) ∙ (c7 .if3) .left,
       w,
       s,
     )
@@ -125,15 +125,15 @@ returns-6 c =
     let c13 = c11 .before .before in
     let c14 = c13 .before in
     let c16 = c14 .before .before in
-    let w = within-is ((c16 .args) .e .offer) ((c16 .args) .e .quantities) ((c6 .last-of) .ensures) ((c5 .within-ok) .ensures)
-    (not-false _ ((c4 .if4) .left)) in
-    let s = same-as ((c16 .args) .e .credit .0) (credit ((c16 .args) .e .offer) ((c16 .args) .prices) (mqsi ((c16 .args) .e))) ((c2 .credit-of) .ensures)
-    ((c .before .same) .ensures) (not-false _ ((c .if5) .left)) in
+    let w = within-is (c16 .args .e .offer) (c16 .args .e .quantities) (c6 .last-of .ensures) (c5 .within-ok .ensures)
+    (not-false _ (c4 .if4 .left)) in
+    let s = same-as (c16 .args .e .credit .0) (credit (c16 .args .e .offer) (c16 .args .prices) (mqsi (c16 .args .e))) (c2 .credit-of .ensures)
+    (c .before .same .ensures) (not-false _ (c .if5 .left)) in
     rw (
-      sym ((c14 .name-ok) .ensures) ∙ not-false _ ((c13 .if1) .left),
-      sym ((c11 .quantities-ok) .ensures) ∙ not-false _ ((c10 .if2) .left),
+      sym (c14 .name-ok .ensures) ∙ not-false _ (c13 .if1 .left),
+      sym (c11 .quantities-ok .ensures) ∙ not-false _ (c10 .if2 .left),
       sym
-          ((c8 .offer-fault) .ensures) ∙ (c7 .if3) .left,
+          (c8 .offer-fault .ensures) ∙ (c7 .if3) .left,
       w,
       s,
     )

@@ -20,7 +20,7 @@ returns : tie.Need-returns
 unfolding faultAt
 returns c =
     let c3 = c .before .before .before in
-    kept (unless (freshName ((c3 .args) .t1) ((c3 .args) .i)) 10 0) ((c .before .entry-fault) .ensures) ((c .if1) .taken)
+    kept (unless (freshName (c3 .args .t1) (c3 .args .i)) 10 0) (c .before .entry-fault .ensures) (c .if1 .taken)
 
 fresh-requires : tie.Need-fresh-requires
 fresh-requires c κs = (c .before .before .before .pre) .1
@@ -30,14 +30,14 @@ unfolding faultAt
 returns-2 c =
     let c2 = c .before .before in
     let c3 = c2 .before in
-    rw (sym ((c3 .entry-fault) .ensures) ∙ (c2 .if1) .left, sym ((c .before .fresh) .ensures) ∙ not-true _ ((c .if2) .taken))
+    rw (sym (c3 .entry-fault .ensures) ∙ (c2 .if1) .left, sym (c .before .fresh .ensures) ∙ not-true _ (c .if2 .taken))
 
 returns-3 : tie.Need-returns-3
 unfolding faultAt
 returns-3 c =
     let c2 = c .before .before in
     let c3 = c2 .before in
-    rw (sym ((c3 .entry-fault) .ensures) ∙ (c2 .if1) .left, sym ((c .before .fresh) .ensures) ∙ not-false _ ((c .if2) .left))
+    rw (sym (c3 .entry-fault .ensures) ∙ (c2 .if1) .left, sym (c .before .fresh .ensures) ∙ not-false _ (c .if2 .left))
 
 pub fault-at-spec : {M : Type 1} → statement M
 fault-at-spec =

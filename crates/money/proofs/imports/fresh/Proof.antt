@@ -37,8 +37,8 @@ unfolding freshName
 returns c =
     let c4 = c .before .before .before .before in
     let c8 = c4 .before .before .before .before in
-    sym (every-no _ _ (λ a. not (sameName (entry ((c8 .args) .t1) ((c8 .args) .i) .name) (entry ((c8 .args) .t1) a .name))) ((c4 .loop-test) .taken)
-    (ap (λ (b : Bool). not b) (sym ((c .before .same-name) .ensures) ∙ (c .if1) .taken)))
+    sym (every-no _ _ (λ a. not (sameName (entry (c8 .args .t1) (c8 .args .i) .name) (entry (c8 .args .t1) a .name))) (c4 .loop-test .taken)
+    (ap (λ (b : Bool). not b) (sym (c .before .same-name .ensures) ∙ (c .if1) .taken)))
 
 add-j : tie.Need-add-j Inv-loop μ-loop
 add-j c = search needs
@@ -50,11 +50,11 @@ loop-again : tie.Need-loop-again Inv-loop μ-loop
 loop-again c =
     let c4 = c .before .before .before .before in
     let c5 = c4 .before in
-    passed-more ((c5 .loop) .inv) ((c4 .loop-test) .taken) (ap (λ (b : Bool). not b) (sym ((c .before .same-name) .ensures) ∙ (c .if1) .left))
+    passed-more (c5 .loop .inv) (c4 .loop-test .taken) (ap (λ (b : Bool). not b) (sym (c .before .same-name .ensures) ∙ (c .if1) .left))
 
 returns-2 : tie.Need-returns-2 Inv-loop μ-loop
 unfolding freshName
-returns-2 c = sym (passed-all ((c .before .loop) .inv) ((c .loop-test) .left))
+returns-2 c = sym (passed-all (c .before .loop .inv) (c .loop-test .left))
 
 pub fresh-spec : {M : Type 1} → statement M
 fresh-spec =

@@ -17,11 +17,11 @@ loop-holds : tie.Need-loop-holds Inv-loop μ-loop
 loop-holds c = clean-none _ _
 
 fault-at-requires : tie.Need-fault-at-requires Inv-loop μ-loop
-fault-at-requires c κs = ((c .before .before .pre) .1, omega (arith, (c .loop-test) .taken, (c .before .before .pre) .0))
+fault-at-requires c κs = (c .before .before .pre .1, omega (arith, (c .loop-test) .taken, (c .before .before .pre) .0))
 
 returns : tie.Need-returns Inv-loop μ-loop
 unfolding entriesFault
-returns c = clean-no ((c .before .before .before .loop) .inv) ((c .before .before .loop-test) .taken) ((c .before .fault-at) .ensures) ((c .if1) .taken)
+returns c = clean-no (c .before .before .before .loop .inv) (c .before .before .loop-test .taken) (c .before .fault-at .ensures) (c .if1 .taken)
 
 add-i : tie.Need-add-i Inv-loop μ-loop
 add-i c = search needs
@@ -33,11 +33,11 @@ loop-again : tie.Need-loop-again Inv-loop μ-loop
 loop-again c =
     let c2 = c .before .before in
     let c3 = c2 .before in
-    clean-more ((c3 .loop) .inv) ((c2 .loop-test) .taken) (sym ((c .before .fault-at) .ensures) ∙ (c .if1) .left)
+    clean-more (c3 .loop .inv) (c2 .loop-test .taken) (sym (c .before .fault-at .ensures) ∙ (c .if1) .left)
 
 returns-2 : tie.Need-returns-2 Inv-loop μ-loop
 unfolding entriesFault
-returns-2 c = sym (clean-all ((c .before .loop) .inv) ((c .loop-test) .left))
+returns-2 c = sym (clean-all (c .before .loop .inv) (c .loop-test .left))
 
 pub list-fault-spec : {M : Type 1} → statement M
 list-fault-spec =

@@ -24,12 +24,12 @@ loop-holds c = alike-none _ _ _ _
 
 returns : tie.Need-returns Inv-loop μ-loop
 returns c =
-    let x : length ((c .before .before .before .before .before .args) .t1 .bytes) ≡ 12 = search needs in
-    let y : length ((c .before .before .before .before .before .args) .t2 .bytes) ≡ 12 = search needs in
-    before-used ((c .before .before .before .before .before .args) .t1) ((c .before .before .before .before .before .args) .t2) x y
-    ((c .before .before .before .before .used) .ensures) ((c .before .before .before .used2) .ensures) (alike-short
+    let x : length (c .before .before .before .before .before .args .t1 .bytes) ≡ 12 = search needs in
+    let y : length (c .before .before .before .before .before .args .t2 .bytes) ≡ 12 = search needs in
+    before-used (c .before .before .before .before .before .args .t1) (c .before .before .before .before .before .args .t2) x y
+    (c .before .before .before .before .used .ensures) (c .before .before .before .used2 .ensures) (alike-short
     (omega (arith, x, (c .before .before .before .before .used) .ensures)) (omega (arith, y, (c .before .before .before .used2) .ensures))
-    ((c .before .before .loop) .inv) ((c .if1) .taken))
+    (c .before .before .loop .inv) (c .if1 .taken))
 
 element-copy-out-x : tie.Need-element-copy-out-x Inv-loop μ-loop
 element-copy-out-x c = search needs
@@ -39,27 +39,27 @@ element-copy-out-y c = search needs
 
 returns-2 : tie.Need-returns-2 Inv-loop μ-loop
 returns-2 c =
-    let x : length ((c .before .before .before .before .before .before .before .before .args) .t1 .bytes) ≡ 12 = search needs in
-    let y : length ((c .before .before .before .before .before .before .before .before .args) .t2 .bytes) ≡ 12 = search needs in
-    before-used ((c .before .before .before .before .before .before .before .before .args) .t1)
-    ((c .before .before .before .before .before .before .before .before .args) .t2) x y
-    ((c .before .before .before .before .before .before .before .used) .ensures) ((c .before .before .before .before .before .before .used2) .ensures)
+    let x : length (c .before .before .before .before .before .before .before .before .args .t1 .bytes) ≡ 12 = search needs in
+    let y : length (c .before .before .before .before .before .before .before .before .args .t2 .bytes) ≡ 12 = search needs in
+    before-used (c .before .before .before .before .before .before .before .before .args .t1)
+    (c .before .before .before .before .before .before .before .before .args .t2) x y
+    (c .before .before .before .before .before .before .before .used .ensures) (c .before .before .before .before .before .before .used2 .ensures)
     (alike-less (omega (arith, x, (c .before .before .before .before .before .before .before .used) .ensures))
-    (omega (arith, y, (c .before .before .before .before .before .before .used2) .ensures)) ((c .before .before .before .before .before .loop) .inv)
-    ((c .before .before .before .before .loop-test) .taken) ((c .before .before .before .if1) .left) ((c .if2) .taken))
+    (omega (arith, y, (c .before .before .before .before .before .before .used2) .ensures)) (c .before .before .before .before .before .loop .inv)
+    (c .before .before .before .before .loop-test .taken) (c .before .before .before .if1 .left) (c .if2 .taken))
 
 returns-3 : tie.Need-returns-3 Inv-loop μ-loop
 returns-3 c =
-    let x : length ((c .before .before .before .before .before .before .before .before .before .args) .t1 .bytes) ≡ 12 = search needs in
-    let y : length ((c .before .before .before .before .before .before .before .before .before .args) .t2 .bytes) ≡ 12 = search needs in
-    before-used ((c .before .before .before .before .before .before .before .before .before .args) .t1)
-    ((c .before .before .before .before .before .before .before .before .before .args) .t2) x y
-    ((c .before .before .before .before .before .before .before .before .used) .ensures)
-    ((c .before .before .before .before .before .before .before .used2) .ensures) (alike-more
+    let x : length (c .before .before .before .before .before .before .before .before .before .args .t1 .bytes) ≡ 12 = search needs in
+    let y : length (c .before .before .before .before .before .before .before .before .before .args .t2 .bytes) ≡ 12 = search needs in
+    before-used (c .before .before .before .before .before .before .before .before .before .args .t1)
+    (c .before .before .before .before .before .before .before .before .before .args .t2) x y
+    (c .before .before .before .before .before .before .before .before .used .ensures)
+    (c .before .before .before .before .before .before .before .used2 .ensures) (alike-more
     (omega (arith, x, (c .before .before .before .before .before .before .before .before .used) .ensures))
     (omega (arith, y, (c .before .before .before .before .before .before .before .used2) .ensures))
-    ((c .before .before .before .before .before .before .loop) .inv) ((c .before .before .before .before .before .loop-test) .taken)
-    ((c .before .before .before .before .if1) .left) ((c .if3) .taken))
+    (c .before .before .before .before .before .before .loop .inv) (c .before .before .before .before .before .loop-test .taken)
+    (c .before .before .before .before .if1 .left) (c .if3 .taken))
 
 add-i : tie.Need-add-i Inv-loop μ-loop
 add-i c = search needs
@@ -69,30 +69,30 @@ loop-less c = search needs
 
 loop-again : tie.Need-loop-again Inv-loop μ-loop
 loop-again c =
-    let x : length ((c .before .before .before .before .before .before .before .before .before .args) .t1 .bytes) ≡ 12 = search needs in
-    let y : length ((c .before .before .before .before .before .before .before .before .before .args) .t2 .bytes) ≡ 12 = search needs in
+    let x : length (c .before .before .before .before .before .before .before .before .before .args .t1 .bytes) ≡ 12 = search needs in
+    let y : length (c .before .before .before .before .before .before .before .before .before .args .t2 .bytes) ≡ 12 = search needs in
     alike-on (omega (arith, x, (c .before .before .before .before .before .before .before .before .used) .ensures))
     (omega (arith, y, (c .before .before .before .before .before .before .before .used2) .ensures))
-    ((c .before .before .before .before .before .before .loop) .inv) ((c .before .before .before .before .before .loop-test) .taken)
-    ((c .before .before .before .before .if1) .left) ((c .before .if2) .left) ((c .if3) .left)
+    (c .before .before .before .before .before .before .loop .inv) (c .before .before .before .before .before .loop-test .taken)
+    (c .before .before .before .before .if1 .left) (c .before .if2 .left) (c .if3 .left)
 
 returns-4 : tie.Need-returns-4 Inv-loop μ-loop
 returns-4 c =
-    let x : length ((c .before .before .before .before .before .args) .t1 .bytes) ≡ 12 = search needs in
-    let y : length ((c .before .before .before .before .before .args) .t2 .bytes) ≡ 12 = search needs in
-    before-used ((c .before .before .before .before .before .args) .t1) ((c .before .before .before .before .before .args) .t2) x y
-    ((c .before .before .before .before .used) .ensures) ((c .before .before .before .used2) .ensures) (alike-end
+    let x : length (c .before .before .before .before .before .args .t1 .bytes) ≡ 12 = search needs in
+    let y : length (c .before .before .before .before .before .args .t2 .bytes) ≡ 12 = search needs in
+    before-used (c .before .before .before .before .before .args .t1) (c .before .before .before .before .before .args .t2) x y
+    (c .before .before .before .before .used .ensures) (c .before .before .before .used2 .ensures) (alike-end
     (omega (arith, x, (c .before .before .before .before .used) .ensures)) (omega (arith, y, (c .before .before .before .used2) .ensures))
-    ((c .before .before .loop) .inv) ((c .before .loop-test) .left) ((c .if4) .taken))
+    (c .before .before .loop .inv) (c .before .loop-test .left) (c .if4 .taken))
 
 returns-5 : tie.Need-returns-5 Inv-loop μ-loop
 returns-5 c =
-    let x : length ((c .before .before .before .before .before .args) .t1 .bytes) ≡ 12 = search needs in
-    let y : length ((c .before .before .before .before .before .args) .t2 .bytes) ≡ 12 = search needs in
-    before-used ((c .before .before .before .before .before .args) .t1) ((c .before .before .before .before .before .args) .t2) x y
-    ((c .before .before .before .before .used) .ensures) ((c .before .before .before .used2) .ensures) (alike-short
+    let x : length (c .before .before .before .before .before .args .t1 .bytes) ≡ 12 = search needs in
+    let y : length (c .before .before .before .before .before .args .t2 .bytes) ≡ 12 = search needs in
+    before-used (c .before .before .before .before .before .args .t1) (c .before .before .before .before .before .args .t2) x y
+    (c .before .before .before .before .used .ensures) (c .before .before .before .used2 .ensures) (alike-short
     (omega (arith, x, (c .before .before .before .before .used) .ensures)) (omega (arith, y, (c .before .before .before .used2) .ensures))
-    ((c .before .before .loop) .inv) ((c .if4) .left))
+    (c .before .before .loop .inv) (c .if4 .left))
 
 pub name-before-spec : {M : Type 1} → statement M
 name-before-spec =

@@ -16,11 +16,11 @@ abbrev μ-loop : tie.MeasureT-loop
 
 returns : tie.Need-returns Inv-loop μ-loop
 unfolding nameOk
-returns c = rw (lt-leb _ _ ((c .if1) .taken))
+returns c = rw (lt-leb _ _ (c .if1 .taken))
 
 returns-2 : tie.Need-returns-2 Inv-loop μ-loop
 unfolding nameOk
-returns-2 c = rw (le-leb _ _ ((c .before .if1) .left), lt-leb _ _ ((c .if2) .taken))
+returns-2 c = rw (le-leb _ _ (c .before .if1 .left), lt-leb _ _ (c .if2 .taken))
 
 cast-n : tie.Need-cast-n Inv-loop μ-loop
 cast-n c = search needs
@@ -42,10 +42,10 @@ returns-3 c =
     let c6 = c5 .before in
     let c7 = c6 .before in
     rw (
-      le-leb _ _ ((c6 .if1) .left),
-      le-leb _ _ ((c5 .if2) .left),
-      every-no _ _ (λ j. nameByteOk (getD ((c7 .args) .t1 .bytes) j 0)) ((c3 .loop-test) .taken)
-          (sym ((c .before .byte-ok) .ensures) ∙ not-true _ ((c .if3) .taken)),
+      le-leb _ _ (c6 .if1 .left),
+      le-leb _ _ (c5 .if2 .left),
+      every-no _ _ (λ j. nameByteOk (getD (c7 .args .t1 .bytes) j 0)) (c3 .loop-test .taken)
+          (sym (c .before .byte-ok .ensures) ∙ not-true _ (c .if3 .taken)),
     )
 
 add-i : tie.Need-add-i Inv-loop μ-loop
@@ -58,14 +58,14 @@ loop-again : tie.Need-loop-again Inv-loop μ-loop
 loop-again c =
     let c3 = c .before .before .before in
     let c4 = c3 .before in
-    passed-more ((c4 .loop) .inv) ((c3 .loop-test) .taken) (sym ((c .before .byte-ok) .ensures) ∙ not-false _ ((c .if3) .left))
+    passed-more (c4 .loop .inv) (c3 .loop-test .taken) (sym (c .before .byte-ok .ensures) ∙ not-false _ (c .if3 .left))
 
 returns-4 : tie.Need-returns-4 Inv-loop μ-loop
 unfolding nameOk
 returns-4 c =
     let c2 = c .before .before in
     let c3 = c2 .before in
-    rw (le-leb _ _ ((c3 .if1) .left), le-leb _ _ ((c2 .if2) .left), passed-all ((c .before .loop) .inv) ((c .loop-test) .left))
+    rw (le-leb _ _ (c3 .if1 .left), le-leb _ _ (c2 .if2 .left), passed-all (c .before .loop .inv) (c .loop-test .left))
 
 pub name-ok-spec : {M : Type 1} → statement M
 name-ok-spec =

@@ -21,10 +21,10 @@ used-requires-2 c κs = search needs
 
 returns : tie.Need-returns Inv-loop μ-loop
 returns c =
-    let x : length ((c .before .before .before .args) .t1 .bytes) ≡ 12 = search needs in
-    let y : length ((c .before .before .before .args) .t2 .bytes) ≡ 12 = search needs in
-    differ-used ((c .before .before .before .args) .t1) ((c .before .before .before .args) .t2) x y ((c .before .before .used) .ensures)
-    ((c .before .used2) .ensures) ((c .if1) .taken)
+    let x : length (c .before .before .before .args .t1 .bytes) ≡ 12 = search needs in
+    let y : length (c .before .before .before .args .t2 .bytes) ≡ 12 = search needs in
+    differ-used (c .before .before .before .args .t1) (c .before .before .before .args .t2) x y (c .before .before .used .ensures)
+    (c .before .used2 .ensures) (c .if1 .taken)
 
 loop-holds : tie.Need-loop-holds Inv-loop μ-loop
 loop-holds c = equal-none _ _ _
@@ -37,15 +37,15 @@ element-copy-out-y c = search needs
 
 returns-2 : tie.Need-returns-2 Inv-loop μ-loop
 returns-2 c =
-    let x : length ((c .before .before .before .before .before .before .before .before .args) .t1 .bytes) ≡ 12 = search needs in
-    let y : length ((c .before .before .before .before .before .before .before .before .args) .t2 .bytes) ≡ 12 = search needs in
-    same-used ((c .before .before .before .before .before .before .before .before .args) .t1)
-    ((c .before .before .before .before .before .before .before .before .args) .t2) x y
-    ((c .before .before .before .before .before .before .before .used) .ensures) ((c .before .before .before .before .before .before .used2) .ensures)
-    ((c .before .before .before .before .before .if1) .left) (equal-no
+    let x : length (c .before .before .before .before .before .before .before .before .args .t1 .bytes) ≡ 12 = search needs in
+    let y : length (c .before .before .before .before .before .before .before .before .args .t2 .bytes) ≡ 12 = search needs in
+    same-used (c .before .before .before .before .before .before .before .before .args .t1)
+    (c .before .before .before .before .before .before .before .before .args .t2) x y
+    (c .before .before .before .before .before .before .before .used .ensures) (c .before .before .before .before .before .before .used2 .ensures)
+    (c .before .before .before .before .before .if1 .left) (equal-no
     (omega (arith, x, (c .before .before .before .before .before .before .before .used) .ensures))
-    (omega (arith, y, (c .before .before .before .before .before .before .before .used) .ensures)) ((c .before .before .before .before .loop) .inv)
-    ((c .before .before .before .loop-test) .taken) ((c .if2) .taken))
+    (omega (arith, y, (c .before .before .before .before .before .before .before .used) .ensures)) (c .before .before .before .before .loop .inv)
+    (c .before .before .before .loop-test .taken) (c .if2 .taken))
 
 add-i : tie.Need-add-i Inv-loop μ-loop
 add-i c = search needs
@@ -55,20 +55,20 @@ loop-less c = search needs
 
 loop-again : tie.Need-loop-again Inv-loop μ-loop
 loop-again c =
-    let x : length ((c .before .before .before .before .before .before .before .before .args) .t1 .bytes) ≡ 12 = search needs in
-    let y : length ((c .before .before .before .before .before .before .before .before .args) .t2 .bytes) ≡ 12 = search needs in
+    let x : length (c .before .before .before .before .before .before .before .before .args .t1 .bytes) ≡ 12 = search needs in
+    let y : length (c .before .before .before .before .before .before .before .before .args .t2 .bytes) ≡ 12 = search needs in
     equal-on (omega (arith, x, (c .before .before .before .before .before .before .before .used) .ensures))
-    (omega (arith, y, (c .before .before .before .before .before .before .before .used) .ensures)) ((c .before .before .before .before .loop) .inv)
-    ((c .before .before .before .loop-test) .taken) ((c .if2) .left)
+    (omega (arith, y, (c .before .before .before .before .before .before .before .used) .ensures)) (c .before .before .before .before .loop .inv)
+    (c .before .before .before .loop-test .taken) (c .if2 .left)
 
 returns-3 : tie.Need-returns-3 Inv-loop μ-loop
 returns-3 c =
-    let x : length ((c .before .before .before .before .before .args) .t1 .bytes) ≡ 12 = search needs in
-    let y : length ((c .before .before .before .before .before .args) .t2 .bytes) ≡ 12 = search needs in
-    same-used ((c .before .before .before .before .before .args) .t1) ((c .before .before .before .before .before .args) .t2) x y
-    ((c .before .before .before .before .used) .ensures) ((c .before .before .before .used2) .ensures) ((c .before .before .if1) .left) (equal-all
+    let x : length (c .before .before .before .before .before .args .t1 .bytes) ≡ 12 = search needs in
+    let y : length (c .before .before .before .before .before .args .t2 .bytes) ≡ 12 = search needs in
+    same-used (c .before .before .before .before .before .args .t1) (c .before .before .before .before .before .args .t2) x y
+    (c .before .before .before .before .used .ensures) (c .before .before .before .used2 .ensures) (c .before .before .if1 .left) (equal-all
     (omega (arith, x, (c .before .before .before .before .used) .ensures)) (omega (arith, y, (c .before .before .before .before .used) .ensures))
-    ((c .before .loop) .inv) ((c .loop-test) .left))
+    (c .before .loop .inv) (c .loop-test .left))
 
 pub same-name-spec : {M : Type 1} → statement M
 same-name-spec =

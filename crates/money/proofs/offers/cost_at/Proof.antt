@@ -16,7 +16,7 @@ in-range-requires c κs = search needs
 
 returns : tie.Need-returns
 unfolding costAnswer
-returns c = rw (sym ((c .before .in-range) .ensures) ∙ not-true _ ((c .if1) .taken))
+returns c = rw (sym (c .before .in-range .ensures) ∙ not-true _ (c .if1 .taken))
 
 offer-fault-requires : tie.Need-offer-fault-requires
 offer-fault-requires c κs = search needs
@@ -27,12 +27,12 @@ returns-2 c =
     let c2 = c .before .before in
     let c3 = c2 .before in
     let c4 = c3 .before in
-    rw (sym ((c3 .in-range) .ensures) ∙ not-false _ ((c2 .if1) .left)) (answer-fault (cost ((c4 .args) .o) ((c4 .args) .q .0))
-    (kept (unless (leb ((c4 .args) .q .0) (lastQ ((c4 .args) .o))) 7 0) ((c .before .offer-fault) .ensures) ((c .if2) .taken)) ((c .if2) .taken))
+    rw (sym (c3 .in-range .ensures) ∙ not-false _ (c2 .if1 .left)) (answer-fault (cost (c4 .args .o) (c4 .args .q .0))
+    (kept (unless (leb (c4 .args .q .0) (lastQ (c4 .args .o))) 7 0) (c .before .offer-fault .ensures) (c .if2 .taken)) (c .if2 .taken))
 
 last-of-requires : tie.Need-last-of-requires
 last-of-requires c κs =
-    let g = good-of ((c .before .before .before .before .args) .o) (sym ((c .before .offer-fault) .ensures) ∙ (c .if2) .left) in
+    let g = good-of (c .before .before .before .before .args .o) (sym (c .before .offer-fault .ensures) ∙ (c .if2) .left) in
     (g .some, g .most)
 
 returns-3 : tie.Need-returns-3
@@ -44,8 +44,8 @@ returns-3 c =
     let c6 = c5 .before in
     let c7 = c6 .before in
     let c8 = c7 .before in
-    let m : lastQ ((c8 .args) .o) < (c8 .args) .q .0 = omega (arith, (c3 .last-of) .ensures, (c .if3) .taken) in
-    rw (sym ((c7 .in-range) .ensures) ∙ not-false _ ((c6 .if1) .left), sym ((c5 .offer-fault) .ensures) ∙ (c4 .if2) .left, lt-leb _ _ m)
+    let m : lastQ (c8 .args .o) < (c8 .args) .q .0 = omega (arith, (c3 .last-of) .ensures, (c .if3) .taken) in
+    rw (sym (c7 .in-range .ensures) ∙ not-false _ (c6 .if1 .left), sym (c5 .offer-fault .ensures) ∙ (c4 .if2) .left, lt-leb _ _ m)
 
 cost-of-requires : tie.Need-cost-of-requires
 cost-of-requires c κs =
@@ -53,7 +53,7 @@ cost-of-requires c κs =
     let c4 = c3 .before in
     let c5 = c4 .before in
     let c8 = c5 .before .before .before in
-    (good-of ((c8 .args) .o) (sym ((c5 .offer-fault) .ensures) ∙ (c4 .if2) .left), omega (arith, (c3 .last-of) .ensures, (c .if3) .left))
+    (good-of (c8 .args .o) (sym (c5 .offer-fault .ensures) ∙ (c4 .if2) .left), omega (arith, (c3 .last-of) .ensures, (c .if3) .left))
 
 returns-4 : tie.Need-returns-4
 unfolding costAnswer
@@ -64,8 +64,8 @@ returns-4 c =
     let c7 = c6 .before in
     let c8 = c7 .before in
     let c9 = c8 .before in
-    let m : (c9 .args) .q .0 ≤ lastQ ((c9 .args) .o) = omega (arith, (c4 .last-of) .ensures, (c .before .if3) .left) in
-    rw (sym ((c8 .in-range) .ensures) ∙ not-false _ ((c7 .if1) .left), sym ((c6 .offer-fault) .ensures) ∙ (c5 .if2) .left, le-leb _ _ m, (c .cost-of) .ensures)
+    let m : (c9 .args) .q .0 ≤ lastQ (c9 .args .o) = omega (arith, (c4 .last-of) .ensures, (c .before .if3) .left) in
+    rw (sym (c8 .in-range .ensures) ∙ not-false _ (c7 .if1 .left), sym (c6 .offer-fault .ensures) ∙ (c5 .if2) .left, le-leb _ _ m, (c .cost-of) .ensures)
 
 pub cost-at-spec : {M : Type 1} → statement M
 cost-at-spec =

@@ -52,7 +52,7 @@ plus-requires c κs =
     let c3 = c .before .before .before in
     let c4 = c3 .before in
     let c5 = c4 .before in
-    (pieces-room _ (c5 .pre) _ (omega (arith, (c4 .loop) .inv .0, (c3 .loop-test) .taken)) ((c4 .loop) .inv .1 .sum), omega (arith, (c .between) .ensures .1))
+    (pieces-room _ (c5 .pre) _ (omega (arith, (c4 .loop) .inv .0, (c3 .loop-test) .taken)) (c4 .loop .inv .1 .sum), omega (arith, (c .between) .ensures .1))
 
 add-i : tie.Need-add-i Inv-loop μ-loop
 add-i c = search needs
@@ -66,8 +66,8 @@ loop-again c =
     let c5 = c4 .before in
     let c6 = c5 .before in (
       (c5 .loop) .inv .0,
-      costed-more ((c6 .pre)) ((c5 .loop) .inv .1) (omega (arith, (c5 .loop) .inv .0, (c4 .loop-test) .taken)) refl
-          ((c .before .between) .ensures .0) ((c .plus) .ensures),
+      costed-more ((c6 .pre)) (c5 .loop .inv .1) (omega (arith, (c5 .loop) .inv .0, (c4 .loop-test) .taken)) refl
+          (c .before .between .ensures .0) (c .plus .ensures),
     )
 
 returns : tie.Need-returns Inv-loop μ-loop

@@ -16,7 +16,7 @@ element-copy-out-result : tie.Need-element-copy-out-result
 element-copy-out-result c = search needs
 
 returns : tie.Need-returns
-returns c = last-is _ ((c .before .pre) .0)
+returns c = last-is _ (c .before .pre .0)
 
 pub last-of-spec : {M : Type 1} → statement M
 last-of-spec = tie.close (tie.spec cast-n sub-result mul-result element-copy-out-result returns)

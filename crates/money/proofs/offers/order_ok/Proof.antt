@@ -21,7 +21,7 @@ element-copy-out-first c = search needs
 
 returns : tie.Need-returns Inv-loop μ-loop
 unfolding orderOk
-returns c = rw (lt-leb _ _ ((c .if1) .taken))
+returns c = rw (lt-leb _ _ (c .if1 .taken))
 
 loop-holds : tie.Need-loop-holds Inv-loop μ-loop
 loop-holds c = passed-none _ _
@@ -69,9 +69,9 @@ returns-2 c =
     let c8 = c6 .before .before in
     let c11 = c8 .before .before .before in
     rw (
-      le-leb _ _ ((c8 .if1) .left),
-      every-no _ _ (risesAt ((c11 .args) .t1)) ((c6 .loop-test) .taken)
-          (sym ((c .before .pair-rises) .ensures) ∙ not-true _ ((c .if2) .taken)),
+      le-leb _ _ (c8 .if1 .left),
+      every-no _ _ (risesAt (c11 .args .t1)) (c6 .loop-test .taken)
+          (sym (c .before .pair-rises .ensures) ∙ not-true _ (c .if2 .taken)),
     )
 
 add-i : tie.Need-add-i Inv-loop μ-loop
@@ -84,11 +84,11 @@ loop-again : tie.Need-loop-again Inv-loop μ-loop
 loop-again c =
     let c6 = c .before .before .before .before .before .before in
     let c7 = c6 .before in
-    passed-more ((c7 .loop) .inv) ((c6 .loop-test) .taken) (sym ((c .before .pair-rises) .ensures) ∙ not-false _ ((c .if2) .left))
+    passed-more (c7 .loop .inv) (c6 .loop-test .taken) (sym (c .before .pair-rises .ensures) ∙ not-false _ (c .if2 .left))
 
 returns-3 : tie.Need-returns-3 Inv-loop μ-loop
 unfolding orderOk
-returns-3 c = rw (le-leb _ _ ((c .before .before .if1) .left), passed-all ((c .before .loop) .inv) ((c .loop-test) .left))
+returns-3 c = rw (le-leb _ _ (c .before .before .if1 .left), passed-all (c .before .loop .inv) (c .loop-test .left))
 
 pub order-ok-spec : {M : Type 1} → statement M
 order-ok-spec =

@@ -16,7 +16,7 @@ add-s : tie.Need-add-s
 add-s c = search needs
 
 returns : tie.Need-returns
-returns c = simp (lt-ltb _ _ ((c .if1) .taken))
+returns c = simp (lt-ltb _ _ (c .if1 .taken))
 
 cast-s : tie.Need-cast-s
 cast-s c = search needs
@@ -25,7 +25,7 @@ add-s-2 : tie.Need-add-s-2
 add-s-2 c = search needs
 
 returns-2 : tie.Need-returns-2
-returns-2 c = simp (le-ltb _ _ ((c .if1) .left))
+returns-2 c = simp (le-ltb _ _ (c .if1 .left))
 
 pub add-spec : {M : Type 1} → statement M
 add-spec =

@@ -66,14 +66,14 @@ loop-again : tie.Need-loop-again Inv-loop μ-loop
 loop-again c =
     let c5 = c .before .before .before .before .before in
     let c6 = c5 .before in
-    filled-more ((c6 .loop) .inv) ((c5 .loop-test) .taken) (rw ((c .lesser) .ensures, (c .before .above) .ensures))
+    filled-more (c6 .loop .inv) (c5 .loop-test .taken) (rw (c .lesser .ensures, (c .before .above) .ensures))
 
 returns : tie.Need-returns Inv-loop μ-loop
 returns c =
     let c2 = c .before .before in
     let c4 = c2 .before .before in
     λ k h. (c .before .loop) .inv .so-far k (omega (arith, (c .loop-test) .left)) ∙ ap
-    (λ (x : ℕ). min (mqsi (entry ((c4 .args) .t2) ((c4 .args) .i)) k) (x - quantityAt ((c4 .args) .t3) k)) ((c2 .reach-row) .ensures k h)
+    (λ (x : ℕ). min (mqsi (entry (c4 .args .t2) (c4 .args .i)) k) (x - quantityAt (c4 .args .t3) k)) (c2 .reach-row .ensures k h)
 
 pub adj-row-spec : {M : Type 1} → statement M
 adj-row-spec =

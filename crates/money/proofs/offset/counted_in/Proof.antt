@@ -18,13 +18,13 @@ returns c =
     let c4 = c3 .before in
     let a = (c4 .args) .a in
     let e = (c4 .args) .e in
-    let yes = sym ((c3 .up-to) .ensures) ∙ (c2 .if1) .taken in
+    let yes = sym (c3 .up-to .ensures) ∙ (c2 .if1) .taken in
     λ k l. omega (arith, (c .row-sum) .ensures k l, counted-yes a e k yes)
 
 returns-2 : tie.Need-returns-2
 returns-2 c =
     let c2 = c .before .before in
-    λ k l. omega (arith, counted-no ((c2 .args) .a) ((c2 .args) .e) k (sym ((c .before .up-to) .ensures) ∙ (c .if1) .left))
+    λ k l. omega (arith, counted-no (c2 .args .a) (c2 .args .e) k (sym (c .before .up-to .ensures) ∙ (c .if1) .left))
 
 pub counted-in-spec : {M : Type 1} → statement M
 counted-in-spec = tie.close (tie.spec up-to-requires row-sum-requires returns returns-2)

@@ -172,8 +172,8 @@ module _ {M : Type 1} (𝓤 : URA M) (H : Heap 𝓤) (A : Atoms 𝓤) (W : Given
   typedS : (t : Taken) (v : Val) → Is S.the-row t (v ∷ []) → T (hasTy S′.mir v) × WT v
   typedS t v g = LL.lawful S.the-type S′.the-laws 𝓤 H A W .typed t (v ∷ []) g .0
 
-  exits : IsP ps → IsQ ts → (r : Answer) (u : Val) → r ≡ offsetAnswer (length ys) ys ps ts → Is N.the-row r (u ∷ []) → ent 𝓤
-      (⋆ 𝓤 H A (‵ (flft κ q) ∷ ‵ Res ∷ ‵ Shr ∷ ‵ Fact ∷ [])) (Post u)
+  exits : IsP ps → IsQ ts → (r : Answer) (u : Val) → r ≡ offsetAnswer (length ys) ys ps ts → Is N.the-row r (u ∷ [])
+      → ent 𝓤 (⋆ 𝓤 H A (‵ (flft κ q) ∷ ‵ Res ∷ ‵ Shr ∷ ‵ Fact ∷ [])) (Post u)
   exits gp gq r u e gr =
       qed W (‵ (flft κ q) ∷ ‵ Res ∷ ‵ Shr ∷ ‵ Fact ∷ []) ∵
       suffices ! _ (ends-at 𝓤 H A offset.ended stayed (offset.clauses 𝓤 H A mem run) W (((κ, tt), (q, tt), tt, (x, (ps, (ts, tt))), at), tt) u r
@@ -394,8 +394,8 @@ module _ {M : Type 1} (𝓤 : URA M) (H : Heap 𝓤) (A : Atoms 𝓤) (W : Given
               (LL.tells S.the-type S′.the-laws r (u ∷ []) is′) is′;
         })))))
 
-  walk : (𝓣 : Tables 𝓤 H) → FmC 𝓤 H (W .laws) (𝓣 .C) → Known 𝓤 H A mem run (𝓣 .C) → Room T.the-row n → IsP ps → IsQ ts → ent 𝓤
-      (onEntry 𝓤 H A offset.signature (κ, tt) (q, tt) (x, (ps, (ts, tt))) at)
+  walk : (𝓣 : Tables 𝓤 H) → FmC 𝓤 H (W .laws) (𝓣 .C) → Known 𝓤 H A mem run (𝓣 .C) → Room T.the-row n → IsP ps → IsQ ts
+      → ent 𝓤 (onEntry 𝓤 H A offset.signature (κ, tt) (q, tt) (x, (ps, (ts, tt))) at)
       (WpFn 𝓤 H (𝓣 .C) (𝓣 .Λ) code.function (sliceVal (b, o) n ∷ machP ps ∷ machQ ts ∷ []) Post)
   walk 𝓣 fm known gn gp gq =
       qed W ((‵ (flft κ q) ⊛ ‵ ftrue) ∷ ‵ (owns (ShrSlice (named 0) κ T.the-row ∷ RP ∷ RQ ∷ []) (x, (ps, (ts, tt))) at) ∷ []) ∵ enter ! (𝓣 .C) (𝓣 .Λ)

@@ -11,17 +11,17 @@ use Rattle.money.proofs.offset.offset_core.Tie as tie
 
 returns : tie.Need-returns
 unfolding offsetAnswer
-returns c = rw (lt-leb _ _ ((c .if1) .taken))
+returns c = rw (lt-leb _ _ (c .if1 .taken))
 
 rates-ok-requires : tie.Need-rates-ok-requires
 rates-ok-requires c κs = search needs
 
 returns-2 : tie.Need-returns-2
 unfolding offsetAnswer
-returns-2 c = rw (le-leb _ _ ((c .before .before .if1) .left), sym ((c .before .rates-ok) .ensures) ∙ not-true _ ((c .if2) .taken))
+returns-2 c = rw (le-leb _ _ (c .before .before .if1 .left), sym (c .before .rates-ok .ensures) ∙ not-true _ (c .if2 .taken))
 
 list-fault-requires : tie.Need-list-fault-requires
-list-fault-requires c κs = ((c .before .before .if1) .left, rates-of _ _ (sym ((c .before .rates-ok) .ensures) ∙ not-false _ ((c .if2) .left)))
+list-fault-requires c κs = (c .before .before .if1 .left, rates-of _ _ (sym (c .before .rates-ok .ensures) ∙ not-false _ (c .if2 .left)))
 
 returns-3 : tie.Need-returns-3
 unfolding offsetAnswer
@@ -30,8 +30,8 @@ returns-3 c =
     let c3 = c2 .before in
     let c4 = c3 .before in
     let c5 = c4 .before in
-    rw (le-leb _ _ ((c4 .if1) .left), sym ((c3 .rates-ok) .ensures) ∙ not-false _ ((c2 .if2) .left)) (answer-fault
-    (offset ((c5 .args) .count) ((c5 .args) .entries) ((c5 .args) .prices) ((c5 .args) .totals)) ((c .before .list-fault) .ensures) ((c .if3) .taken))
+    rw (le-leb _ _ (c4 .if1 .left), sym (c3 .rates-ok .ensures) ∙ not-false _ (c2 .if2 .left)) (answer-fault
+    (offset (c5 .args .count) (c5 .args .entries) (c5 .args .prices) (c5 .args .totals)) (c .before .list-fault .ensures) (c .if3 .taken))
 
 offset-of-requires : tie.Need-offset-of-requires
 offset-of-requires c κs =
@@ -39,8 +39,8 @@ offset-of-requires c κs =
     let c3 = c2 .before in
     let c4 = c3 .before in
     let c5 = c4 .before in
-    let r = rates-of ((c5 .args) .prices) ((c5 .args) .totals) (sym ((c3 .rates-ok) .ensures) ∙ not-false _ ((c2 .if2) .left)) in
-    (listed-of _ _ _ ((c4 .if1) .left) r (sym ((c .before .list-fault) .ensures) ∙ (c .if3) .left), r)
+    let r = rates-of (c5 .args .prices) (c5 .args .totals) (sym (c3 .rates-ok .ensures) ∙ not-false _ (c2 .if2 .left)) in
+    (listed-of _ _ _ (c4 .if1 .left) r (sym (c .before .list-fault .ensures) ∙ (c .if3) .left), r)
 
 returns-4 : tie.Need-returns-4
 unfolding offsetAnswer
@@ -49,8 +49,8 @@ returns-4 c =
     let c3 = c2 .before in
     let c4 = c3 .before in
     let c5 = c4 .before in
-    rw (le-leb _ _ ((c5 .if1) .left), sym ((c4 .rates-ok) .ensures) ∙ not-false _ ((c3 .if2) .left), sym ((c2 .list-fault) .ensures) ∙ (c .before .if3) .left)
-    (ap (λ (z : ℤ). Amount (record { 0 = z })) ((c .offset-of) .ensures))
+    rw (le-leb _ _ (c5 .if1 .left), sym (c4 .rates-ok .ensures) ∙ not-false _ (c3 .if2 .left), sym (c2 .list-fault .ensures) ∙ (c .before .if3) .left)
+    (ap (λ (z : ℤ). Amount (record { 0 = z })) (c .offset-of .ensures))
 
 pub offset-core-spec : {M : Type 1} → statement M
 offset-core-spec =

@@ -37,7 +37,7 @@ unfolding ratesOk
 returns c =
     let c4 = c .before .before .before .before in
     let c6 = c4 .before .before in
-    sym (every-no _ _ (rateOk ((c6 .args) .t1) ((c6 .args) .t2)) ((c4 .loop-test) .taken) (sym ((c .before .rate-ok) .ensures) ∙ not-true _ ((c .if1) .taken)))
+    sym (every-no _ _ (rateOk (c6 .args .t1) (c6 .args .t2)) (c4 .loop-test .taken) (sym (c .before .rate-ok .ensures) ∙ not-true _ (c .if1 .taken)))
 
 add-k : tie.Need-add-k Inv-loop μ-loop
 add-k c = search needs
@@ -49,11 +49,11 @@ loop-again : tie.Need-loop-again Inv-loop μ-loop
 loop-again c =
     let c4 = c .before .before .before .before in
     let c5 = c4 .before in
-    passed-more ((c5 .loop) .inv) ((c4 .loop-test) .taken) (sym ((c .before .rate-ok) .ensures) ∙ not-false _ ((c .if1) .left))
+    passed-more (c5 .loop .inv) (c4 .loop-test .taken) (sym (c .before .rate-ok .ensures) ∙ not-false _ (c .if1 .left))
 
 returns-2 : tie.Need-returns-2 Inv-loop μ-loop
 unfolding ratesOk
-returns-2 c = sym (passed-all ((c .before .loop) .inv) ((c .loop-test) .left))
+returns-2 c = sym (passed-all (c .before .loop .inv) (c .loop-test .left))
 
 pub rates-ok-spec : {M : Type 1} → statement M
 rates-ok-spec =

@@ -28,7 +28,7 @@ array-copy-out-a : tie.Need-array-copy-out-a Inv-loop μ-loop
 array-copy-out-a c = search needs
 
 counted-in-requires : tie.Need-counted-in-requires Inv-loop μ-loop
-counted-in-requires c κs = reached-room ((c .before .before .loop) .inv) ((c .before .loop-test) .taken) ((c .before .before .before .before .pre) .0)
+counted-in-requires c κs = reached-room (c .before .before .loop .inv) (c .before .loop-test .taken) (c .before .before .before .before .pre .0)
 
 add-j : tie.Need-add-j Inv-loop μ-loop
 add-j c = search needs
@@ -37,10 +37,10 @@ loop-less : tie.Need-loop-less Inv-loop μ-loop
 loop-less c = search needs
 
 loop-again : tie.Need-loop-again Inv-loop μ-loop
-loop-again c = reached-more ((c .before .before .before .loop) .inv) ((c .before .before .loop-test) .taken) ((c .counted-in) .ensures)
+loop-again c = reached-more (c .before .before .before .loop .inv) (c .before .before .loop-test .taken) (c .counted-in .ensures)
 
 returns : tie.Need-returns Inv-loop μ-loop
-returns c = reached-all ((c .before .loop) .inv) ((c .loop-test) .left)
+returns c = reached-all (c .before .loop .inv) (c .loop-test .left)
 
 pub reach-row-spec : {M : Type 1} → statement M
 reach-row-spec =

@@ -33,7 +33,7 @@ add-sum c =
     let c4 = c .before .before .before .before in
     let c5 = c4 .before in
     let c6 = c5 .before in
-    omega (arith, (c6 .pre) ((c5 .loop) .k) ((c4 .loop-test) .taken))
+    omega (arith, (c6 .pre) (c5 .loop .k) (c4 .loop-test .taken))
 
 mul-row : tie.Need-mul-row Inv-loop μ-loop
 mul-row c = search needs
@@ -51,7 +51,7 @@ loop-again : tie.Need-loop-again Inv-loop μ-loop
 loop-again c =
     let c4 = c .before .before .before .before in
     let c5 = c4 .before in
-    filled-more ((c5 .loop) .inv) ((c4 .loop-test) .taken) refl
+    filled-more (c5 .loop .inv) (c4 .loop-test .taken) refl
 
 returns : tie.Need-returns Inv-loop μ-loop
 returns c = λ j l. (c .before .loop) .inv .so-far j (omega (arith, (c .loop-test) .left))

@@ -44,11 +44,11 @@ loop-less : tie.Need-loop-less Inv-loop μ-loop
 loop-less c = search needs
 
 loop-again : tie.Need-loop-again Inv-loop μ-loop
-loop-again c = filled-more ((c .before .before .before .before .loop) .inv) ((c .before .before .before .loop-test) .taken) ((c .total-with) .ensures)
+loop-again c = filled-more (c .before .before .before .before .loop .inv) (c .before .before .before .loop-test .taken) (c .total-with .ensures)
 
 returns : tie.Need-returns Inv-loop μ-loop
 unfolding totalsWith
-returns c = filled-all ((c .before .loop) .inv) ((c .loop-test) .left)
+returns c = filled-all (c .before .loop .inv) (c .loop-test .left)
 
 pub totals-with-spec : {M : Type 1} → statement M
 totals-with-spec =

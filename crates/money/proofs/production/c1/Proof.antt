@@ -31,7 +31,7 @@ component-1-of-requires : tie.Need-component-1-of-requires
 component-1-of-requires c κs =
     let c6 = c .before .before .before .before .before .before in (
       (c6 .pre) .0 .ahead,
-      ((c6 .pre) .0 .ahead-within ((c6 .args) .k) ((c6 .pre) .1), ((c6 .pre) .0 .rates ((c6 .args) .k) ((c6 .pre) .1), (c6 .pre) .0 .noload)),
+      (c6 .pre .0 .ahead-within (c6 .args .k) (c6 .pre .1), (c6 .pre .0 .rates (c6 .args .k) (c6 .pre .1), (c6 .pre) .0 .noload)),
     )
 
 returns : tie.Need-returns

@@ -31,7 +31,7 @@ component-2-of-requires : tie.Need-component-2-of-requires
 component-2-of-requires c κs =
     let c6 = c .before .before .before .before .before .before in (
       (c6 .pre) .0 .ahead,
-      ((c6 .pre) .0 .real, ((c6 .pre) .0 .ahead-within ((c6 .args) .k) ((c6 .pre) .1), (c6 .pre) .0 .real-within ((c6 .args) .k) ((c6 .pre) .1))),
+      (c6 .pre .0 .real, (c6 .pre .0 .ahead-within (c6 .args .k) (c6 .pre .1), (c6 .pre) .0 .real-within (c6 .args .k) (c6 .pre .1))),
     )
 
 returns : tie.Need-returns

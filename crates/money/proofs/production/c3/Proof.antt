@@ -30,7 +30,7 @@ element-copy-out-u c = search needs
 component-3-of-requires : tie.Need-component-3-of-requires
 component-3-of-requires c κs =
     let c5 = c .before .before .before .before .before in
-    ((c5 .pre) .0 .real, ((c5 .pre) .0 .real-within ((c5 .args) .k) ((c5 .pre) .1), (c5 .pre) .0 .rates ((c5 .args) .k) ((c5 .pre) .1)))
+    (c5 .pre .0 .real, (c5 .pre .0 .real-within (c5 .args .k) (c5 .pre .1), (c5 .pre) .0 .rates (c5 .args .k) (c5 .pre .1)))
 
 returns : tie.Need-returns
 unfolding C3

@@ -18,7 +18,7 @@ element-copy-out-u c = search needs
 component-4-of-requires : tie.Need-component-4-of-requires
 component-4-of-requires c κs =
     let c5 = c .before .before .before .before .before in
-    ((c5 .pre) .0 .spinning, ((c5 .pre) .0 .nonspinning, ((c5 .pre) .0 .thirty, (c5 .pre) .1)))
+    (c5 .pre .0 .spinning, (c5 .pre .0 .nonspinning, (c5 .pre .0 .thirty, (c5 .pre) .1)))
 
 returns : tie.Need-returns
 unfolding C4

@@ -12,15 +12,15 @@ interval-fault-requires c κs = search needs
 returns : tie.Need-returns
 returns c =
     let c2 = c .before .before in
-    answer-fault (C4 ((c2 .args) .h) ((c2 .args) .prices) ((c2 .args) .k)) ((c .before .interval-fault) .ensures) ((c .if1) .taken)
+    answer-fault (C4 (c2 .args .h) (c2 .args .prices) (c2 .args .k)) (c .before .interval-fault .ensures) (c .if1 .taken)
 
 c4-requires : tie.Need-c4-requires
 c4-requires c κs =
     let c2 = c .before .before in
-    interval-of ((c2 .args) .h) ((c2 .args) .prices) ((c2 .args) .k) (sym ((c .before .interval-fault) .ensures) ∙ (c .if1) .left)
+    interval-of (c2 .args .h) (c2 .args .prices) (c2 .args .k) (sym (c .before .interval-fault .ensures) ∙ (c .if1) .left)
 
 returns-2 : tie.Need-returns-2
-returns-2 c = answer-amount (sym ((c .before .before .interval-fault) .ensures) ∙ (c .before .if1) .left) ((c .c4) .ensures)
+returns-2 c = answer-amount (sym (c .before .before .interval-fault .ensures) ∙ (c .before .if1) .left) (c .c4 .ensures)
 
 pub component-4-spec : {M : Type 1} → statement M
 component-4-spec = tie.close (tie.spec interval-fault-requires returns c4-requires returns-2)

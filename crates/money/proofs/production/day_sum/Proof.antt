@@ -37,9 +37,9 @@ plus-requires c κs =
     let c3 = c .before .before .before in
     let c4 = c3 .before in
     let c5 = c4 .before in (
-      omega (arith, (c5 .pre) .amounts ((c4 .loop) .i) ((c3 .loop-test) .taken)),
-      start-room ((c5 .pre)) ((c4 .loop) .i) ((c3 .loop-test) .taken)
-          ((c .ticks) .ensures),
+      omega (arith, (c5 .pre) .amounts (c4 .loop .i) (c3 .loop-test .taken)),
+      start-room ((c5 .pre)) (c4 .loop .i) (c3 .loop-test .taken)
+          (c .ticks .ensures),
     )
 
 plus-requires-2 : tie.Need-plus-requires-2 Inv-loop μ-loop
@@ -47,7 +47,7 @@ plus-requires-2 c κs =
     let c4 = c .before .before .before .before in
     let c5 = c4 .before in
     let c6 = c5 .before in
-    (day-room ((c6 .pre)) ((c5 .loop) .inv), part-room ((c6 .pre)) ((c5 .loop) .i) ((c4 .loop-test) .taken) ((c .before .ticks) .ensures) ((c .plus) .ensures))
+    (day-room ((c6 .pre)) (c5 .loop .inv), part-room ((c6 .pre)) (c5 .loop .i) (c4 .loop-test .taken) (c .before .ticks .ensures) (c .plus .ensures))
 
 add-i : tie.Need-add-i Inv-loop μ-loop
 add-i c = search needs
@@ -61,12 +61,12 @@ loop-again c =
     let c5 = c2 .before .before .before in
     let c6 = c5 .before in
     let c7 = c6 .before in
-    summed-more ((c6 .loop) .inv) ((c5 .loop-test) .taken) ((c .plus2) .ensures)
-    (part-is ((c7 .pre)) ((c6 .loop) .i) ((c5 .loop-test) .taken) ((c2 .ticks) .ensures) ((c .before .plus) .ensures))
+    summed-more (c6 .loop .inv) (c5 .loop-test .taken) (c .plus2 .ensures)
+    (part-is ((c7 .pre)) (c6 .loop .i) (c5 .loop-test .taken) (c2 .ticks .ensures) (c .before .plus .ensures))
 
 returns : tie.Need-returns Inv-loop μ-loop
 unfolding daySum
-returns c = (summed-all ((c .before .loop) .inv) ((c .loop-test) .left), day-room ((c .before .before .pre)) ((c .before .loop) .inv))
+returns c = (summed-all (c .before .loop .inv) (c .loop-test .left), day-room ((c .before .before .pre)) (c .before .loop .inv))
 
 pub day-sum-spec : {M : Type 1} → statement M
 day-sum-spec =

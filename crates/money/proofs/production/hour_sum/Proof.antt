@@ -22,9 +22,9 @@ plus-requires c κs =
     let c2 = c .before .before in
     let c3 = c2 .before in
     let c14 = c3 .before .before .before .before .before .before .before .before .before .before .before in (
-      sum-room (C1 ((c14 .args) .h) ((c14 .args) .prices)) (C1-small ((c14 .pre))) ((c3 .sum-1) .ensures),
-      sum-room (C2 ((c14 .args) .h) ((c14 .args) .prices))
-          (C2-small ((c14 .pre))) ((c2 .sum-2) .ensures),
+      sum-room (C1 (c14 .args .h) (c14 .args .prices)) (C1-small ((c14 .pre))) (c3 .sum-1 .ensures),
+      sum-room (C2 (c14 .args .h) (c14 .args .prices))
+          (C2-small ((c14 .pre))) (c2 .sum-2 .ensures),
     )
 
 plus-requires-2 : tie.Need-plus-requires-2
@@ -32,9 +32,9 @@ unfolding C3 C4
 plus-requires-2 c κs =
     let c2 = c .before .before in
     let c15 = c2 .before .before .before .before .before .before .before .before .before .before .before .before .before in (
-      sum-room (C3 ((c15 .args) .h) ((c15 .args) .prices)) (C3-small ((c15 .pre))) ((c2 .sum-3) .ensures),
-      sum-room (C4 ((c15 .args) .h) ((c15 .args) .prices))
-          (C4-small ((c15 .pre))) ((c .before .sum-4) .ensures),
+      sum-room (C3 (c15 .args .h) (c15 .args .prices)) (C3-small ((c15 .pre))) (c2 .sum-3 .ensures),
+      sum-room (C4 (c15 .args .h) (c15 .args .prices))
+          (C4-small ((c15 .pre))) (c .before .sum-4 .ensures),
     )
 
 minus-requires : tie.Need-minus-requires
@@ -45,10 +45,10 @@ minus-requires c κs =
     let c4 = c3 .before in
     let c5 = c4 .before in
     let c16 = c5 .before .before .before .before .before .before .before .before .before .before .before in (
-      two-sums (C1 ((c16 .args) .h) ((c16 .args) .prices)) (C2 ((c16 .args) .h) ((c16 .args) .prices)) (C1-small ((c16 .pre))) (C2-small ((c16 .pre)))
-          ((c5 .sum-1) .ensures) ((c4 .sum-2) .ensures) ((c .before .plus) .ensures),
-      two-sums (C3 ((c16 .args) .h) ((c16 .args) .prices)) (C4 ((c16 .args) .h) ((c16 .args) .prices)) (C3-small ((c16 .pre))) (C4-small ((c16 .pre)))
-          ((c3 .sum-3) .ensures) ((c2 .sum-4) .ensures) ((c .plus2) .ensures),
+      two-sums (C1 (c16 .args .h) (c16 .args .prices)) (C2 (c16 .args .h) (c16 .args .prices)) (C1-small ((c16 .pre))) (C2-small ((c16 .pre)))
+          (c5 .sum-1 .ensures) (c4 .sum-2 .ensures) (c .before .plus .ensures),
+      two-sums (C3 (c16 .args .h) (c16 .args .prices)) (C4 (c16 .args .h) (c16 .args .prices)) (C3-small ((c16 .pre))) (C4-small ((c16 .pre)))
+          (c3 .sum-3 .ensures) (c2 .sum-4 .ensures) (c .plus2 .ensures),
     )
 
 returns : tie.Need-returns
@@ -60,8 +60,8 @@ returns c =
     let c5 = c4 .before in
     let c6 = c5 .before in
     let c17 = c6 .before .before .before .before .before .before .before .before .before .before .before in
-    hour-is ((c17 .args) .h) ((c17 .args) .prices) ((c6 .sum-1) .ensures) ((c5 .sum-2) .ensures) ((c4 .sum-3) .ensures) ((c3 .sum-4) .ensures)
-    ((c2 .plus) .ensures) ((c .before .plus2) .ensures) ((c .minus) .ensures)
+    hour-is (c17 .args .h) (c17 .args .prices) (c6 .sum-1 .ensures) (c5 .sum-2 .ensures) (c4 .sum-3 .ensures) (c3 .sum-4 .ensures)
+    (c2 .plus .ensures) (c .before .plus2 .ensures) (c .minus .ensures)
 
 pub hour-sum-spec : {M : Type 1} → statement M
 hour-sum-spec =

@@ -38,8 +38,8 @@ unfolding hoursOk
 returns c =
     let c4 = c .before .before .before .before in
     let c6 = c4 .before .before in
-    sym (every-no _ _ (λ j. amountOk (getD ((c6 .args) .t1) j noTicks) (getD ((c6 .args) .t2) j noStart)) ((c4 .loop-test) .taken)
-    (sym ((c .before .hour-ok) .ensures) ∙ not-true _ ((c .if1) .taken)))
+    sym (every-no _ _ (λ j. amountOk (getD (c6 .args .t1) j noTicks) (getD (c6 .args .t2) j noStart)) (c4 .loop-test .taken)
+    (sym (c .before .hour-ok .ensures) ∙ not-true _ (c .if1 .taken)))
 
 add-i : tie.Need-add-i Inv-loop μ-loop
 add-i c = search needs
@@ -51,11 +51,11 @@ loop-again : tie.Need-loop-again Inv-loop μ-loop
 loop-again c =
     let c4 = c .before .before .before .before in
     let c5 = c4 .before in
-    passed-more ((c5 .loop) .inv) ((c4 .loop-test) .taken) (sym ((c .before .hour-ok) .ensures) ∙ not-false _ ((c .if1) .left))
+    passed-more (c5 .loop .inv) (c4 .loop-test .taken) (sym (c .before .hour-ok .ensures) ∙ not-false _ (c .if1 .left))
 
 returns-2 : tie.Need-returns-2 Inv-loop μ-loop
 unfolding hoursOk
-returns-2 c = sym (passed-all ((c .before .loop) .inv) ((c .loop-test) .left))
+returns-2 c = sym (passed-all (c .before .loop .inv) (c .loop-test .left))
 
 pub hours-ok-spec : {M : Type 1} → statement M
 hours-ok-spec =

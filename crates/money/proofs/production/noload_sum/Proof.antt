@@ -28,9 +28,9 @@ plus-requires : tie.Need-plus-requires Inv-loop μ-loop
 plus-requires c κs =
     let c3 = c .before .before .before in
     let c4 = c3 .before in (
-      runs-room ((c4 .args) .noload .0) (quantityAt ((c4 .args) .t2)) ((c4 .pre)) ((c3 .loop) .inv),
-      running-room ((c4 .args) .noload .0)
-          (quantityAt ((c4 .args) .t2) ((c3 .loop) .k)) ((c4 .pre)) ((c .running-at) .ensures),
+      runs-room (c4 .args .noload .0) (quantityAt (c4 .args .t2)) ((c4 .pre)) (c3 .loop .inv),
+      running-room (c4 .args .noload .0)
+          (quantityAt (c4 .args .t2) (c3 .loop .k)) ((c4 .pre)) (c .running-at .ensures),
     )
 
 add-k : tie.Need-add-k Inv-loop μ-loop
@@ -43,10 +43,10 @@ loop-again : tie.Need-loop-again Inv-loop μ-loop
 loop-again c =
     let c3 = c .before .before .before in
     let c4 = c3 .before in
-    summed-more ((c4 .loop) .inv) ((c3 .loop-test) .taken) ((c .plus) .ensures) ((c .before .running-at) .ensures)
+    summed-more (c4 .loop .inv) (c3 .loop-test .taken) (c .plus .ensures) (c .before .running-at .ensures)
 
 returns : tie.Need-returns Inv-loop μ-loop
-returns c = summed-all ((c .before .loop) .inv) ((c .loop-test) .left)
+returns c = summed-all (c .before .loop .inv) (c .loop-test .left)
 
 pub noload-sum-spec : {M : Type 1} → statement M
 noload-sum-spec =

@@ -7,11 +7,11 @@ use Rattle.money.proofs.production.numbers_fine.Tie as tie
 
 returns : tie.Need-returns
 unfolding numbersFine
-returns c = rw (lt-leb _ _ ((c .if1) .taken))
+returns c = rw (lt-leb _ _ (c .if1 .taken))
 
 returns-2 : tie.Need-returns-2
 unfolding numbersFine
-returns-2 c = rw (le-leb _ _ ((c .before .before .before .if1) .left), lt-leb _ _ ((c .if2) .taken))
+returns-2 c = rw (le-leb _ _ (c .before .before .before .if1 .left), lt-leb _ _ (c .if2 .taken))
 
 quantities-ok-requires : tie.Need-quantities-ok-requires
 quantities-ok-requires c κs = search needs
@@ -21,7 +21,7 @@ unfolding numbersFine
 returns-3 c =
     let c3 = c .before .before .before in
     let c6 = c3 .before .before .before in
-    rw (le-leb _ _ ((c6 .if1) .left), le-leb _ _ ((c3 .if2) .left), sym ((c .before .quantities-ok) .ensures) ∙ not-true _ ((c .if3) .taken))
+    rw (le-leb _ _ (c6 .if1 .left), le-leb _ _ (c3 .if2 .left), sym (c .before .quantities-ok .ensures) ∙ not-true _ (c .if3 .taken))
 
 quantities-ok-requires-2 : tie.Need-quantities-ok-requires-2
 quantities-ok-requires-2 c κs = search needs
@@ -34,11 +34,11 @@ returns-4 c =
     let c6 = c4 .before .before in
     let c9 = c6 .before .before .before in
     rw (
-      le-leb _ _ ((c9 .if1) .left),
-      le-leb _ _ ((c6 .if2) .left),
-      sym ((c4 .quantities-ok) .ensures) ∙ not-false _ ((c3 .if3) .left),
+      le-leb _ _ (c9 .if1 .left),
+      le-leb _ _ (c6 .if2 .left),
+      sym (c4 .quantities-ok .ensures) ∙ not-false _ (c3 .if3 .left),
       sym
-          ((c .before .quantities-ok2) .ensures) ∙ not-true _ ((c .if4) .taken),
+          (c .before .quantities-ok2 .ensures) ∙ not-true _ (c .if4 .taken),
     )
 
 quantities-ok-requires-3 : tie.Need-quantities-ok-requires-3
@@ -54,12 +54,12 @@ returns-5 c =
     let c9 = c7 .before .before in
     let c12 = c9 .before .before .before in
     rw (
-      le-leb _ _ ((c12 .if1) .left),
-      le-leb _ _ ((c9 .if2) .left),
-      sym ((c7 .quantities-ok) .ensures) ∙ not-false _ ((c6 .if3) .left),
+      le-leb _ _ (c12 .if1 .left),
+      le-leb _ _ (c9 .if2 .left),
+      sym (c7 .quantities-ok .ensures) ∙ not-false _ (c6 .if3 .left),
       sym
-          ((c4 .quantities-ok2) .ensures) ∙ not-false _ ((c3 .if4) .left),
-      sym ((c .before .quantities-ok3) .ensures) ∙ not-true _ ((c .if5) .taken),
+          (c4 .quantities-ok2 .ensures) ∙ not-false _ (c3 .if4 .left),
+      sym (c .before .quantities-ok3 .ensures) ∙ not-true _ (c .if5 .taken),
     )
 
 quantities-ok-requires-4 : tie.Need-quantities-ok-requires-4
@@ -77,14 +77,14 @@ returns-6 c =
     let c12 = c10 .before .before in
     let c15 = c12 .before .before .before in
     rw (
-      le-leb _ _ ((c15 .if1) .left),
-      le-leb _ _ ((c12 .if2) .left),
-      sym ((c10 .quantities-ok) .ensures) ∙ not-false _ ((c9 .if3) .left),
+      le-leb _ _ (c15 .if1 .left),
+      le-leb _ _ (c12 .if2 .left),
+      sym (c10 .quantities-ok .ensures) ∙ not-false _ (c9 .if3 .left),
       sym
-          ((c7 .quantities-ok2) .ensures) ∙ not-false _ ((c6 .if4) .left),
-      sym ((c4 .quantities-ok3) .ensures) ∙ not-false _ ((c3 .if5) .left),
+          (c7 .quantities-ok2 .ensures) ∙ not-false _ (c6 .if4 .left),
+      sym (c4 .quantities-ok3 .ensures) ∙ not-false _ (c3 .if5 .left),
       sym
-          ((c .before .quantities-ok4) .ensures) ∙ not-true _ ((c .if6) .taken),
+          (c .before .quantities-ok4 .ensures) ∙ not-true _ (c .if6 .taken),
     )
 
 quantities-ok-requires-5 : tie.Need-quantities-ok-requires-5
@@ -104,15 +104,15 @@ returns-7 c =
     let c15 = c13 .before .before in
     let c18 = c15 .before .before .before in
     rw (
-      le-leb _ _ ((c18 .if1) .left),
-      le-leb _ _ ((c15 .if2) .left),
-      sym ((c13 .quantities-ok) .ensures) ∙ not-false _ ((c12 .if3) .left),
+      le-leb _ _ (c18 .if1 .left),
+      le-leb _ _ (c15 .if2 .left),
+      sym (c13 .quantities-ok .ensures) ∙ not-false _ (c12 .if3 .left),
       sym
-          ((c10 .quantities-ok2) .ensures) ∙ not-false _ ((c9 .if4) .left),
-      sym ((c7 .quantities-ok3) .ensures) ∙ not-false _ ((c6 .if5) .left),
+          (c10 .quantities-ok2 .ensures) ∙ not-false _ (c9 .if4 .left),
+      sym (c7 .quantities-ok3 .ensures) ∙ not-false _ (c6 .if5 .left),
       sym
-          ((c4 .quantities-ok4) .ensures) ∙ not-false _ ((c3 .if6) .left),
-      sym ((c .before .quantities-ok5) .ensures) ∙ not-true _ ((c .if7) .taken),
+          (c4 .quantities-ok4 .ensures) ∙ not-false _ (c3 .if6 .left),
+      sym (c .before .quantities-ok5 .ensures) ∙ not-true _ (c .if7 .taken),
     )
 
 reserves-numbers-ok-requires : tie.Need-reserves-numbers-ok-requires
@@ -133,17 +133,17 @@ returns-8 c =
     let c16 = c14 .before .before in
     let c19 = c16 .before .before .before in
     rw (
-      le-leb _ _ ((c19 .if1) .left),
-      le-leb _ _ ((c16 .if2) .left),
-      sym ((c14 .quantities-ok) .ensures) ∙ not-false _ ((c13 .if3) .left),
+      le-leb _ _ (c19 .if1 .left),
+      le-leb _ _ (c16 .if2 .left),
+      sym (c14 .quantities-ok .ensures) ∙ not-false _ (c13 .if3 .left),
       sym
-          ((c11 .quantities-ok2) .ensures) ∙ not-false _ ((c10 .if4) .left),
-      sym ((c8 .quantities-ok3) .ensures) ∙ not-false _ ((c7 .if5) .left),
+          (c11 .quantities-ok2 .ensures) ∙ not-false _ (c10 .if4 .left),
+      sym (c8 .quantities-ok3 .ensures) ∙ not-false _ (c7 .if5 .left),
       sym
-          ((c5 .quantities-ok4) .ensures) ∙ not-false _ ((c4 .if6) .left),
-      sym ((c2 .quantities-ok5) .ensures) ∙ not-false _ ((c .before .if7) .left),
+          (c5 .quantities-ok4 .ensures) ∙ not-false _ (c4 .if6 .left),
+      sym (c2 .quantities-ok5 .ensures) ∙ not-false _ (c .before .if7 .left),
     )
-    ((c .reserves-numbers-ok) .ensures)
+    (c .reserves-numbers-ok .ensures)
 
 pub numbers-fine-spec : {M : Type 1} → statement M
 numbers-fine-spec =

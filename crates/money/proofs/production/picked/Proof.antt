@@ -21,13 +21,13 @@ above-requires : tie.Need-above-requires
 above-requires c κs = search needs
 
 returns : tie.Need-returns
-returns c = rw ((c .before .enum-told) .given .1) ((c .lesser) .ensures)
+returns c = rw (c .before .enum-told .given .1) (c .lesser .ensures)
 
 returns-2 : tie.Need-returns-2
-returns-2 c = rw ((c .before .enum-told2) .given .1) ((c .greater) .ensures)
+returns-2 c = rw (c .before .enum-told2 .given .1) (c .greater .ensures)
 
 returns-3 : tie.Need-returns-3
-returns-3 c = rw ((c .before .enum-told3) .given .1) ((c .above) .ensures)
+returns-3 c = rw (c .before .enum-told3 .given .1) (c .above .ensures)
 
 pub picked-spec : {M : Type 1} → statement M
 picked-spec =

@@ -12,7 +12,7 @@ within-ok-requires c κs = search needs
 returns : tie.Need-returns
 returns c =
     let c5 = c .before .before .before .before .before in
-    (c .within-ok) .ensures ∙ ap (λ (n : ℕ). withinOk ((c5 .args) .s .schedules) n) (sym (last-none ((c5 .args) .s .offer) ((c .before .if1) .taken)))
+    (c .within-ok) .ensures ∙ ap (λ (n : ℕ). withinOk (c5 .args .s .schedules) n) (sym (last-none (c5 .args .s .offer) (c .before .if1 .taken)))
 
 last-of-requires : tie.Need-last-of-requires
 last-of-requires c κs = search needs
@@ -23,7 +23,7 @@ within-ok-requires-2 c κs = search needs
 returns-2 : tie.Need-returns-2
 returns-2 c =
     let c6 = c .before .before .before .before .before .before in
-    (c .within-ok2) .ensures ∙ ap (λ (n : ℕ). withinOk ((c6 .args) .s .schedules) n) ((c .before .last-of) .ensures)
+    (c .within-ok2) .ensures ∙ ap (λ (n : ℕ). withinOk (c6 .args .s .schedules) n) (c .before .last-of .ensures)
 
 pub reserve-within-ok-spec : {M : Type 1} → statement M
 reserve-within-ok-spec =

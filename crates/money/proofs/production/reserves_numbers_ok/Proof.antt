@@ -10,7 +10,7 @@ reserve-numbers-ok-requires c κs = search needs
 
 returns : tie.Need-returns
 unfolding reservesNumbersOk
-returns c = rw (sym ((c .before .reserve-numbers-ok) .ensures) ∙ not-true _ ((c .if1) .taken))
+returns c = rw (sym (c .before .reserve-numbers-ok .ensures) ∙ not-true _ (c .if1 .taken))
 
 reserve-numbers-ok-requires-2 : tie.Need-reserve-numbers-ok-requires-2
 reserve-numbers-ok-requires-2 c κs = search needs
@@ -20,7 +20,7 @@ unfolding reservesNumbersOk
 returns-2 c =
     let c3 = c .before .before .before in
     let c4 = c3 .before in
-    rw (sym ((c4 .reserve-numbers-ok) .ensures) ∙ not-false _ ((c3 .if1) .left), sym ((c .before .reserve-numbers-ok2) .ensures) ∙ not-true _ ((c .if2) .taken))
+    rw (sym (c4 .reserve-numbers-ok .ensures) ∙ not-false _ (c3 .if1 .left), sym (c .before .reserve-numbers-ok2 .ensures) ∙ not-true _ (c .if2 .taken))
 
 reserve-numbers-ok-requires-3 : tie.Need-reserve-numbers-ok-requires-3
 reserve-numbers-ok-requires-3 c κs = search needs
@@ -32,8 +32,8 @@ returns-3 c =
     let c3 = c2 .before in
     let c5 = c3 .before .before in
     let c6 = c5 .before in
-    rw (sym ((c6 .reserve-numbers-ok) .ensures) ∙ not-false _ ((c5 .if1) .left), sym ((c3 .reserve-numbers-ok2) .ensures) ∙ not-false _ ((c2 .if2) .left))
-    ((c .reserve-numbers-ok3) .ensures)
+    rw (sym (c6 .reserve-numbers-ok .ensures) ∙ not-false _ (c5 .if1 .left), sym (c3 .reserve-numbers-ok2 .ensures) ∙ not-false _ (c2 .if2 .left))
+    (c .reserve-numbers-ok3 .ensures)
 
 pub reserves-numbers-ok-spec : {M : Type 1} → statement M
 reserves-numbers-ok-spec =

@@ -45,7 +45,7 @@ loop-less : tie.Need-loop-less Inv-loop μ-loop
 loop-less c = search needs
 
 loop-again : tie.Need-loop-again Inv-loop μ-loop
-loop-again c = filled-more ((c .before .before .before .before .loop) .inv) ((c .before .before .before .loop-test) .taken) ((c .picked) .ensures)
+loop-again c = filled-more (c .before .before .before .before .loop .inv) (c .before .before .before .loop-test .taken) (c .picked .ensures)
 
 returns : tie.Need-returns Inv-loop μ-loop
 returns c = λ j l. (c .before .loop) .inv .so-far j (omega (arith, (c .loop-test) .left))

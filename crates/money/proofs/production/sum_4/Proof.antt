@@ -28,9 +28,9 @@ plus-requires c κs =
     let c4 = c2 .before .before in
     let c5 = c4 .before in
     let c8 = c5 .before .before .before in (
-      reserve-room ((c8 .pre) .0) (quantityAt ((c5 .row-by) .result)) ((c2 .reserve-sum) .ensures),
-      reserve-room ((c8 .pre) .1 .0)
-          (quantityAt ((c4 .row-by2) .result)) ((c .before .reserve-sum2) .ensures),
+      reserve-room (c8 .pre .0) (quantityAt (c5 .row-by .result)) (c2 .reserve-sum .ensures),
+      reserve-room (c8 .pre .1 .0)
+          (quantityAt (c4 .row-by2 .result)) (c .before .reserve-sum2 .ensures),
     )
 
 plus-requires-2 : tie.Need-plus-requires-2
@@ -41,10 +41,10 @@ plus-requires-2 c κs =
     let c5 = c4 .before in
     let c6 = c5 .before in
     let c9 = c6 .before .before .before in (
-      two-reserves ((c9 .pre) .0) ((c9 .pre) .1 .0) (quantityAt ((c6 .row-by) .result)) (quantityAt ((c5 .row-by2) .result)) ((c3 .reserve-sum) .ensures)
-          ((c2 .reserve-sum2) .ensures) ((c .plus) .ensures),
-      reserve-room ((c9 .pre) .1 .1) (quantityAt ((c4 .row-by3) .result))
-          ((c .before .reserve-sum3) .ensures),
+      two-reserves (c9 .pre .0) (c9 .pre .1 .0) (quantityAt (c6 .row-by .result)) (quantityAt (c5 .row-by2 .result)) (c3 .reserve-sum .ensures)
+          (c2 .reserve-sum2 .ensures) (c .plus .ensures),
+      reserve-room (c9 .pre .1 .1) (quantityAt (c4 .row-by3 .result))
+          (c .before .reserve-sum3 .ensures),
     )
 
 returns : tie.Need-returns
@@ -56,10 +56,10 @@ returns c =
     let c6 = c5 .before in
     let c7 = c6 .before in
     let c10 = c7 .before .before .before in
-    sum4-is ((c10 .args) .r1) ((c10 .args) .r2) ((c10 .args) .r3) (quantityAt ((c10 .args) .d)) (quantityAt ((c10 .args) .u))
-    (quantityAt ((c7 .row-by) .result)) (quantityAt ((c6 .row-by2) .result)) (quantityAt ((c5 .row-by3) .result))
-    ((c7 .row-by) .ensures) ((c6 .row-by2) .ensures) ((c5 .row-by3) .ensures) ((c4 .reserve-sum) .ensures) ((c3 .reserve-sum2) .ensures)
-    ((c2 .reserve-sum3) .ensures) ((c .before .plus) .ensures) ((c .plus2) .ensures)
+    sum4-is (c10 .args .r1) (c10 .args .r2) (c10 .args .r3) (quantityAt (c10 .args .d)) (quantityAt (c10 .args .u))
+    (quantityAt (c7 .row-by .result)) (quantityAt (c6 .row-by2 .result)) (quantityAt (c5 .row-by3 .result))
+    (c7 .row-by .ensures) (c6 .row-by2 .ensures) (c5 .row-by3 .ensures) (c4 .reserve-sum .ensures) (c3 .reserve-sum2 .ensures)
+    (c2 .reserve-sum3 .ensures) (c .before .plus .ensures) (c .plus2 .ensures)
 
 pub sum-4-spec : {M : Type 1} → statement M
 sum-4-spec =

@@ -31,8 +31,8 @@ unfolding pricesOk
 returns c =
     let c3 = c .before .before .before in
     let c5 = c3 .before .before in
-    sym (every-no _ _ (λ j. priceOk (getD ((c5 .args) .t1) j noPrice)) ((c3 .loop-test) .taken)
-    (sym ((c .before .in-range) .ensures) ∙ not-true _ ((c .if1) .taken)))
+    sym (every-no _ _ (λ j. priceOk (getD (c5 .args .t1) j noPrice)) (c3 .loop-test .taken)
+    (sym (c .before .in-range .ensures) ∙ not-true _ (c .if1 .taken)))
 
 add-k : tie.Need-add-k Inv-loop μ-loop
 add-k c = search needs
@@ -44,11 +44,11 @@ loop-again : tie.Need-loop-again Inv-loop μ-loop
 loop-again c =
     let c3 = c .before .before .before in
     let c4 = c3 .before in
-    passed-more ((c4 .loop) .inv) ((c3 .loop-test) .taken) (sym ((c .before .in-range) .ensures) ∙ not-false _ ((c .if1) .left))
+    passed-more (c4 .loop .inv) (c3 .loop-test .taken) (sym (c .before .in-range .ensures) ∙ not-false _ (c .if1 .left))
 
 returns-2 : tie.Need-returns-2 Inv-loop μ-loop
 unfolding pricesOk
-returns-2 c = sym (passed-all ((c .before .loop) .inv) ((c .loop-test) .left))
+returns-2 c = sym (passed-all (c .before .loop .inv) (c .loop-test .left))
 
 pub prices-ok-spec : {M : Type 1} → statement M
 prices-ok-spec =

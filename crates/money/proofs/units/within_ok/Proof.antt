@@ -28,7 +28,7 @@ unfolding withinOk
 returns c =
     let c4 = c .before .before .before .before in
     let c6 = c4 .before .before in
-    sym (every-no _ _ (λ j. leb (quantityAt ((c6 .args) .t1) j) ((c6 .args) .last .0)) ((c4 .loop-test) .taken) (lt-leb _ _ ((c .if1) .taken)))
+    sym (every-no _ _ (λ j. leb (quantityAt (c6 .args .t1) j) (c6 .args .last .0)) (c4 .loop-test .taken) (lt-leb _ _ (c .if1 .taken)))
 
 add-k : tie.Need-add-k Inv-loop μ-loop
 add-k c = search needs
@@ -40,11 +40,11 @@ loop-again : tie.Need-loop-again Inv-loop μ-loop
 loop-again c =
     let c4 = c .before .before .before .before in
     let c5 = c4 .before in
-    passed-more ((c5 .loop) .inv) ((c4 .loop-test) .taken) (le-leb _ _ ((c .if1) .left))
+    passed-more (c5 .loop .inv) (c4 .loop-test .taken) (le-leb _ _ (c .if1 .left))
 
 returns-2 : tie.Need-returns-2 Inv-loop μ-loop
 unfolding withinOk
-returns-2 c = sym (passed-all ((c .before .loop) .inv) ((c .loop-test) .left))
+returns-2 c = sym (passed-all (c .before .loop .inv) (c .loop-test .left))
 
 pub within-ok-spec : {M : Type 1} → statement M
 within-ok-spec =

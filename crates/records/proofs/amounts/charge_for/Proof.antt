@@ -27,22 +27,22 @@ enum-told-6 : tie.Need-enum-told-6
 enum-told-6 c = search needs
 
 returns : tie.Need-returns
-returns c = rw ((c .before .enum-told) .given .1) ((c .import-charge) .ensures)
+returns c = rw (c .before .enum-told .given .1) (c .import-charge .ensures)
 
 returns-2 : tie.Need-returns-2
-returns-2 c = rw ((c .before .enum-told2) .given .1) ((c .export-charge) .ensures)
+returns-2 c = rw (c .before .enum-told2 .given .1) (c .export-charge .ensures)
 
 returns-3 : tie.Need-returns-3
-returns-3 c = rw ((c .enum-told3) .given .1)
+returns-3 c = rw (c .enum-told3 .given .1)
 
 returns-4 : tie.Need-returns-4
-returns-4 c = rw ((c .enum-told4) .given .1)
+returns-4 c = rw (c .enum-told4 .given .1)
 
 returns-5 : tie.Need-returns-5
-returns-5 c = rw ((c .enum-told5) .given .1)
+returns-5 c = rw (c .enum-told5 .given .1)
 
 returns-6 : tie.Need-returns-6
-returns-6 c = rw ((c .enum-told6) .given .1)
+returns-6 c = rw (c .enum-told6 .given .1)
 
 pub charge-for-spec : {M : Type 1} → statement M
 charge-for-spec =

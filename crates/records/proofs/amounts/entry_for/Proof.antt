@@ -22,15 +22,15 @@ returns : tie.Need-returns
 returns c =
     let c3 = c .before .before .before in
     let c6 = c3 .before .before .before in
-    ap (λ (a : Answer). entryAnswer (given a (entryFrom ((c6 .args) .name) ((c6 .args) .i)) [])) (sym ((c .before .a) .given .1) ∙ (c3 .credit-for) .ensures)
+    ap (λ (a : Answer). entryAnswer (given a (entryFrom (c6 .args .name) (c6 .args .i)) [])) (sym (c .before .a .given .1) ∙ (c3 .credit-for) .ensures)
 
 returns-2 : tie.Need-returns-2
 returns-2 c =
     let c2 = c .before .before in
     let c4 = c2 .before .before in
     let c7 = c4 .before .before .before in
-    (c .no-entry) .ensures ∙ ap (λ (a : Answer). entryAnswer (given a (entryFrom ((c7 .args) .name) ((c7 .args) .i)) []))
-    (sym ((c2 .a2) .given .1) ∙ (c4 .credit-for) .ensures)
+    (c .no-entry) .ensures ∙ ap (λ (a : Answer). entryAnswer (given a (entryFrom (c7 .args .name) (c7 .args .i)) []))
+    (sym (c2 .a2 .given .1) ∙ (c4 .credit-for) .ensures)
 
 pub entry-for-spec : {M : Type 1} → statement M
 entry-for-spec =

@@ -16,8 +16,8 @@ failure-of-requires c κs = search needs
 returns : tie.Need-returns
 returns c =
     let c3 = c .before .before .before in
-    sym (ap (λ (r : Res Failure). amountFrom r (λ f. chargeFor ((c3 .args) .mark) f ((c3 .args) .prices))) (faulty
-    (viewedFailure ((c3 .args) .mark) ((c3 .args) .s .now)) _ (ap (λ (a : FailureAnswer). a .number) ((c .before .failure-of) .ensures)) ((c .if1) .taken)))
+    sym (ap (λ (r : Res Failure). amountFrom r (λ f. chargeFor (c3 .args .mark) f (c3 .args .prices))) (faulty
+    (viewedFailure (c3 .args .mark) (c3 .args .s .now)) _ (ap (λ (a : FailureAnswer). a .number) (c .before .failure-of .ensures)) (c .if1 .taken)))
 
 charge-for-requires : tie.Need-charge-for-requires
 charge-for-requires c κs = search needs
@@ -29,10 +29,10 @@ returns-2 c =
     let c5 = c3 .before .before in
     let s = (c5 .args) .s .now in
     let m = (c5 .args) .mark in
-    let h = had (viewedFailure m s) noFailure ((c3 .failure-of) .result .failure) _ (counted-failure m .above s)
-    (ap (λ (a : FailureAnswer). a .number) ((c3 .failure-of) .ensures)) (ap (λ (a : FailureAnswer). a .failure) ((c3 .failure-of) .ensures))
-    ((c2 .if1) .left) in
-    (c .charge-for) .ensures ∙ sym (ap (λ (r : Res Failure). amountFrom r (λ f. chargeFor m f ((c5 .args) .prices))) (h .is))
+    let h = had (viewedFailure m s) noFailure (c3 .failure-of .result .failure) _ (counted-failure m .above s)
+    (ap (λ (a : FailureAnswer). a .number) (c3 .failure-of .ensures)) (ap (λ (a : FailureAnswer). a .failure) (c3 .failure-of .ensures))
+    (c2 .if1 .left) in
+    (c .charge-for) .ensures ∙ sym (ap (λ (r : Res Failure). amountFrom r (λ f. chargeFor m f (c5 .args .prices))) (h .is))
 
 pub failure-charge-spec : {M : Type 1} → statement M
 failure-charge-spec =

@@ -19,8 +19,8 @@ import-of-requires c κs = search needs
 returns : tie.Need-returns
 returns c =
     let c3 = c .before .before .before in
-    sym (ap (λ (r : Res Import). amountFrom r (λ i. creditFor i ((c3 .args) .prices)))
-    (faulty (viewed Im import ((c3 .args) .s .now)) _ (ap (λ (a : ImportAnswer). a .number) ((c .before .import-of) .ensures)) ((c .if1) .taken)))
+    sym (ap (λ (r : Res Import). amountFrom r (λ i. creditFor i (c3 .args .prices)))
+    (faulty (viewed Im import (c3 .args .s .now)) _ (ap (λ (a : ImportAnswer). a .number) (c .before .import-of .ensures)) (c .if1 .taken)))
 
 credit-for-requires : tie.Need-credit-for-requires
 credit-for-requires c κs = search needs
@@ -31,9 +31,9 @@ returns-2 c =
     let c3 = c2 .before in
     let c5 = c3 .before .before in
     let s = (c5 .args) .s .now in
-    let h = had (viewed Im import s) noImport ((c3 .import-of) .result .import) _ (counted-viewed Im import (lawful-import .counted) .above s)
-    (ap (λ (a : ImportAnswer). a .number) ((c3 .import-of) .ensures)) (ap (λ (a : ImportAnswer). a .import) ((c3 .import-of) .ensures)) ((c2 .if1) .left) in
-    (c .credit-for) .ensures ∙ sym (ap (λ (r : Res Import). amountFrom r (λ i. creditFor i ((c5 .args) .prices))) (h .is))
+    let h = had (viewed Im import s) noImport (c3 .import-of .result .import) _ (counted-viewed Im import (lawful-import .counted) .above s)
+    (ap (λ (a : ImportAnswer). a .number) (c3 .import-of .ensures)) (ap (λ (a : ImportAnswer). a .import) (c3 .import-of .ensures)) (c2 .if1 .left) in
+    (c .credit-for) .ensures ∙ sym (ap (λ (r : Res Import). amountFrom r (λ i. creditFor i (c5 .args .prices))) (h .is))
 
 pub import-credit-spec : {M : Type 1} → statement M
 import-credit-spec =

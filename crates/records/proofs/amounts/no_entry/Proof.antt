@@ -9,7 +9,7 @@ no-offer-requires : tie.Need-no-offer-requires
 no-offer-requires c κs = search needs
 
 returns : tie.Need-returns
-returns c = rw ((c .before .no-name) .ensures, (c .no-offer) .ensures)
+returns c = rw (c .before .no-name .ensures, (c .no-offer) .ensures)
 
 pub no-entry-spec : {M : Type 1} → statement M
 no-entry-spec = tie.close (tie.spec no-name-requires no-offer-requires returns)

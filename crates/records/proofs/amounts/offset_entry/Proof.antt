@@ -28,8 +28,8 @@ returns c =
     let c6 = c4 .before .before in
     let c7 = c6 .before in
     let c9 = c7 .before .before in
-    (c .entry-for) .ensures ∙ entry-at ((c9 .args) .s .now) ((c9 .args) .prices) ((c7 .fields-at) .result .end) ((c6 .import-then) .result .end)
-    ((c7 .fields-at) .result .name) ((c6 .import-then) .result .import) ((c7 .fields-at) .ensures .0) ((c6 .import-then) .ensures .0) _ ((c4 .e) .given .1)
+    (c .entry-for) .ensures ∙ entry-at (c9 .args .s .now) (c9 .args .prices) (c7 .fields-at .result .end) (c6 .import-then .result .end)
+    (c7 .fields-at .result .name) (c6 .import-then .result .import) (c7 .fields-at .ensures .0) (c6 .import-then .ensures .0) _ (c4 .e .given .1)
 
 returns-2 : tie.Need-returns-2
 returns-2 c =
@@ -37,8 +37,8 @@ returns-2 c =
     let c4 = c2 .before .before in
     let c5 = c4 .before in
     let c7 = c5 .before .before in
-    (c .no-entry) .ensures ∙ entry-no ((c7 .args) .s .now) ((c7 .args) .prices) ((c5 .fields-at) .result .end) ((c4 .import-then) .result .end)
-    ((c5 .fields-at) .result .name) ((c4 .import-then) .result .import) ((c5 .fields-at) .ensures .0) ((c4 .import-then) .ensures .0) _ ((c2 .e2) .given .1)
+    (c .no-entry) .ensures ∙ entry-no (c7 .args .s .now) (c7 .args .prices) (c5 .fields-at .result .end) (c4 .import-then .result .end)
+    (c5 .fields-at .result .name) (c4 .import-then .result .import) (c5 .fields-at .ensures .0) (c4 .import-then .ensures .0) _ (c2 .e2 .given .1)
 
 pub offset-entry-spec : {M : Type 1} → statement M
 offset-entry-spec =

@@ -20,8 +20,8 @@ export-of-requires c κs = search needs
 returns : tie.Need-returns
 returns c =
     let c3 = c .before .before .before in
-    sym (ap (λ (r : Res Export). totalsAnswer (r >>= λ x t. got (totalsWith ((c3 .args) .totals) (x .mqsw)) t))
-    (faulty (viewed Ex export ((c3 .args) .s .now)) _ (ap (λ (a : ExportAnswer). a .number) ((c .before .export-of) .ensures)) ((c .if1) .taken)))
+    sym (ap (λ (r : Res Export). totalsAnswer (r >>= λ x t. got (totalsWith (c3 .args .totals) (x .mqsw)) t))
+    (faulty (viewed Ex export (c3 .args .s .now)) _ (ap (λ (a : ExportAnswer). a .number) (c .before .export-of .ensures)) (c .if1 .taken)))
 
 totals-with-requires : tie.Need-totals-with-requires
 totals-with-requires c κs = search needs
@@ -32,10 +32,10 @@ returns-2 c =
     let c4 = c3 .before in
     let c6 = c4 .before .before in
     let s = (c6 .args) .s .now in
-    let h = had (viewed Ex export s) noExport ((c4 .export-of) .result .export) _ (counted-viewed Ex export (lawful-export .counted) .above s)
-    (ap (λ (a : ExportAnswer). a .number) ((c4 .export-of) .ensures)) (ap (λ (a : ExportAnswer). a .export) ((c4 .export-of) .ensures)) ((c3 .if1) .left) in
+    let h = had (viewed Ex export s) noExport (c4 .export-of .result .export) _ (counted-viewed Ex export (lawful-export .counted) .above s)
+    (ap (λ (a : ExportAnswer). a .number) (c4 .export-of .ensures)) (ap (λ (a : ExportAnswer). a .export) (c4 .export-of .ensures)) (c3 .if1 .left) in
     (λ i. record { number = 0; totals = (c .totals-with) .ensures i }) ∙ sym
-    (ap (λ (r : Res Export). totalsAnswer (r >>= λ x t. got (totalsWith ((c6 .args) .totals) (x .mqsw)) t)) (h .is))
+    (ap (λ (r : Res Export). totalsAnswer (r >>= λ x t. got (totalsWith (c6 .args .totals) (x .mqsw)) t)) (h .is))
 
 pub totals-with-export-spec : {M : Type 1} → statement M
 totals-with-export-spec =

@@ -20,8 +20,8 @@ unit-of-hour-requires c κs = search needs
 returns : tie.Need-returns
 returns c =
     let c3 = c .before .before .before in
-    sym (ap (λ (r : Res UnitHour). amountFrom r (λ u. hourAnswer u ((c3 .args) .prices .emp)))
-    (faulty (viewed Gh unit ((c3 .args) .s .now)) _ (ap (λ (a : UnitAnswer). a .number) ((c .before .unit-of-hour) .ensures)) ((c .if1) .taken)))
+    sym (ap (λ (r : Res UnitHour). amountFrom r (λ u. hourAnswer u (c3 .args .prices .emp)))
+    (faulty (viewed Gh unit (c3 .args .s .now)) _ (ap (λ (a : UnitAnswer). a .number) (c .before .unit-of-hour .ensures)) (c .if1 .taken)))
 
 unit-hour-requires : tie.Need-unit-hour-requires
 unit-hour-requires c κs = search needs
@@ -32,9 +32,9 @@ returns-2 c =
     let c4 = c3 .before in
     let c6 = c4 .before .before in
     let s = (c6 .args) .s .now in
-    let h = had (viewed Gh unit s) noUnit ((c4 .unit-of-hour) .result .unit) _ (counted-viewed Gh unit (lawful-unit .counted) .above s)
-    (ap (λ (a : UnitAnswer). a .number) ((c4 .unit-of-hour) .ensures)) (ap (λ (a : UnitAnswer). a .unit) ((c4 .unit-of-hour) .ensures)) ((c3 .if1) .left) in
-    (c .unit-hour) .ensures ∙ sym (ap (λ (r : Res UnitHour). amountFrom r (λ u. hourAnswer u ((c6 .args) .prices .emp))) (h .is))
+    let h = had (viewed Gh unit s) noUnit (c4 .unit-of-hour .result .unit) _ (counted-viewed Gh unit (lawful-unit .counted) .above s)
+    (ap (λ (a : UnitAnswer). a .number) (c4 .unit-of-hour .ensures)) (ap (λ (a : UnitAnswer). a .unit) (c4 .unit-of-hour .ensures)) (c3 .if1 .left) in
+    (c .unit-hour) .ensures ∙ sym (ap (λ (r : Res UnitHour). amountFrom r (λ u. hourAnswer u (c6 .args .prices .emp))) (h .is))
 
 pub unit-amount-spec : {M : Type 1} → statement M
 unit-amount-spec =

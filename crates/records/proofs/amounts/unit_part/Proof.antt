@@ -26,8 +26,8 @@ returns c =
     let c2 = c .before .before in
     let c4 = c2 .before .before in
     (c .no-part) .ensures ∙ sym (ap
-    (λ (r : Res UnitHour). partAnswer (r >>= λ u t. given (hourAnswer u ((c4 .args) .prices .emp)) (λ a. record { ticks = a; start = u .startup }) t))
-    (faulty (viewed Gh unit ((c4 .args) .s .now)) _ (ap (λ (a : UnitAnswer). a .number) ((c2 .unit-of-hour) .ensures)) ((c .before .if1) .taken)))
+    (λ (r : Res UnitHour). partAnswer (r >>= λ u t. given (hourAnswer u (c4 .args .prices .emp)) (λ a. record { ticks = a; start = u .startup }) t))
+    (faulty (viewed Gh unit (c4 .args .s .now)) _ (ap (λ (a : UnitAnswer). a .number) (c2 .unit-of-hour .ensures)) (c .before .if1 .taken)))
 
 unit-hour-requires : tie.Need-unit-hour-requires
 unit-hour-requires c κs = search needs
@@ -50,11 +50,11 @@ returns-2 c =
     let s = (c10 .args) .s .now in
     let v = (c8 .unit-of-hour) .result .unit in
     let h = had (viewed Gh unit s) noUnit v _ (counted-viewed Gh unit (lawful-unit .counted) .above s)
-    (ap (λ (a : UnitAnswer). a .number) ((c8 .unit-of-hour) .ensures)) (ap (λ (a : UnitAnswer). a .unit) ((c8 .unit-of-hour) .ensures)) ((c7 .if1) .left) in
+    (ap (λ (a : UnitAnswer). a .number) (c8 .unit-of-hour .ensures)) (ap (λ (a : UnitAnswer). a .unit) (c8 .unit-of-hour .ensures)) (c7 .if1 .left) in
     ap (λ (a : Answer). partAnswer (given a (λ y. record { ticks = y; start = v .startup }) (h .rest)))
-    (sym ((c .before .a) .given .1) ∙ (c3 .unit-hour) .ensures)
+    (sym (c .before .a .given .1) ∙ (c3 .unit-hour) .ensures)
     ∙ sym (ap
-    (λ (r : Res UnitHour). partAnswer (r >>= λ u t. given (hourAnswer u ((c10 .args) .prices .emp)) (λ a. record { ticks = a; start = u .startup }) t))
+    (λ (r : Res UnitHour). partAnswer (r >>= λ u t. given (hourAnswer u (c10 .args .prices .emp)) (λ a. record { ticks = a; start = u .startup }) t))
     (h .is))
 
 returns-3 : tie.Need-returns-3
@@ -67,11 +67,11 @@ returns-3 c =
     let s = (c11 .args) .s .now in
     let v = (c9 .unit-of-hour) .result .unit in
     let h = had (viewed Gh unit s) noUnit v _ (counted-viewed Gh unit (lawful-unit .counted) .above s)
-    (ap (λ (a : UnitAnswer). a .number) ((c9 .unit-of-hour) .ensures)) (ap (λ (a : UnitAnswer). a .unit) ((c9 .unit-of-hour) .ensures)) ((c8 .if1) .left) in
+    (ap (λ (a : UnitAnswer). a .number) (c9 .unit-of-hour .ensures)) (ap (λ (a : UnitAnswer). a .unit) (c9 .unit-of-hour .ensures)) (c8 .if1 .left) in
     (c .no-part2) .ensures
-    ∙ ap (λ (a : Answer). partAnswer (given a (λ y. record { ticks = y; start = v .startup }) (h .rest))) (sym ((c2 .a2) .given .1) ∙ (c4 .unit-hour) .ensures)
+    ∙ ap (λ (a : Answer). partAnswer (given a (λ y. record { ticks = y; start = v .startup }) (h .rest))) (sym (c2 .a2 .given .1) ∙ (c4 .unit-hour) .ensures)
     ∙ sym (ap
-    (λ (r : Res UnitHour). partAnswer (r >>= λ u t. given (hourAnswer u ((c11 .args) .prices .emp)) (λ a. record { ticks = a; start = u .startup }) t))
+    (λ (r : Res UnitHour). partAnswer (r >>= λ u t. given (hourAnswer u (c11 .args .prices .emp)) (λ a. record { ticks = a; start = u .startup }) t))
     (h .is))
 
 pub unit-part-spec : {M : Type 1} → statement M

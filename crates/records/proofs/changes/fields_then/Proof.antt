@@ -22,17 +22,17 @@ enum-told-3 c = search needs
 
 returns : tie.Need-returns
 unfolding layoutFor
-returns c = (rw ((c .before .enum-told) .given .1) ((c .layout-then) .ensures .0), (c .layout-then) .ensures .1)
+returns c = (rw (c .before .enum-told .given .1) (c .layout-then .ensures .0), (c .layout-then) .ensures .1)
 
 returns-2 : tie.Need-returns-2
 unfolding layoutFor
-returns-2 c = (rw ((c .before .enum-told2) .given .1) ((c .layout-then2) .ensures .0), (c .layout-then2) .ensures .1)
+returns-2 c = (rw (c .before .enum-told2 .given .1) (c .layout-then2 .ensures .0), (c .layout-then2) .ensures .1)
 
 returns-3 : tie.Need-returns-3
 unfolding layoutFor
 returns-3 c =
     let c3 = c .before .before .before in
-    (rw ((c .enum-told3) .given .1) (sym (last ((c3 .args) .s .now) ((c3 .args) .e) tt)), (c3 .pre))
+    (rw (c .enum-told3 .given .1) (sym (last (c3 .args .s .now) (c3 .args .e) tt)), (c3 .pre))
 
 pub fields-then-spec : {M : Type 1} → statement M
 fields-then-spec =

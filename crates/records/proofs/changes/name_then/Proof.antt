@@ -15,8 +15,8 @@ returns c =
     let c2 = c .before .before in
     let c4 = c2 .before .before in
     record {
-      value = (c .name-field-then) .ensures .value ∙ name-named ((c4 .args) .s .now) ((c4 .args) .e) ((c4 .args) .kind) ((c4 .args) .mark)
-          (sym ((c2 .has-name) .ensures) ∙ (c .before .if1) .taken);
+      value = (c .name-field-then) .ensures .value ∙ name-named (c4 .args .s .now) (c4 .args .e) (c4 .args .kind) (c4 .args .mark)
+          (sym (c2 .has-name .ensures) ∙ (c .before .if1) .taken);
       placed = (c .name-field-then) .ensures .placed;
       few = (c .name-field-then) .ensures .few;
     }
@@ -29,8 +29,8 @@ returns-2 c =
     let c2 = c .before .before in
     let c4 = c2 .before .before in
     record {
-      value = (c .nameless-then) .ensures .value ∙ name-less ((c4 .args) .s .now) ((c4 .args) .e) ((c4 .args) .kind) ((c4 .args) .mark)
-          (sym ((c2 .has-name) .ensures) ∙ (c .before .if1) .left);
+      value = (c .nameless-then) .ensures .value ∙ name-less (c4 .args .s .now) (c4 .args .e) (c4 .args .kind) (c4 .args .mark)
+          (sym (c2 .has-name .ensures) ∙ (c .before .if1) .left);
       placed = (c .nameless-then) .ensures .placed;
       few = (c .nameless-then) .ensures .few;
     }

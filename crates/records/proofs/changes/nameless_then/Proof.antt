@@ -31,10 +31,10 @@ returns : tie.Need-returns
 returns c =
     let c4 = c .before .before .before .before in
     record {
-      value = rw ((c .before .enum-told) .given .1, (c .unnamed) .ensures .0, (c .unnamed) .ensures .1)
-          (sym (last ((c4 .args) .s .now) ((c4 .args) .e) emptyName));
-      placed = rw ((c .unnamed) .ensures .0) ((c4 .pre));
-      few = rw ((c .unnamed) .ensures .1)
+      value = rw (c .before .enum-told .given .1, (c .unnamed) .ensures .0, (c .unnamed) .ensures .1)
+          (sym (last (c4 .args .s .now) (c4 .args .e) emptyName));
+      placed = rw (c .unnamed .ensures .0) ((c4 .pre));
+      few = rw (c .unnamed .ensures .1)
           (omega arith);
     }
 
@@ -42,10 +42,10 @@ returns-2 : tie.Need-returns-2
 returns-2 c =
     let c4 = c .before .before .before .before in
     record {
-      value = rw ((c .before .enum-told2) .given .1, (c .unnamed2) .ensures .0, (c .unnamed2) .ensures .1)
-          (sym (last ((c4 .args) .s .now) ((c4 .args) .e) emptyName));
-      placed = rw ((c .unnamed2) .ensures .0) ((c4 .pre));
-      few = rw ((c .unnamed2) .ensures .1)
+      value = rw (c .before .enum-told2 .given .1, (c .unnamed2) .ensures .0, (c .unnamed2) .ensures .1)
+          (sym (last (c4 .args .s .now) (c4 .args .e) emptyName));
+      placed = rw (c .unnamed2 .ensures .0) ((c4 .pre));
+      few = rw (c .unnamed2 .ensures .1)
           (omega arith);
     }
 
@@ -53,10 +53,10 @@ returns-3 : tie.Need-returns-3
 returns-3 c =
     let c2 = c .before .before in
     record {
-      value = rw ((c2 .enum-told3) .given .1, (c .unnamed3) .ensures .0, (c .unnamed3) .ensures .1) ((c .before .zero-then) .ensures .0);
+      value = rw (c2 .enum-told3 .given .1, (c .unnamed3) .ensures .0, (c .unnamed3) .ensures .1) (c .before .zero-then .ensures .0);
       placed = rw
-          ((c .unnamed3) .ensures .0) ((c .before .zero-then) .ensures .1);
-      few = rw ((c .unnamed3) .ensures .1) (omega arith);
+          (c .unnamed3 .ensures .0) (c .before .zero-then .ensures .1);
+      few = rw (c .unnamed3 .ensures .1) (omega arith);
     }
 
 pub nameless-then-spec : {M : Type 1} → statement M

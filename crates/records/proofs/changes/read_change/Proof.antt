@@ -28,8 +28,8 @@ returns c =
     let o = (c4 .hour-then) in
     let n = (c3 .name-then) in
     let f = (c .before .fields-then) in
-    rw ((c .place) .ensures)
-    (change-is ((c7 .args) .s .now) ((c7 .args) .want) (h .result) (o .result) (n .result) (f .result) (h .ensures .0) (o .ensures .0) (n .ensures)
+    rw (c .place .ensures)
+    (change-is (c7 .args .s .now) (c7 .args .want) (h .result) (o .result) (n .result) (f .result) (h .ensures .0) (o .ensures .0) (n .ensures)
     (f .ensures))
 
 pub read-change-spec : {M : Type 1} → statement M

@@ -7,7 +7,7 @@ enum-known-e : tie.Need-enum-known-e
 enum-known-e c = search needs
 
 returns : tie.Need-returns
-returns c = (rw ((c .before .before .e) .given .1) (zero-past ((c .before .before .before .before .args) .s .now) _ ((c .if1) .taken)), tt)
+returns c = (rw (c .before .before .e .given .1) (zero-past (c .before .before .before .before .args .s .now) _ (c .if1 .taken)), tt)
 
 shared-slice-read-if2 : tie.Need-shared-slice-read-if2
 shared-slice-read-if2 c = search needs
@@ -20,8 +20,8 @@ enum-known-e-2 c = search needs
 
 returns-2 : tie.Need-returns-2
 returns-2 c = (
-  rw ((c .before .before .before .before .e) .given .1)
-      (zero-here ((c .before .before .before .before .before .before .args) .s .now) _ ((c .before .before .if1) .left) ((c .if2) .taken)),
+  rw (c .before .before .before .before .e .given .1)
+      (zero-here (c .before .before .before .before .before .before .args .s .now) _ (c .before .before .if1 .left) (c .if2 .taken)),
   search needs,
 )
 
@@ -30,10 +30,10 @@ returns-3 c =
     let c2 = c .before .before in
     let c4 = c2 .before .before in
     let c6 = c4 .before .before in
-    (rw ((c4 .e) .given .1) (zero-not ((c6 .args) .s .now) _ ((c2 .if1) .left) ((c .if2) .left)), tt)
+    (rw (c4 .e .given .1) (zero-not (c6 .args .s .now) _ (c2 .if1 .left) (c .if2 .left)), tt)
 
 returns-4 : tie.Need-returns-4
-returns-4 c = (rw ((c .before .e2) .given .1), tt)
+returns-4 c = (rw (c .before .e2 .given .1), tt)
 
 pub zero-then-spec : {M : Type 1} → statement M
 zero-then-spec =

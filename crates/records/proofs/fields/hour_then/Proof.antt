@@ -13,7 +13,7 @@ returns : tie.Need-returns
 returns c =
     let c3 = c .before .before .before in
     let c6 = c3 .before .before .before in
-    (rw ((c .hour-no) .ensures, (c3 .e) .given .1) (hour-past ((c6 .args) .s .now) _ ((c .before .if1) .taken)), rw ((c .hour-no) .ensures) tt)
+    (rw (c .hour-no .ensures, (c3 .e) .given .1) (hour-past (c6 .args .s .now) _ (c .before .if1 .taken)), rw (c .hour-no .ensures) tt)
 
 shared-slice-read-hour : tie.Need-shared-slice-read-hour
 shared-slice-read-hour c = search needs
@@ -26,8 +26,8 @@ returns-2 c =
     let c3 = c .before .before .before in
     let c5 = c3 .before .before in
     let c8 = c5 .before .before .before in (
-      rw ((c .hour-no2) .ensures, (c5 .e) .given .1) (hour-low ((c8 .args) .s .now) _ ((c3 .if1) .left) ((c .before .if2) .taken)),
-      rw ((c .hour-no2) .ensures)
+      rw (c .hour-no2 .ensures, (c5 .e) .given .1) (hour-low (c8 .args .s .now) _ (c3 .if1 .left) (c .before .if2 .taken)),
+      rw (c .hour-no2 .ensures)
           tt,
     )
 
@@ -40,9 +40,9 @@ returns-3 c =
     let c4 = c2 .before .before in
     let c6 = c4 .before .before in
     let c9 = c6 .before .before .before in (
-      rw ((c .hour-no3) .ensures, (c6 .e) .given .1) (hour-high ((c9 .args) .s .now) _ ((c4 .if1) .left) ((c2 .if2) .left) ((c .before .if3) .taken)),
+      rw (c .hour-no3 .ensures, (c6 .e) .given .1) (hour-high (c9 .args .s .now) _ (c4 .if1 .left) (c2 .if2 .left) (c .before .if3 .taken)),
       rw
-          ((c .hour-no3) .ensures) tt,
+          (c .hour-no3 .ensures) tt,
     )
 
 add-t7 : tie.Need-add-t7
@@ -56,14 +56,14 @@ hour-no-requires-4 c κs = search needs
 
 returns-4 : tie.Need-returns-4
 returns-4 c = (
-  rw ((c .before .before .before .before .before .e) .given .1) (hour-here
-      ((c .before .before .before .before .before .before .before .before .args) .s .now) _ ((c .before .before .before .if1) .left) ((c .before .if2) .left)
-      ((c .if3) .left)),
+  rw (c .before .before .before .before .before .e .given .1) (hour-here
+      (c .before .before .before .before .before .before .before .before .args .s .now) _ (c .before .before .before .if1 .left) (c .before .if2 .left)
+      (c .if3 .left)),
   search needs,
 )
 
 returns-5 : tie.Need-returns-5
-returns-5 c = (rw ((c .hour-no4) .ensures, (c .before .before .e2) .given .1), rw ((c .hour-no4) .ensures) tt)
+returns-5 c = (rw (c .hour-no4 .ensures, (c .before .before .e2) .given .1), rw (c .hour-no4 .ensures) tt)
 
 pub hour-then-spec : {M : Type 1} → statement M
 hour-then-spec =

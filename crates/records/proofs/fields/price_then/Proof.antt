@@ -22,16 +22,16 @@ returns c =
     let c3 = c .before .before .before in
     let c5 = c3 .before .before in
     let h = (c3 .read-price) .ensures .1 in
-    (rw ((c5 .e) .given .1, ← (c3 .read-price) .ensures .0, (c .before .p) .given .1), rw ((c .before .p) .given .1) at h)
+    (rw (c5 .e .given .1, ← (c3 .read-price) .ensures .0, (c .before .p) .given .1), rw (c .before .p .given .1) at h)
 
 returns-2 : tie.Need-returns-2
 returns-2 c =
     let c3 = c .before .before .before in
     let c5 = c3 .before .before in
-    (rw ((c5 .e) .given .1, ← (c3 .read-price) .ensures .0, (c .before .p2) .given .1), tt)
+    (rw (c5 .e .given .1, ← (c3 .read-price) .ensures .0, (c .before .p2) .given .1), tt)
 
 returns-3 : tie.Need-returns-3
-returns-3 c = (rw ((c .before .e2) .given .1), tt)
+returns-3 c = (rw (c .before .e2 .given .1), tt)
 
 pub price-then-spec : {M : Type 1} → statement M
 price-then-spec =

@@ -19,11 +19,11 @@ returns c =
     let c2 = c .before .before in
     let c4 = c2 .before .before in
     let h = (c4 .read-word) .ensures .1 in
-    (rw (← (c4 .read-word) .ensures .0, (c2 .w) .given .1, le-leb _ _ ((c .if1) .taken)), rw ((c2 .w) .given .1) at h)
+    (rw (← (c4 .read-word) .ensures .0, (c2 .w) .given .1, le-leb _ _ (c .if1 .taken)), rw (c2 .w .given .1) at h)
 
 returns-2 : tie.Need-returns-2
 unfolding amount
-returns-2 c = (rw (← (c .before .before .before .before .read-word) .ensures .0, (c .before .before .w) .given .1, lt-leb _ _ ((c .if1) .left)), tt)
+returns-2 c = (rw (← (c .before .before .before .before .read-word) .ensures .0, (c .before .before .w) .given .1, lt-leb _ _ (c .if1 .left)), tt)
 
 returns-3 : tie.Need-returns-3
 unfolding amount

@@ -32,24 +32,24 @@ enum-known-w-2 c = search needs
 returns : tie.Need-returns
 returns c =
     let h = (c .before .before .before .before .before .before .before .before .read-word) .ensures .1 in (
-      price-good ((c .before .before .before .before .before .before .before .before .before .before .args) .s .now)
-          ((c .before .before .before .before .before .before .before .before .before .before .args) .at)
-          ((c .before .before .before .before .before .before .w) .given .0 .0) ((c .before .before .before .before .before .before .w) .given .0 .1 .0) (sym
-          ((c .before .before .before .before .before .before .before .before .read-word) .ensures .0) ∙ ap (num _)
-          ((c .before .before .before .before .before .before .w) .given .1)) _ (ap priceRead (sym ((c .before .before .before .before .signed-of) .ensures)) ∙ ap
-          priceRead (sym (toZ-ofZ w32 ((c .before .before .before .before .signed-of) .result) (search needs))) ∙ sym ((c .before .before .before .new) .ensures)
+      price-good (c .before .before .before .before .before .before .before .before .before .before .args .s .now)
+          (c .before .before .before .before .before .before .before .before .before .before .args .at)
+          (c .before .before .before .before .before .before .w .given .0 .0) (c .before .before .before .before .before .before .w .given .0 .1 .0) (sym
+          (c .before .before .before .before .before .before .before .before .read-word .ensures .0) ∙ ap (num _)
+          (c .before .before .before .before .before .before .w .given .1)) _ (ap priceRead (sym (c .before .before .before .before .signed-of .ensures)) ∙ ap
+          priceRead (sym (toZ-ofZ w32 (c .before .before .before .before .signed-of .result) (search needs))) ∙ sym (c .before .before .before .new .ensures)
           ∙ (c .before .p) .given .1),
-      rw ((c .before .before .before .before .before .before .w) .given .1) at h,
+      rw (c .before .before .before .before .before .before .w .given .1) at h,
     )
 
 returns-2 : tie.Need-returns-2
 returns-2 c = (
-  price-refused ((c .before .before .before .before .before .before .before .before .before .before .args) .s .now)
-      ((c .before .before .before .before .before .before .before .before .before .before .args) .at)
-      ((c .before .before .before .before .before .before .w) .given .0 .0) ((c .before .before .before .before .before .before .w) .given .0 .1 .0) (sym
-      ((c .before .before .before .before .before .before .before .before .read-word) .ensures .0) ∙ ap (num _)
-      ((c .before .before .before .before .before .before .w) .given .1)) _ (ap priceRead (sym ((c .before .before .before .before .signed-of) .ensures)) ∙ ap
-      priceRead (sym (toZ-ofZ w32 ((c .before .before .before .before .signed-of) .result) (search needs))) ∙ sym ((c .before .before .before .new) .ensures) ∙
+  price-refused (c .before .before .before .before .before .before .before .before .before .before .args .s .now)
+      (c .before .before .before .before .before .before .before .before .before .before .args .at)
+      (c .before .before .before .before .before .before .w .given .0 .0) (c .before .before .before .before .before .before .w .given .0 .1 .0) (sym
+      (c .before .before .before .before .before .before .before .before .read-word .ensures .0) ∙ ap (num _)
+      (c .before .before .before .before .before .before .w .given .1)) _ (ap priceRead (sym (c .before .before .before .before .signed-of .ensures)) ∙ ap
+      priceRead (sym (toZ-ofZ w32 (c .before .before .before .before .signed-of .result) (search needs))) ∙ sym (c .before .before .before .new .ensures) ∙
       (c .before .p2) .given .1),
   tt,
 )
@@ -58,7 +58,7 @@ returns-3 : tie.Need-returns-3
 returns-3 c =
     let c3 = c .before .before .before in
     let c5 = c3 .before .before in
-    (price-bad ((c5 .args) .s .now) ((c5 .args) .at) _ (sym ((c3 .read-word) .ensures .0) ∙ ap (num _) ((c .before .w2) .given .1)), tt)
+    (price-bad (c5 .args .s .now) (c5 .args .at) _ (sym (c3 .read-word .ensures .0) ∙ ap (num _) (c .before .w2 .given .1)), tt)
 
 pub read-price-spec : {M : Type 1} → statement M
 read-price-spec =

@@ -30,9 +30,9 @@ returns c =
     let c7 = c5 .before .before in
     let c9 = c7 .before .before in
     let h = (c7 .read-word) .ensures .1 in (
-      quantity-good ((c9 .args) .s .now) ((c9 .args) .at) ((c5 .w) .given .0 .0) ((c5 .w) .given .0 .1 .0)
-          (sym ((c7 .read-word) .ensures .0) ∙ ap (num _) ((c5 .w) .given .1)) _ (sym ((c3 .new) .ensures) ∙ (c .before .q) .given .1),
-      rw ((c5 .w) .given .1) at
+      quantity-good (c9 .args .s .now) (c9 .args .at) (c5 .w .given .0 .0) (c5 .w .given .0 .1 .0)
+          (sym (c7 .read-word .ensures .0) ∙ ap (num _) (c5 .w .given .1)) _ (sym (c3 .new .ensures) ∙ (c .before .q) .given .1),
+      rw (c5 .w .given .1) at
           h,
     )
 
@@ -42,8 +42,8 @@ returns-2 c =
     let c5 = c3 .before .before in
     let c7 = c5 .before .before in
     let c9 = c7 .before .before in (
-      quantity-refused ((c9 .args) .s .now) ((c9 .args) .at) ((c5 .w) .given .0 .0) ((c5 .w) .given .0 .1 .0)
-          (sym ((c7 .read-word) .ensures .0) ∙ ap (num _) ((c5 .w) .given .1)) _ (sym ((c3 .new) .ensures) ∙ (c .before .q2) .given .1),
+      quantity-refused (c9 .args .s .now) (c9 .args .at) (c5 .w .given .0 .0) (c5 .w .given .0 .1 .0)
+          (sym (c7 .read-word .ensures .0) ∙ ap (num _) (c5 .w .given .1)) _ (sym (c3 .new .ensures) ∙ (c .before .q2) .given .1),
       tt,
     )
 
@@ -51,7 +51,7 @@ returns-3 : tie.Need-returns-3
 returns-3 c =
     let c3 = c .before .before .before in
     let c5 = c3 .before .before in
-    (quantity-bad ((c5 .args) .s .now) ((c5 .args) .at) _ (sym ((c3 .read-word) .ensures .0) ∙ ap (num _) ((c .before .w2) .given .1)), tt)
+    (quantity-bad (c5 .args .s .now) (c5 .args .at) _ (sym (c3 .read-word .ensures .0) ∙ ap (num _) (c .before .w2 .given .1)), tt)
 
 pub read-quantity-spec : {M : Type 1} → statement M
 read-quantity-spec =

@@ -30,10 +30,10 @@ returns c =
     let c5 = c4 .before in
     let c6 = c5 .before in
     let c8 = c6 .before .before in
-    sym (ap keyAnswer (head-key-is ((c8 .args) .s .now) ((c6 .head-at) .result) ((c5 .hour-then) .result) ((c4 .name-then) .result) ((c6 .head-at) .ensures .0)
-    ((c5 .hour-then) .ensures .0) ((c4 .name-then) .ensures) ∙ ap (λ d. shown ((c8 .args) .s .now) d
+    sym (ap keyAnswer (head-key-is (c8 .args .s .now) (c6 .head-at .result) (c5 .hour-then .result) (c4 .name-then .result) (c6 .head-at .ensures .0)
+    (c5 .hour-then .ensures .0) (c4 .name-then .ensures) ∙ ap (λ d. shown (c8 .args .s .now) d
     (record { mark = (c6 .head-at) .result .mark; hour = (c5 .hour-then) .result .hour; name = (c4 .name-then) .result .name }))
-    ((c .before .e3) .given .1)))
+    (c .before .e3 .given .1)))
 
 returns-2 : tie.Need-returns-2
 returns-2 c =
@@ -42,9 +42,9 @@ returns-2 c =
     let c6 = c5 .before in
     let c7 = c6 .before in
     let c9 = c7 .before .before in
-    (c .key-no) .ensures ∙ sym (ap keyAnswer (head-key-is ((c9 .args) .s .now) ((c7 .head-at) .result) ((c6 .hour-then) .result) ((c5 .name-then) .result)
-    ((c7 .head-at) .ensures .0) ((c6 .hour-then) .ensures .0) ((c5 .name-then) .ensures) ∙ ap (λ d. shown ((c9 .args) .s .now) d
-    (record { mark = (c7 .head-at) .result .mark; hour = (c6 .hour-then) .result .hour; name = (c5 .name-then) .result .name })) ((c2 .e32) .given .1)))
+    (c .key-no) .ensures ∙ sym (ap keyAnswer (head-key-is (c9 .args .s .now) (c7 .head-at .result) (c6 .hour-then .result) (c5 .name-then .result)
+    (c7 .head-at .ensures .0) (c6 .hour-then .ensures .0) (c5 .name-then .ensures) ∙ ap (λ d. shown (c9 .args .s .now) d
+    (record { mark = (c7 .head-at) .result .mark; hour = (c6 .hour-then) .result .hour; name = (c5 .name-then) .result .name })) (c2 .e32 .given .1)))
 
 pub head-key-spec : {M : Type 1} → statement M
 head-key-spec =

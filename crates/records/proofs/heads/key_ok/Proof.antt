@@ -19,8 +19,8 @@ returns c =
     let c3 = c2 .before in
     let c4 = c3 .before in
     let c6 = c4 .before .before in
-    (c .name-ok) .ensures ∙ ok-named ((c6 .args) .key) (sym ((c4 .hour-ok) .ensures) ∙ (c3 .if1) .taken)
-    (sym ((c2 .has-name) .ensures) ∙ (c .before .if2) .taken)
+    (c .name-ok) .ensures ∙ ok-named (c6 .args .key) (sym (c4 .hour-ok .ensures) ∙ (c3 .if1) .taken)
+    (sym (c2 .has-name .ensures) ∙ (c .before .if2) .taken)
 
 returns-2 : tie.Need-returns-2
 returns-2 c =
@@ -28,10 +28,10 @@ returns-2 c =
     let c3 = c2 .before in
     let c4 = c3 .before in
     let c6 = c4 .before .before in
-    ok-unnamed ((c6 .args) .key) (sym ((c4 .hour-ok) .ensures) ∙ (c3 .if1) .taken) (sym ((c2 .has-name) .ensures) ∙ (c .before .if2) .left)
+    ok-unnamed (c6 .args .key) (sym (c4 .hour-ok .ensures) ∙ (c3 .if1) .taken) (sym (c2 .has-name .ensures) ∙ (c .before .if2) .left)
 
 returns-3 : tie.Need-returns-3
-returns-3 c = ok-not ((c .before .before .before .args) .key) (sym ((c .before .hour-ok) .ensures) ∙ (c .if1) .left)
+returns-3 c = ok-not (c .before .before .before .args .key) (sym (c .before .hour-ok .ensures) ∙ (c .if1) .left)
 
 pub key-ok-spec : {M : Type 1} → statement M
 key-ok-spec =

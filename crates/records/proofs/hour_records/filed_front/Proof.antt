@@ -21,15 +21,15 @@ returns c =
     let c2 = c .before .before in
     let c4 = c2 .before .before in
     let c6 = c4 .before .before in
-    filed-at ((c6 .args) .s .now) ((c4 .read-change) .result) ((c4 .read-change) .ensures) ((c2 .e) .given .0 .0) ((c2 .e) .given .1)
+    filed-at (c6 .args .s .now) (c4 .read-change .result) (c4 .read-change .ensures) (c2 .e .given .0 .0) (c2 .e .given .1)
 
 returns-2 : tie.Need-returns-2
 returns-2 c =
     let c2 = c .before .before in
     let c4 = c2 .before .before in
     let c6 = c4 .before .before in
-    (c .no-record) .ensures ∙ filed-no ((c6 .args) .s .now) ((c4 .read-change) .result) ((c4 .read-change) .ensures) ((c2 .e2) .given .0 .0)
-    ((c2 .e2) .given .1)
+    (c .no-record) .ensures ∙ filed-no (c6 .args .s .now) (c4 .read-change .result) (c4 .read-change .ensures) (c2 .e2 .given .0 .0)
+    (c2 .e2 .given .1)
 
 pub filed-front-spec : {M : Type 1} → statement M
 filed-front-spec =

@@ -24,16 +24,16 @@ returns c =
     let c2 = c .before .before in
     let c4 = c2 .before .before in
     let c6 = c4 .before .before in
-    (c .filed-front) .ensures ∙ front-filed ((c6 .args) .s .now) ((c6 .args) .first) ((c4 .start-of) .result) ((c4 .start-of) .ensures .0)
-    ((c2 .e) .given .0 .0) ((c2 .e) .given .1)
+    (c .filed-front) .ensures ∙ front-filed (c6 .args .s .now) (c6 .args .first) (c4 .start-of .result) (c4 .start-of .ensures .0)
+    (c2 .e .given .0 .0) (c2 .e .given .1)
 
 returns-2 : tie.Need-returns-2
 returns-2 c =
     let c2 = c .before .before in
     let c4 = c2 .before .before in
     let c6 = c4 .before .before in
-    (c .no-record) .ensures ∙ front-not ((c6 .args) .s .now) ((c6 .args) .first) ((c4 .start-of) .result) ((c4 .start-of) .ensures .0) ((c2 .e2) .given .0 .0)
-    ((c2 .e2) .given .1)
+    (c .no-record) .ensures ∙ front-not (c6 .args .s .now) (c6 .args .first) (c4 .start-of .result) (c4 .start-of .ensures .0) (c2 .e2 .given .0 .0)
+    (c2 .e2 .given .1)
 
 pub first-of-hour-spec : {M : Type 1} → statement M
 first-of-hour-spec =

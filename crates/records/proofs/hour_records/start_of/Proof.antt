@@ -36,11 +36,11 @@ returns c =
     let c4 = c3 .before in
     let c5 = c4 .before in
     let c7 = c5 .before .before in (
-      start-is ((c7 .args) .s .now) ((c7 .args) .first) ((c5 .head-at) .result) ((c2 .hour-then) .result) ((c3 .guard-end) .result) ((c5 .head-at) .ensures .0)
-          ((c3 .guard-end) .ensures ∙ ap (λ (b : Bool). guarded ((c5 .head-at) .result .end) b 2) ((c4 .of-hour) .ensures)) ((c2 .hour-then) .ensures .0)
-          ∙ sym (ap (λ (d : End). then ((c7 .args) .s .now) d (λ t. change (Only File) ((c7 .args) .s .now)))
-          ((c .guard-end2) .ensures ∙ ap (λ (b : Bool). guarded ((c2 .hour-then) .result .end) b 3) ((c .before .same-as) .ensures))),
-      rw ((c .guard-end2) .ensures) (guarded-in ((c7 .args) .s .now) ((c2 .hour-then) .result .end) _ 3 ((c2 .hour-then) .ensures .1)),
+      start-is (c7 .args .s .now) (c7 .args .first) (c5 .head-at .result) (c2 .hour-then .result) (c3 .guard-end .result) (c5 .head-at .ensures .0)
+          (c3 .guard-end .ensures ∙ ap (λ (b : Bool). guarded (c5 .head-at .result .end) b 2) (c4 .of-hour .ensures)) (c2 .hour-then .ensures .0)
+          ∙ sym (ap (λ (d : End). then (c7 .args .s .now) d (λ t. change (Only File) (c7 .args .s .now)))
+          (c .guard-end2 .ensures ∙ ap (λ (b : Bool). guarded (c2 .hour-then .result .end) b 3) (c .before .same-as .ensures))),
+      rw (c .guard-end2 .ensures) (guarded-in (c7 .args .s .now) (c2 .hour-then .result .end) _ 3 (c2 .hour-then .ensures .1)),
     )
 
 pub start-of-spec : {M : Type 1} → statement M

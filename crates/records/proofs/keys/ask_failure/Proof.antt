@@ -13,8 +13,8 @@ key-from-requires c κs = search needs
 returns : tie.Need-returns
 returns c =
     let c4 = c .before .before .before .before in
-    (c .key-from) .ensures ((c4 .args) .mark .now) ∙ ap (λ x. keyAnswer (askFrom x ((c4 .args) .hour) ((c4 .args) .name .now)))
-    ((c .before .asked-failure-mark) .ensures .0)
+    (c .key-from) .ensures (c4 .args .mark .now) ∙ ap (λ x. keyAnswer (askFrom x (c4 .args .hour) (c4 .args .name .now)))
+    (c .before .asked-failure-mark .ensures .0)
 
 pub ask-failure-spec : {M : Type 1} → statement M
 ask-failure-spec = tie.close (tie.spec asked-failure-mark-requires key-from-requires returns)

@@ -30,7 +30,7 @@ returns c =
     let ms = (c6 .args) .mark .now in
     let m = (c4 .asked-mark) .result .mark in
     (c .hour-key) .ensures ∙ sym (ap keyAnswer
-    (hour-of ms ((c6 .args) .hour) m (from ms ((c2 .e) .given .0 .0)) (sym ((c4 .asked-mark) .ensures .0) ∙ ap (λ d. shown ms d m) ((c2 .e) .given .1))))
+    (hour-of ms (c6 .args .hour) m (from ms (c2 .e .given .0 .0)) (sym (c4 .asked-mark .ensures .0) ∙ ap (λ d. shown ms d m) (c2 .e .given .1))))
 
 returns-2 : tie.Need-returns-2
 returns-2 c =
@@ -40,7 +40,7 @@ returns-2 c =
     let ms = (c6 .args) .mark .now in
     let m = (c4 .asked-mark) .result .mark in
     (c .key-no) .ensures ∙ sym (ap keyAnswer
-    (hour-mark ms ((c6 .args) .hour) ((c2 .e2) .given .0 .0) (sym ((c4 .asked-mark) .ensures .0) ∙ ap (λ d. shown ms d m) ((c2 .e2) .given .1))))
+    (hour-mark ms (c6 .args .hour) (c2 .e2 .given .0 .0) (sym (c4 .asked-mark .ensures .0) ∙ ap (λ d. shown ms d m) (c2 .e2 .given .1))))
 
 pub ask-hour-spec : {M : Type 1} → statement M
 ask-hour-spec =

@@ -20,7 +20,7 @@ returns c =
     let c6 = c4 .before .before in
     let s = (c6 .args) .name .now in
     let n = (c4 .decode) .result .name in
-    sym (ap nameAnswer (sym ((c4 .decode) .ensures .value) ∙ ap (λ d. shown s d n) ((c .before .e) .given .1)))
+    sym (ap nameAnswer (sym (c4 .decode .ensures .value) ∙ ap (λ d. shown s d n) (c .before .e .given .1)))
 
 no-name-requires : tie.Need-no-name-requires
 no-name-requires c κs = search needs
@@ -32,7 +32,7 @@ returns-2 c =
     let c7 = c5 .before .before in
     let s = (c7 .args) .name .now in
     let n = (c5 .decode) .result .name in
-    rw ((c .no-name) .ensures) (sym (ap nameAnswer (sym ((c5 .decode) .ensures .value) ∙ ap (λ d. shown s d n) ((c2 .e2) .given .1))))
+    rw (c .no-name .ensures) (sym (ap nameAnswer (sym (c5 .decode .ensures .value) ∙ ap (λ d. shown s d n) (c2 .e2 .given .1))))
 
 pub ask-name-spec : {M : Type 1} → statement M
 ask-name-spec = tie.close (tie.spec decode-requires enum-known-e enum-known-e-2 no-name-requires returns returns-2)

@@ -24,9 +24,9 @@ returns c =
     let s = (c4 .args) .mark .now in
     let r = (c2 .asked-mark) .result in
     let ok = isFailure (r .mark) in (
-      rw ((c .guard-end) .ensures, (c .before .is-failure) .ensures)
-          (sym (first s (r .end) (r .mark) (askMark s) _ ((c2 .asked-mark) .ensures .0) ∙ test s (r .end) ok 2 _ ∙ last s (guarded (r .end) ok 2) (r .mark))),
-      rw ((c .guard-end) .ensures) (guarded-in s (r .end) _ 2 ((c2 .asked-mark) .ensures .1)),
+      rw (c .guard-end .ensures, (c .before .is-failure) .ensures)
+          (sym (first s (r .end) (r .mark) (askMark s) _ (c2 .asked-mark .ensures .0) ∙ test s (r .end) ok 2 _ ∙ last s (guarded (r .end) ok 2) (r .mark))),
+      rw (c .guard-end .ensures) (guarded-in s (r .end) _ 2 (c2 .asked-mark .ensures .1)),
     )
 
 pub asked-failure-mark-spec : {M : Type 1} → statement M

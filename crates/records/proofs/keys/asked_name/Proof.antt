@@ -16,8 +16,8 @@ returns c =
     let c2 = c .before .before in
     let c4 = c2 .before .before in
     record {
-      value = (c .decode) .ensures .value ∙ name-asked ((c4 .args) .mark) ((c4 .args) .name .now)
-          (sym ((c2 .has-name) .ensures) ∙ (c .before .if1) .taken);
+      value = (c .decode) .ensures .value ∙ name-asked (c4 .args .mark) (c4 .args .name .now)
+          (sym (c2 .has-name .ensures) ∙ (c .before .if1) .taken);
       placed = (c .decode) .ensures .placed;
       few = (c .decode) .ensures .few;
     }
@@ -31,11 +31,11 @@ returns-2 c =
     let c3 = c2 .before in
     let c5 = c3 .before .before in
     record {
-      value = rw ((c .unnamed) .ensures .0, (c .unnamed) .ensures .1)
-          (name-none ((c5 .args) .mark) ((c5 .args) .name .now) (sym ((c3 .has-name) .ensures) ∙ (c2 .if1) .left) ((c .before .if2) .taken));
+      value = rw (c .unnamed .ensures .0, (c .unnamed) .ensures .1)
+          (name-none (c5 .args .mark) (c5 .args .name .now) (sym (c3 .has-name .ensures) ∙ (c2 .if1) .left) (c .before .if2 .taken));
       placed = rw
-          ((c .unnamed) .ensures .0) (omega arith);
-      few = rw ((c .unnamed) .ensures .1) (omega arith);
+          (c .unnamed .ensures .0) (omega arith);
+      few = rw (c .unnamed .ensures .1) (omega arith);
     }
 
 unnamed-requires-2 : tie.Need-unnamed-requires-2
@@ -47,11 +47,11 @@ returns-3 c =
     let c3 = c2 .before in
     let c5 = c3 .before .before in
     record {
-      value = rw ((c .unnamed2) .ensures .0)
-          (name-some ((c5 .args) .mark) ((c5 .args) .name .now) (sym ((c3 .has-name) .ensures) ∙ (c2 .if1) .left) ((c .before .if2) .left));
+      value = rw (c .unnamed2 .ensures .0)
+          (name-some (c5 .args .mark) (c5 .args .name .now) (sym (c3 .has-name .ensures) ∙ (c2 .if1) .left) (c .before .if2 .left));
       placed = rw
-          ((c .unnamed2) .ensures .0) tt;
-      few = rw ((c .unnamed2) .ensures .1) (omega arith);
+          (c .unnamed2 .ensures .0) tt;
+      few = rw (c .unnamed2 .ensures .1) (omega arith);
     }
 
 pub asked-name-spec : {M : Type 1} → statement M

@@ -44,9 +44,9 @@ returns c =
     let ns = (c11 .args) .name .now in
     let m = (c11 .args) .m .mark in
     let n = (c4 .asked-name) .result .name in
-    λ s. sym (ap (λ d. keyAnswer (askFrom (shown s d m) ((c11 .args) .hour) ns)) ((c8 .e) .given .1) ∙ ap keyAnswer (ask-got ((c11 .args) .hour) ns m
-    (from s ((c8 .e) .given .0 .0)) n (from ns ((c .before .f) .given .0 .0)) (sym ((c6 .hour-ok) .ensures) ∙ (c5 .if1) .taken)
-    (sym ((c4 .asked-name) .ensures .value) ∙ ap (λ d. shown ns d n) ((c .before .f) .given .1))))
+    λ s. sym (ap (λ d. keyAnswer (askFrom (shown s d m) (c11 .args .hour) ns)) (c8 .e .given .1) ∙ ap keyAnswer (ask-got (c11 .args .hour) ns m
+    (from s (c8 .e .given .0 .0)) n (from ns (c .before .f .given .0 .0)) (sym (c6 .hour-ok .ensures) ∙ (c5 .if1) .taken)
+    (sym (c4 .asked-name .ensures .value) ∙ ap (λ d. shown ns d n) (c .before .f .given .1))))
 
 returns-2 : tie.Need-returns-2
 returns-2 c =
@@ -59,9 +59,9 @@ returns-2 c =
     let ns = (c12 .args) .name .now in
     let m = (c12 .args) .m .mark in
     let n = (c5 .asked-name) .result .name in
-    λ s. (c .key-no) .ensures ∙ sym (ap (λ d. keyAnswer (askFrom (shown s d m) ((c12 .args) .hour) ns)) ((c9 .e) .given .1) ∙ ap keyAnswer (ask-name
-    ((c12 .args) .hour) ns m (from s ((c9 .e) .given .0 .0)) ((c2 .f2) .given .0 .0) (sym ((c7 .hour-ok) .ensures) ∙ (c6 .if1) .taken)
-    (sym ((c5 .asked-name) .ensures .value) ∙ ap (λ d. shown ns d n) ((c2 .f2) .given .1))))
+    λ s. (c .key-no) .ensures ∙ sym (ap (λ d. keyAnswer (askFrom (shown s d m) (c12 .args .hour) ns)) (c9 .e .given .1) ∙ ap keyAnswer (ask-name
+    (c12 .args .hour) ns m (from s (c9 .e .given .0 .0)) (c2 .f2 .given .0 .0) (sym (c7 .hour-ok .ensures) ∙ (c6 .if1) .taken)
+    (sym (c5 .asked-name .ensures .value) ∙ ap (λ d. shown ns d n) (c2 .f2 .given .1))))
 
 returns-3 : tie.Need-returns-3
 returns-3 c =
@@ -70,8 +70,8 @@ returns-3 c =
     let c7 = c4 .before .before .before in
     let ns = (c7 .args) .name .now in
     let m = (c7 .args) .m .mark in
-    λ s. (c .key-no2) .ensures ∙ sym (ap (λ d. keyAnswer (askFrom (shown s d m) ((c7 .args) .hour) ns)) ((c4 .e) .given .1) ∙ ap keyAnswer
-    (ask-hour ((c7 .args) .hour) ns m (from s ((c4 .e) .given .0 .0)) (sym ((c2 .hour-ok) .ensures) ∙ (c .before .if1) .left)))
+    λ s. (c .key-no2) .ensures ∙ sym (ap (λ d. keyAnswer (askFrom (shown s d m) (c7 .args .hour) ns)) (c4 .e .given .1) ∙ ap keyAnswer
+    (ask-hour (c7 .args .hour) ns m (from s (c4 .e .given .0 .0)) (sym (c2 .hour-ok .ensures) ∙ (c .before .if1) .left)))
 
 returns-4 : tie.Need-returns-4
 returns-4 c =
@@ -79,8 +79,8 @@ returns-4 c =
     let c5 = c2 .before .before .before in
     let ns = (c5 .args) .name .now in
     let m = (c5 .args) .m .mark in
-    λ s. (c .key-no3) .ensures ∙ sym (ap (λ d. keyAnswer (askFrom (shown s d m) ((c5 .args) .hour) ns)) ((c2 .e2) .given .1) ∙ ap keyAnswer
-    (ask-mark ((c5 .args) .hour) ns ((c2 .e2) .given .0 .0)))
+    λ s. (c .key-no3) .ensures ∙ sym (ap (λ d. keyAnswer (askFrom (shown s d m) (c5 .args .hour) ns)) (c2 .e2 .given .1) ∙ ap keyAnswer
+    (ask-mark (c5 .args .hour) ns (c2 .e2 .given .0 .0)))
 
 pub key-from-spec : {M : Type 1} → statement M
 key-from-spec =

@@ -14,7 +14,7 @@ returns : tie.Need-returns
 returns c =
     let c2 = c .before .before in
     let c3 = c2 .before in
-    other-mark ((c3 .args) .a) ((c3 .args) .b) (λ e. (c .if1) .taken ((c2 .order) .ensures ∙ e ∙ sym ((c .before .order2) .ensures)))
+    other-mark (c3 .args .a) (c3 .args .b) (λ e. (c .if1) .taken (c2 .order .ensures ∙ e ∙ sym (c .before .order2 .ensures)))
 
 returns-2 : tie.Need-returns-2
 returns-2 c =
@@ -22,7 +22,7 @@ returns-2 c =
     let c3 = c2 .before in
     let c4 = c3 .before in
     let c5 = c4 .before in
-    by-hour ((c5 .args) .a) ((c5 .args) .b) (sym ((c4 .order) .ensures) ∙ (c2 .if1) .left ∙ (c3 .order2) .ensures)
+    by-hour (c5 .args .a) (c5 .args .b) (sym (c4 .order .ensures) ∙ (c2 .if1) .left ∙ (c3 .order2) .ensures)
 
 pub same-hour-spec : {M : Type 1} → statement M
 same-hour-spec = tie.close (tie.spec order-requires order-requires-2 returns returns-2)

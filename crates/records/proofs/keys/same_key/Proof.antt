@@ -16,10 +16,10 @@ returns c =
     let c4 = c3 .before in
     let c5 = c4 .before in
     let args = c5 .args in
-    (c .same-name) .ensures ∙ by-name (args .a) (args .b) (sym ((c4 .same-hour) .ensures) ∙ (c3 .if1) .taken)
+    (c .same-name) .ensures ∙ by-name (args .a) (args .b) (sym (c4 .same-hour .ensures) ∙ (c3 .if1) .taken)
 
 returns-2 : tie.Need-returns-2
-returns-2 c = other-hour ((c .before .before .args) .a) ((c .before .before .args) .b) (sym ((c .before .same-hour) .ensures) ∙ (c .if1) .left)
+returns-2 c = other-hour (c .before .before .args .a) (c .before .before .args .b) (sym (c .before .same-hour .ensures) ∙ (c .if1) .left)
 
 pub same-key-spec : {M : Type 1} → statement M
 same-key-spec = tie.close (tie.spec same-hour-requires same-name-requires returns returns-2)

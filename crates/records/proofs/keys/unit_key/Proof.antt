@@ -26,7 +26,7 @@ returns c =
     let s = (c6 .args) .name .now in
     let n = (c4 .decode) .result .name in
     sym (ap keyAnswer
-    (unit-got s n (from s ((c .before .e) .given .0 .0)) (sym ((c4 .decode) .ensures .value) ∙ ap (λ d. shown s d n) ((c .before .e) .given .1))))
+    (unit-got s n (from s (c .before .e .given .0 .0)) (sym (c4 .decode .ensures .value) ∙ ap (λ d. shown s d n) (c .before .e .given .1))))
 
 returns-2 : tie.Need-returns-2
 returns-2 c =
@@ -36,7 +36,7 @@ returns-2 c =
     let s = (c7 .args) .name .now in
     let n = (c5 .decode) .result .name in
     (c .key-no) .ensures ∙ sym
-    (ap keyAnswer (unit-fault s ((c2 .e2) .given .0 .0) (sym ((c5 .decode) .ensures .value) ∙ ap (λ d. shown s d n) ((c2 .e2) .given .1))))
+    (ap keyAnswer (unit-fault s (c2 .e2 .given .0 .0) (sym (c5 .decode .ensures .value) ∙ ap (λ d. shown s d n) (c2 .e2 .given .1))))
 
 pub unit-key-spec : {M : Type 1} → statement M
 unit-key-spec =

@@ -28,9 +28,9 @@ returns c =
     let c6 = c5 .before in
     let c7 = c6 .before in
     let c8 = c7 .before in
-    and-go _ _ _ (sym ((c8 .inside-list) .ensures) ∙ (c7 .if1) .taken) (and-go _ _ _ (sym ((c6 .inside-list2) .ensures) ∙ (c5 .if2) .taken) (and-go _ _ _
-    (sym ((c4 .inside-list3) .ensures) ∙ (c3 .if3) .taken)
-    (and-go _ _ _ (sym ((c2 .inside-list4) .ensures) ∙ (c .before .if4) .taken) ((c .inside-list5) .ensures))))
+    and-go _ _ _ (sym (c8 .inside-list .ensures) ∙ (c7 .if1) .taken) (and-go _ _ _ (sym (c6 .inside-list2 .ensures) ∙ (c5 .if2) .taken) (and-go _ _ _
+    (sym (c4 .inside-list3 .ensures) ∙ (c3 .if3) .taken)
+    (and-go _ _ _ (sym (c2 .inside-list4 .ensures) ∙ (c .before .if4) .taken) (c .inside-list5 .ensures))))
 
 returns-2 : tie.Need-returns-2
 returns-2 c =
@@ -40,8 +40,8 @@ returns-2 c =
     let c5 = c4 .before in
     let c6 = c5 .before in
     let c7 = c6 .before in
-    and-go _ _ _ (sym ((c7 .inside-list) .ensures) ∙ (c6 .if1) .taken) (and-go _ _ _ (sym ((c5 .inside-list2) .ensures) ∙ (c4 .if2) .taken)
-    (and-go _ _ _ (sym ((c3 .inside-list3) .ensures) ∙ (c2 .if3) .taken) (and-stop _ _ (sym ((c .before .inside-list4) .ensures) ∙ (c .if4) .left))))
+    and-go _ _ _ (sym (c7 .inside-list .ensures) ∙ (c6 .if1) .taken) (and-go _ _ _ (sym (c5 .inside-list2 .ensures) ∙ (c4 .if2) .taken)
+    (and-go _ _ _ (sym (c3 .inside-list3 .ensures) ∙ (c2 .if3) .taken) (and-stop _ _ (sym (c .before .inside-list4 .ensures) ∙ (c .if4) .left))))
 
 returns-3 : tie.Need-returns-3
 returns-3 c =
@@ -49,17 +49,17 @@ returns-3 c =
     let c3 = c2 .before in
     let c4 = c3 .before in
     let c5 = c4 .before in
-    and-go _ _ _ (sym ((c5 .inside-list) .ensures) ∙ (c4 .if1) .taken)
-    (and-go _ _ _ (sym ((c3 .inside-list2) .ensures) ∙ (c2 .if2) .taken) (and-stop _ _ (sym ((c .before .inside-list3) .ensures) ∙ (c .if3) .left)))
+    and-go _ _ _ (sym (c5 .inside-list .ensures) ∙ (c4 .if1) .taken)
+    (and-go _ _ _ (sym (c3 .inside-list2 .ensures) ∙ (c2 .if2) .taken) (and-stop _ _ (sym (c .before .inside-list3 .ensures) ∙ (c .if3) .left)))
 
 returns-4 : tie.Need-returns-4
 returns-4 c =
     let c2 = c .before .before in
     let c3 = c2 .before in
-    and-go _ _ _ (sym ((c3 .inside-list) .ensures) ∙ (c2 .if1) .taken) (and-stop _ _ (sym ((c .before .inside-list2) .ensures) ∙ (c .if2) .left))
+    and-go _ _ _ (sym (c3 .inside-list .ensures) ∙ (c2 .if1) .taken) (and-stop _ _ (sym (c .before .inside-list2 .ensures) ∙ (c .if2) .left))
 
 returns-5 : tie.Need-returns-5
-returns-5 c = and-stop _ _ (sym ((c .before .inside-list) .ensures) ∙ (c .if1) .left)
+returns-5 c = and-stop _ _ (sym (c .before .inside-list .ensures) ∙ (c .if1) .left)
 
 pub all-inside-spec : {M : Type 1} → statement M
 all-inside-spec =

@@ -16,7 +16,7 @@ returns c =
     let c3 = c .before .before .before in
     let s = (c3 .args) .s .now in
     let v = (c .before .quantities-then) .result in (
-      sym (next s ((c3 .args) .e) (v .end) (v .values) (many 12 quantity) _ ((c .before .quantities-then) .ensures .0)
+      sym (next s (c3 .args .e) (v .end) (v .values) (many 12 quantity) _ (c .before .quantities-then .ensures .0)
           ∙ last s (v .end) _),
       (c .before .quantities-then) .ensures .1,
     )

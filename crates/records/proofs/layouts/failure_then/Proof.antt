@@ -31,10 +31,10 @@ returns c =
     let y = (c6 .quantity-then2) .result in
     let p = (c5 .price-then) .result in
     let q = (c4 .price-then2) .result in (
-      sym (next s ((c9 .args) .e) (x .end) (x .quantity) quantity _ ((c7 .quantity-then) .ensures .0)
-          ∙ next s (x .end) (y .end) (y .quantity) quantity _ ((c6 .quantity-then2) .ensures .0)
-          ∙ next s (y .end) (p .end) (p .price) price _ ((c5 .price-then) .ensures .0)
-          ∙ next s (p .end) (q .end) (q .price) price _ ((c4 .price-then2) .ensures .0)
+      sym (next s (c9 .args .e) (x .end) (x .quantity) quantity _ (c7 .quantity-then .ensures .0)
+          ∙ next s (x .end) (y .end) (y .quantity) quantity _ (c6 .quantity-then2 .ensures .0)
+          ∙ next s (y .end) (p .end) (p .price) price _ (c5 .price-then .ensures .0)
+          ∙ next s (p .end) (q .end) (q .price) price _ (c4 .price-then2 .ensures .0)
           ∙ last s (q .end) _),
       (c4 .price-then2) .ensures .1,
     )

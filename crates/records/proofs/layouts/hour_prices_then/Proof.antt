@@ -22,8 +22,8 @@ returns c =
     let s = (c5 .args) .s .now in
     let v = (c3 .prices-then) .result in
     let p = (c2 .price-then) .result in (
-      sym (next s ((c5 .args) .e) (v .end) (v .values) (many 12 price) _ ((c3 .prices-then) .ensures .0)
-          ∙ next s (v .end) (p .end) (p .price) price _ ((c2 .price-then) .ensures .0)
+      sym (next s (c5 .args .e) (v .end) (v .values) (many 12 price) _ (c3 .prices-then .ensures .0)
+          ∙ next s (v .end) (p .end) (p .price) price _ (c2 .price-then .ensures .0)
           ∙ last s (p .end) _),
       (c2 .price-then) .ensures .1,
     )

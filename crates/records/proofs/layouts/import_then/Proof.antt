@@ -17,8 +17,8 @@ list-then-requires c κs = search needs
 last-quantity-requires : tie.Need-last-quantity-requires
 last-quantity-requires c κs = (c .before .before .list-then) .ensures .few
 
-within-requires : tie.Need-within-requires
-within-requires c κs = search needs
+within-ok-requires : tie.Need-within-ok-requires
+within-ok-requires c κs = search needs
 
 guard-end-requires : tie.Need-guard-end-requires
 guard-end-requires c κs = search needs
@@ -34,12 +34,12 @@ returns c =
     let v = (c6 .quantities-then) .result in
     let o = (c5 .list-then) .result in
     let ok = within (o .offer) (v .values) in (
-      rw ((c .guard-end) .ensures, (c .before .within) .ensures, (c2 .last-quantity) .ensures)
-          (sym (next s ((c8 .args) .e) (v .end) (v .values) (many 12 quantity) _ ((c6 .quantities-then) .ensures .0)
-          ∙ next s (v .end) (o .end) (o .offer) (listFrom 1) _ ((c5 .list-then) .ensures .value)
+      rw (c .guard-end .ensures, (c .before .within-ok) .ensures, (c2 .last-quantity) .ensures)
+          (sym (next s (c8 .args .e) (v .end) (v .values) (many 12 quantity) _ (c6 .quantities-then .ensures .0)
+          ∙ next s (v .end) (o .end) (o .offer) (listFrom 1) _ (c5 .list-then .ensures .value)
           ∙ test s (o .end) ok 7 _
           ∙ last s (guarded (o .end) ok 7) _)),
-      rw ((c .guard-end) .ensures) (guarded-in s (o .end) _ 7 ((c5 .list-then) .ensures .placed)),
+      rw (c .guard-end .ensures) (guarded-in s (o .end) _ 7 (c5 .list-then .ensures .placed)),
     )
 
 pub import-then-spec : {M : Type 1} → statement M
@@ -49,6 +49,6 @@ import-then-spec =
     quantities-then-requires
     list-then-requires
     last-quantity-requires
-    within-requires
+    within-ok-requires
     guard-end-requires
     returns)

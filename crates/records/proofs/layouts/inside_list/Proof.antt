@@ -7,11 +7,11 @@ use Rattle.records.proofs.layouts.inside_list.Tie as tie
 last-quantity-requires : tie.Need-last-quantity-requires
 last-quantity-requires c κs = search needs
 
-within-requires : tie.Need-within-requires
-within-requires c κs = search needs
+within-ok-requires : tie.Need-within-ok-requires
+within-ok-requires c κs = search needs
 
 returns : tie.Need-returns
-returns c = (c .within) .ensures ∙ ap (λ m. withinOk ((c .before .before .args) .values) m) ((c .before .last-quantity) .ensures)
+returns c = (c .within-ok) .ensures ∙ ap (λ m. withinOk (c .before .before .args .values) m) (c .before .last-quantity .ensures)
 
 pub inside-list-spec : {M : Type 1} → statement M
-inside-list-spec = tie.close (tie.spec last-quantity-requires within-requires returns)
+inside-list-spec = tie.close (tie.spec last-quantity-requires within-ok-requires returns)

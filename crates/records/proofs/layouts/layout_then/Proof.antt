@@ -44,8 +44,8 @@ returns : tie.Need-returns
 unfolding layout
 returns c =
     let c4 = c .before .before .before .before in (
-      rw ((c .before .enum-told) .given .1)
-          (skip-is ((c4 .args) .s .now) ((c4 .args) .e) ((c .hour-prices-then) .result .end) _ hourPrices ((c .hour-prices-then) .ensures .0)),
+      rw (c .before .enum-told .given .1)
+          (skip-is (c4 .args .s .now) (c4 .args .e) (c .hour-prices-then .result .end) _ hourPrices (c .hour-prices-then .ensures .0)),
       (c .hour-prices-then) .ensures .1,
     )
 
@@ -53,8 +53,8 @@ returns-2 : tie.Need-returns-2
 unfolding layout
 returns-2 c =
     let c4 = c .before .before .before .before in (
-      rw ((c .before .enum-told2) .given .1)
-          (skip-is ((c4 .args) .s .now) ((c4 .args) .e) ((c .import-then) .result .end) _ import ((c .import-then) .ensures .0)),
+      rw (c .before .enum-told2 .given .1)
+          (skip-is (c4 .args .s .now) (c4 .args .e) (c .import-then .result .end) _ import (c .import-then .ensures .0)),
       (c .import-then) .ensures .1,
     )
 
@@ -62,8 +62,8 @@ returns-3 : tie.Need-returns-3
 unfolding layout
 returns-3 c =
     let c4 = c .before .before .before .before in (
-      rw ((c .before .enum-told3) .given .1)
-          (skip-is ((c4 .args) .s .now) ((c4 .args) .e) ((c .export-then) .result .end) _ export ((c .export-then) .ensures .0)),
+      rw (c .before .enum-told3 .given .1)
+          (skip-is (c4 .args .s .now) (c4 .args .e) (c .export-then .result .end) _ export (c .export-then .ensures .0)),
       (c .export-then) .ensures .1,
     )
 
@@ -71,7 +71,7 @@ returns-4 : tie.Need-returns-4
 unfolding layout
 returns-4 c =
     let c4 = c .before .before .before .before in (
-      rw ((c .before .enum-told4) .given .1) (skip-is ((c4 .args) .s .now) ((c4 .args) .e) ((c .unit-then) .result .end) _ unit ((c .unit-then) .ensures .0)),
+      rw (c .before .enum-told4 .given .1) (skip-is (c4 .args .s .now) (c4 .args .e) (c .unit-then .result .end) _ unit (c .unit-then .ensures .0)),
       (c .unit-then) .ensures .1,
     )
 
@@ -79,8 +79,8 @@ returns-5 : tie.Need-returns-5
 unfolding layout
 returns-5 c =
     let c4 = c .before .before .before .before in (
-      rw ((c .before .enum-told5) .given .1)
-          (skip-is ((c4 .args) .s .now) ((c4 .args) .e) ((c .failure-then) .result .end) _ failure ((c .failure-then) .ensures .0)),
+      rw (c .before .enum-told5 .given .1)
+          (skip-is (c4 .args .s .now) (c4 .args .e) (c .failure-then .result .end) _ failure (c .failure-then .ensures .0)),
       (c .failure-then) .ensures .1,
     )
 
@@ -88,8 +88,8 @@ returns-6 : tie.Need-returns-6
 unfolding layout
 returns-6 c =
     let c4 = c .before .before .before .before in (
-      rw ((c .before .enum-told6) .given .1)
-          (skip-is ((c4 .args) .s .now) ((c4 .args) .e) ((c .failure-then2) .result .end) _ failure ((c .failure-then2) .ensures .0)),
+      rw (c .before .enum-told6 .given .1)
+          (skip-is (c4 .args .s .now) (c4 .args .e) (c .failure-then2 .result .end) _ failure (c .failure-then2 .ensures .0)),
       (c .failure-then2) .ensures .1,
     )
 

@@ -51,14 +51,14 @@ returns c =
     let o5 = (c5 .list-then5) .result in
     record {
       value =
-          sym (next s ((c14 .args) .e) (o1 .end) (o1 .offer) (listFrom 1) _ ((c12 .list-then) .ensures .value)
-          ∙ next s (o1 .end) (o2 .end) (o2 .offer) (listFrom 1) _ ((c11 .list-then2) .ensures .value)
-          ∙ next s (o2 .end) (o3 .end) (o3 .offer) (listFrom (fewest ((c14 .args) .s1))) _
-          ((c9 .list-then3) .ensures .value ∙ ap (λ n. then s (o2 .end) (listFrom n)) ((c10 .fewest-of) .ensures))
-          ∙ next s (o3 .end) (o4 .end) (o4 .offer) (listFrom (fewest ((c14 .args) .s2))) _
-          ((c7 .list-then4) .ensures .value ∙ ap (λ n. then s (o3 .end) (listFrom n)) ((c8 .fewest-of2) .ensures))
-          ∙ next s (o4 .end) (o5 .end) (o5 .offer) (listFrom (fewest ((c14 .args) .s3))) _
-          ((c5 .list-then5) .ensures .value ∙ ap (λ n. then s (o4 .end) (listFrom n)) ((c6 .fewest-of3) .ensures))
+          sym (next s (c14 .args .e) (o1 .end) (o1 .offer) (listFrom 1) _ (c12 .list-then .ensures .value)
+          ∙ next s (o1 .end) (o2 .end) (o2 .offer) (listFrom 1) _ (c11 .list-then2 .ensures .value)
+          ∙ next s (o2 .end) (o3 .end) (o3 .offer) (listFrom (fewest (c14 .args .s1))) _
+          (c9 .list-then3 .ensures .value ∙ ap (λ n. then s (o2 .end) (listFrom n)) (c10 .fewest-of .ensures))
+          ∙ next s (o3 .end) (o4 .end) (o4 .offer) (listFrom (fewest (c14 .args .s2))) _
+          (c7 .list-then4 .ensures .value ∙ ap (λ n. then s (o3 .end) (listFrom n)) (c8 .fewest-of2 .ensures))
+          ∙ next s (o4 .end) (o5 .end) (o5 .offer) (listFrom (fewest (c14 .args .s3))) _
+          (c5 .list-then5 .ensures .value ∙ ap (λ n. then s (o4 .end) (listFrom n)) (c6 .fewest-of3 .ensures))
           ∙ last s (o5 .end) _);
       placed = (c5 .list-then5) .ensures .placed;
       few = (

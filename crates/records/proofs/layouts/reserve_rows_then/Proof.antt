@@ -22,8 +22,8 @@ returns c =
     let s = (c5 .args) .s .now in
     let p = (c3 .prices-then) .result in
     let q = (c2 .quantities-then) .result in (
-      sym (next s ((c5 .args) .e) (p .end) (p .values) (many 12 price) _ ((c3 .prices-then) .ensures .0)
-          ∙ next s (p .end) (q .end) (q .values) (many 12 quantity) _ ((c2 .quantities-then) .ensures .0)
+      sym (next s (c5 .args .e) (p .end) (p .values) (many 12 price) _ (c3 .prices-then .ensures .0)
+          ∙ next s (p .end) (q .end) (q .values) (many 12 quantity) _ (c2 .quantities-then .ensures .0)
           ∙ last s (q .end) _),
       (c2 .quantities-then) .ensures .1,
     )

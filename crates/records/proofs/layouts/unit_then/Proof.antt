@@ -70,14 +70,14 @@ returns c =
         (c9 .guard-end) .ensures,
         (c10 .all-inside) .ensures,
       )
-          (sym (next s ((c26 .args) .e) (h .end) (h .schedules) schedules _ ((c24 .schedules-then) .ensures .0)
-          ∙ next s (h .end) (v1 .end) (v1 .rows) reserveRows _ ((c23 .reserve-rows-then) .ensures .0)
-          ∙ next s (v1 .end) (v2 .end) (v2 .rows) reserveRows _ ((c22 .reserve-rows-then2) .ensures .0)
-          ∙ next s (v2 .end) (v3 .end) (v3 .rows) reserveRows _ ((c21 .reserve-rows-then3) .ensures .0)
-          ∙ next s (v3 .end) (k .end) (k .lists) (lists s1 s2 s3) _ ((c12 .lists-then) .ensures .value)
+          (sym (next s (c26 .args .e) (h .end) (h .schedules) schedules _ (c24 .schedules-then .ensures .0)
+          ∙ next s (h .end) (v1 .end) (v1 .rows) reserveRows _ (c23 .reserve-rows-then .ensures .0)
+          ∙ next s (v1 .end) (v2 .end) (v2 .rows) reserveRows _ (c22 .reserve-rows-then2 .ensures .0)
+          ∙ next s (v2 .end) (v3 .end) (v3 .rows) reserveRows _ (c21 .reserve-rows-then3 .ensures .0)
+          ∙ next s (v3 .end) (k .end) (k .lists) (lists s1 s2 s3) _ (c12 .lists-then .ensures .value)
           ∙ test s (k .end) ok 7 _
           ∙ last s (guarded (k .end) ok 7) _)),
-      rw ((c9 .guard-end) .ensures) (guarded-in s (k .end) ((c10 .all-inside) .result) 7 ((c12 .lists-then) .ensures .placed)),
+      rw (c9 .guard-end .ensures) (guarded-in s (k .end) (c10 .all-inside .result) 7 (c12 .lists-then .ensures .placed)),
     )
 
 pub unit-then-spec : {M : Type 1} → statement M

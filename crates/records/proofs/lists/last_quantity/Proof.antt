@@ -20,7 +20,7 @@ element-copy-out-q : tie.Need-element-copy-out-q
 element-copy-out-q c = search needs
 
 returns-2 : tie.Need-returns-2
-returns-2 c = last-is ((c .before .before .args) .t1) (omega (arith, (c .before .if1) .left))
+returns-2 c = last-is (c .before .before .args .t1) (omega (arith, (c .before .if1) .left))
 
 pub last-quantity-spec : {M : Type 1} → statement M
 last-quantity-spec = tie.close (tie.spec cast-n returns sub-q mul-q element-copy-out-q returns-2)

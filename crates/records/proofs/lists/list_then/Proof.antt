@@ -18,14 +18,14 @@ offer-no-requires c κs = search needs
 returns : tie.Need-returns
 returns c =
     let c2 = c .before .before in
-    record { value = rw ((c2 .e) .given .1) ((c .read-list) .ensures .value); placed = (c .read-list) .ensures .placed; few = (c .read-list) .ensures .few }
+    record { value = rw (c2 .e .given .1) (c .read-list .ensures .value); placed = (c .read-list) .ensures .placed; few = (c .read-list) .ensures .few }
 
 returns-2 : tie.Need-returns-2
 returns-2 c =
     let c2 = c .before .before in
     record {
-      value = rw ((c .offer-no) .ensures .0, (c2 .e2) .given .1);
-      placed = rw ((c .offer-no) .ensures .0) tt;
+      value = rw (c .offer-no .ensures .0, (c2 .e2) .given .1);
+      placed = rw (c .offer-no .ensures .0) tt;
       few = omega
           (arith, (c .offer-no) .ensures .1);
     }

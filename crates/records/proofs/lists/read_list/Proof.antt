@@ -20,9 +20,9 @@ returns c =
     let c3 = c .before .before .before in
     let c5 = c3 .before .before in
     record {
-      value = rw ((c .offer-no) .ensures .0, ← (c5 .read-byte) .ensures .0, (c3 .c) .given .1, lt-leb _ _ ((c .before .if1) .taken));
+      value = rw (c .offer-no .ensures .0, ← (c5 .read-byte) .ensures .0, (c3 .c) .given .1, lt-leb _ _ (c .before .if1 .taken));
       placed = rw
-          ((c .offer-no) .ensures .0) tt;
+          (c .offer-no .ensures .0) tt;
       few = omega (arith, (c .offer-no) .ensures .1);
     }
 
@@ -37,8 +37,8 @@ returns-2 c =
     let c6 = c4 .before .before in
     record {
       value = rw
-          ((c .offer-no2) .ensures .0, ← (c6 .read-byte) .ensures .0, (c4 .c) .given .1, le-leb _ _ ((c2 .if1) .left), lt-leb _ _ ((c .before .if2) .taken));
-      placed = rw ((c .offer-no2) .ensures .0) tt;
+          (c .offer-no2 .ensures .0, ← (c6 .read-byte) .ensures .0, (c4 .c) .given .1, le-leb _ _ (c2 .if1 .left), lt-leb _ _ (c .before .if2 .taken));
+      placed = rw (c .offer-no2 .ensures .0) tt;
       few = omega (arith, (c .offer-no2) .ensures .1);
     }
 
@@ -47,7 +47,7 @@ cast-read-pairs c = search needs
 
 read-pairs-requires : tie.Need-read-pairs-requires
 read-pairs-requires c κs = let h = (c .before .before .before .before .before .read-byte) .ensures .1 in
-    (search needs, rw ((c .before .before .before .c) .given .1) at h)
+    (search needs, rw (c .before .before .before .c .given .1) at h)
 
 enum-known-e : tie.Need-enum-known-e
 enum-known-e c = search needs
@@ -83,8 +83,8 @@ returns-3 c =
       value = rw (
         ← (c12 .read-byte) .ensures .0,
         (c10 .c) .given .1,
-        le-leb _ _ ((c8 .if1) .left),
-        le-leb _ _ ((c7 .if2) .left),
+        le-leb _ _ (c8 .if1 .left),
+        le-leb _ _ (c7 .if2 .left),
         ←
             (c6 .read-pairs) .ensures .value,
         (c4 .e) .given .1,
@@ -110,16 +110,16 @@ returns-4 c =
         (c .offer-no3) .ensures .0,
         ← (c13 .read-byte) .ensures .0,
         (c11 .c) .given .1,
-        le-leb _ _ ((c9 .if1) .left),
+        le-leb _ _ (c9 .if1 .left),
         le-leb _ _
-            ((c8 .if2) .left),
+            (c8 .if2 .left),
         ← (c7 .read-pairs) .ensures .value,
         (c5 .e) .given .1,
         ← (c2 .list-ok) .ensures,
         (c .before .if3) .left,
       );
       placed = rw
-          ((c .offer-no3) .ensures .0) tt;
+          (c .offer-no3 .ensures .0) tt;
       few = omega (arith, (c .offer-no3) .ensures .1);
     }
 
@@ -137,13 +137,13 @@ returns-5 c =
         (c .offer-no4) .ensures .0,
         ← (c10 .read-byte) .ensures .0,
         (c8 .c) .given .1,
-        le-leb _ _ ((c6 .if1) .left),
+        le-leb _ _ (c6 .if1 .left),
         le-leb _ _
-            ((c5 .if2) .left),
+            (c5 .if2 .left),
         ← (c4 .read-pairs) .ensures .value,
         (c2 .e2) .given .1,
       );
-      placed = rw ((c .offer-no4) .ensures .0) tt;
+      placed = rw (c .offer-no4 .ensures .0) tt;
       few = omega (
         arith,
         (c .offer-no4) .ensures .1,
@@ -156,8 +156,8 @@ returns-6 c =
     let c2 = c .before .before in
     let c4 = c2 .before .before in
     record {
-      value = rw ((c .offer-no5) .ensures .0, ← (c4 .read-byte) .ensures .0, (c2 .c2) .given .1);
-      placed = rw ((c .offer-no5) .ensures .0) tt;
+      value = rw (c .offer-no5 .ensures .0, ← (c4 .read-byte) .ensures .0, (c2 .c2) .given .1);
+      placed = rw (c .offer-no5 .ensures .0) tt;
       few =
           omega (arith, (c .offer-no5) .ensures .1);
     }

@@ -28,7 +28,7 @@ returns c =
     let c5 = c3 .before .before in
     let c7 = c5 .before .before in
     let h = (c3 .read-quantity) .ensures .1 in
-    (rw (← (c7 .read-price) .ensures .0, (c5 .p) .given .1, ← (c3 .read-quantity) .ensures .0, (c .before .q) .given .1), rw ((c .before .q) .given .1) at h)
+    (rw (← (c7 .read-price) .ensures .0, (c5 .p) .given .1, ← (c3 .read-quantity) .ensures .0, (c .before .q) .given .1), rw (c .before .q .given .1) at h)
 
 returns-2 : tie.Need-returns-2
 unfolding pair

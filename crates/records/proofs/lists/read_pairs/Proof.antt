@@ -53,12 +53,12 @@ loop-again c =
       search needs,
       search needs,
       search needs,
-      rw ((c .before .t) .given .1) at h,
+      rw (c .before .t .given .1) at h,
       padded-more _ (l .inv .5) (omega arith),
       padded-more _ (l .inv .6) (omega arith),
       rw (zip-set (l .prices) (l .quantities) (l .i)) (filled-more (l .inv .7) (search needs)
           (rw (length-zip (l .prices) (l .quantities) (omega arith)) (omega arith))
-          (sym ((c .before .before .before .read-pair) .ensures .0) ∙ ap (pairAt _) ((c .before .t) .given .1))),
+          (sym (c .before .before .before .read-pair .ensures .0) ∙ ap (pairAt _) (c .before .t .given .1))),
     )
 
 enum-known-t-2 : tie.Need-enum-known-t-2 Inv-loop μ-loop
@@ -69,10 +69,10 @@ offer-no-requires c κs = search needs
 
 returns : tie.Need-returns Inv-loop μ-loop
 returns c = record {
-  value = rw ((c .offer-no) .ensures .0) (pairs-bad ((c .before .before .before .before .before .before .loop) .inv .7) (search needs)
-      (sym ((c .before .before .before .before .read-pair) .ensures .0) ∙ ap (pairAt _) ((c .before .before .t2) .given .1)));
+  value = rw (c .offer-no .ensures .0) (pairs-bad (c .before .before .before .before .before .before .loop .inv .7) (search needs)
+      (sym (c .before .before .before .before .read-pair .ensures .0) ∙ ap (pairAt _) (c .before .before .t2 .given .1)));
   placed = rw
-      ((c .offer-no) .ensures .0) tt;
+      (c .offer-no .ensures .0) tt;
   few = omega (arith, (c .offer-no) .ensures .1);
 }
 
@@ -81,8 +81,8 @@ cast-t22 c = search needs
 
 returns-2 : tie.Need-returns-2 Inv-loop μ-loop
 returns-2 c = record {
-  value = pairs-all ((c .before .loop) .inv .7) (search needs) (search needs) (search needs) ((c .before .loop) .inv .5)
-      ((c .before .loop) .inv .6);
+  value = pairs-all (c .before .loop .inv .7) (search needs) (search needs) (search needs) (c .before .loop .inv .5)
+      (c .before .loop .inv .6);
   placed = (c .before .loop) .inv .4;
   few = search needs;
 }

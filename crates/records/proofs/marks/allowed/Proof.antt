@@ -21,7 +21,7 @@ returns-2 : tie.Need-returns-2
 returns-2 c =
     let c2 = c .before .before in
     let c4 = c2 .before .before in
-    (c .same-kind) .ensures ∙ sym (ap (λ (w : Wanted). allowed w ((c4 .args) .k)) ((c2 .want) .given .1))
+    (c .same-kind) .ensures ∙ sym (ap (λ (w : Wanted). allowed w (c4 .args .k)) (c2 .want .given .1))
 
 pub allowed-spec : {M : Type 1} → statement M
 allowed-spec = tie.close (tie.spec enum-told enum-known-want same-kind-requires returns returns-2)

@@ -6,7 +6,7 @@ use Rattle.records.proofs.marks.head_at.Statement.{statement}
 use Rattle.records.proofs.marks.head_at.Tie as tie
 
 returns : tie.Need-returns
-returns c = (head-short ((c .before .before .args) .want) ((c .before .before .args) .s .now) ((c .if1) .taken), tt)
+returns c = (head-short (c .before .before .args .want) (c .before .before .args .s .now) (c .if1 .taken), tt)
 
 shared-slice-read-a : tie.Need-shared-slice-read-a
 shared-slice-read-a c = search needs
@@ -25,7 +25,7 @@ returns-2 c =
     let c2 = c .before .before in
     let c5 = c2 .before .before .before in
     let c7 = c5 .before .before in (
-      (c .inside-at) .ensures .0 ∙ head-is ((c7 .args) .want) ((c7 .args) .s .now) ((c5 .if1) .left) true _ (sym ((c2 .is) .ensures) ∙ (c .before .if2) .taken)
+      (c .inside-at) .ensures .0 ∙ head-is (c7 .args .want) (c7 .args .s .now) (c5 .if1 .left) true _ (sym (c2 .is .ensures) ∙ (c .before .if2) .taken)
           refl,
       (c .inside-at) .ensures .1,
     )
@@ -43,8 +43,8 @@ returns-3 c =
     let c4 = c3 .before in
     let c7 = c4 .before .before .before in
     let c9 = c7 .before .before in (
-      (c .inside-at2) .ensures .0 ∙ head-is ((c9 .args) .want) ((c9 .args) .s .now) ((c7 .if1) .left) false true (sym ((c4 .is) .ensures) ∙ (c3 .if2) .left)
-          (sym ((c2 .is2) .ensures) ∙ (c .before .if3) .taken),
+      (c .inside-at2) .ensures .0 ∙ head-is (c9 .args .want) (c9 .args .s .now) (c7 .if1 .left) false true (sym (c4 .is .ensures) ∙ (c3 .if2) .left)
+          (sym (c2 .is2 .ensures) ∙ (c .before .if3) .taken),
       (c .inside-at2) .ensures .1,
     )
 
@@ -58,8 +58,8 @@ returns-4 c =
     let c4 = c3 .before in
     let c7 = c4 .before .before .before in
     let c9 = c7 .before .before in (
-      (c .inside-at3) .ensures .0 ∙ head-is ((c9 .args) .want) ((c9 .args) .s .now) ((c7 .if1) .left) false false (sym ((c4 .is) .ensures) ∙ (c3 .if2) .left)
-          (sym ((c2 .is2) .ensures) ∙ (c .before .if3) .left),
+      (c .inside-at3) .ensures .0 ∙ head-is (c9 .args .want) (c9 .args .s .now) (c7 .if1 .left) false false (sym (c4 .is .ensures) ∙ (c3 .if2) .left)
+          (sym (c2 .is2 .ensures) ∙ (c .before .if3) .left),
       (c .inside-at3) .ensures .1,
     )
 

@@ -9,7 +9,7 @@ order-requires-2 : tie.Need-order-requires-2
 order-requires-2 c κs = search needs
 
 returns : tie.Need-returns
-returns c = rw ((c .before .order) .ensures, (c .order2) .ensures)
+returns c = rw (c .before .order .ensures, (c .order2) .ensures)
 
 pub same-mark-spec : {M : Type 1} → statement M
 same-mark-spec = tie.close (tie.spec order-requires order-requires-2 returns)

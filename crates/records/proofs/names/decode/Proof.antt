@@ -24,8 +24,8 @@ name-no-requires c κs = search needs
 returns : tie.Need-returns Inv-loop μ-loop
 unfolding decodeName
 returns c = record {
-  value = rw ((c .name-no) .ensures .0, lt-leb _ _ ((c .before .if1) .taken));
-  placed = rw ((c .name-no) .ensures .0) tt;
+  value = rw (c .name-no .ensures .0, lt-leb _ _ (c .before .if1 .taken));
+  placed = rw (c .name-no .ensures .0) tt;
   few = omega
       (arith, (c .name-no) .ensures .1);
 }
@@ -38,8 +38,8 @@ unfolding decodeName
 returns-2 c =
     let c2 = c .before .before in
     record {
-      value = rw ((c .name-no2) .ensures .0, le-leb _ _ ((c2 .if1) .left), lt-leb _ _ ((c .before .if2) .taken));
-      placed = rw ((c .name-no2) .ensures .0)
+      value = rw (c .name-no2 .ensures .0, le-leb _ _ (c2 .if1 .left), lt-leb _ _ (c .before .if2 .taken));
+      placed = rw (c .name-no2 .ensures .0)
           tt;
       few = omega (arith, (c .name-no2) .ensures .1);
     }
@@ -58,9 +58,9 @@ returns-3 c =
     let c4 = c3 .before in
     let c5 = c4 .before in
     record {
-      value = rw ((c .name-no3) .ensures .0, le-leb _ _ ((c5 .if1) .left), le-leb _ _ ((c4 .if2) .left))
-          (ap storedName (spelled-full ((c3 .loop) .inv .3) ((c2 .loop-test) .taken) ((c .before .if3) .taken)));
-      placed = rw ((c .name-no3) .ensures .0) tt;
+      value = rw (c .name-no3 .ensures .0, le-leb _ _ (c5 .if1 .left), le-leb _ _ (c4 .if2 .left))
+          (ap storedName (spelled-full (c3 .loop .inv .3) (c2 .loop-test .taken) (c .before .if3 .taken)));
+      placed = rw (c .name-no3 .ensures .0) tt;
       few = omega (arith, (c .name-no3) .ensures .1);
     }
 
@@ -84,12 +84,12 @@ loop-again c =
     let h = (c .before .before .before .one-at) .ensures .1 in (
       search needs,
       search needs,
-      rw ((c .before .b) .given .1) at h,
-      spelled-more ((c .before .before .before .before .before .before .loop) .inv .3)
-          ((c .before .before .before .before .before .loop-test) .taken) ((c .before .before .before .before .if3) .left) (omega arith)
-          (sym ((c .before .before .before .one-at) .ensures .0) ∙ ap (chr _) ((c .before .b) .given .1)),
+      rw (c .before .b .given .1) at h,
+      spelled-more (c .before .before .before .before .before .before .loop .inv .3)
+          (c .before .before .before .before .before .loop-test .taken) (c .before .before .before .before .if3 .left) (omega arith)
+          (sym (c .before .before .before .one-at .ensures .0) ∙ ap (chr _) (c .before .b .given .1)),
       padded-more _
-          ((c .before .before .before .before .before .before .loop) .inv .4) (omega arith),
+          (c .before .before .before .before .before .before .loop .inv .4) (omega arith),
     )
 
 enum-known-b-2 : tie.Need-enum-known-b-2 Inv-loop μ-loop
@@ -109,9 +109,9 @@ returns-4 c =
     let c8 = c7 .before in
     let c9 = c8 .before in
     record {
-      value = rw ((c .name-no4) .ensures .0, le-leb _ _ ((c9 .if1) .left), le-leb _ _ ((c8 .if2) .left)) (ap storedName
-          (spelled-bad ((c7 .loop) .inv .3) ((c6 .loop-test) .taken) ((c5 .if3) .left) (sym ((c4 .one-at) .ensures .0) ∙ ap (chr _) ((c2 .b2) .given .1))));
-      placed = rw ((c .name-no4) .ensures .0) tt;
+      value = rw (c .name-no4 .ensures .0, le-leb _ _ (c9 .if1 .left), le-leb _ _ (c8 .if2 .left)) (ap storedName
+          (spelled-bad (c7 .loop .inv .3) (c6 .loop-test .taken) (c5 .if3 .left) (sym (c4 .one-at .ensures .0) ∙ ap (chr _) (c2 .b2 .given .1))));
+      placed = rw (c .name-no4 .ensures .0) tt;
       few = omega (arith, (c .name-no4) .ensures .1);
     }
 
@@ -124,8 +124,8 @@ returns-5 c =
     let c2 = c .before .before in
     let c3 = c2 .before in
     record {
-      value = rw (le-leb _ _ ((c3 .if1) .left), le-leb _ _ ((c2 .if2) .left))
-          (name-all ((c .before .loop) .inv .3) ((c .before .loop) .inv .0) ((c .before .loop) .inv .4) ((c .loop-test) .left));
+      value = rw (le-leb _ _ (c3 .if1 .left), le-leb _ _ (c2 .if2 .left))
+          (name-all (c .before .loop .inv .3) (c .before .loop .inv .0) (c .before .loop .inv .4) (c .loop-test .left));
       placed =
           (c .before .loop) .inv .2;
       few = (c .before .loop) .inv .0;

@@ -27,9 +27,9 @@ returns c =
     let c3 = c .before .before .before in
     let c5 = c3 .before .before in
     record {
-      value = rw ((c .name-no) .ensures .0, ← (c5 .read-byte) .ensures .0, (c3 .c) .given .1, lt-leb _ _ ((c .before .if1) .taken));
+      value = rw (c .name-no .ensures .0, ← (c5 .read-byte) .ensures .0, (c3 .c) .given .1, lt-leb _ _ (c .before .if1 .taken));
       placed = rw
-          ((c .name-no) .ensures .0) tt;
+          (c .name-no .ensures .0) tt;
       few = omega (arith, (c .name-no) .ensures .1);
     }
 
@@ -44,8 +44,8 @@ returns-2 c =
     let c6 = c4 .before .before in
     record {
       value = rw
-          ((c .name-no2) .ensures .0, ← (c6 .read-byte) .ensures .0, (c4 .c) .given .1, le-leb _ _ ((c2 .if1) .left), lt-leb _ _ ((c .before .if2) .taken));
-      placed = rw ((c .name-no2) .ensures .0) tt;
+          (c .name-no2 .ensures .0, ← (c6 .read-byte) .ensures .0, (c4 .c) .given .1, le-leb _ _ (c2 .if1 .left), lt-leb _ _ (c .before .if2 .taken));
+      placed = rw (c .name-no2 .ensures .0) tt;
       few = omega (arith, (c .name-no2) .ensures .1);
     }
 
@@ -53,7 +53,7 @@ cast-k : tie.Need-cast-k
 cast-k c = search needs
 
 sub-if3 : tie.Need-sub-if3
-sub-if3 c = let h = (c .before .before .before .before .before .read-byte) .ensures .1 in rw ((c .before .before .before .c) .given .1) at h
+sub-if3 c = let h = (c .before .before .before .before .before .read-byte) .ensures .1 in rw (c .before .before .before .c .given .1) at h
 
 name-no-requires-3 : tie.Need-name-no-requires-3
 name-no-requires-3 c κs = search needs
@@ -71,13 +71,13 @@ returns-3 c =
         (c .name-no3) .ensures .0,
         ← (c7 .read-byte) .ensures .0,
         (c5 .c) .given .1,
-        le-leb _ _ ((c3 .if1) .left),
+        le-leb _ _ (c3 .if1 .left),
         le-leb _ _
-            ((c2 .if2) .left),
-        some-short ((c9 .args) .s .now) ((c5 .c) .given .0 .1 .0) ((c5 .c) .given .0 .0) ((c .before .if3) .taken),
+            (c2 .if2 .left),
+        some-short (c9 .args .s .now) (c5 .c .given .0 .1 .0) (c5 .c .given .0 .0) (c .before .if3 .taken),
       );
       placed = rw
-          ((c .name-no3) .ensures .0) tt;
+          (c .name-no3 .ensures .0) tt;
       few = omega (arith, (c .name-no3) .ensures .1);
     }
 
@@ -127,14 +127,14 @@ returns-4 c =
             ← (c .before .before .before .before .before .before .before .before .before .before .before .before .read-byte) .ensures .0,
             (c .before .before .before .before .before .before .before .before .before .before .c) .given .1,
             le-leb _ _
-                ((c .before .before .before .before .before .before .before .before .if1) .left),
+                (c .before .before .before .before .before .before .before .before .if1 .left),
             le-leb _ _
-                ((c .before .before .before .before .before .before .before .if2) .left),
+                (c .before .before .before .before .before .before .before .if2 .left),
             some-at s first k
-                ((c .before .before .before .before .before .before .if3) .left),
+                (c .before .before .before .before .before .before .if3 .left),
           )
-          (held-got (decodeName part) ((c .before .before .before .before .decode) .result .name) (from part ((c .before .e) .given .0 .0)) _ (sym
-          (ap (λ d. shown part d ((c .before .before .before .before .decode) .result .name)) ((c .before .e) .given .1)) ∙
+          (held-got (decodeName part) (c .before .before .before .before .decode .result .name) (from part (c .before .e .given .0 .0)) _ (sym
+          (ap (λ d. shown part d (c .before .before .before .before .decode .result .name)) (c .before .e .given .1)) ∙
           (c .before .before .before .before .decode) .ensures .value));
       placed = search needs;
       few = (c .before .before .before .before .decode) .ensures .few;
@@ -161,14 +161,14 @@ returns-5 c =
             (c .name-no4) .ensures .0,
             ← (c13 .read-byte) .ensures .0,
             (c11 .c) .given .1,
-            le-leb _ _ ((c9 .if1) .left),
-            le-leb _ _ ((c8 .if2) .left),
+            le-leb _ _ (c9 .if1 .left),
+            le-leb _ _ (c8 .if2 .left),
             some-at
-                s first k ((c7 .if3) .left),
+                s first k (c7 .if3 .left),
           )
-          (held-bad (decodeName part) ((c2 .e2) .given .0 .0) _
-          (sym (ap (λ d. shown part d ((c5 .decode) .result .name)) ((c2 .e2) .given .1)) ∙ (c5 .decode) .ensures .value));
-      placed = rw ((c .name-no4) .ensures .0) tt;
+          (held-bad (decodeName part) (c2 .e2 .given .0 .0) _
+          (sym (ap (λ d. shown part d (c5 .decode .result .name)) (c2 .e2 .given .1)) ∙ (c5 .decode) .ensures .value));
+      placed = rw (c .name-no4 .ensures .0) tt;
       few = omega (arith, (c .name-no4) .ensures .1);
     }
 
@@ -178,8 +178,8 @@ returns-6 c =
     let c2 = c .before .before in
     let c4 = c2 .before .before in
     record {
-      value = rw ((c .name-no5) .ensures .0, ← (c4 .read-byte) .ensures .0, (c2 .c2) .given .1);
-      placed = rw ((c .name-no5) .ensures .0) tt;
+      value = rw (c .name-no5 .ensures .0, ← (c4 .read-byte) .ensures .0, (c2 .c2) .given .1);
+      placed = rw (c .name-no5 .ensures .0) tt;
       few = omega
           (arith, (c .name-no5) .ensures .1);
     }

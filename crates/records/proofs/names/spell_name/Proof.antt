@@ -12,7 +12,7 @@ name-ok-requires : tie.Need-name-ok-requires
 name-ok-requires c κs = search needs
 
 returns : tie.Need-returns
-returns c = sym (spelling-none ((c .before .before .args) .name) (sym ((c .before .name-ok) .ensures) ∙ not-true _ ((c .if1) .taken)))
+returns c = sym (spelling-none (c .before .before .args .name) (sym (c .before .name-ok .ensures) ∙ not-true _ (c .if1 .taken)))
 
 slice-aggregate-write-name : tie.Need-slice-aggregate-write-name
 slice-aggregate-write-name c = search needs
@@ -21,7 +21,7 @@ write-name-requires : tie.Need-write-name-requires
 write-name-requires c κs =
     let c2 = c .before .before in
     let c3 = c2 .before in
-    (name-most ((c3 .args) .name) (sym ((c2 .name-ok) .ensures) ∙ not-false _ ((c .before .if1) .left)), omega arith)
+    (name-most (c3 .args .name) (sym (c2 .name-ok .ensures) ∙ not-false _ (c .before .if1 .left)), omega arith)
 
 cast-t9 : tie.Need-cast-t9
 cast-t9 c =
@@ -31,8 +31,8 @@ cast-t9 c =
     omega (
       arith,
       (c .before .write-name) .ensures .after,
-      spell-most ((c5 .args) .name)
-          (name-most ((c5 .args) .name) (sym ((c4 .name-ok) .ensures) ∙ not-false _ ((c3 .if1) .left))),
+      spell-most (c5 .args .name)
+          (name-most (c5 .args .name) (sym (c4 .name-ok .ensures) ∙ not-false _ (c3 .if1 .left))),
     )
 
 returns-2 : tie.Need-returns-2
@@ -40,7 +40,7 @@ returns-2 c =
     let c3 = c .before .before .before in
     let c4 = c3 .before in
     let c5 = c4 .before in
-    spelled-in ((c5 .args) .name) _ _ (sym ((c4 .name-ok) .ensures) ∙ not-false _ ((c3 .if1) .left)) ((c .before .write-name) .ensures)
+    spelled-in (c5 .args .name) _ _ (sym (c4 .name-ok .ensures) ∙ not-false _ (c3 .if1 .left)) (c .before .write-name .ensures)
 
 pub spell-name-spec : {M : Type 1} → statement M
 spell-name-spec =

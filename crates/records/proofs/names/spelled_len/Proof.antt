@@ -50,7 +50,7 @@ loop-again c =
     )
 
 returns : tie.Need-returns Inv-loop μ-loop
-returns c = let e : (c .before .loop) .i ≡ (c .before .before .args) .t1 .len = omega arith in (rw (← e) ((c .before .loop) .inv .5), omega arith)
+returns c = let e : (c .before .loop) .i ≡ (c .before .before .args) .t1 .len = omega arith in (rw (← e) (c .before .loop .inv .5), omega arith)
 
 pub spelled-len-spec : {M : Type 1} → statement M
 spelled-len-spec =

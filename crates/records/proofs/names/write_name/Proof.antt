@@ -55,7 +55,7 @@ same-length : tie.Need-same-length Inv-loop μ-loop
 same-length c = search needs
 
 returns : tie.Need-returns Inv-loop μ-loop
-returns c = let e : (c .before .loop) .i ≡ (c .before .before .before .args) .t1 .len = omega arith in rw (← e) ((c .before .loop) .inv .7)
+returns c = let e : (c .before .loop) .i ≡ (c .before .before .before .args) .t1 .len = omega arith in rw (← e) (c .before .loop .inv .7)
 
 pub write-name-spec : {M : Type 1} → statement M
 write-name-spec =

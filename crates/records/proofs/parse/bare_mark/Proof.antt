@@ -7,7 +7,7 @@ use Rattle.records.proofs.parse.bare_mark.Statement.{statement}
 use Rattle.records.proofs.parse.bare_mark.Tie as tie
 
 returns : tie.Need-returns
-returns c = bare-short ((c .before .before .args) .x) ((c .before .before .args) .y) ((c .before .before .args) .s .now) ((c .if1) .taken)
+returns c = bare-short (c .before .before .args .x) (c .before .before .args .y) (c .before .before .args .s .now) (c .if1 .taken)
 
 shared-slice-read-is : tie.Need-shared-slice-read-is
 shared-slice-read-is c = search needs
@@ -23,22 +23,22 @@ returns-2 c =
     let c2 = c .before .before in
     let c5 = c2 .before .before .before in
     let c7 = c5 .before .before in
-    bare-is ((c7 .args) .x) ((c7 .args) .y) ((c7 .args) .s .now) ((c5 .if1) .left) true true (sym ((c2 .is) .ensures) ∙ (c .before .if2) .taken)
-    (eq-eqb _ _ ((c .if3) .taken))
+    bare-is (c7 .args .x) (c7 .args .y) (c7 .args .s .now) (c5 .if1 .left) true true (sym (c2 .is .ensures) ∙ (c .before .if2) .taken)
+    (eq-eqb _ _ (c .if3 .taken))
 
 returns-3 : tie.Need-returns-3
 returns-3 c =
     let c2 = c .before .before in
     let c5 = c2 .before .before .before in
     let c7 = c5 .before .before in
-    bare-is ((c7 .args) .x) ((c7 .args) .y) ((c7 .args) .s .now) ((c5 .if1) .left) true false (sym ((c2 .is) .ensures) ∙ (c .before .if2) .taken)
-    (ne-eqb _ _ ((c .if3) .left))
+    bare-is (c7 .args .x) (c7 .args .y) (c7 .args .s .now) (c5 .if1 .left) true false (sym (c2 .is .ensures) ∙ (c .before .if2) .taken)
+    (ne-eqb _ _ (c .if3 .left))
 
 returns-4 : tie.Need-returns-4
 returns-4 c =
     let c4 = c .before .before .before .before in
     let c6 = c4 .before .before in
-    bare-is ((c6 .args) .x) ((c6 .args) .y) ((c6 .args) .s .now) ((c4 .if1) .left) false _ (sym ((c .before .is) .ensures) ∙ (c .if2) .left) refl
+    bare-is (c6 .args .x) (c6 .args .y) (c6 .args .s .now) (c4 .if1 .left) false _ (sym (c .before .is .ensures) ∙ (c .if2) .left) refl
 
 pub bare-mark-spec : {M : Type 1} → statement M
 bare-mark-spec =

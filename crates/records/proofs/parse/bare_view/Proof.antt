@@ -6,7 +6,7 @@ nothing-requires : tie.Need-nothing-requires
 nothing-requires c κs = search needs
 
 returns : tie.Need-returns
-returns c = rw ((c .before .nothing) .ensures)
+returns c = rw (c .before .nothing .ensures)
 
 pub bare-view-spec : {M : Type 1} → statement M
 bare-view-spec = tie.close (tie.spec nothing-requires returns)

@@ -23,7 +23,7 @@ sub-len c =
     let s = (c8 .args) .s .now in
     let c′ = (c6 .read-change) .result in
     let n = (c4 .e) .given .0 .0 in
-    let f = full s ((c8 .args) .want) c′ ((c6 .read-change) .ensures) n ((c4 .e) .given .1) in
+    let f = full s (c8 .args .want) c′ (c6 .read-change .ensures) n (c4 .e .given .1) in
     f .stands .low
 
 add-len : tie.Need-add-len
@@ -35,7 +35,7 @@ add-len c =
     let s = (c9 .args) .s .now in
     let c′ = (c7 .read-change) .result in
     let n = (c5 .e) .given .0 .0 in
-    let f = full s ((c9 .args) .want) c′ ((c7 .read-change) .ensures) n ((c5 .e) .given .1) in
+    let f = full s (c9 .args .want) c′ (c7 .read-change .ensures) n (c5 .e .given .1) in
     omega (arith, f .stands .high, (c2 .head-of) .ensures .few)
 
 enum-known-e-2 : tie.Need-enum-known-e-2
@@ -53,8 +53,8 @@ returns c =
     let s = (c9 .args) .s .now in
     let c′ = (c7 .read-change) .result in
     let n = (c5 .e) .given .0 .0 in
-    let f = full s ((c9 .args) .want) c′ ((c7 .read-change) .ensures) n ((c5 .e) .given .1) in
-    record { value = view-full s ((c9 .args) .want) n c′ f ((c2 .head-of) .result .len) ((c2 .head-of) .ensures .len); placed = f .stands .high }
+    let f = full s (c9 .args .want) c′ (c7 .read-change .ensures) n (c5 .e .given .1) in
+    record { value = view-full s (c9 .args .want) n c′ f (c2 .head-of .result .len) (c2 .head-of .ensures .len); placed = f .stands .high }
 
 returns-2 : tie.Need-returns-2
 returns-2 c =
@@ -63,9 +63,9 @@ returns-2 c =
     let c6 = c4 .before .before in
     let s = (c6 .args) .s .now in
     record {
-      value = rw ((c .view-no) .ensures) (sym
-          (ap changeView (read-bad s ((c6 .args) .want) ((c4 .read-change) .result) ((c4 .read-change) .ensures) ((c2 .e2) .given .0 .0) ((c2 .e2) .given .1))));
-      placed = rw ((c .view-no) .ensures) tt;
+      value = rw (c .view-no .ensures) (sym
+          (ap changeView (read-bad s (c6 .args .want) (c4 .read-change .result) (c4 .read-change .ensures) (c2 .e2 .given .0 .0) (c2 .e2 .given .1))));
+      placed = rw (c .view-no .ensures) tt;
     }
 
 pub change-at-spec : {M : Type 1} → statement M

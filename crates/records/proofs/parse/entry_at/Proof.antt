@@ -11,7 +11,7 @@ view-no-requires c κs = search needs
 returns : tie.Need-returns
 returns c =
     let c3 = c .before .before .before in
-    record { value = rw ((c .view-no) .ensures) (entry-short ((c3 .args) .s .now) ((c .before .if1) .taken)); placed = rw ((c .view-no) .ensures) tt }
+    record { value = rw (c .view-no .ensures) (entry-short (c3 .args .s .now) (c .before .if1 .taken)); placed = rw (c .view-no .ensures) tt }
 
 shared-slice-read-a : tie.Need-shared-slice-read-a
 shared-slice-read-a c = search needs
@@ -31,10 +31,10 @@ returns-2 c =
     let c5 = c2 .before .before .before in
     let c7 = c5 .before .before in
     record {
-      value = rw ((c .bare-view) .ensures)
-          (entry-is ((c7 .args) .s .now) ((c5 .if1) .left) true _ (sym ((c2 .is) .ensures) ∙ (c .before .if2) .taken) refl);
-      placed = rw ((c .bare-view) .ensures)
-          ((c5 .if1) .left);
+      value = rw (c .bare-view .ensures)
+          (entry-is (c7 .args .s .now) (c5 .if1 .left) true _ (sym (c2 .is .ensures) ∙ (c .before .if2) .taken) refl);
+      placed = rw (c .bare-view .ensures)
+          (c5 .if1 .left);
     }
 
 is-requires-2 : tie.Need-is-requires-2
@@ -51,9 +51,9 @@ returns-3 c =
     let c7 = c4 .before .before .before in
     let c9 = c7 .before .before in
     record {
-      value = rw ((c .bare-view2) .ensures) (entry-is ((c9 .args) .s .now) ((c7 .if1) .left) false true (sym ((c4 .is) .ensures) ∙ (c3 .if2) .left)
-          (sym ((c2 .is2) .ensures) ∙ (c .before .if3) .taken));
-      placed = rw ((c .bare-view2) .ensures) ((c7 .if1) .left);
+      value = rw (c .bare-view2 .ensures) (entry-is (c9 .args .s .now) (c7 .if1 .left) false true (sym (c4 .is .ensures) ∙ (c3 .if2) .left)
+          (sym (c2 .is2 .ensures) ∙ (c .before .if3) .taken));
+      placed = rw (c .bare-view2 .ensures) (c7 .if1 .left);
     }
 
 change-at-requires : tie.Need-change-at-requires
@@ -67,8 +67,8 @@ returns-4 c =
     let c7 = c4 .before .before .before in
     let c9 = c7 .before .before in
     record {
-      value = (c .change-at) .ensures .value ∙ entry-is ((c9 .args) .s .now) ((c7 .if1) .left) false false (sym ((c4 .is) .ensures) ∙ (c3 .if2) .left)
-          (sym ((c2 .is2) .ensures) ∙ (c .before .if3) .left);
+      value = (c .change-at) .ensures .value ∙ entry-is (c9 .args .s .now) (c7 .if1 .left) false false (sym (c4 .is .ensures) ∙ (c3 .if2) .left)
+          (sym (c2 .is2 .ensures) ∙ (c .before .if3) .left);
       placed = (c .change-at) .ensures .placed;
     }
 

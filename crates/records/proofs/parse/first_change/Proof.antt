@@ -24,8 +24,8 @@ returns c =
     let c6 = c4 .before .before in
     let s = (c6 .args) .s .now in
     let v = (c4 .entry-at) .result .view in
-    front-at s v ((c2 .e) .given .0 .0) (sym (ap (λ d. shown s d v) ((c2 .e) .given .1)) ∙ (c4 .entry-at) .ensures .value)
-    (subst (λ d. EndIn s d) ((c2 .e) .given .1) ((c4 .entry-at) .ensures .placed))
+    front-at s v (c2 .e .given .0 .0) (sym (ap (λ d. shown s d v) (c2 .e .given .1)) ∙ (c4 .entry-at) .ensures .value)
+    (subst (λ d. EndIn s d) (c2 .e .given .1) (c4 .entry-at .ensures .placed))
 
 returns-2 : tie.Need-returns-2
 returns-2 c =
@@ -34,7 +34,7 @@ returns-2 c =
     let c6 = c4 .before .before in
     let s = (c6 .args) .s .now in
     let v = (c4 .entry-at) .result .view in
-    rw ((c .nothing) .ensures) (front-no s ((c2 .e2) .given .0 .0) (sym (ap (λ d. shown s d v) ((c2 .e2) .given .1)) ∙ (c4 .entry-at) .ensures .value))
+    rw (c .nothing .ensures) (front-no s (c2 .e2 .given .0 .0) (sym (ap (λ d. shown s d v) (c2 .e2 .given .1)) ∙ (c4 .entry-at) .ensures .value))
 
 pub first-change-spec : {M : Type 1} → statement M
 first-change-spec =

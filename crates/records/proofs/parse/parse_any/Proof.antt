@@ -21,8 +21,8 @@ returns c =
     let c7 = c5 .before .before in
     let s = (c7 .args) .s .now in
     let v = (c5 .entry-at) .result .view in
-    any-faulted _ _ _ ((c .fault) .ensures)
-    (any-8 s v ((c3 .e) .given .0 .0) (sym (ap (λ d. shown s d v) ((c3 .e) .given .1)) ∙ (c5 .entry-at) .ensures .value) ((c .before .if1) .taken))
+    any-faulted _ _ _ (c .fault .ensures)
+    (any-8 s v (c3 .e .given .0 .0) (sym (ap (λ d. shown s d v) (c3 .e .given .1)) ∙ (c5 .entry-at) .ensures .value) (c .before .if1 .taken))
 
 enum-known-e-2 : tie.Need-enum-known-e-2
 enum-known-e-2 c = search needs
@@ -37,7 +37,7 @@ returns-2 c =
     let c7 = c5 .before .before in
     let s = (c7 .args) .s .now in
     let v = (c5 .entry-at) .result .view in
-    any-fine s v ((c3 .e) .given .0 .0) (sym (ap (λ d. shown s d v) ((c3 .e) .given .1)) ∙ (c5 .entry-at) .ensures .value) ((c .before .if1) .left)
+    any-fine s v (c3 .e .given .0 .0) (sym (ap (λ d. shown s d v) (c3 .e .given .1)) ∙ (c5 .entry-at) .ensures .value) (c .before .if1 .left)
 
 returns-3 : tie.Need-returns-3
 returns-3 c =
@@ -46,8 +46,8 @@ returns-3 c =
     let c6 = c4 .before .before in
     let s = (c6 .args) .s .now in
     let v = (c4 .entry-at) .result .view in
-    any-faulted _ _ _ ((c .fault2) .ensures)
-    (any-bad s ((c2 .e2) .given .0 .0) (sym (ap (λ d. shown s d v) ((c2 .e2) .given .1)) ∙ (c4 .entry-at) .ensures .value))
+    any-faulted _ _ _ (c .fault2 .ensures)
+    (any-bad s (c2 .e2 .given .0 .0) (sym (ap (λ d. shown s d v) (c2 .e2 .given .1)) ∙ (c4 .entry-at) .ensures .value))
 
 pub parse-any-spec : {M : Type 1} → statement M
 parse-any-spec =

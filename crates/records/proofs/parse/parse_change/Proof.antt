@@ -22,8 +22,8 @@ returns c =
     let c7 = c5 .before .before in
     let s = (c7 .args) .s .now in
     let v = (c5 .change-at) .result .view in
-    faulted _ _ _ ((c .fault) .ensures) (parsed-8 s ((c7 .args) .want) v ((c3 .e) .given .0 .0)
-    (sym (ap (λ d. shown s d v) ((c3 .e) .given .1)) ∙ (c5 .change-at) .ensures .value) ((c .before .if1) .taken))
+    faulted _ _ _ (c .fault .ensures) (parsed-8 s (c7 .args .want) v (c3 .e .given .0 .0)
+    (sym (ap (λ d. shown s d v) (c3 .e .given .1)) ∙ (c5 .change-at) .ensures .value) (c .before .if1 .taken))
 
 enum-known-e-2 : tie.Need-enum-known-e-2
 enum-known-e-2 c = search needs
@@ -38,8 +38,8 @@ returns-2 c =
     let c7 = c5 .before .before in
     let s = (c7 .args) .s .now in
     let v = (c5 .change-at) .result .view in
-    parsed-fine s ((c7 .args) .want) v ((c3 .e) .given .0 .0) (sym (ap (λ d. shown s d v) ((c3 .e) .given .1)) ∙ (c5 .change-at) .ensures .value)
-    ((c .before .if1) .left)
+    parsed-fine s (c7 .args .want) v (c3 .e .given .0 .0) (sym (ap (λ d. shown s d v) (c3 .e .given .1)) ∙ (c5 .change-at) .ensures .value)
+    (c .before .if1 .left)
 
 returns-3 : tie.Need-returns-3
 returns-3 c =
@@ -48,8 +48,8 @@ returns-3 c =
     let c6 = c4 .before .before in
     let s = (c6 .args) .s .now in
     let v = (c4 .change-at) .result .view in
-    faulted _ _ _ ((c .fault2) .ensures)
-    (parsed-bad s ((c6 .args) .want) ((c2 .e2) .given .0 .0) (sym (ap (λ d. shown s d v) ((c2 .e2) .given .1)) ∙ (c4 .change-at) .ensures .value))
+    faulted _ _ _ (c .fault2 .ensures)
+    (parsed-bad s (c6 .args .want) (c2 .e2 .given .0 .0) (sym (ap (λ d. shown s d v) (c2 .e2 .given .1)) ∙ (c4 .change-at) .ensures .value))
 
 pub parse-change-spec : {M : Type 1} → statement M
 parse-change-spec =

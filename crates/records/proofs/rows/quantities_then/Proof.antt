@@ -12,10 +12,10 @@ enum-known-e-2 : tie.Need-enum-known-e-2
 enum-known-e-2 c = search needs
 
 returns : tie.Need-returns
-returns c = (rw ((c .before .before .e) .given .1) ((c .read-quantities) .ensures .0), (c .read-quantities) .ensures .1)
+returns c = (rw (c .before .before .e .given .1) (c .read-quantities .ensures .0), (c .read-quantities) .ensures .1)
 
 returns-2 : tie.Need-returns-2
-returns-2 c = (rw ((c .before .e2) .given .1), tt)
+returns-2 c = (rw (c .before .e2 .given .1), tt)
 
 pub quantities-then-spec : {M : Type 1} → statement M
 quantities-then-spec =

@@ -41,9 +41,9 @@ loop-again c =
     let h = (c .before .before .before .read-price) .ensures .1 in (
       search needs,
       search needs,
-      λ u. rw ((c .before .p) .given .1) at h,
-      filled-more ((c .before .before .before .before .before .loop) .inv .3) (search needs)
-          (omega arith) (sym ((c .before .before .before .read-price) .ensures .0) ∙ ap (priceAt _) ((c .before .p) .given .1)),
+      λ u. rw (c .before .p .given .1) at h,
+      filled-more (c .before .before .before .before .before .loop .inv .3) (search needs)
+          (omega arith) (sym (c .before .before .before .read-price .ensures .0) ∙ ap (priceAt _) (c .before .p .given .1)),
     )
 
 enum-known-p-2 : tie.Need-enum-known-p-2 Inv-loop μ-loop
@@ -51,13 +51,13 @@ enum-known-p-2 c = search needs
 
 returns : tie.Need-returns Inv-loop μ-loop
 returns c = (
-  filled-bad ((c .before .before .before .before .before .loop) .inv .3) (search needs)
-      (sym ((c .before .before .before .read-price) .ensures .0) ∙ ap (priceAt _) ((c .before .p2) .given .1)),
+  filled-bad (c .before .before .before .before .before .loop .inv .3) (search needs)
+      (sym (c .before .before .before .read-price .ensures .0) ∙ ap (priceAt _) (c .before .p2 .given .1)),
   tt,
 )
 
 returns-2 : tie.Need-returns-2 Inv-loop μ-loop
-returns-2 c = (filled-all ((c .before .loop) .inv .3) (search needs) (search needs) (search needs), (c .before .loop) .inv .2 (search needs))
+returns-2 c = (filled-all (c .before .loop .inv .3) (search needs) (search needs) (search needs), (c .before .loop) .inv .2 (search needs))
 
 pub read-prices-spec : {M : Type 1} → statement M
 read-prices-spec =

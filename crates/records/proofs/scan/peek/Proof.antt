@@ -17,10 +17,10 @@ head-of-requires : tie.Need-head-of-requires
 head-of-requires c κs = (c .before .before .before .before .read-change) .ensures .few
 
 array-share-prefix-bytes : tie.Need-array-share-prefix-bytes
-array-share-prefix-bytes c = head-fits ((c .before .head-of) .ensures)
+array-share-prefix-bytes c = head-fits (c .before .head-of .ensures)
 
 slice-aggregate-starts : tie.Need-slice-aggregate-starts
-slice-aggregate-starts c = sym (head-part ((c .before .before .head-of) .ensures))
+slice-aggregate-starts c = sym (head-part (c .before .before .head-of .ensures))
 
 starts-requires : tie.Need-starts-requires
 starts-requires c κs = search needs
@@ -30,7 +30,7 @@ sub-len c =
     let c8 = c .before .before .before .before .before .before .before .before in
     let c10 = c8 .before .before in
     let c12 = c10 .before .before in
-    let f = full ((c12 .args) .s .now) Any ((c10 .read-change) .result) ((c10 .read-change) .ensures) ((c8 .e) .given .0 .0) ((c8 .e) .given .1) in
+    let f = full (c12 .args .s .now) Any (c10 .read-change .result) (c10 .read-change .ensures) (c8 .e .given .0 .0) (c8 .e .given .1) in
     f .stands .low
 
 add-len : tie.Need-add-len
@@ -39,7 +39,7 @@ add-len c =
     let c8 = c5 .before .before .before in
     let c10 = c8 .before .before in
     let c12 = c10 .before .before in
-    let f = full ((c12 .args) .s .now) Any ((c10 .read-change) .result) ((c10 .read-change) .ensures) ((c8 .e) .given .0 .0) ((c8 .e) .given .1) in
+    let f = full (c12 .args .s .now) Any (c10 .read-change .result) (c10 .read-change .ensures) (c8 .e .given .0 .0) (c8 .e .given .1) in
     omega (arith, f .stands .high, (c5 .head-of) .ensures .few)
 
 nothing-requires : tie.Need-nothing-requires
@@ -59,9 +59,9 @@ returns c =
     let c10 = c8 .before .before in
     let c12 = c10 .before .before in
     let s = (c12 .args) .s .now in
-    let f = full s Any ((c10 .read-change) .result) ((c10 .read-change) .ensures) ((c8 .e) .given .0 .0) ((c8 .e) .given .1) in
-    peek-yes s ((c8 .e) .given .0 .0) ((c10 .read-change) .result) f ((c5 .head-of) .result .len) ((c5 .head-of) .ensures .len)
-    (ap (λ l. begins l s) (sym ((c5 .head-of) .ensures .bytes)) ∙ sym ((c2 .starts) .ensures) ∙ (c .before .if1) .taken)
+    let f = full s Any (c10 .read-change .result) (c10 .read-change .ensures) (c8 .e .given .0 .0) (c8 .e .given .1) in
+    peek-yes s (c8 .e .given .0 .0) (c10 .read-change .result) f (c5 .head-of .result .len) (c5 .head-of .ensures .len)
+    (ap (λ l. begins l s) (sym (c5 .head-of .ensures .bytes)) ∙ sym (c2 .starts .ensures) ∙ (c .before .if1) .taken)
 
 returns-2 : tie.Need-returns-2
 returns-2 c =
@@ -71,17 +71,17 @@ returns-2 c =
     let c10 = c8 .before .before in
     let c12 = c10 .before .before in
     let s = (c12 .args) .s .now in
-    let f = full s Any ((c10 .read-change) .result) ((c10 .read-change) .ensures) ((c8 .e) .given .0 .0) ((c8 .e) .given .1) in
-    (c .nothing) .ensures ∙ peek-no s ((c8 .e) .given .0 .0) ((c10 .read-change) .result) f
-    (ap (λ l. begins l s) (sym ((c5 .head-of) .ensures .bytes)) ∙ sym ((c2 .starts) .ensures) ∙ (c .before .if1) .left)
+    let f = full s Any (c10 .read-change .result) (c10 .read-change .ensures) (c8 .e .given .0 .0) (c8 .e .given .1) in
+    (c .nothing) .ensures ∙ peek-no s (c8 .e .given .0 .0) (c10 .read-change .result) f
+    (ap (λ l. begins l s) (sym (c5 .head-of .ensures .bytes)) ∙ sym (c2 .starts .ensures) ∙ (c .before .if1) .left)
 
 returns-3 : tie.Need-returns-3
 returns-3 c =
     let c2 = c .before .before in
     let c4 = c2 .before .before in
     let c6 = c4 .before .before in
-    (c .nothing2) .ensures ∙ peek-bad ((c6 .args) .s .now) ((c2 .e2) .given .0 .0)
-    (read-bad ((c6 .args) .s .now) Any ((c4 .read-change) .result) ((c4 .read-change) .ensures) ((c2 .e2) .given .0 .0) ((c2 .e2) .given .1))
+    (c .nothing2) .ensures ∙ peek-bad (c6 .args .s .now) (c2 .e2 .given .0 .0)
+    (read-bad (c6 .args .s .now) Any (c4 .read-change .result) (c4 .read-change .ensures) (c2 .e2 .given .0 .0) (c2 .e2 .given .1))
 
 pub peek-spec : {M : Type 1} → statement M
 peek-spec =

@@ -13,7 +13,7 @@ abbrev μ-loop : tie.MeasureT-loop
 μ-loop s front n i₀ i = n - i
 
 returns : tie.Need-returns Inv-loop μ-loop
-returns c = starts-short ((c .before .args) .front .now) ((c .before .args) .s .now) ((c .if1) .taken)
+returns c = starts-short (c .before .args .front .now) (c .before .args .s .now) (c .if1 .taken)
 
 loop-holds : tie.Need-loop-holds Inv-loop μ-loop
 loop-holds c = (search needs, search needs, search needs, record { so-far = refl })
@@ -25,7 +25,7 @@ shared-slice-read-if2-2 : tie.Need-shared-slice-read-if2-2 Inv-loop μ-loop
 shared-slice-read-if2-2 c = search needs
 
 returns-2 : tie.Need-returns-2 Inv-loop μ-loop
-returns-2 c = started-not ((c .before .before .before .before .loop) .inv .3) (search needs) (search needs) ((c .if2) .taken)
+returns-2 c = started-not (c .before .before .before .before .loop .inv .3) (search needs) (search needs) (c .if2 .taken)
 
 add-i : tie.Need-add-i Inv-loop μ-loop
 add-i c = search needs
@@ -35,10 +35,10 @@ loop-less c = search needs
 
 loop-again : tie.Need-loop-again Inv-loop μ-loop
 loop-again c =
-    (search needs, search needs, search needs, started-more ((c .before .before .before .before .loop) .inv .3) (search needs) (search needs) ((c .if2) .left))
+    (search needs, search needs, search needs, started-more (c .before .before .before .before .loop .inv .3) (search needs) (search needs) (c .if2 .left))
 
 returns-3 : tie.Need-returns-3 Inv-loop μ-loop
-returns-3 c = started-all ((c .before .loop) .inv .3) (search needs)
+returns-3 c = started-all (c .before .loop .inv .3) (search needs)
 
 pub starts-spec : {M : Type 1} → statement M
 starts-spec =

@@ -19,8 +19,8 @@ returns : tie.Need-returns
 returns c =
     let c2 = c .before .before in
     let c4 = c2 .before .before in
-    (c .no-failure) .ensures ∙ sym (ap (λ (b : Bool). failureAnswer (check b 2 (viewed ((c4 .args) .mark) failure ((c4 .args) .s .now))))
-    (sym ((c2 .is-failure) .ensures) ∙ not-true _ ((c .before .if1) .taken)))
+    (c .no-failure) .ensures ∙ sym (ap (λ (b : Bool). failureAnswer (check b 2 (viewed (c4 .args .mark) failure (c4 .args .s .now))))
+    (sym (c2 .is-failure .ensures) ∙ not-true _ (c .before .if1 .taken)))
 
 fields-at-requires : tie.Need-fields-at-requires
 fields-at-requires c κs = search needs
@@ -45,10 +45,10 @@ returns-2 c =
     let c6 = c5 .before in
     let c7 = c6 .before in
     let c9 = c7 .before .before in
-    ap failureAnswer (view-at ((c9 .args) .s .now) ((c9 .args) .mark) failure ((c5 .fields-at) .result .end) ((c4 .failure-then) .result .end)
-    ((c5 .fields-at) .result .name) ((c4 .failure-then) .result .failure) ((c5 .fields-at) .ensures .0) ((c4 .failure-then) .ensures .0) _
-    ((c2 .e) .given .1)) ∙ sym (ap (λ (b : Bool). failureAnswer (check b 2 (viewed ((c9 .args) .mark) failure ((c9 .args) .s .now))))
-    (sym ((c7 .is-failure) .ensures) ∙ not-false _ ((c6 .if1) .left)))
+    ap failureAnswer (view-at (c9 .args .s .now) (c9 .args .mark) failure (c5 .fields-at .result .end) (c4 .failure-then .result .end)
+    (c5 .fields-at .result .name) (c4 .failure-then .result .failure) (c5 .fields-at .ensures .0) (c4 .failure-then .ensures .0) _
+    (c2 .e .given .1)) ∙ sym (ap (λ (b : Bool). failureAnswer (check b 2 (viewed (c9 .args .mark) failure (c9 .args .s .now))))
+    (sym (c7 .is-failure .ensures) ∙ not-false _ (c6 .if1 .left)))
 
 returns-3 : tie.Need-returns-3
 returns-3 c =
@@ -58,11 +58,11 @@ returns-3 c =
     let c6 = c5 .before in
     let c7 = c6 .before in
     let c9 = c7 .before .before in
-    (c .no-failure2) .ensures ∙ ap failureAnswer (view-no ((c9 .args) .s .now) ((c9 .args) .mark) failure ((c5 .fields-at) .result .end)
-    ((c4 .failure-then) .result .end) ((c5 .fields-at) .result .name) ((c4 .failure-then) .result .failure) ((c5 .fields-at) .ensures .0)
-    ((c4 .failure-then) .ensures .0) _ ((c2 .e2) .given .1)) ∙ sym (ap
-    (λ (b : Bool). failureAnswer (check b 2 (viewed ((c9 .args) .mark) failure ((c9 .args) .s .now))))
-    (sym ((c7 .is-failure) .ensures) ∙ not-false _ ((c6 .if1) .left)))
+    (c .no-failure2) .ensures ∙ ap failureAnswer (view-no (c9 .args .s .now) (c9 .args .mark) failure (c5 .fields-at .result .end)
+    (c4 .failure-then .result .end) (c5 .fields-at .result .name) (c4 .failure-then .result .failure) (c5 .fields-at .ensures .0)
+    (c4 .failure-then .ensures .0) _ (c2 .e2 .given .1)) ∙ sym (ap
+    (λ (b : Bool). failureAnswer (check b 2 (viewed (c9 .args .mark) failure (c9 .args .s .now))))
+    (sym (c7 .is-failure .ensures) ∙ not-false _ (c6 .if1 .left)))
 
 pub failure-of-spec : {M : Type 1} → statement M
 failure-of-spec =

@@ -36,12 +36,12 @@ returns c =
     let s = (c6 .args) .s .now in
     let h = (c4 .head-at) .result in
     let o = (c .before .hour-then) .result in
-    let ok = sameMark (h .mark) ((c6 .args) .mark) in
-    let g = (c2 .guard-end) .ensures ∙ ap (λ b. guarded (h .end) b 2) ((c3 .same-mark) .ensures) in (
-      sym (first s (h .end) (record { kind = h .kind; mark = h .mark }) (head (Only File) s) _ ((c4 .head-at) .ensures .0)
+    let ok = sameMark (h .mark) (c6 .args .mark) in
+    let g = (c2 .guard-end) .ensures ∙ ap (λ b. guarded (h .end) b 2) (c3 .same-mark .ensures) in (
+      sym (first s (h .end) (record { kind = h .kind; mark = h .mark }) (head (Only File) s) _ (c4 .head-at .ensures .0)
           ∙ test s (h .end) ok 2 _
-          ∙ next s (guarded (h .end) ok 2) (o .end) (o .hour) hour _ ((c .before .hour-then) .ensures .0 ∙ ap (λ d. then s d hour) g)
-          ∙ sym ((c .name-then) .ensures .value)),
+          ∙ next s (guarded (h .end) ok 2) (o .end) (o .hour) hour _ (c .before .hour-then .ensures .0 ∙ ap (λ d. then s d hour) g)
+          ∙ sym (c .name-then .ensures .value)),
       (c .name-then) .ensures .placed,
     )
 

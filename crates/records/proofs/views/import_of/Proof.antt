@@ -28,8 +28,8 @@ returns c =
     let c4 = c2 .before .before in
     let c5 = c4 .before in
     let c7 = c5 .before .before in
-    ap importAnswer (view-at ((c7 .args) .s .now) Im import ((c5 .fields-at) .result .end) ((c4 .import-then) .result .end) ((c5 .fields-at) .result .name)
-    ((c4 .import-then) .result .import) ((c5 .fields-at) .ensures .0) ((c4 .import-then) .ensures .0) _ ((c2 .e) .given .1))
+    ap importAnswer (view-at (c7 .args .s .now) Im import (c5 .fields-at .result .end) (c4 .import-then .result .end) (c5 .fields-at .result .name)
+    (c4 .import-then .result .import) (c5 .fields-at .ensures .0) (c4 .import-then .ensures .0) _ (c2 .e .given .1))
 
 returns-2 : tie.Need-returns-2
 returns-2 c =
@@ -37,9 +37,9 @@ returns-2 c =
     let c4 = c2 .before .before in
     let c5 = c4 .before in
     let c7 = c5 .before .before in
-    (λ x. record { number = (c2 .e2) .given .0 .0; import = (c .no-import) .ensures x }) ∙ ap importAnswer (view-no ((c7 .args) .s .now) Im import
-    ((c5 .fields-at) .result .end) ((c4 .import-then) .result .end) ((c5 .fields-at) .result .name) ((c4 .import-then) .result .import)
-    ((c5 .fields-at) .ensures .0) ((c4 .import-then) .ensures .0) _ ((c2 .e2) .given .1))
+    (λ x. record { number = (c2 .e2) .given .0 .0; import = (c .no-import) .ensures x }) ∙ ap importAnswer (view-no (c7 .args .s .now) Im import
+    (c5 .fields-at .result .end) (c4 .import-then .result .end) (c5 .fields-at .result .name) (c4 .import-then .result .import)
+    (c5 .fields-at .ensures .0) (c4 .import-then .ensures .0) _ (c2 .e2 .given .1))
 
 pub import-of-spec : {M : Type 1} → statement M
 import-of-spec =

@@ -6,7 +6,7 @@ no-offer-requires : tie.Need-no-offer-requires
 no-offer-requires c κs = search needs
 
 returns : tie.Need-returns
-returns c = rw ((c .no-offer) .ensures)
+returns c = rw (c .no-offer .ensures)
 
 pub no-reserve-spec : {M : Type 1} → statement M
 no-reserve-spec = tie.close (tie.spec no-offer-requires returns)

@@ -9,7 +9,7 @@ no-reserve-requires : tie.Need-no-reserve-requires
 no-reserve-requires c κs = search needs
 
 returns : tie.Need-returns
-returns c = rw ((c .no-reserve) .ensures, (c .before .no-offer) .ensures)
+returns c = rw (c .no-reserve .ensures, (c .before .no-offer) .ensures)
 
 pub no-unit-spec : {M : Type 1} → statement M
 no-unit-spec = tie.close (tie.spec no-offer-requires no-reserve-requires returns)

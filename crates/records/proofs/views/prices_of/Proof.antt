@@ -25,18 +25,18 @@ returns c =
     let c4 = c2 .before .before in
     let c5 = c4 .before in
     let c7 = c5 .before .before in
-    ap pricesAnswer (view-at ((c7 .args) .s .now) Pr hourPrices ((c5 .fields-at) .result .end) ((c4 .hour-prices-then) .result .end)
-    ((c5 .fields-at) .result .name) ((c4 .hour-prices-then) .result .prices) ((c5 .fields-at) .ensures .0) ((c4 .hour-prices-then) .ensures .0) _
-    ((c2 .e) .given .1))
+    ap pricesAnswer (view-at (c7 .args .s .now) Pr hourPrices (c5 .fields-at .result .end) (c4 .hour-prices-then .result .end)
+    (c5 .fields-at .result .name) (c4 .hour-prices-then .result .prices) (c5 .fields-at .ensures .0) (c4 .hour-prices-then .ensures .0) _
+    (c2 .e .given .1))
 
 returns-2 : tie.Need-returns-2
 returns-2 c =
     let c3 = c .before .before .before in
     let c4 = c3 .before in
     let c6 = c4 .before .before in
-    ap pricesAnswer (view-no ((c6 .args) .s .now) Pr hourPrices ((c4 .fields-at) .result .end) ((c3 .hour-prices-then) .result .end)
-    ((c4 .fields-at) .result .name) ((c3 .hour-prices-then) .result .prices) ((c4 .fields-at) .ensures .0) ((c3 .hour-prices-then) .ensures .0) _
-    ((c .before .e2) .given .1))
+    ap pricesAnswer (view-no (c6 .args .s .now) Pr hourPrices (c4 .fields-at .result .end) (c3 .hour-prices-then .result .end)
+    (c4 .fields-at .result .name) (c3 .hour-prices-then .result .prices) (c4 .fields-at .ensures .0) (c3 .hour-prices-then .ensures .0) _
+    (c .before .e2 .given .1))
 
 pub prices-of-spec : {M : Type 1} → statement M
 prices-of-spec =

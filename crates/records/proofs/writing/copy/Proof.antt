@@ -14,7 +14,7 @@ abbrev μ-loop : tie.MeasureT-loop
 μ-loop src out₀ at i₀ out i = length src - i
 
 loop-holds : tie.Need-loop-holds Inv-loop μ-loop
-loop-holds c = (search needs, search needs, search needs, copy-none ((c .args) .out .now) ((c .args) .at) ((c .args) .src .now))
+loop-holds c = (search needs, search needs, search needs, copy-none (c .args .out .now) (c .args .at) (c .args .src .now))
 
 shared-slice-read-out : tie.Need-shared-slice-read-out Inv-loop μ-loop
 shared-slice-read-out c = search needs
@@ -34,11 +34,11 @@ loop-less c = search needs
 loop-again : tie.Need-loop-again Inv-loop μ-loop
 loop-again c = (
   search needs,
-  simp length-set ((c .before .before .loop) .inv .1),
+  simp length-set (c .before .before .loop .inv .1),
   search needs,
-  copy-more ((c .before .before .before .args) .out .now)
-      ((c .before .before .loop) .out) ((c .before .before .before .args) .src .now) ((c .before .before .before .args) .at) ((c .before .before .loop) .i)
-      ((c .before .loop-test) .taken) ((c .before .before .loop) .inv .3),
+  copy-more (c .before .before .before .args .out .now)
+      (c .before .before .loop .out) (c .before .before .before .args .src .now) (c .before .before .before .args .at) (c .before .before .loop .i)
+      (c .before .loop-test .taken) (c .before .before .loop .inv .3),
 )
 
 add-result : tie.Need-add-result Inv-loop μ-loop
@@ -48,7 +48,7 @@ same-length : tie.Need-same-length Inv-loop μ-loop
 same-length c = search needs
 
 returns : tie.Need-returns Inv-loop μ-loop
-returns c = copy-all ((c .loop-test) .left) ((c .before .loop) .inv .3)
+returns c = copy-all (c .loop-test .left) (c .before .loop .inv .3)
 
 pub copy-spec : {M : Type 1} → statement M
 copy-spec =

@@ -12,8 +12,8 @@ write-head-requires c κs = search needs
 
 returns : tie.Need-returns
 returns c =
-    let l = head-length ((c .before .before .before .args) .kind) ((c .before .before .before .args) .key) (search needs) in
-    let w = wrote-front ((c .before .write-head) .ensures) l in
+    let l = head-length (c .before .before .before .args .kind) (c .before .before .before .args .key) (search needs) in
+    let w = wrote-front (c .before .write-head .ensures) l in
     record { bytes = w .0; len = w .1; few = omega (arith, w .1, l) }
 
 pub head-of-spec : {M : Type 1} → statement M

@@ -25,8 +25,8 @@ write-key-name-requires c κs = (
   simp length-set (omega (
     arith,
     wrote-length
-        ((c .before .before .before .before .before .before .before .write-lead) .ensures .0),
-    wrote-length ((c .before .before .before .write-mark) .ensures .0),
+        (c .before .before .before .before .before .before .before .write-lead .ensures .0),
+    wrote-length (c .before .before .before .write-mark .ensures .0),
     (c .before .before .before .before .before .before .before .write-lead) .ensures .1,
     (c .before .before .before .write-mark) .ensures .1,
   )),
@@ -37,7 +37,7 @@ same-length c =
     let c2 = c .before .before in
     let c6 = c2 .before .before .before .before in
     let c10 = c6 .before .before .before .before in
-    wrote-length ((c2 .write-key-name) .ensures) ∙ simp length-set (wrote-length ((c6 .write-mark) .ensures .0) ∙ wrote-length ((c10 .write-lead) .ensures .0))
+    wrote-length (c2 .write-key-name .ensures) ∙ simp length-set (wrote-length (c6 .write-mark .ensures .0) ∙ wrote-length (c10 .write-lead .ensures .0))
 
 returns : tie.Need-returns
 unfolding headBytes
@@ -45,7 +45,7 @@ returns c =
     let c2 = c .before .before in
     let c6 = c2 .before .before .before .before in
     let c10 = c6 .before .before .before .before in
-    wrote-then ((c10 .write-lead) .ensures .0) (wrote-then ((c6 .write-mark) .ensures .0) (wrote-then (wrote-one _ _ _) ((c2 .write-key-name) .ensures)))
+    wrote-then (c10 .write-lead .ensures .0) (wrote-then (c6 .write-mark .ensures .0) (wrote-then (wrote-one _ _ _) (c2 .write-key-name .ensures)))
 
 pub write-head-spec : {M : Type 1} → statement M
 write-head-spec =

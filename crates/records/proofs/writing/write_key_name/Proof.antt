@@ -26,7 +26,7 @@ write-name-requires : tie.Need-write-name-requires
 write-name-requires c κs = (search needs, simp length-set (omega arith))
 
 same-length : tie.Need-same-length
-same-length c = wrote-length ((c .before .before .write-name) .ensures) ∙ simp length-set
+same-length c = wrote-length (c .before .before .write-name .ensures) ∙ simp length-set
 
 returns : tie.Need-returns
 returns c =
@@ -35,14 +35,14 @@ returns c =
     let c5 = c4 .before in
     let c6 = c5 .before in
     let c8 = c6 .before .before in
-    rw (name-yes ((c8 .args) .kind) ((c8 .args) .mark) ((c8 .args) .name) (sym ((c6 .has-name) .ensures) ∙ (c5 .if1) .taken), ← (c4 .spelled-len) .ensures .0)
-    (wrote-then (wrote-one ((c8 .args) .out .now) ((c8 .args) .at) ((c4 .spelled-len) .result)) ((c2 .write-name) .ensures))
+    rw (name-yes (c8 .args .kind) (c8 .args .mark) (c8 .args .name) (sym (c6 .has-name .ensures) ∙ (c5 .if1) .taken), ← (c4 .spelled-len) .ensures .0)
+    (wrote-then (wrote-one (c8 .args .out .now) (c8 .args .at) (c4 .spelled-len .result)) (c2 .write-name .ensures))
 
 write-none-requires : tie.Need-write-none-requires
 write-none-requires c κs = search needs
 
 same-length-2 : tie.Need-same-length-2
-same-length-2 c = wrote-length ((c .before .before .write-none) .ensures)
+same-length-2 c = wrote-length (c .before .before .write-none .ensures)
 
 returns-2 : tie.Need-returns-2
 returns-2 c =
@@ -50,7 +50,7 @@ returns-2 c =
     let c4 = c2 .before .before in
     let c5 = c4 .before in
     let c7 = c5 .before .before in
-    rw (name-no ((c7 .args) .kind) ((c7 .args) .mark) ((c7 .args) .name) (sym ((c5 .has-name) .ensures) ∙ (c4 .if1) .left)) ((c2 .write-none) .ensures)
+    rw (name-no (c7 .args .kind) (c7 .args .mark) (c7 .args .name) (sym (c5 .has-name .ensures) ∙ (c4 .if1) .left)) (c2 .write-none .ensures)
 
 pub write-key-name-spec : {M : Type 1} → statement M
 write-key-name-spec =

@@ -39,19 +39,19 @@ add-result-2 : tie.Need-add-result-2
 add-result-2 c = search needs
 
 returns : tie.Need-returns
-returns c = (rw ((c .enum-told) .given .1) wrote-none, omega arith)
+returns c = (rw (c .enum-told .given .1) wrote-none, omega arith)
 
 same-length : tie.Need-same-length
 same-length c = search needs
 
 returns-2 : tie.Need-returns-2
-returns-2 c = (rw ((c .enum-told2) .given .1) (wrote-two ((c .before .before .args) .out .now) ((c .before .before .args) .at) 67 79), omega arith)
+returns-2 c = (rw (c .enum-told2 .given .1) (wrote-two (c .before .before .args .out .now) (c .before .before .args .at) 67 79), omega arith)
 
 same-length-2 : tie.Need-same-length-2
 same-length-2 c = search needs
 
 returns-3 : tie.Need-returns-3
-returns-3 c = (rw ((c .enum-told3) .given .1) (wrote-two ((c .before .before .args) .out .now) ((c .before .before .args) .at) 87 68), omega arith)
+returns-3 c = (rw (c .enum-told3 .given .1) (wrote-two (c .before .before .args .out .now) (c .before .before .args .at) 87 68), omega arith)
 
 pub write-lead-spec : {M : Type 1} → statement M
 write-lead-spec =

@@ -19,16 +19,16 @@ add-result : tie.Need-add-result
 add-result c = search needs
 
 returns : tie.Need-returns
-returns c = rw ((c .enum-told) .given .1) wrote-none
+returns c = rw (c .enum-told .given .1) wrote-none
 
 returns-2 : tie.Need-returns-2
-returns-2 c = rw ((c .enum-told2) .given .1) wrote-none
+returns-2 c = rw (c .enum-told2 .given .1) wrote-none
 
 same-length : tie.Need-same-length
 same-length c = search needs
 
 returns-3 : tie.Need-returns-3
-returns-3 c = rw ((c .enum-told3) .given .1) (wrote-one ((c .before .before .args) .out .now) ((c .before .before .args) .at) 0)
+returns-3 c = rw (c .enum-told3 .given .1) (wrote-one (c .before .before .args .out .now) (c .before .before .args .at) 0)
 
 pub write-none-spec : {M : Type 1} → statement M
 write-none-spec =

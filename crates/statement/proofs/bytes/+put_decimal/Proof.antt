@@ -49,7 +49,7 @@ put-decimal-put-byte-requires : (t : ℕ) → put-decimal-lts.Need-put-byte-requ
 ) (put-decimal-at t) put-decimal.Post
 put-decimal-put-byte-requires t c κs =
     let c3 = c .before .before .before in
-    omega (arith, (c3 .pre) .1, ap length (decimal-one ((c3 .args) .n) ((c .before .if1) .taken)))
+    omega (arith, (c3 .pre) .1, ap length (decimal-one (c3 .args .n) (c .before .if1 .taken)))
 
 put-decimal-same-length : (t : ℕ) → put-decimal-lts.Need-same-length (
   put-byte-reads.Asked,
@@ -69,7 +69,7 @@ put-decimal-returns t c =
     let c2 = c .before .before in
     let c4 = c2 .before .before in
     let c6 = c4 .before .before in
-    rw (decimal-one ((c6 .args) .n) ((c4 .if1) .taken)) ((c2 .put-byte) .ensures)
+    rw (decimal-one (c6 .args .n) (c4 .if1 .taken)) (c2 .put-byte .ensures)
 
 put-decimal-put-decimal-requires : (t : ℕ) → put-decimal-lts.Need-put-decimal-requires (
   put-byte-reads.Asked,
@@ -81,7 +81,7 @@ put-decimal-put-decimal-requires t c κs =
     let c3 = c .before .before .before in
     let n = (c3 .args) .n in
     let h : n ≡ t = (c3 .pre) .0 in
-    (omega arith, omega (arith, (c3 .pre) .1, decimal-longer n ((c .before .if1) .left)))
+    (omega arith, omega (arith, (c3 .pre) .1, decimal-longer n (c .before .if1 .left)))
 
 put-decimal-cast-put-byte-2 : (t : ℕ) → put-decimal-lts.Need-cast-put-byte-2 (
   put-byte-reads.Asked,
@@ -109,7 +109,7 @@ put-decimal-put-byte-requires-2 t c κs =
     let c3 = c .before .before .before in
     let c5 = c3 .before .before in
     let c7 = c5 .before .before in
-    omega (arith, (c7 .pre) .1, decimal-longer ((c7 .args) .n) ((c5 .if1) .left), (c3 .put-decimal) .ensures .behind, writes-size ((c3 .put-decimal) .ensures))
+    omega (arith, (c7 .pre) .1, decimal-longer (c7 .args .n) (c5 .if1 .left), (c3 .put-decimal) .ensures .behind, writes-size (c3 .put-decimal .ensures))
 
 put-decimal-same-length-2 : (t : ℕ) → put-decimal-lts.Need-same-length-2 (
   put-byte-reads.Asked,
@@ -130,7 +130,7 @@ put-decimal-returns-2 t c =
     let c6 = c2 .before .before .before .before in
     let c8 = c6 .before .before in
     let c10 = c8 .before .before in
-    rw (decimal-more ((c10 .args) .n) ((c8 .if1) .left)) (writes-then ((c6 .put-decimal) .ensures) ((c2 .put-byte2) .ensures))
+    rw (decimal-more (c10 .args .n) (c8 .if1 .left)) (writes-then (c6 .put-decimal .ensures) (c2 .put-byte2 .ensures))
 
 pub +put-decimal-spec : {M : Type 1} → statement M
 +put-decimal-spec = close μ-put-decimal λ t. put-decimal-lts.spec (

@@ -13,7 +13,7 @@ same-length : tie.Need-same-length
 same-length c = search needs
 
 returns : tie.Need-returns
-returns c = writes-one ((c .args) .out .now) ((c .args) .at) ((c .args) .b) ((c .pre))
+returns c = writes-one (c .args .out .now) (c .args .at) (c .args .b) ((c .pre))
 
 pub put-byte-spec : {M : Type 1} → statement M
 put-byte-spec = tie.close (tie.spec slice-write-out add-result same-length returns)

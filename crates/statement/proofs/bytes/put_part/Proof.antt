@@ -14,7 +14,7 @@ abbrev μ-loop : tie.MeasureT-loop
 μ-loop out₀ at part n i₀ out i = n - i
 
 loop-holds : tie.Need-loop-holds Inv-loop μ-loop
-loop-holds c = (search needs, search needs, search needs, copied-none ((c .args) .out .now) ((c .args) .at) ((c .args) .part .now) (omega arith))
+loop-holds c = (search needs, search needs, search needs, copied-none (c .args .out .now) (c .args .at) (c .args .part .now) (omega arith))
 
 shared-slice-read-out : tie.Need-shared-slice-read-out Inv-loop μ-loop
 shared-slice-read-out c = search needs
@@ -32,7 +32,7 @@ loop-less : tie.Need-loop-less Inv-loop μ-loop
 loop-less c = search needs
 
 loop-again : tie.Need-loop-again Inv-loop μ-loop
-loop-again c = (search needs, search needs, search needs, copied-next ((c .before .before .loop) .inv .3) (omega arith) (omega arith))
+loop-again c = (search needs, search needs, search needs, copied-next (c .before .before .loop .inv .3) (omega arith) (omega arith))
 
 add-result : tie.Need-add-result Inv-loop μ-loop
 add-result c = search needs
@@ -41,7 +41,7 @@ same-length : tie.Need-same-length Inv-loop μ-loop
 same-length c = (c .before .loop) .inv .3 .same
 
 returns : tie.Need-returns Inv-loop μ-loop
-returns c = copied-all ((c .before .loop) .inv .3) (omega arith) ((c .before .loop) .inv .1) (omega arith)
+returns c = copied-all (c .before .loop .inv .3) (omega arith) (c .before .loop .inv .1) (omega arith)
 
 pub put-part-spec : {M : Type 1} → statement M
 put-part-spec =

@@ -20,7 +20,7 @@ returns c =
     let c2 = c .before .before in
     let c6 = c2 .before .before .before .before in
     let c10 = c6 .before .before .before .before in
-    writes-then (writes-then ((c10 .put-byte) .ensures) ((c6 .put-byte2) .ensures)) ((c2 .put-byte3) .ensures)
+    writes-then (writes-then (c10 .put-byte .ensures) (c6 .put-byte2 .ensures)) (c2 .put-byte3 .ensures)
 
 pub put-three-spec : {M : Type 1} → statement M
 put-three-spec =

@@ -21,7 +21,7 @@ same-length c = search needs
 
 returns : tie.Need-returns
 unfolding twoDigits
-returns c = writes-then ((c .before .before .before .before .before .before .put-byte) .ensures) ((c .before .before .put-byte2) .ensures)
+returns c = writes-then (c .before .before .before .before .before .before .put-byte .ensures) (c .before .before .put-byte2 .ensures)
 
 pub put-two-spec : {M : Type 1} → statement M
 put-two-spec =

@@ -24,8 +24,8 @@ loop-holds c = (
   search needs,
   search needs,
   (c .before .pre) .0,
-  lines-as (sym (hours-none ((c .before .args) .t3)))
-      (lines-none ((c .before .args) .out .now) ((c .before .args) .c) (omega (arith, (c .before .pre) .1))),
+  lines-as (sym (hours-none (c .before .args .t3)))
+      (lines-none (c .before .args .out .now) (c .before .args .c) (omega (arith, (c .before .pre) .1))),
 )
 
 mul-a : tie.Need-mul-a Inv-loop μ-loop
@@ -43,7 +43,7 @@ add-put-hour c = search needs
 put-hour-requires : tie.Need-put-hour-requires Inv-loop μ-loop
 put-hour-requires c κs =
     let c3 = c .before .before .before in
-    let v = (c3 .loop) .inv in (v .4 .hour ((c3 .loop) .h) (omega arith) _, omega (arith, lines-size (v .5), v .3, v .2))
+    let v = (c3 .loop) .inv in (v .4 .hour (c3 .loop .h) (omega arith) _, omega (arith, lines-size (v .5), v .3, v .2))
 
 add-h : tie.Need-add-h Inv-loop μ-loop
 add-h c = search needs
@@ -59,12 +59,12 @@ loop-again c =
       search needs,
       omega (arith, v .3, (c .before .before .put-hour) .ensures .1),
       v .4,
-      lines-as (sym (hours-more ((c .before .before .before .before .before .before .before .before .args) .t3)
-          ((c .before .before .before .before .before .before .loop) .h) _ (omega arith))) (lines-then (v .5) ((c .before .before .put-hour) .ensures .0)),
+      lines-as (sym (hours-more (c .before .before .before .before .before .before .before .before .args .t3)
+          (c .before .before .before .before .before .before .loop .h) _ (omega arith))) (lines-then (v .5) (c .before .before .put-hour .ensures .0)),
     )
 
 same-length : tie.Need-same-length Inv-loop μ-loop
-same-length c = lines-size ((c .before .loop) .inv .5)
+same-length c = lines-size (c .before .loop .inv .5)
 
 returns : tie.Need-returns Inv-loop μ-loop
 returns c =

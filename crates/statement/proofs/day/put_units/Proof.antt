@@ -25,7 +25,7 @@ loop-holds c = (
   search needs,
   search needs,
   lines-as (sym units-none)
-      (lines-none ((c .before .args) .out .now) ((c .before .args) .c) (omega (arith, (c .before .pre) .1))),
+      (lines-none (c .before .args .out .now) (c .before .args .c) (omega (arith, (c .before .pre) .1))),
 )
 
 mul-u : tie.Need-mul-u Inv-loop μ-loop
@@ -51,12 +51,12 @@ loop-again c =
       search needs,
       search needs,
       omega (arith, v .4, (c .before .before .put-unit) .ensures .1),
-      lines-as (sym (units-more ((c .before .before .before .before .before .before .before .before .args) .t3)
-          ((c .before .before .before .before .before .before .loop) .i) _ (omega arith))) (lines-then (v .5) ((c .before .before .put-unit) .ensures .0)),
+      lines-as (sym (units-more (c .before .before .before .before .before .before .before .before .args .t3)
+          (c .before .before .before .before .before .before .loop .i) _ (omega arith))) (lines-then (v .5) (c .before .before .put-unit .ensures .0)),
     )
 
 same-length : tie.Need-same-length Inv-loop μ-loop
-same-length c = lines-size ((c .before .loop) .inv .5)
+same-length c = lines-size (c .before .loop .inv .5)
 
 returns : tie.Need-returns Inv-loop μ-loop
 returns c =

@@ -16,14 +16,14 @@ returns : tie.Need-returns
 returns c =
     let c2 = c .before .before in
     let c5 = c2 .before .before .before in
-    answers-astray ((c5 .args) .out .now) (is-astray ((c5 .args) .book) ((c5 .args) .log .now) ((c2 .day) .result) ((c2 .day) .ensures) ((c .if1) .taken))
+    answers-astray (c5 .args .out .now) (is-astray (c5 .args .book) (c5 .args .log .now) (c2 .day .result) (c2 .day .ensures) (c .if1 .taken))
 
 put-day-requires : tie.Need-put-day-requires
 put-day-requires c κs =
     let c2 = c .before .before in
     let c4 = c2 .before .before in
     let c7 = c4 .before .before .before in
-    let x = held ((c7 .args) .book) ((c7 .args) .log .now) ((c4 .day) .result) ((c4 .day) .ensures) ((c2 .if1) .left) in
+    let x = held (c7 .args .book) (c7 .args .log .now) (c4 .day .result) (c4 .day .ensures) (c2 .if1 .left) in
     (few-units x, few-hours x, (c .before .if2) .taken)
 
 same-length : tie.Need-same-length
@@ -35,8 +35,8 @@ returns-2 c =
     let c5 = c2 .before .before .before in
     let c7 = c5 .before .before in
     let c10 = c7 .before .before .before in
-    let x = held ((c10 .args) .book) ((c10 .args) .log .now) ((c7 .day) .result) ((c7 .day) .ensures) ((c5 .if1) .left) in
-    let w = stated x ((c2 .put-day) .ensures .0) in
+    let x = held (c10 .args .book) (c10 .args .log .now) (c7 .day .result) (c7 .day .ensures) (c5 .if1 .left) in
+    let w = stated x (c2 .put-day .ensures .0) in
     answers-fitted (x .list) (x .is) (omega (arith, w .behind, (c2 .put-day) .ensures .1)) (fits-written w)
 
 slice-aggregate-put-day : tie.Need-slice-aggregate-put-day
@@ -47,7 +47,7 @@ put-day-requires-2 c κs =
     let c2 = c .before .before in
     let c4 = c2 .before .before in
     let c7 = c4 .before .before .before in
-    let x = held ((c7 .args) .book) ((c7 .args) .log .now) ((c4 .day) .result) ((c4 .day) .ensures) ((c2 .if1) .left) in
+    let x = held (c7 .args .book) (c7 .args .log .now) (c4 .day .result) (c4 .day .ensures) (c2 .if1 .left) in
     (few-units x, few-hours x, omega (arith, length-replicate {A = ℕ} 145200 0))
 
 array-share-prefix-aside : tie.Need-array-share-prefix-aside
@@ -57,7 +57,7 @@ slice-aggregate-write-front : tie.Need-slice-aggregate-write-front
 slice-aggregate-write-front c =
     let c3 = c .before .before .before in
     let w = (c3 .put-day2) .ensures .0 .text in sym
-    (length-take-le {A = ℕ} ((c3 .put-day2) .result .at) ((c3 .put-day2) .last .0) (omega (arith, w .behind, w .room, writes-size w)))
+    (length-take-le {A = ℕ} (c3 .put-day2 .result .at) (c3 .put-day2 .last .0) (omega (arith, w .behind, w .room, writes-size w)))
 
 write-front-requires : tie.Need-write-front-requires
 write-front-requires c κs = search needs
@@ -72,9 +72,9 @@ returns-3 c =
     let c9 = c6 .before .before .before in
     let c11 = c9 .before .before in
     let c14 = c11 .before .before .before in
-    let x = held ((c14 .args) .book) ((c14 .args) .log .now) ((c11 .day) .result) ((c11 .day) .ensures) ((c9 .if1) .left) in
-    let w = stated x ((c6 .put-day2) .ensures .0) in
-    answers-fitted (x .list) (x .is) (omega (arith, w .behind, (c6 .put-day2) .ensures .1)) (fits-front w ((c2 .write-front) .ensures))
+    let x = held (c14 .args .book) (c14 .args .log .now) (c11 .day .result) (c11 .day .ensures) (c9 .if1 .left) in
+    let w = stated x (c6 .put-day2 .ensures .0) in
+    answers-fitted (x .list) (x .is) (omega (arith, w .behind, (c6 .put-day2) .ensures .1)) (fits-front w (c2 .write-front .ensures))
 
 pub statement-spec : {M : Type 1} → statement M
 statement-spec =

@@ -9,7 +9,7 @@ cents-requires c κs = search needs
 
 returns : tie.Need-returns
 returns c = ap (λ (z : ℤ). record { hour = (c .before .args) .hour; kind = (c .before .args) .kind; name = (c .before .args) .name; cents = record { 0 = z } })
-    ((c .cents) .ensures)
+    (c .cents .ensures)
 
 pub amount-line-spec : {M : Type 1} → statement M
 amount-line-spec = tie.close (tie.spec cents-requires returns)

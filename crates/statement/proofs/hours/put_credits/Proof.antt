@@ -25,7 +25,7 @@ abbrev μ-loop : tie.MeasureT-loop
 
 loop-holds : tie.Need-loop-holds Inv-loop μ-loop
 loop-holds c =
-    let none = lines-none ((c .before .args) .out .now) ((c .before .args) .c) (omega (arith, (c .before .pre) .1)) in
+    let none = lines-none (c .before .args .out .now) (c .before .args .c) (omega (arith, (c .before .pre) .1)) in
     (search needs, search needs, search needs, search (needs, unmapped), search needs, none)
 
 mul-x : tie.Need-mul-x Inv-loop μ-loop
@@ -56,7 +56,7 @@ loop-again : tie.Need-loop-again Inv-loop μ-loop
 loop-again c =
     let args = c .before .before .before .before .before .before .before .before .before .before .before .args in
     let l = c .before .before .before .before .before .before .before .before .before .loop in
-    let line = lines-as (ap (λ (x : Line). x ∷ []) ((c .before .before .before .amount-line) .ensures)) ((c .before .before .put-line) .ensures .0) in (
+    let line = lines-as (ap (λ (x : Line). x ∷ []) (c .before .before .before .amount-line .ensures)) (c .before .before .put-line .ensures .0) in (
       search needs,
       search needs,
       search needs,
@@ -66,7 +66,7 @@ loop-again c =
     )
 
 same-length : tie.Need-same-length Inv-loop μ-loop
-same-length c = lines-size ((c .before .loop) .inv .5)
+same-length c = lines-size (c .before .loop .inv .5)
 
 returns : tie.Need-returns Inv-loop μ-loop
 returns c =

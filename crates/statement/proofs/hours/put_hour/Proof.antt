@@ -16,7 +16,7 @@ returns : tie.Need-returns
 returns c =
     let c2 = c .before .before in
     let c4 = c2 .before .before in
-    (rw (ne-eqb _ 0 ((c4 .if1) .taken)) ((c2 .put-hour-error) .ensures .0), omega (arith, (c2 .put-hour-error) .ensures .1))
+    (rw (ne-eqb _ 0 (c4 .if1 .taken)) (c2 .put-hour-error .ensures .0), omega (arith, (c2 .put-hour-error) .ensures .1))
 
 put-hour-error-requires-2 : tie.Need-put-hour-error-requires-2
 put-hour-error-requires-2 c κs = search needs
@@ -29,7 +29,7 @@ returns-2 c =
     let c2 = c .before .before in
     let c4 = c2 .before .before in
     let c6 = c4 .before .before in
-    (rw ((c6 .if1) .left, ne-eqb _ 0 ((c4 .if2) .taken)) ((c2 .put-hour-error2) .ensures .0), omega (arith, (c2 .put-hour-error2) .ensures .1))
+    (rw (c6 .if1 .left, ne-eqb _ 0 (c4 .if2 .taken)) (c2 .put-hour-error2 .ensures .0), omega (arith, (c2 .put-hour-error2) .ensures .1))
 
 put-hour-error-requires-3 : tie.Need-put-hour-error-requires-3
 put-hour-error-requires-3 c κs = search needs
@@ -43,12 +43,12 @@ returns-3 c =
     let c4 = c2 .before .before in
     let c6 = c4 .before .before in
     let c8 = c6 .before .before in
-    (rw ((c8 .if1) .left, (c6 .if2) .left, ne-eqb _ 0 ((c4 .if3) .taken)) ((c2 .put-hour-error3) .ensures .0), omega (arith, (c2 .put-hour-error3) .ensures .1))
+    (rw (c8 .if1 .left, (c6 .if2) .left, ne-eqb _ 0 (c4 .if3 .taken)) (c2 .put-hour-error3 .ensures .0), omega (arith, (c2 .put-hour-error3) .ensures .1))
 
 put-credits-requires : tie.Need-put-credits-requires
 put-credits-requires c κs =
     let c15 = c .before .before .before .before .before .before .before .before .before .before .before .before .before .before .before in
-    ((c15 .pre) .0 .credits, omega (arith, (c15 .pre) .0 .credits, (c15 .pre) .0 .imports, (c15 .pre) .0 .exports, (c15 .pre) .1))
+    (c15 .pre .0 .credits, omega (arith, (c15 .pre) .0 .credits, (c15 .pre) .0 .imports, (c15 .pre) .0 .exports, (c15 .pre) .1))
 
 put-offset-requires : tie.Need-put-offset-requires
 put-offset-requires c κs =
@@ -62,7 +62,7 @@ put-offset-requires c κs =
       (c19 .pre) .1,
       (c3 .put-credits) .ensures .1,
       lines-size
-          ((c3 .put-credits) .ensures .0),
+          (c3 .put-credits .ensures .0),
     )
 
 put-charges-requires : tie.Need-put-charges-requires
@@ -78,9 +78,9 @@ put-charges-requires c κs =
         (c23 .pre) .0 .exports,
         (c23 .pre) .1,
         (c7 .put-credits) .ensures .1,
-        lines-size ((c7 .put-credits) .ensures .0),
+        lines-size (c7 .put-credits .ensures .0),
         (c3 .put-offset) .ensures .1,
-        lines-size ((c3 .put-offset) .ensures .0),
+        lines-size (c3 .put-offset .ensures .0),
       ),
     )
 
@@ -98,11 +98,11 @@ put-charges-requires-2 c κs =
         (c27 .pre) .0 .exports,
         (c27 .pre) .1,
         (c11 .put-credits) .ensures .1,
-        lines-size ((c11 .put-credits) .ensures .0),
+        lines-size (c11 .put-credits .ensures .0),
         (c7 .put-offset) .ensures .1,
-        lines-size ((c7 .put-offset) .ensures .0),
+        lines-size (c7 .put-offset .ensures .0),
         (c3 .put-charges) .ensures .1,
-        lines-size ((c3 .put-charges) .ensures .0),
+        lines-size (c3 .put-charges .ensures .0),
       ),
     )
 
@@ -119,12 +119,12 @@ returns-4 c =
     let c22 = c20 .before .before in
     let c24 = c22 .before .before in
     let c30 = c24 .before .before .before .before .before .before in (
-      rw ((c24 .if1) .left, (c22 .if2) .left, (c20 .if3) .left) (hour-written ((c30 .args) .hour) (((c30 .args) .a .guarantees .credits) .n)
-          (take (((c30 .args) .a .guarantees .credits) .n) (((c30 .args) .a .guarantees .credits) .list))
-          (take (((c30 .args) .a .imports .charges) .n) (((c30 .args) .a .imports .charges) .list))
-          (take (((c30 .args) .a .exports .charges) .n) (((c30 .args) .a .exports .charges) .list)) ((c30 .args) .a .guarantees .offset .0)
-          ((c14 .put-credits) .ensures .2) ((c14 .put-credits) .ensures .0) ((c10 .put-offset) .ensures .0) ((c6 .put-charges) .ensures .0)
-          ((c2 .put-charges2) .ensures .0)),
+      rw (c24 .if1 .left, (c22 .if2) .left, (c20 .if3) .left) (hour-written (c30 .args .hour) (c30 .args .a .guarantees .credits .n)
+          (take (c30 .args .a .guarantees .credits .n) (c30 .args .a .guarantees .credits .list))
+          (take (c30 .args .a .imports .charges .n) (c30 .args .a .imports .charges .list))
+          (take (c30 .args .a .exports .charges .n) (c30 .args .a .exports .charges .list)) (c30 .args .a .guarantees .offset .0)
+          (c14 .put-credits .ensures .2) (c14 .put-credits .ensures .0) (c10 .put-offset .ensures .0) (c6 .put-charges .ensures .0)
+          (c2 .put-charges2 .ensures .0)),
       omega (
         arith,
         (c30 .pre) .0 .credits,
@@ -133,14 +133,14 @@ returns-4 c =
         (c30 .pre) .1,
         (c14 .put-credits) .ensures .1,
         lines-size
-            ((c14 .put-credits) .ensures .0),
+            (c14 .put-credits .ensures .0),
         (c10 .put-offset) .ensures .1,
-        lines-size ((c10 .put-offset) .ensures .0),
+        lines-size (c10 .put-offset .ensures .0),
         (c6 .put-charges) .ensures .1,
         lines-size
-            ((c6 .put-charges) .ensures .0),
+            (c6 .put-charges .ensures .0),
         (c2 .put-charges2) .ensures .1,
-        lines-size ((c2 .put-charges2) .ensures .0),
+        lines-size (c2 .put-charges2 .ensures .0),
       ),
     )
 

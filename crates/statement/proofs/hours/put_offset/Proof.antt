@@ -12,7 +12,7 @@ use Rattle.statement.proofs.hours.put_offset.Statement.{statement}
 use Rattle.statement.proofs.hours.put_offset.Tie as tie
 
 returns : tie.Need-returns
-returns c = (rw (eq-eqb _ 0 ((c .if1) .taken)) (lines-none ((c .before .before .args) .out .now) ((c .before .before .args) .c) (omega arith)), omega arith)
+returns c = (rw (eq-eqb _ 0 (c .if1 .taken)) (lines-none (c .before .before .args .out .now) (c .before .before .args .c) (omega arith)), omega arith)
 
 no-name-requires : tie.Need-no-name-requires
 no-name-requires c κs = search needs
@@ -33,9 +33,9 @@ returns-2 c =
     let c4 = c3 .before in
     let c6 = c4 .before .before in
     let c8 = c6 .before .before in (
-      rw (ne-eqb _ 0 ((c6 .if1) .left)) (lines-as (ap (λ (l : Line). l ∷ [])
-          ((c3 .amount-line) .ensures ∙ ap (λ (n : Name). amountLine ((c8 .args) .hour) Off n ((c8 .args) .offset .0)) ((c4 .no-name) .ensures)))
-          ((c2 .put-line) .ensures .0)),
+      rw (ne-eqb _ 0 (c6 .if1 .left)) (lines-as (ap (λ (l : Line). l ∷ [])
+          (c3 .amount-line .ensures ∙ ap (λ (n : Name). amountLine (c8 .args .hour) Off n (c8 .args .offset .0)) (c4 .no-name .ensures)))
+          (c2 .put-line .ensures .0)),
       (c2 .put-line) .ensures .1,
     )
 

@@ -24,10 +24,10 @@ put-decimal-requires c κs =
       arith,
       (c9 .pre),
       (c5 .put-sign) .ensures .behind,
-      writes-size ((c5 .put-sign) .ensures),
-      sign-length ((c9 .args) .cents .0),
+      writes-size (c5 .put-sign .ensures),
+      sign-length (c9 .args .cents .0),
       number-digits
-          ((c7 .magnitude) .result) ((c7 .magnitude) .ensures .1),
+          (c7 .magnitude .result) (c7 .magnitude .ensures .1),
     )
 
 same-length : tie.Need-same-length
@@ -40,8 +40,8 @@ returns c =
     let c5 = c4 .before in
     let c8 = c5 .before .before .before in
     let c10 = c8 .before .before in (
-      rw (figure-number _ _ (sym ((c5 .is-number) .ensures) ∙ (c4 .if1) .taken), ← (c10 .magnitude) .ensures .0)
-          (writes-then ((c8 .put-sign) .ensures) ((c2 .put-decimal) .ensures)),
+      rw (figure-number _ _ (sym (c5 .is-number .ensures) ∙ (c4 .if1) .taken), ← (c10 .magnitude) .ensures .0)
+          (writes-then (c8 .put-sign .ensures) (c2 .put-decimal .ensures)),
       omega (arith, (c10 .magnitude) .ensures .0, (c10 .magnitude) .ensures .1),
     )
 
@@ -54,10 +54,10 @@ put-decimal-requires-2 c κs =
       arith,
       (c9 .pre),
       (c5 .put-sign) .ensures .behind,
-      writes-size ((c5 .put-sign) .ensures),
-      sign-length ((c9 .args) .cents .0),
+      writes-size (c5 .put-sign .ensures),
+      sign-length (c9 .args .cents .0),
       dollar-digits
-          ((c7 .magnitude) .result) ((c7 .magnitude) .ensures .1),
+          (c7 .magnitude .result) (c7 .magnitude .ensures .1),
     )
 
 put-byte-requires : tie.Need-put-byte-requires
@@ -70,12 +70,12 @@ put-byte-requires c κs =
       arith,
       (c13 .pre),
       (c9 .put-sign) .ensures .behind,
-      writes-size ((c9 .put-sign) .ensures),
+      writes-size (c9 .put-sign .ensures),
       (c3 .put-decimal2) .ensures .behind,
       writes-size
-          ((c3 .put-decimal2) .ensures),
-      sign-length ((c13 .args) .cents .0),
-      dollar-digits ((c11 .magnitude) .result) ((c11 .magnitude) .ensures .1),
+          (c3 .put-decimal2 .ensures),
+      sign-length (c13 .args .cents .0),
+      dollar-digits (c11 .magnitude .result) (c11 .magnitude .ensures .1),
     )
 
 cast-put-two : tie.Need-cast-put-two
@@ -92,14 +92,14 @@ put-two-requires c κs =
       arith,
       (c17 .pre),
       (c13 .put-sign) .ensures .behind,
-      writes-size ((c13 .put-sign) .ensures),
+      writes-size (c13 .put-sign .ensures),
       (c7 .put-decimal2) .ensures .behind,
       writes-size
-          ((c7 .put-decimal2) .ensures),
+          (c7 .put-decimal2 .ensures),
       (c3 .put-byte) .ensures .behind,
-      writes-size ((c3 .put-byte) .ensures),
-      sign-length ((c17 .args) .cents .0),
-      dollar-digits ((c15 .magnitude) .result) ((c15 .magnitude) .ensures .1),
+      writes-size (c3 .put-byte .ensures),
+      sign-length (c17 .args .cents .0),
+      dollar-digits (c15 .magnitude .result) (c15 .magnitude .ensures .1),
     )
 
 same-length-2 : tie.Need-same-length-2
@@ -114,8 +114,8 @@ returns-2 c =
     let c13 = c12 .before in
     let c16 = c13 .before .before .before in
     let c18 = c16 .before .before in (
-      rw (figure-dollars _ _ (sym ((c13 .is-number) .ensures) ∙ (c12 .if1) .left), ← (c18 .magnitude) .ensures .0)
-          (writes-then (writes-then (writes-then ((c16 .put-sign) .ensures) ((c10 .put-decimal2) .ensures)) ((c6 .put-byte) .ensures)) ((c2 .put-two) .ensures)),
+      rw (figure-dollars _ _ (sym (c13 .is-number .ensures) ∙ (c12 .if1) .left), ← (c18 .magnitude) .ensures .0)
+          (writes-then (writes-then (writes-then (c16 .put-sign .ensures) (c10 .put-decimal2 .ensures)) (c6 .put-byte .ensures)) (c2 .put-two .ensures)),
       omega (arith, (c18 .magnitude) .ensures .0, (c18 .magnitude) .ensures .1),
     )
 

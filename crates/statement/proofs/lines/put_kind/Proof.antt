@@ -50,49 +50,49 @@ same-length c = search needs
 
 returns : tie.Need-returns
 unfolding kindBytes
-returns c = rw ((c .before .before .before .before .enum-told) .given .1) ((c .before .before .put-three) .ensures)
+returns c = rw (c .before .before .before .before .enum-told .given .1) (c .before .before .put-three .ensures)
 
 same-length-2 : tie.Need-same-length-2
 same-length-2 c = search needs
 
 returns-2 : tie.Need-returns-2
 unfolding kindBytes
-returns-2 c = rw ((c .before .before .before .before .enum-told2) .given .1) ((c .before .before .put-three2) .ensures)
+returns-2 c = rw (c .before .before .before .before .enum-told2 .given .1) (c .before .before .put-three2 .ensures)
 
 same-length-3 : tie.Need-same-length-3
 same-length-3 c = search needs
 
 returns-3 : tie.Need-returns-3
 unfolding kindBytes
-returns-3 c = rw ((c .before .before .before .before .enum-told3) .given .1) ((c .before .before .put-three3) .ensures)
+returns-3 c = rw (c .before .before .before .before .enum-told3 .given .1) (c .before .before .put-three3 .ensures)
 
 same-length-4 : tie.Need-same-length-4
 same-length-4 c = search needs
 
 returns-4 : tie.Need-returns-4
 unfolding kindBytes
-returns-4 c = rw ((c .before .before .before .before .enum-told4) .given .1) ((c .before .before .put-three4) .ensures)
+returns-4 c = rw (c .before .before .before .before .enum-told4 .given .1) (c .before .before .put-three4 .ensures)
 
 same-length-5 : tie.Need-same-length-5
 same-length-5 c = search needs
 
 returns-5 : tie.Need-returns-5
 unfolding kindBytes
-returns-5 c = rw ((c .before .before .before .before .enum-told5) .given .1) ((c .before .before .put-three5) .ensures)
+returns-5 c = rw (c .before .before .before .before .enum-told5 .given .1) (c .before .before .put-three5 .ensures)
 
 same-length-6 : tie.Need-same-length-6
 same-length-6 c = search needs
 
 returns-6 : tie.Need-returns-6
 unfolding kindBytes
-returns-6 c = rw ((c .before .before .before .before .enum-told6) .given .1) ((c .before .before .put-three6) .ensures)
+returns-6 c = rw (c .before .before .before .before .enum-told6 .given .1) (c .before .before .put-three6 .ensures)
 
 same-length-7 : tie.Need-same-length-7
 same-length-7 c = search needs
 
 returns-7 : tie.Need-returns-7
 unfolding kindBytes
-returns-7 c = rw ((c .before .before .before .before .enum-told7) .given .1) ((c .before .before .put-three7) .ensures)
+returns-7 c = rw (c .before .before .before .before .enum-told7 .given .1) (c .before .before .put-three7 .ensures)
 
 pub put-kind-spec : {M : Type 1} → statement M
 put-kind-spec =

@@ -13,7 +13,7 @@ put-byte-requires : tie.Need-put-byte-requires
 put-byte-requires c κs =
     let c3 = c .before .before .before in
     let c8 = c3 .before .before .before .before .before in
-    omega (arith, (c8 .pre), (c3 .put-when) .ensures .behind, writes-size ((c3 .put-when) .ensures), when-length ((c8 .args) .line .hour))
+    omega (arith, (c8 .pre), (c3 .put-when) .ensures .behind, writes-size (c3 .put-when .ensures), when-length (c8 .args .line .hour))
 
 put-kind-requires : tie.Need-put-kind-requires
 put-kind-requires c κs =
@@ -24,11 +24,11 @@ put-kind-requires c κs =
       arith,
       (c12 .pre),
       (c7 .put-when) .ensures .behind,
-      writes-size ((c7 .put-when) .ensures),
+      writes-size (c7 .put-when .ensures),
       (c3 .put-byte) .ensures .behind,
       writes-size
-          ((c3 .put-byte) .ensures),
-      when-length ((c12 .args) .line .hour),
+          (c3 .put-byte .ensures),
+      when-length (c12 .args .line .hour),
     )
 
 put-byte-requires-2 : tie.Need-put-byte-requires-2
@@ -41,15 +41,15 @@ put-byte-requires-2 c κs =
       arith,
       (c16 .pre),
       (c11 .put-when) .ensures .behind,
-      writes-size ((c11 .put-when) .ensures),
+      writes-size (c11 .put-when .ensures),
       (c7 .put-byte) .ensures .behind,
       writes-size
-          ((c7 .put-byte) .ensures),
+          (c7 .put-byte .ensures),
       (c3 .put-kind) .ensures .behind,
-      writes-size ((c3 .put-kind) .ensures),
-      when-length ((c16 .args) .line .hour),
+      writes-size (c3 .put-kind .ensures),
+      when-length (c16 .args .line .hour),
       kind-length
-          ((c16 .args) .line .kind),
+          (c16 .args .line .kind),
     )
 
 put-name-requires : tie.Need-put-name-requires
@@ -63,17 +63,17 @@ put-name-requires c κs =
       arith,
       (c20 .pre),
       (c15 .put-when) .ensures .behind,
-      writes-size ((c15 .put-when) .ensures),
+      writes-size (c15 .put-when .ensures),
       (c11 .put-byte) .ensures .behind,
       writes-size
-          ((c11 .put-byte) .ensures),
+          (c11 .put-byte .ensures),
       (c7 .put-kind) .ensures .behind,
-      writes-size ((c7 .put-kind) .ensures),
+      writes-size (c7 .put-kind .ensures),
       (c3 .put-byte2) .ensures .behind,
       writes-size
-          ((c3 .put-byte2) .ensures),
-      when-length ((c20 .args) .line .hour),
-      kind-length ((c20 .args) .line .kind),
+          (c3 .put-byte2 .ensures),
+      when-length (c20 .args .line .hour),
+      kind-length (c20 .args .line .kind),
     )
 
 put-byte-requires-3 : tie.Need-put-byte-requires-3
@@ -88,21 +88,21 @@ put-byte-requires-3 c κs =
       arith,
       (c24 .pre),
       (c19 .put-when) .ensures .behind,
-      writes-size ((c19 .put-when) .ensures),
+      writes-size (c19 .put-when .ensures),
       (c15 .put-byte) .ensures .behind,
       writes-size
-          ((c15 .put-byte) .ensures),
+          (c15 .put-byte .ensures),
       (c11 .put-kind) .ensures .behind,
-      writes-size ((c11 .put-kind) .ensures),
+      writes-size (c11 .put-kind .ensures),
       (c7 .put-byte2) .ensures .behind,
       writes-size
-          ((c7 .put-byte2) .ensures),
+          (c7 .put-byte2 .ensures),
       (c3 .put-name) .ensures .behind,
-      writes-size ((c3 .put-name) .ensures),
-      when-length ((c24 .args) .line .hour),
+      writes-size (c3 .put-name .ensures),
+      when-length (c24 .args .line .hour),
       kind-length
-          ((c24 .args) .line .kind),
-      name-length ((c24 .args) .line .name),
+          (c24 .args .line .kind),
+      name-length (c24 .args .line .name),
     )
 
 put-figure-requires : tie.Need-put-figure-requires
@@ -118,23 +118,23 @@ put-figure-requires c κs =
       arith,
       (c28 .pre),
       (c23 .put-when) .ensures .behind,
-      writes-size ((c23 .put-when) .ensures),
+      writes-size (c23 .put-when .ensures),
       (c19 .put-byte) .ensures .behind,
       writes-size
-          ((c19 .put-byte) .ensures),
+          (c19 .put-byte .ensures),
       (c15 .put-kind) .ensures .behind,
-      writes-size ((c15 .put-kind) .ensures),
+      writes-size (c15 .put-kind .ensures),
       (c11 .put-byte2) .ensures .behind,
       writes-size
-          ((c11 .put-byte2) .ensures),
+          (c11 .put-byte2 .ensures),
       (c7 .put-name) .ensures .behind,
-      writes-size ((c7 .put-name) .ensures),
+      writes-size (c7 .put-name .ensures),
       (c3 .put-byte3) .ensures .behind,
       writes-size
-          ((c3 .put-byte3) .ensures),
-      when-length ((c28 .args) .line .hour),
-      kind-length ((c28 .args) .line .kind),
-      name-length ((c28 .args) .line .name),
+          (c3 .put-byte3 .ensures),
+      when-length (c28 .args .line .hour),
+      kind-length (c28 .args .line .kind),
+      name-length (c28 .args .line .name),
     )
 
 put-byte-requires-4 : tie.Need-put-byte-requires-4
@@ -151,27 +151,27 @@ put-byte-requires-4 c κs =
       arith,
       (c32 .pre),
       (c27 .put-when) .ensures .behind,
-      writes-size ((c27 .put-when) .ensures),
+      writes-size (c27 .put-when .ensures),
       (c23 .put-byte) .ensures .behind,
       writes-size
-          ((c23 .put-byte) .ensures),
+          (c23 .put-byte .ensures),
       (c19 .put-kind) .ensures .behind,
-      writes-size ((c19 .put-kind) .ensures),
+      writes-size (c19 .put-kind .ensures),
       (c15 .put-byte2) .ensures .behind,
       writes-size
-          ((c15 .put-byte2) .ensures),
+          (c15 .put-byte2 .ensures),
       (c11 .put-name) .ensures .behind,
-      writes-size ((c11 .put-name) .ensures),
+      writes-size (c11 .put-name .ensures),
       (c7 .put-byte3) .ensures .behind,
       writes-size
-          ((c7 .put-byte3) .ensures),
+          (c7 .put-byte3 .ensures),
       (c3 .put-figure) .ensures .0 .behind,
-      writes-size ((c3 .put-figure) .ensures .0),
-      when-length ((c32 .args) .line .hour),
-      kind-length ((c32 .args) .line .kind),
-      name-length ((c32 .args) .line .name),
-      figure-length ((c32 .args) .line .kind) ((c32 .args) .line .cents .0)
-          ((c3 .put-figure) .ensures .1),
+      writes-size (c3 .put-figure .ensures .0),
+      when-length (c32 .args .line .hour),
+      kind-length (c32 .args .line .kind),
+      name-length (c32 .args .line .name),
+      figure-length (c32 .args .line .kind) (c32 .args .line .cents .0)
+          (c3 .put-figure .ensures .1),
     )
 
 same-length : tie.Need-same-length
@@ -190,10 +190,10 @@ returns c =
     let c30 = c26 .before .before .before .before in
     let c35 = c30 .before .before .before .before .before in
     let w = (writes-then (writes-then (writes-then (writes-then
-    (writes-then (writes-then (writes-then ((c30 .put-when) .ensures) ((c26 .put-byte) .ensures)) ((c22 .put-kind) .ensures)) ((c18 .put-byte2) .ensures))
-    ((c14 .put-name) .ensures)) ((c10 .put-byte3) .ensures)) ((c6 .put-figure) .ensures .0)) ((c2 .put-byte4) .ensures)) in
-    let h = line-length ((c35 .args) .line) ((c6 .put-figure) .ensures .1) in
-    (lines-one ((c35 .args) .line) h w, omega (arith, w .behind, h))
+    (writes-then (writes-then (writes-then (c30 .put-when .ensures) (c26 .put-byte .ensures)) (c22 .put-kind .ensures)) (c18 .put-byte2 .ensures))
+    (c14 .put-name .ensures)) (c10 .put-byte3 .ensures)) (c6 .put-figure .ensures .0)) (c2 .put-byte4 .ensures)) in
+    let h = line-length (c35 .args .line) (c6 .put-figure .ensures .1) in
+    (lines-one (c35 .args .line) h w, omega (arith, w .behind, h))
 
 pub put-line-spec : {M : Type 1} → statement M
 put-line-spec =

@@ -20,7 +20,7 @@ returns c =
     let c2 = c .before .before in
     let c6 = c2 .before .before .before .before in
     let c8 = c6 .before .before in
-    rw (eq-eqb _ 0 ((c8 .if1) .taken)) (writes-then ((c6 .put-byte) .ensures) ((c2 .put-byte2) .ensures))
+    rw (eq-eqb _ 0 (c8 .if1 .taken)) (writes-then (c6 .put-byte .ensures) (c2 .put-byte2 .ensures))
 
 put-two-requires : tie.Need-put-two-requires
 put-two-requires c κs = search needs
@@ -30,7 +30,7 @@ same-length-2 c = search needs
 
 returns-2 : tie.Need-returns-2
 unfolding whenBytes
-returns-2 c = rw (ne-eqb _ 0 ((c .before .before .before .before .if1) .left)) ((c .before .before .put-two) .ensures)
+returns-2 c = rw (ne-eqb _ 0 (c .before .before .before .before .if1 .left)) (c .before .before .put-two .ensures)
 
 pub put-when-spec : {M : Type 1} → statement M
 put-when-spec =

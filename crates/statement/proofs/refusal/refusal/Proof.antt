@@ -20,7 +20,7 @@ array-share-prefix-line c = search needs
 slice-aggregate-write-front : tie.Need-slice-aggregate-write-front
 slice-aggregate-write-front c =
     let c3 = c .before .before .before in
-    sym (length-take-le {A = ℕ} ((c3 .put-refusal) .result) ((c3 .put-refusal) .last .0)
+    sym (length-take-le {A = ℕ} (c3 .put-refusal .result) (c3 .put-refusal .last .0)
     (omega (arith, (c3 .put-refusal) .ensures .behind, (c3 .put-refusal) .ensures .room)))
 
 write-front-requires : tie.Need-write-front-requires
@@ -35,8 +35,8 @@ returns c =
     let c6 = c2 .before .before .before .before in
     let c9 = c6 .before .before .before in
     let f = (c9 .fits) .ordinal in let g = (c9 .fits) .number in (
-      fits-front ((c6 .put-refusal) .ensures) ((c2 .write-front) .ensures),
-      refusal-length ((c9 .args) .ordinal) ((c9 .args) .number) (omega arith)
+      fits-front (c6 .put-refusal .ensures) (c2 .write-front .ensures),
+      refusal-length (c9 .args .ordinal) (c9 .args .number) (omega arith)
           (omega arith),
     )
 

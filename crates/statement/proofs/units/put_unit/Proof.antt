@@ -18,7 +18,7 @@ returns : tie.Need-returns
 returns c =
     let c2 = c .before .before in
     let c4 = c2 .before .before in
-    (rw (ne-eqb _ 0 ((c4 .if1) .taken)) ((c2 .put-error) .ensures .0), omega (arith, (c2 .put-error) .ensures .1))
+    (rw (ne-eqb _ 0 (c4 .if1 .taken)) (c2 .put-error .ensures .0), omega (arith, (c2 .put-error) .ensures .1))
 
 amount-line-requires : tie.Need-amount-line-requires
 amount-line-requires c κs = search needs
@@ -33,7 +33,7 @@ put-line-requires-2 : tie.Need-put-line-requires-2
 put-line-requires-2 c κs =
     let c4 = c .before .before .before .before in
     let c14 = c4 .before .before .before .before .before .before .before .before .before .before in
-    omega (arith, (c14 .pre), (c4 .put-line) .ensures .1, lines-size ((c4 .put-line) .ensures .0))
+    omega (arith, (c14 .pre), (c4 .put-line) .ensures .1, lines-size (c4 .put-line .ensures .0))
 
 same-length-2 : tie.Need-same-length-2
 same-length-2 c = search needs
@@ -45,8 +45,8 @@ returns-2 c =
     let c7 = c3 .before .before .before .before in
     let c8 = c7 .before in
     let c12 = c8 .before .before .before .before in (
-      rw ((c12 .if1) .left) (lines-then (lines-as (ap (λ (l : Line). l ∷ []) ((c8 .amount-line) .ensures)) ((c7 .put-line) .ensures .0))
-          (lines-as (ap (λ (l : Line). l ∷ []) ((c3 .amount-line2) .ensures)) ((c2 .put-line2) .ensures .0))),
+      rw (c12 .if1 .left) (lines-then (lines-as (ap (λ (l : Line). l ∷ []) (c8 .amount-line .ensures)) (c7 .put-line .ensures .0))
+          (lines-as (ap (λ (l : Line). l ∷ []) (c3 .amount-line2 .ensures)) (c2 .put-line2 .ensures .0))),
       omega (arith, (c7 .put-line) .ensures .1, (c2 .put-line2) .ensures .1),
     )
 

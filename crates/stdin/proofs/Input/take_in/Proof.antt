@@ -40,7 +40,7 @@ returns c =
     let c15 = c9 .before .before .before .before .before .before in
     let s = c15 in
     let g = toZ-ofZ ((s .fits) .got) in
-    taken-in g (s .pre) ((c9 .count) .ensures .1) ((c6 .read-on) .ensures) ((c .before .is-over) .ensures) ((c .goes-on) .ensures) (ap brokeOff g)
+    taken-in g (s .pre) (c9 .count .ensures .1) (c6 .read-on .ensures) (c .before .is-over .ensures) (c .goes-on .ensures) (ap brokeOff g)
 
 pub take-in-spec : {M : Type 1} → statement M
 take-in-spec =

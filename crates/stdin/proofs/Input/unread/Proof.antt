@@ -9,7 +9,7 @@ fresh-requires : tie.Need-fresh-requires
 fresh-requires c κs = search needs
 
 returns : tie.Need-returns
-returns c = ap (λ (r : Reading). record { reading = r; more = true; broke = false }) ((c .fresh) .ensures)
+returns c = ap (λ (r : Reading). record { reading = r; more = true; broke = false }) (c .fresh .ensures)
 
 pub unread-spec : {M : Type 1} → statement M
 unread-spec = tie.close (tie.spec fresh-requires returns)

@@ -15,10 +15,10 @@ refused-day-requires : tie.Need-refused-day-requires
 refused-day-requires c κs = search needs
 
 returns : tie.Need-returns
-returns c = sym (ap (λ z. unitDayFrom (totalReply z)) ((c .before .d) .given .1))
+returns c = sym (ap (λ z. unitDayFrom (totalReply z)) (c .before .d .given .1))
 
 returns-2 : tie.Need-returns-2
-returns-2 c = (c .refused-day) .ensures ∙ sym (ap (λ z. unitDayFrom (totalReply z)) ((c .before .before .d2) .given .1))
+returns-2 c = (c .refused-day) .ensures ∙ sym (ap (λ z. unitDayFrom (totalReply z)) (c .before .before .d2 .given .1))
 
 pub answer-of-spec : {M : Type 1} → statement M
 answer-of-spec =

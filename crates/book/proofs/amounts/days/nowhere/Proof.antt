@@ -27,7 +27,7 @@ returns c =
     let c2 = c .before .before in
     let c3 = c2 .before in
     let c4 = c3 .before in
-    sym (every-no 24 ((c3 .loop) .j) (λ (j : ℕ). not (placeIn ((c4 .args) .t1) j .known)) ((c2 .loop-test) .taken) (ap not ((c .if1) .taken)))
+    sym (every-no 24 (c3 .loop .j) (λ (j : ℕ). not (placeIn (c4 .args .t1) j .known)) (c2 .loop-test .taken) (ap not (c .if1 .taken)))
 
 add-j : tie.Need-add-j Inv-loop μ-loop
 add-j c = search needs
@@ -36,10 +36,10 @@ loop-less : tie.Need-loop-less Inv-loop μ-loop
 loop-less c = search needs
 
 loop-again : tie.Need-loop-again Inv-loop μ-loop
-loop-again c = passed-more ((c .before .before .before .loop) .inv) ((c .before .before .loop-test) .taken) (ap not ((c .if1) .left))
+loop-again c = passed-more (c .before .before .before .loop .inv) (c .before .before .loop-test .taken) (ap not (c .if1 .left))
 
 returns-2 : tie.Need-returns-2 Inv-loop μ-loop
-returns-2 c = sym (passed-all ((c .before .loop) .inv) ((c .loop-test) .left))
+returns-2 c = sym (passed-all (c .before .loop .inv) (c .loop-test .left))
 
 pub nowhere-spec : {M : Type 1} → statement M
 nowhere-spec =

@@ -23,9 +23,9 @@ returns c =
     let c2 = c .before .before in
     let c3 = c2 .before in
     let c5 = c3 .before .before in (
-      λ l g marked price w. ap (λ (d : UnitDay). dayReply d) ((c .refused-day) .ensures) ∙ day-nowhere (begun g) ((c5 .args) .key) ((c3 .day-in) .result)
-          ((c3 .day-in) .ensures l g) price (sym ((c2 .nowhere) .ensures) ∙ (c .before .if1) .taken),
-      handed-whole (refused 11) _ ((c .refused-day) .ensures),
+      λ l g marked price w. ap (λ (d : UnitDay). dayReply d) (c .refused-day .ensures) ∙ day-nowhere (begun g) (c5 .args .key) (c3 .day-in .result)
+          (c3 .day-in .ensures l g) price (sym (c2 .nowhere .ensures) ∙ (c .before .if1) .taken),
+      handed-whole (refused 11) _ (c .refused-day .ensures),
     )
 
 payable-requires : tie.Need-payable-requires
@@ -41,17 +41,17 @@ returns-2 c =
     let c4 = c3 .before in
     let c5 = c4 .before in
     let c7 = c5 .before .before in (
-      λ l g marked price w. ap (λ (d : UnitDay). dayReply d) ((c .refused-day2) .ensures) ∙ day-unpriced (begun g) ((c7 .args) .key) ((c5 .day-in) .result)
-          ((c5 .day-in) .ensures l g) price (sym ((c4 .nowhere) .ensures) ∙ (c3 .if1) .left) marked ((c7 .args) .table) w
-          (sym ((c2 .payable) .ensures) ∙ not-true _ ((c .before .if2) .taken)),
-      handed-whole (refused 15) _ ((c .refused-day2) .ensures),
+      λ l g marked price w. ap (λ (d : UnitDay). dayReply d) (c .refused-day2 .ensures) ∙ day-unpriced (begun g) (c7 .args .key) (c5 .day-in .result)
+          (c5 .day-in .ensures l g) price (sym (c4 .nowhere .ensures) ∙ (c3 .if1) .left) marked (c7 .args .table) w
+          (sym (c2 .payable .ensures) ∙ not-true _ (c .before .if2 .taken)),
+      handed-whole (refused 15) _ (c .refused-day2 .ensures),
     )
 
 parts-of-requires : tie.Need-parts-of-requires
 parts-of-requires c κs =
     let c4 = c .before .before .before .before in
     let c6 = c4 .before .before in
-    in-day (begun ((c6 .pre) .0 .logged)) ((c6 .args) .key) ((c4 .day-in) .result) ((c4 .day-in) .ensures ((c6 .pre) .0 .list) ((c6 .pre) .0 .logged))
+    in-day (begun (c6 .pre .0 .logged)) (c6 .args .key) (c4 .day-in .result) (c4 .day-in .ensures (c6 .pre .0 .list) (c6 .pre .0 .logged))
 
 day-of-requires : tie.Need-day-of-requires
 day-of-requires c κs = search needs
@@ -68,11 +68,11 @@ returns-3 c =
     let c8 = c7 .before in
     let c9 = c8 .before in
     let c11 = c9 .before .before in (
-      λ l g marked price w. day-worked (begun g) ((c11 .args) .key) ((c9 .day-in) .result) ((c9 .day-in) .ensures l g) price
-          (sym ((c8 .nowhere) .ensures) ∙ (c7 .if1) .left) marked ((c11 .args) .table) w (sym ((c6 .payable) .ensures) ∙ not-false _ ((c5 .if2) .left))
-          ((c4 .parts-of) .result .ticks) ((c4 .parts-of) .result .starts) ((c4 .parts-of) .ensures) ((c .before .day-of) .result) ((c .before .day-of) .ensures)
-          _ ((c .answer-of) .ensures),
-      handed-whole (totalReply ((c .before .day-of) .result)) _ ((c .answer-of) .ensures),
+      λ l g marked price w. day-worked (begun g) (c11 .args .key) (c9 .day-in .result) (c9 .day-in .ensures l g) price
+          (sym (c8 .nowhere .ensures) ∙ (c7 .if1) .left) marked (c11 .args .table) w (sym (c6 .payable .ensures) ∙ not-false _ (c5 .if2 .left))
+          (c4 .parts-of .result .ticks) (c4 .parts-of .result .starts) (c4 .parts-of .ensures) (c .before .day-of .result) (c .before .day-of .ensures)
+          _ (c .answer-of .ensures),
+      handed-whole (totalReply (c .before .day-of .result)) _ (c .answer-of .ensures),
     )
 
 pub of-unit-spec : {M : Type 1} → statement M

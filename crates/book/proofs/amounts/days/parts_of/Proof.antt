@@ -30,7 +30,7 @@ part-at-requires c κs =
     let c2 = c .before .before in
     let c3 = c2 .before in
     let c5 = c3 .before .before in
-    (c5 .pre) ((c3 .loop) .h) ((c2 .loop-test) .taken) _
+    (c5 .pre) (c3 .loop .h) (c2 .loop-test .taken) _
 
 mul-t : tie.Need-mul-t Inv-loop μ-loop
 mul-t c = search needs
@@ -55,10 +55,10 @@ loop-again c =
     let c2 = c .before .before in
     let c5 = c2 .before .before .before in
     let c6 = c5 .before in
-    filled-more ((c6 .loop) .inv) ((c5 .loop-test) .taken) ((c2 .part-at) .result) ((c2 .part-at) .ensures)
+    filled-more (c6 .loop .inv) (c5 .loop-test .taken) (c2 .part-at .result) (c2 .part-at .ensures)
 
 returns : tie.Need-returns Inv-loop μ-loop
-returns c = filled-all ((c .before .loop) .inv) ((c .loop-test) .left)
+returns c = filled-all (c .before .loop .inv) (c .loop-test .left)
 
 pub parts-of-spec : {M : Type 1} → statement M
 parts-of-spec =

@@ -36,8 +36,8 @@ returns c =
     let c4 = c .before .before .before .before in
     let c5 = c4 .before in
     let c6 = c5 .before in
-    sym (every-no 24 ((c5 .loop) .j) (λ (j : ℕ). paid (placeIn ((c6 .args) .t1) j) (priceFor ((c6 .args) .t2) j)) ((c4 .loop-test) .taken)
-    (sym ((c .before .hour-payable) .ensures) ∙ not-true _ ((c .if1) .taken)))
+    sym (every-no 24 (c5 .loop .j) (λ (j : ℕ). paid (placeIn (c6 .args .t1) j) (priceFor (c6 .args .t2) j)) (c4 .loop-test .taken)
+    (sym (c .before .hour-payable .ensures) ∙ not-true _ (c .if1 .taken)))
 
 add-j : tie.Need-add-j Inv-loop μ-loop
 add-j c = search needs
@@ -49,10 +49,10 @@ loop-again : tie.Need-loop-again Inv-loop μ-loop
 loop-again c =
     let c4 = c .before .before .before .before in
     let c5 = c4 .before in
-    passed-more ((c5 .loop) .inv) ((c4 .loop-test) .taken) (sym ((c .before .hour-payable) .ensures) ∙ not-false _ ((c .if1) .left))
+    passed-more (c5 .loop .inv) (c4 .loop-test .taken) (sym (c .before .hour-payable .ensures) ∙ not-false _ (c .if1 .left))
 
 returns-2 : tie.Need-returns-2 Inv-loop μ-loop
-returns-2 c = sym (passed-all ((c .before .loop) .inv) ((c .loop-test) .left))
+returns-2 c = sym (passed-all (c .before .loop .inv) (c .loop-test .left))
 
 pub payable-spec : {M : Type 1} → statement M
 payable-spec =

@@ -11,10 +11,10 @@ enum-known-a-2 : tie.Need-enum-known-a-2
 enum-known-a-2 c = search needs
 
 returns : tie.Need-returns
-returns c = sym (ap chargeReply ((c .before .a) .given .1))
+returns c = sym (ap chargeReply (c .before .a .given .1))
 
 returns-2 : tie.Need-returns-2
-returns-2 c = sym (ap chargeReply ((c .before .a2) .given .1))
+returns-2 c = sym (ap chargeReply (c .before .a2 .given .1))
 
 pub answer-of-spec : {M : Type 1} → statement M
 answer-of-spec =

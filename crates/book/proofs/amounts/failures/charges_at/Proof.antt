@@ -19,7 +19,7 @@ abbrev μ-loop : tie.MeasureT-loop
 μ-loop log mark prices p ticks₀ i₀ ticks i = p .n - i
 
 loop-holds : tie.Need-loop-holds Inv-loop μ-loop
-loop-holds c = charging-start ((c .before .args) .log .now) ((c .before .args) .mark) ((c .before .args) .prices) ((c .before .args) .t2) _ refl
+loop-holds c = charging-start (c .before .args .log .now) (c .before .args .mark) (c .before .args .prices) (c .before .args .t2) _ refl
 
 mul-x : tie.Need-mul-x Inv-loop μ-loop
 mul-x c = omega (arith, (c .loop-test) .taken, (c .before .before .before .pre) .few)
@@ -28,13 +28,13 @@ element-copy-out-x : tie.Need-element-copy-out-x Inv-loop μ-loop
 element-copy-out-x c = omega (arith, (c .loop-test) .taken, (c .before .before .before .pre) .few)
 
 sub-failure-charge : tie.Need-sub-failure-charge Inv-loop μ-loop
-sub-failure-charge c = spot-inside (c .before .before .before .before .pre) (search (needs, unmapped)) ((c .before .before .loop) .i)
-    ((c .before .loop-test) .taken) noSpot
+sub-failure-charge c = spot-inside (c .before .before .before .before .pre) (search (needs, unmapped)) (c .before .before .loop .i)
+    (c .before .loop-test .taken) noSpot
 
 part-failure-charge-start : tie.Need-part-failure-charge-start Inv-loop μ-loop
-part-failure-charge-start c = let w : getD ((c .before .before .before .before .args) .t2 .at) ((c .before .before .loop) .i) noSpot .start ≤ length
-    ((c .before .before .before .before .args) .log .now) = spot-inside (c .before .before .before .before .pre) (search (needs, unmapped))
-    ((c .before .before .loop) .i) ((c .before .loop-test) .taken) noSpot in omega arith
+part-failure-charge-start c = let w : getD (c .before .before .before .before .args .t2 .at) (c .before .before .loop .i) noSpot .start ≤ length
+    (c .before .before .before .before .args .log .now) = spot-inside (c .before .before .before .before .pre) (search (needs, unmapped))
+    (c .before .before .loop .i) (c .before .loop-test .taken) noSpot in omega arith
 
 part-failure-charge-end : tie.Need-part-failure-charge-end Inv-loop μ-loop
 part-failure-charge-end c = search needs
@@ -68,15 +68,15 @@ loop-less : tie.Need-loop-less Inv-loop μ-loop
 loop-less c = omega (arith, (c .before .before .before .before .loop-test) .taken)
 
 loop-again : tie.Need-loop-again Inv-loop μ-loop
-loop-again c = charging-more ((c .before .before .before .before .before .loop) .inv) (c .before .before .before .before .before .before .before .pre) (search
-    (needs, unmapped)) ((c .before .before .before .before .loop-test) .taken) noSpot _ ((c .ticks-of) .ensures ∙ ap ticksOf
-    ((c .before .failure-charge) .ensures ∙ ap (λ (u : List ℕ). chargeIn ((c .before .before .before .before .before .before .before .args) .mark) u
-    ((c .before .before .before .before .before .before .before .args) .prices)) (to-end
-    (getD ((c .before .before .before .before .before .before .before .args) .t2 .at) ((c .before .before .before .before .before .loop) .i) noSpot .start)
-    ((c .before .before .before .before .before .before .before .args) .log .now))))
+loop-again c = charging-more (c .before .before .before .before .before .loop .inv) (c .before .before .before .before .before .before .before .pre) (search
+    (needs, unmapped)) (c .before .before .before .before .loop-test .taken) noSpot _ (c .ticks-of .ensures ∙ ap ticksOf
+    (c .before .failure-charge .ensures ∙ ap (λ (u : List ℕ). chargeIn (c .before .before .before .before .before .before .before .args .mark) u
+    (c .before .before .before .before .before .before .before .args .prices)) (to-end
+    (getD (c .before .before .before .before .before .before .before .args .t2 .at) (c .before .before .before .before .before .loop .i) noSpot .start)
+    (c .before .before .before .before .before .before .before .args .log .now))))
 
 returns : tie.Need-returns Inv-loop μ-loop
-returns c = charging-end ((c .before .loop) .inv) (c .before .before .before .pre) ((c .loop-test) .left) (search (needs, unmapped))
+returns c = charging-end (c .before .loop .inv) (c .before .before .before .pre) (c .loop-test .left) (search (needs, unmapped))
 
 pub charges-at-spec : {M : Type 1} → statement M
 charges-at-spec =

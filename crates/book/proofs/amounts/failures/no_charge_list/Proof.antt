@@ -7,7 +7,7 @@ no-amount-requires : tie.Need-no-amount-requires
 no-amount-requires c κs = search needs
 
 returns : tie.Need-returns
-returns c = charges-none ((c .no-amount) .result) ((c .no-amount) .ensures)
+returns c = charges-none (c .no-amount .result) (c .no-amount .ensures)
 
 pub no-charge-list-spec : {M : Type 1} → statement M
 no-charge-list-spec = tie.close (tie.spec no-amount-requires returns)

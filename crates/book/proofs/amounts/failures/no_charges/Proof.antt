@@ -7,7 +7,7 @@ no-charge-list-requires : tie.Need-no-charge-list-requires
 no-charge-list-requires c κs = search needs
 
 returns : tie.Need-returns
-returns c = no-charges ((c .before .args) .number) ((c .no-charge-list) .result) ((c .no-charge-list) .ensures)
+returns c = no-charges (c .before .args .number) (c .no-charge-list .result) (c .no-charge-list .ensures)
 
 pub no-charges-spec : {M : Type 1} → statement M
 no-charges-spec = tie.close (tie.spec no-charge-list-requires returns)

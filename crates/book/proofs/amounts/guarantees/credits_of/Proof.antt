@@ -54,10 +54,10 @@ loop-again c =
     let c2 = c .before .before in
     let c3 = c2 .before in
     let c4 = c3 .before in
-    fill-more ((c3 .loop) .inv) ((c2 .loop-test) .taken) ((c4 .pre)) refl
+    fill-more (c3 .loop .inv) (c2 .loop-test .taken) ((c4 .pre)) refl
 
 returns : tie.Need-returns Inv-loop μ-loop
-returns c = fill-all ((c .before .loop) .inv) ((c .loop-test) .left) ((c .before .before .pre)) (search (needs, unmapped))
+returns c = fill-all (c .before .loop .inv) (c .loop-test .left) ((c .before .before .pre)) (search (needs, unmapped))
 
 pub credits-of-spec : {M : Type 1} → statement M
 credits-of-spec =

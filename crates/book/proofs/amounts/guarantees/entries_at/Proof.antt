@@ -40,13 +40,13 @@ sub-offset-entry : tie.Need-sub-offset-entry Inv-loop μ-loop
 sub-offset-entry c =
     let c2 = c .before .before in
     let c7 = c2 .before .before .before .before .before in
-    (c7 .pre) .each ((c2 .loop) .i) ((c .before .loop-test) .taken)
+    (c7 .pre) .each (c2 .loop .i) (c .before .loop-test .taken)
 
 part-offset-entry-start : tie.Need-part-offset-entry-start Inv-loop μ-loop
 part-offset-entry-start c =
     let c2 = c .before .before in
     let c7 = c2 .before .before .before .before .before in
-    (c7 .pre) .each ((c2 .loop) .i) ((c .before .loop-test) .taken)
+    (c7 .pre) .each (c2 .loop .i) (c .before .loop-test .taken)
 
 part-offset-entry-end : tie.Need-part-offset-entry-end Inv-loop μ-loop
 part-offset-entry-end c = search needs
@@ -83,14 +83,14 @@ loop-again c =
     let c4 = c .before .before .before .before in
     let c5 = c4 .before in
     let c10 = c5 .before .before .before .before .before in
-    fill-more ((c5 .loop) .inv) ((c4 .loop-test) .taken) ((c10 .pre) .few) (ap (λ (a : EntryAnswer). a .entry) ((c .before .offset-entry2) .ensures) ∙ ap
-    (λ (x : List ℕ). offsetEntryIn x ((c10 .args) .prices) .entry)
-    (to-end (getD ((c10 .args) .t2 .at) ((c5 .loop) .i) noSpot .start) ((c10 .args) .log .now)))
+    fill-more (c5 .loop .inv) (c4 .loop-test .taken) (c10 .pre .few) (ap (λ (a : EntryAnswer). a .entry) (c .before .offset-entry2 .ensures) ∙ ap
+    (λ (x : List ℕ). offsetEntryIn x (c10 .args .prices) .entry)
+    (to-end (getD (c10 .args .t2 .at) (c5 .loop .i) noSpot .start) (c10 .args .log .now)))
 
 returns : tie.Need-returns Inv-loop μ-loop
 unfolding entriesIn
-returns c = let la : length ((c .before .before .before .before .before .before .args) .t2 .at) ≡ 16 = search (needs, unmapped) in fill-all
-    ((c .before .loop) .inv) ((c .loop-test) .left) ((c .before .before .before .before .before .before .pre) .few)
+returns c = let la : length (c .before .before .before .before .before .before .args .t2 .at) ≡ 16 = search (needs, unmapped) in fill-all
+    (c .before .loop .inv) (c .loop-test .left) (c .before .before .before .before .before .before .pre .few)
     (omega (arith, la, (c .before .before .before .before .before .before .pre) .few))
 
 pub entries-at-spec : {M : Type 1} → statement M

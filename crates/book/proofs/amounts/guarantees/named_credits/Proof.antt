@@ -20,7 +20,7 @@ no-credits-requires : tie.Need-no-credits-requires Inv-loop μ-loop
 no-credits-requires c κs = search needs
 
 loop-holds : tie.Need-loop-holds Inv-loop μ-loop
-loop-holds c = credits-start ((c .before .args) .t1) ((c .before .args) .t2) ((c .no-credits) .result) ((c .no-credits) .ensures)
+loop-holds c = credits-start (c .before .args .t1) (c .before .args .t2) (c .no-credits .result) (c .no-credits .ensures)
 
 mul-x : tie.Need-mul-x Inv-loop μ-loop
 mul-x c = omega (arith, (c .before .loop) .inv .upto, (c .before .before .before .pre), (c .loop-test) .taken)
@@ -63,17 +63,17 @@ loop-again c =
     let c3 = c .before .before .before in
     let c4 = c3 .before in
     let c6 = c4 .before .before in
-    naming-more ((c4 .loop) .inv) ((c3 .loop-test) .taken) ((c6 .pre))
+    naming-more (c4 .loop .inv) (c3 .loop-test .taken) ((c6 .pre))
 
 returns : tie.Need-returns Inv-loop μ-loop
 returns c =
     let few = c .before .before .before .pre in
-    let la : length ((c .before .before .before .args) .t1 .at) ≡ maxPlaces = search (needs, unmapped) in
-    let lt : length ((c .before .before .before .args) .t2) ≡ maxCredits = search (needs, unmapped) in (
-      naming-all ((c .before .loop) .inv) ((c .loop-test) .left) few (omega (arith, la, few)) (omega (arith, lt, few)),
+    let la : length (c .before .before .before .args .t1 .at) ≡ maxPlaces = search (needs, unmapped) in
+    let lt : length (c .before .before .before .args .t2) ≡ maxCredits = search (needs, unmapped) in (
+      naming-all (c .before .loop .inv) (c .loop-test .left) few (omega (arith, la, few)) (omega (arith, lt, few)),
       few,
       credits-whole
-          ((c .before .loop) .inv) ((c .loop-test) .left) few,
+          (c .before .loop .inv) (c .loop-test .left) few,
     )
 
 pub named-credits-spec : {M : Type 1} → statement M

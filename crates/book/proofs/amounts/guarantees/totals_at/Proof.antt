@@ -21,7 +21,7 @@ abbrev μ-loop : tie.MeasureT-loop
 μ-loop log p sums₀ i₀ sums i = p .n - i
 
 loop-holds : tie.Need-loop-holds Inv-loop μ-loop
-loop-holds c = totalling-start ((c .before .args) .log .now) ((c .before .args) .t2 .n) ((c .before .args) .t2 .at)
+loop-holds c = totalling-start (c .before .args .log .now) (c .before .args .t2 .n) (c .before .args .t2 .at)
 
 mul-x : tie.Need-mul-x Inv-loop μ-loop
 mul-x c = omega (arith, (c .before .loop) .inv .upto, (c .before .before .before .pre) .few, (c .loop-test) .taken)
@@ -30,10 +30,10 @@ element-copy-out-x : tie.Need-element-copy-out-x Inv-loop μ-loop
 element-copy-out-x c = search (needs, unmapped)
 
 sub-totals-with-export : tie.Need-sub-totals-with-export Inv-loop μ-loop
-sub-totals-with-export c = (c .before .before .before .before .pre) .each ((c .before .before .loop) .i) ((c .before .loop-test) .taken)
+sub-totals-with-export c = (c .before .before .before .before .pre) .each (c .before .before .loop .i) (c .before .loop-test .taken)
 
 part-totals-with-export-start : tie.Need-part-totals-with-export-start Inv-loop μ-loop
-part-totals-with-export-start c = (c .before .before .before .before .pre) .each ((c .before .before .loop) .i) ((c .before .loop-test) .taken)
+part-totals-with-export-start c = (c .before .before .before .before .pre) .each (c .before .before .loop .i) (c .before .loop-test .taken)
 
 part-totals-with-export-end : tie.Need-part-totals-with-export-end Inv-loop μ-loop
 part-totals-with-export-end c = search needs
@@ -52,18 +52,18 @@ loop-less : tie.Need-loop-less Inv-loop μ-loop
 loop-less c = omega (arith, (c .before .before .before .before .loop-test) .taken)
 
 loop-again : tie.Need-loop-again Inv-loop μ-loop
-loop-again c = let la : length ((c .before .before .before .before .before .before .before .args) .t2 .at) ≡ 16 = search (needs, unmapped) in totalling-more
-    ((c .before .before .before .before .before .loop) .inv) ((c .before .before .before .before .loop-test) .taken) (omega (
+loop-again c = let la : length (c .before .before .before .before .before .before .before .args .t2 .at) ≡ 16 = search (needs, unmapped) in totalling-more
+    (c .before .before .before .before .before .loop .inv) (c .before .before .before .before .loop-test .taken) (omega (
       arith,
       la,
       (c .before .before .before .before .before .before .before .pre) .few,
-    )) (ap (λ (a : TotalsAnswer). a .totals) ((c .before .totals-with-export) .ensures) ∙
-    ap (λ (x : List ℕ). totalsWithIn x ((c .before .before .before .before .before .loop) .sums) .totals) (to-end
-    (getD ((c .before .before .before .before .before .before .before .args) .t2 .at) ((c .before .before .before .before .before .loop) .i) noSpot .start)
-    ((c .before .before .before .before .before .before .before .args) .log .now)))
+    )) (ap (λ (a : TotalsAnswer). a .totals) (c .before .totals-with-export .ensures) ∙
+    ap (λ (x : List ℕ). totalsWithIn x (c .before .before .before .before .before .loop .sums) .totals) (to-end
+    (getD (c .before .before .before .before .before .before .before .args .t2 .at) (c .before .before .before .before .before .loop .i) noSpot .start)
+    (c .before .before .before .before .before .before .before .args .log .now)))
 
 returns : tie.Need-returns Inv-loop μ-loop
-returns c = totalling-all ((c .before .loop) .inv) ((c .loop-test) .left)
+returns c = totalling-all (c .before .loop .inv) (c .loop-test .left)
 
 pub totals-at-spec : {M : Type 1} → statement M
 totals-at-spec =

@@ -16,7 +16,7 @@ hour-in-requires c κs = search needs
 returns : tie.Need-returns
 returns c =
     let c4 = c .before .before .before .before in
-    name-hourless ((c4 .args) .row) ((c4 .args) .mark) ((c4 .args) .name .now) ((c4 .args) .log .now) ((c .before .hour-in) .ensures) ((c .if1) .taken)
+    name-hourless (c4 .args .row) (c4 .args .mark) (c4 .args .name .now) (c4 .args .log .now) (c .before .hour-in .ensures) (c .if1 .taken)
 
 place-in-requires : tie.Need-place-in-requires
 place-in-requires c κs = search needs
@@ -32,7 +32,7 @@ sub-starts c =
       arith,
       (c .place-in) .ensures .0,
       (c5 .pre)
-          (hour-marked ((c5 .args) .row) ((c5 .args) .mark) ((c5 .args) .name .now) ((c5 .args) .log .now) ((c2 .hour-in) .ensures) ((c .before .if1) .left)),
+          (hour-marked (c5 .args .row) (c5 .args .mark) (c5 .args .name .now) (c5 .args .log .now) (c2 .hour-in .ensures) (c .before .if1 .left)),
     )
 
 part-starts-start : tie.Need-part-starts-start
@@ -43,7 +43,7 @@ part-starts-start c =
       arith,
       (c .place-in) .ensures .0,
       (c5 .pre)
-          (hour-marked ((c5 .args) .row) ((c5 .args) .mark) ((c5 .args) .name .now) ((c5 .args) .log .now) ((c2 .hour-in) .ensures) ((c .before .if1) .left)),
+          (hour-marked (c5 .args .row) (c5 .args .mark) (c5 .args .name .now) (c5 .args .log .now) (c2 .hour-in .ensures) (c .before .if1 .left)),
     )
 
 part-starts-end : tie.Need-part-starts-end
@@ -58,9 +58,9 @@ returns-2 c =
     let c4 = c3 .before in
     let c5 = c4 .before in
     let c8 = c5 .before .before .before in
-    name-starts ((c8 .args) .row) ((c8 .args) .mark) ((c8 .args) .name .now) ((c8 .args) .log .now) ((c5 .hour-in) .ensures) ((c4 .if1) .left)
-    ((c .before .starts) .ensures ∙ ap (begins ((c8 .args) .name .now)) (to-end ((c3 .place-in) .result + 3) ((c8 .args) .log .now)) ∙ ap
-    (λ (x : ℕ). begins ((c8 .args) .name .now) (drop (x + 3) ((c8 .args) .log .now))) ((c3 .place-in) .ensures .0)) true ((c .if2) .taken)
+    name-starts (c8 .args .row) (c8 .args .mark) (c8 .args .name .now) (c8 .args .log .now) (c5 .hour-in .ensures) (c4 .if1 .left)
+    (c .before .starts .ensures ∙ ap (begins (c8 .args .name .now)) (to-end (c3 .place-in .result + 3) (c8 .args .log .now)) ∙ ap
+    (λ (x : ℕ). begins (c8 .args .name .now) (drop (x + 3) (c8 .args .log .now))) (c3 .place-in .ensures .0)) true (c .if2 .taken)
 
 returns-3 : tie.Need-returns-3
 returns-3 c =
@@ -68,9 +68,9 @@ returns-3 c =
     let c4 = c3 .before in
     let c5 = c4 .before in
     let c8 = c5 .before .before .before in
-    name-starts ((c8 .args) .row) ((c8 .args) .mark) ((c8 .args) .name .now) ((c8 .args) .log .now) ((c5 .hour-in) .ensures) ((c4 .if1) .left)
-    ((c .before .starts) .ensures ∙ ap (begins ((c8 .args) .name .now)) (to-end ((c3 .place-in) .result + 3) ((c8 .args) .log .now)) ∙ ap
-    (λ (x : ℕ). begins ((c8 .args) .name .now) (drop (x + 3) ((c8 .args) .log .now))) ((c3 .place-in) .ensures .0)) false ((c .if2) .left)
+    name-starts (c8 .args .row) (c8 .args .mark) (c8 .args .name .now) (c8 .args .log .now) (c5 .hour-in .ensures) (c4 .if1 .left)
+    (c .before .starts .ensures ∙ ap (begins (c8 .args .name .now)) (to-end (c3 .place-in .result + 3) (c8 .args .log .now)) ∙ ap
+    (λ (x : ℕ). begins (c8 .args .name .now) (drop (x + 3) (c8 .args .log .now))) (c3 .place-in .ensures .0)) false (c .if2 .left)
 
 pub hour-for-spec : {M : Type 1} → statement M
 hour-for-spec =

@@ -22,14 +22,14 @@ no-spots-requires : tie.Need-no-spots-requires Inv-loop μ-loop
 no-spots-requires c κs = search needs
 
 loop-holds : tie.Need-loop-holds Inv-loop μ-loop
-loop-holds c = let z : length ((c .no-spots) .result .at) ≡ 16 = search (needs, unmapped) in gathered-start _ _ _ _ ((c .no-spots) .result) z
-    ((c .no-spots) .ensures)
+loop-holds c = let z : length (c .no-spots .result .at) ≡ 16 = search (needs, unmapped) in gathered-start _ _ _ _ (c .no-spots .result) z
+    (c .no-spots .ensures)
 
 mul-row : tie.Need-mul-row Inv-loop μ-loop
-mul-row c = omega (arith, gathered-few ((c .before .loop) .inv) ((c .loop-test) .taken) ((c .before .before .before .before .before .pre) .0))
+mul-row c = omega (arith, gathered-few (c .before .loop .inv) (c .loop-test .taken) (c .before .before .before .before .before .pre .0))
 
 element-copy-out-row : tie.Need-element-copy-out-row Inv-loop μ-loop
-element-copy-out-row c = gathered-few ((c .before .loop) .inv) ((c .loop-test) .taken) ((c .before .before .before .before .before .pre) .0)
+element-copy-out-row c = gathered-few (c .before .loop .inv) (c .loop-test .taken) (c .before .before .before .before .before .pre .0)
 
 stands-in-requires : tie.Need-stands-in-requires Inv-loop μ-loop
 stands-in-requires c κs = search needs
@@ -40,15 +40,15 @@ with-row-requires c κs =
     let c4 = c3 .before in
     let c6 = c4 .before .before in
     let c8 = c6 .before .before in
-    gathered-room ((c4 .loop) .inv) ((c3 .loop-test) .taken) ((c8 .pre) .0) ((c8 .args) .key) ((c6 .hour-slot) .ensures .0) ((c8 .pre) .1)
-    (sym ((c .before .stands-in) .ensures) ∙ (c .if1) .taken)
+    gathered-room (c4 .loop .inv) (c3 .loop-test .taken) (c8 .pre .0) (c8 .args .key) (c6 .hour-slot .ensures .0) (c8 .pre .1)
+    (sym (c .before .stands-in .ensures) ∙ (c .if1) .taken)
 
 add-i : tie.Need-add-i Inv-loop μ-loop
 add-i c =
     let c3 = c .before .before .before in
     let c4 = c3 .before in
     let c8 = c4 .before .before .before .before in
-    omega (arith, gathered-few ((c4 .loop) .inv) ((c3 .loop-test) .taken) ((c8 .pre) .0))
+    omega (arith, gathered-few (c4 .loop .inv) (c3 .loop-test .taken) (c8 .pre .0))
 
 loop-less : tie.Need-loop-less Inv-loop μ-loop
 loop-less c = omega (arith, (c .before .before .before .loop-test) .taken)
@@ -56,16 +56,16 @@ loop-less c = omega (arith, (c .before .before .before .loop-test) .taken)
 loop-again : tie.Need-loop-again Inv-loop μ-loop
 loop-again c = ⊎-elim
     (λ x. let z : length (x .1 .result .at) ≡ 16 = search (needs, unmapped) in
-    subst⁻¹ (Gathered _ _ _ _ _) (x .2) (gathered-with ((c .before .before .before .before .loop) .inv) ((c .before .before .before .loop-test) .taken)
-    (sym ((c .before .stands-in) .ensures) ∙ x .0 .taken) (x .1 .result) z (x .1 .ensures)))
-    (λ x. subst⁻¹ (Gathered _ _ _ _ _) (x .1) (gathered-on ((c .before .before .before .before .loop) .inv) ((c .before .before .before .loop-test) .taken)
-    (sym ((c .before .stands-in) .ensures) ∙ x .0 .left))) ((c .if1) .came)
+    subst⁻¹ (Gathered _ _ _ _ _) (x .2) (gathered-with (c .before .before .before .before .loop .inv) (c .before .before .before .loop-test .taken)
+    (sym (c .before .stands-in .ensures) ∙ x .0 .taken) (x .1 .result) z (x .1 .ensures)))
+    (λ x. subst⁻¹ (Gathered _ _ _ _ _) (x .1) (gathered-on (c .before .before .before .before .loop .inv) (c .before .before .before .loop-test .taken)
+    (sym (c .before .stands-in .ensures) ∙ x .0 .left))) (c .if1 .came)
 
 returns : tie.Need-returns Inv-loop μ-loop
 returns c =
     let c3 = c .before .before .before in
     let c5 = c3 .before .before in
-    (gathered-end ((c .before .loop) .inv) ((c .loop-test) .left) ((c5 .args) .key) ((c3 .hour-slot) .ensures .0) ((c5 .pre) .1), (c .before .loop) .inv .few)
+    (gathered-end (c .before .loop .inv) (c .loop-test .left) (c5 .args .key) (c3 .hour-slot .ensures .0) (c5 .pre .1), (c .before .loop) .inv .few)
 
 pub gather-rows-spec : {M : Type 1} → statement M
 gather-rows-spec =

@@ -13,8 +13,8 @@ abbrev μ-loop : tie.MeasureT-loop
 μ-loop j s p next₀ i₀ next i = i
 
 loop-holds : tie.Need-loop-holds Inv-loop μ-loop
-loop-holds c = let z : length ((c .args) .t1 .at) ≡ 16 = search (needs, unmapped) in opened-start ((c .args) .t1 .at) ((c .args) .t1 .n) ((c .args) .j)
-    (omega (arith, (c .pre) .1)) ((c .pre) .0)
+loop-holds c = let z : length (c .args .t1 .at) ≡ 16 = search (needs, unmapped) in opened-start (c .args .t1 .at) (c .args .t1 .n) (c .args .j)
+    (omega (arith, (c .pre) .1)) (c .pre .0)
 
 sub-k : tie.Need-sub-k Inv-loop μ-loop
 sub-k c = search needs
@@ -35,8 +35,8 @@ loop-less : tie.Need-loop-less Inv-loop μ-loop
 loop-less c = search needs
 
 loop-again : tie.Need-loop-again Inv-loop μ-loop
-loop-again c = let z : length ((c .before .before .before .args) .t1 .at) ≡ 16 = search (needs, unmapped) in opened-next
-    (omega (arith, (c .before .before .before .pre) .1)) ((c .before .before .loop) .inv) ((c .before .loop-test) .taken) _
+loop-again c = let z : length (c .before .before .before .args .t1 .at) ≡ 16 = search (needs, unmapped) in opened-next
+    (omega (arith, (c .before .before .before .pre) .1)) (c .before .before .loop .inv) (c .before .loop-test .taken) _
 
 mul-s : tie.Need-mul-s Inv-loop μ-loop
 mul-s c = search needs
@@ -48,8 +48,8 @@ add-next : tie.Need-add-next Inv-loop μ-loop
 add-next c = search needs
 
 returns : tie.Need-returns Inv-loop μ-loop
-returns c = let z : length ((c .before .before .args) .t1 .at) ≡ 16 = search (needs, unmapped) in
-    (refl, opened-end (omega (arith, (c .before .before .pre) .1)) ((c .before .loop) .inv) ((c .loop-test) .left) _)
+returns c = let z : length (c .before .before .args .t1 .at) ≡ 16 = search (needs, unmapped) in
+    (refl, opened-end (omega (arith, (c .before .before .pre) .1)) (c .before .loop .inv) (c .loop-test .left) _)
 
 pub inserted-spec : {M : Type 1} → statement M
 inserted-spec =

@@ -21,7 +21,7 @@ head-key-requires c κs = search needs
 returns : tie.Need-returns
 returns c =
     let c4 = c .before .before .before .before in
-    ap (λ (a : KeyAnswer). a .key .name) ((c .before .head-key) .ensures ∙ ap (λ r. keyAnswer (headKey r)) (to-end ((c4 .args) .start) ((c4 .args) .log .now)))
+    ap (λ (a : KeyAnswer). a .key .name) (c .before .head-key .ensures ∙ ap (λ r. keyAnswer (headKey r)) (to-end (c4 .args .start) (c4 .args .log .now)))
 
 pub name-at-spec : {M : Type 1} → statement M
 name-at-spec =

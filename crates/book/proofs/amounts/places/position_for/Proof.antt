@@ -28,12 +28,12 @@ comes-before-requires : tie.Need-comes-before-requires Inv-loop μ-loop
 comes-before-requires c κs = search needs
 
 returns : tie.Need-returns Inv-loop μ-loop
-returns c = let z : length ((c .before .before .before .before .before .args) .t1 .at) ≡ 16 = search (needs, unmapped) in (
+returns c = let z : length (c .before .before .before .before .before .args .t1 .at) ≡ 16 = search (needs, unmapped) in (
   omega
       (arith, (c .before .before .before .loop-test) .taken),
-  slot-here ((c .before .before .before .before .before .args) .s)
-      ((c .before .before .before .before .before .args) .t1) ((c .before .before .before .before .loop) .i) ((c .before .before .before .before .loop) .inv)
-      (omega arith) _ ((c .before .before .before .loop-test) .taken) _ ((c .before .comes-before) .ensures) ((c .if1) .taken),
+  slot-here (c .before .before .before .before .before .args .s)
+      (c .before .before .before .before .before .args .t1) (c .before .before .before .before .loop .i) (c .before .before .before .before .loop .inv)
+      (omega arith) _ (c .before .before .before .loop-test .taken) _ (c .before .comes-before .ensures) (c .if1 .taken),
 )
 
 add-i : tie.Need-add-i Inv-loop μ-loop
@@ -43,16 +43,16 @@ loop-less : tie.Need-loop-less Inv-loop μ-loop
 loop-less c = omega (arith, (c .before .before .before .loop-test) .taken)
 
 loop-again : tie.Need-loop-again Inv-loop μ-loop
-loop-again c = let z : length ((c .before .before .before .before .before .args) .t1 .at) ≡ 16 = search (needs, unmapped) in slot-on
-    ((c .before .before .before .before .before .args) .s) ((c .before .before .before .before .before .args) .t1)
-    ((c .before .before .before .before .loop) .i) ((c .before .before .before .before .loop) .inv) (omega arith) _
-    ((c .before .before .before .loop-test) .taken) _ ((c .before .comes-before) .ensures) ((c .if1) .left)
+loop-again c = let z : length (c .before .before .before .before .before .args .t1 .at) ≡ 16 = search (needs, unmapped) in slot-on
+    (c .before .before .before .before .before .args .s) (c .before .before .before .before .before .args .t1)
+    (c .before .before .before .before .loop .i) (c .before .before .before .before .loop .inv) (omega arith) _
+    (c .before .before .before .loop-test .taken) _ (c .before .comes-before .ensures) (c .if1 .left)
 
 returns-2 : tie.Need-returns-2 Inv-loop μ-loop
-returns-2 c = let z : length ((c .before .before .args) .t1 .at) ≡ 16 = search (needs, unmapped) in (
+returns-2 c = let z : length (c .before .before .args .t1 .at) ≡ 16 = search (needs, unmapped) in (
   omega arith,
-  slot-end ((c .before .before .args) .s)
-      ((c .before .before .args) .t1) ((c .before .loop) .i) ((c .before .loop) .inv) (omega arith) ((c .loop-test) .left),
+  slot-end (c .before .before .args .s)
+      (c .before .before .args .t1) (c .before .loop .i) (c .before .loop .inv) (omega arith) (c .loop-test .left),
 )
 
 pub position-for-spec : {M : Type 1} → statement M

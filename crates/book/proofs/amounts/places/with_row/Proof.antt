@@ -16,7 +16,7 @@ position-for-requires : tie.Need-position-for-requires
 position-for-requires c κs = omega (arith, (c .before .before .before .pre) .0)
 
 inserted-requires : tie.Need-inserted-requires
-inserted-requires c κs = ((c .position-for) .ensures .0, (c .before .before .before .before .pre) .0)
+inserted-requires c κs = (c .position-for .ensures .0, (c .before .before .before .before .pre) .0)
 
 returns : tie.Need-returns
 returns c =
@@ -24,9 +24,9 @@ returns c =
     let c3 = c2 .before in
     let c5 = c3 .before .before in (
       omega (arith, (c .inserted) .ensures .0, (c5 .pre) .0),
-      (c .inserted) .ensures .1 ∙ sym ((c .before .position-for) .ensures .1)
-          ∙ ap (λ y. putSpot y (spots ((c5 .args) .p))) (spot-read ((c5 .args) .log .now) ((c5 .args) .row) ((c3 .place-in) .result) ((c2 .name-at) .result)
-          ((c3 .place-in) .ensures .0) ((c2 .name-at) .ensures)),
+      (c .inserted) .ensures .1 ∙ sym (c .before .position-for .ensures .1)
+          ∙ ap (λ y. putSpot y (spots (c5 .args .p))) (spot-read (c5 .args .log .now) (c5 .args .row) (c3 .place-in .result) (c2 .name-at .result)
+          (c3 .place-in .ensures .0) (c2 .name-at .ensures)),
     )
 
 pub with-row-spec : {M : Type 1} → statement M

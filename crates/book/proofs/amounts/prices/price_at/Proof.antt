@@ -9,7 +9,7 @@ prices-at-requires : tie.Need-prices-at-requires
 prices-at-requires c κs = search needs
 
 returns : tie.Need-returns
-returns c = ap (λ (p : HourPrices). record { known = true; prices = p }) ((c .prices-at) .ensures)
+returns c = ap (λ (p : HourPrices). record { known = true; prices = p }) (c .prices-at .ensures)
 
 pub price-at-spec : {M : Type 1} → statement M
 price-at-spec = tie.close (tie.spec prices-at-requires returns)

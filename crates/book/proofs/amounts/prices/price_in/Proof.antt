@@ -13,14 +13,14 @@ price-at-requires : tie.Need-price-at-requires
 price-at-requires c κs =
     let c2 = c .before .before in
     let c4 = c2 .before .before in
-    sought-inside ((c .before .find-in) .ensures) (price-formed ((c2 .key-of) .ensures) ((c4 .pre) .1)) ((c4 .pre) .0) ((c .if1) .taken)
+    sought-inside (c .before .find-in .ensures) (price-formed (c2 .key-of .ensures) (c4 .pre .1)) (c4 .pre .0) (c .if1 .taken)
 
 returns : tie.Need-returns
 returns c =
     let c2 = c .before .before in
     let c3 = c2 .before in
     let c5 = c3 .before .before in
-    price-there ((c3 .key-of) .ensures) ((c5 .pre) .1) ((c2 .find-in) .ensures) ((c .before .if1) .taken) _ ((c .price-at) .ensures)
+    price-there (c3 .key-of .ensures) (c5 .pre .1) (c2 .find-in .ensures) (c .before .if1 .taken) _ (c .price-at .ensures)
 
 no-price-requires : tie.Need-no-price-requires
 no-price-requires c κs = search needs
@@ -30,7 +30,7 @@ returns-2 c =
     let c2 = c .before .before in
     let c3 = c2 .before in
     let c5 = c3 .before .before in
-    price-missing ((c3 .key-of) .ensures) ((c5 .pre) .1) ((c2 .find-in) .ensures) ((c .before .if1) .left) _ ((c .no-price) .ensures)
+    price-missing (c3 .key-of .ensures) (c5 .pre .1) (c2 .find-in .ensures) (c .before .if1 .left) _ (c .no-price .ensures)
 
 pub price-in-spec : {M : Type 1} → statement M
 price-in-spec =

@@ -20,10 +20,10 @@ loop-holds : tie.Need-loop-holds Inv-loop μ-loop
 loop-holds c = tabling-start _ _ _ _ refl
 
 mul-row : tie.Need-mul-row Inv-loop μ-loop
-mul-row c = omega (arith, tabling-few ((c .before .loop) .inv) ((c .loop-test) .taken) (c .before .before .before .before .pre))
+mul-row c = omega (arith, tabling-few (c .before .loop .inv) (c .loop-test .taken) (c .before .before .before .before .pre))
 
 element-copy-out-row : tie.Need-element-copy-out-row Inv-loop μ-loop
-element-copy-out-row c = tabling-few ((c .before .loop) .inv) ((c .loop-test) .taken) (c .before .before .before .before .pre)
+element-copy-out-row c = tabling-few (c .before .loop .inv) (c .loop-test .taken) (c .before .before .before .before .pre)
 
 price-hour-requires : tie.Need-price-hour-requires Inv-loop μ-loop
 price-hour-requires c κs = search needs
@@ -37,7 +37,7 @@ price-at-requires c κs =
     let c4 = c2 .before .before in
     let c5 = c4 .before in
     let c8 = c5 .before .before .before in
-    tabling-within ((c5 .loop) .inv) ((c4 .loop-test) .taken) ((c2 .price-hour) .ensures) ((c .before .if1) .taken) (c8 .pre) ((c .place-in) .ensures .0)
+    tabling-within (c5 .loop .inv) (c4 .loop-test .taken) (c2 .price-hour .ensures) (c .before .if1 .taken) (c8 .pre) (c .place-in .ensures .0)
 
 sub-j : tie.Need-sub-j Inv-loop μ-loop
 sub-j c = search needs
@@ -49,7 +49,7 @@ mul-hours c =
     let c5 = c3 .before .before in
     let c6 = c5 .before in
     let c9 = c6 .before .before .before in
-    omega (arith, tabling-hour ((c6 .loop) .inv) ((c5 .loop-test) .taken) ((c3 .price-hour) .ensures) ((c2 .if1) .taken) (c9 .pre))
+    omega (arith, tabling-hour (c6 .loop .inv) (c5 .loop-test .taken) (c3 .price-hour .ensures) (c2 .if1 .taken) (c9 .pre))
 
 array-set-from-hours : tie.Need-array-set-from-hours Inv-loop μ-loop
 array-set-from-hours c =
@@ -58,14 +58,14 @@ array-set-from-hours c =
     let c5 = c3 .before .before in
     let c6 = c5 .before in
     let c9 = c6 .before .before .before in
-    omega (arith, (c6 .loop) .inv .size, tabling-hour ((c6 .loop) .inv) ((c5 .loop-test) .taken) ((c3 .price-hour) .ensures) ((c2 .if1) .taken) (c9 .pre))
+    omega (arith, (c6 .loop) .inv .size, tabling-hour (c6 .loop .inv) (c5 .loop-test .taken) (c3 .price-hour .ensures) (c2 .if1 .taken) (c9 .pre))
 
 add-i : tie.Need-add-i Inv-loop μ-loop
 add-i c =
     let c3 = c .before .before .before in
     let c4 = c3 .before in
     let c7 = c4 .before .before .before in
-    omega (arith, tabling-few ((c4 .loop) .inv) ((c3 .loop-test) .taken) (c7 .pre))
+    omega (arith, tabling-few (c4 .loop .inv) (c3 .loop-test .taken) (c7 .pre))
 
 loop-less : tie.Need-loop-less Inv-loop μ-loop
 loop-less c = omega (arith, (c .before .before .before .loop-test) .taken)
@@ -76,12 +76,12 @@ loop-again c =
     let c4 = c3 .before in
     ⊎-elim
     (λ x. subst⁻¹ (Tabling _ _ _ _ _) (x .3)
-    (tabling-put ((c4 .loop) .inv) ((c3 .loop-test) .taken) ((c .before .price-hour) .ensures) (x .0 .taken) (x .1 .ensures .0) _ (x .2 .ensures)))
-    (λ x. subst⁻¹ (Tabling _ _ _ _ _) (x .1) (tabling-skip ((c4 .loop) .inv) ((c3 .loop-test) .taken) ((c .before .price-hour) .ensures) (x .0 .left)))
-    ((c .if1) .came)
+    (tabling-put (c4 .loop .inv) (c3 .loop-test .taken) (c .before .price-hour .ensures) (x .0 .taken) (x .1 .ensures .0) _ (x .2 .ensures)))
+    (λ x. subst⁻¹ (Tabling _ _ _ _ _) (x .1) (tabling-skip (c4 .loop .inv) (c3 .loop-test .taken) (c .before .price-hour .ensures) (x .0 .left)))
+    (c .if1 .came)
 
 returns : tie.Need-returns Inv-loop μ-loop
-returns c = tabling-end ((c .before .loop) .inv) ((c .loop-test) .left) ((c .before .before .no-price) .ensures)
+returns c = tabling-end (c .before .loop .inv) (c .loop-test .left) (c .before .before .no-price .ensures)
 
 pub price-table-spec : {M : Type 1} → statement M
 price-table-spec =

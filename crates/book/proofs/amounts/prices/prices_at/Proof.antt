@@ -20,7 +20,7 @@ prices-of-requires c κs = search needs
 returns : tie.Need-returns
 returns c =
     let c4 = c .before .before .before .before in
-    ap (λ (a : PricesAnswer). a .prices) ((c .before .prices-of) .ensures) ∙ ap pricesIn (to-end ((c4 .args) .at) ((c4 .args) .log .now))
+    ap (λ (a : PricesAnswer). a .prices) (c .before .prices-of .ensures) ∙ ap pricesIn (to-end (c4 .args .at) (c4 .args .log .now))
 
 pub prices-at-spec : {M : Type 1} → statement M
 prices-at-spec =

@@ -26,14 +26,14 @@ no-names-requires : tie.Need-no-names-requires Inv-loop μ-loop
 no-names-requires c κs = search needs
 
 loop-holds : tie.Need-loop-holds Inv-loop μ-loop
-loop-holds c = let z : length ((c .no-names) .result .names) ≡ 512 = search (needs, unmapped) in listed-start _ _ _ _ ((c .no-names) .result) z
-    ((c .no-names) .ensures)
+loop-holds c = let z : length (c .no-names .result .names) ≡ 512 = search (needs, unmapped) in listed-start _ _ _ _ (c .no-names .result) z
+    (c .no-names .ensures)
 
 mul-row : tie.Need-mul-row Inv-loop μ-loop
-mul-row c = omega (arith, listed-at ((c .before .loop) .inv) ((c .loop-test) .taken) (c .before .before .before .before .before .pre))
+mul-row c = omega (arith, listed-at (c .before .loop .inv) (c .loop-test .taken) (c .before .before .before .before .before .pre))
 
 element-copy-out-row : tie.Need-element-copy-out-row Inv-loop μ-loop
-element-copy-out-row c = listed-at ((c .before .loop) .inv) ((c .loop-test) .taken) (c .before .before .before .before .before .pre)
+element-copy-out-row c = listed-at (c .before .loop .inv) (c .loop-test .taken) (c .before .before .before .before .before .pre)
 
 of-mark-requires : tie.Need-of-mark-requires Inv-loop μ-loop
 of-mark-requires c κs = search needs
@@ -50,7 +50,7 @@ name-at-requires c κs =
     omega (
       arith,
       (c .place-in) .ensures .0,
-      listed-place ((c5 .loop) .inv) ((c4 .loop-test) .taken) (c9 .pre) (sym ((c2 .of-mark) .ensures) ∙ (c .before .if1) .taken),
+      listed-place (c5 .loop .inv) (c4 .loop-test .taken) (c9 .pre) (sym (c2 .of-mark .ensures) ∙ (c .before .if1) .taken),
     )
 
 with-name-requires : tie.Need-with-name-requires Inv-loop μ-loop
@@ -61,7 +61,7 @@ with-name-requires c κs =
     omega (
       arith,
       (c6 .loop) .inv .few,
-      listed-at ((c6 .loop) .inv) ((c5 .loop-test) .taken) (c10 .pre),
+      listed-at (c6 .loop .inv) (c5 .loop-test .taken) (c10 .pre),
     )
 
 add-i : tie.Need-add-i Inv-loop μ-loop
@@ -69,7 +69,7 @@ add-i c =
     let c3 = c .before .before .before in
     let c4 = c3 .before in
     let c8 = c4 .before .before .before .before in
-    omega (arith, listed-at ((c4 .loop) .inv) ((c3 .loop-test) .taken) (c8 .pre))
+    omega (arith, listed-at (c4 .loop .inv) (c3 .loop-test .taken) (c8 .pre))
 
 loop-less : tie.Need-loop-less Inv-loop μ-loop
 loop-less c = omega (arith, (c .before .before .before .loop-test) .taken)
@@ -77,18 +77,18 @@ loop-less c = omega (arith, (c .before .before .before .loop-test) .taken)
 loop-again : tie.Need-loop-again Inv-loop μ-loop
 loop-again c = ⊎-elim
     (λ x. let z : length (x .3 .result .names) ≡ 512 = search (needs, unmapped) in
-    subst⁻¹ (Listed _ _ _ _ _) (x .4) (listed-next ((c .before .before .before .before .loop) .inv) ((c .before .before .before .loop-test) .taken)
-    (sym ((c .before .of-mark) .ensures) ∙ x .0 .taken)
+    subst⁻¹ (Listed _ _ _ _ _) (x .4) (listed-next (c .before .before .before .before .loop .inv) (c .before .before .before .loop-test .taken)
+    (sym (c .before .of-mark .ensures) ∙ x .0 .taken)
     (x .2 .result) (x .2 .ensures ∙ ap (λ y. keyAt _ y .name) (x .1 .ensures .0)) (x .3 .result) z (x .3 .ensures)))
-    (λ x. subst⁻¹ (Listed _ _ _ _ _) (x .1) (listed-skip ((c .before .before .before .before .loop) .inv) ((c .before .before .before .loop-test) .taken)
-    (sym ((c .before .of-mark) .ensures) ∙ x .0 .left))) ((c .if1) .came)
+    (λ x. subst⁻¹ (Listed _ _ _ _ _) (x .1) (listed-skip (c .before .before .before .before .loop .inv) (c .before .before .before .loop-test .taken)
+    (sym (c .before .of-mark .ensures) ∙ x .0 .left))) (c .if1 .came)
 
 returns : tie.Need-returns Inv-loop μ-loop
 returns c =
     let c3 = c .before .before .before in
     let c5 = c3 .before .before in (
-      listed-end ((c .before .loop) .inv) ((c .loop-test) .left) ((c5 .args) .key) ((c3 .order) .ensures),
-      listed-few ((c .before .loop) .inv) (c5 .pre),
+      listed-end (c .before .loop .inv) (c .loop-test .left) (c5 .args .key) (c3 .order .ensures),
+      listed-few (c .before .loop .inv) (c5 .pre),
       (c .before .loop) .inv .whole,
     )
 

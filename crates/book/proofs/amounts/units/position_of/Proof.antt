@@ -29,25 +29,25 @@ comes-before-requires : tie.Need-comes-before-requires Inv-loop μ-loop
 comes-before-requires c κs = search needs
 
 returns : tie.Need-returns Inv-loop μ-loop
-returns c = let z : length ((c .before .before .before .before .before .args) .t1 .names) ≡ 512 = search (needs, unmapped) in (
+returns c = let z : length (c .before .before .before .before .before .args .t1 .names) ≡ 512 = search (needs, unmapped) in (
   omega
       (arith, (c .before .before .before .loop-test) .taken),
-  name-here ((c .before .before .before .before .before .args) .name)
-      ((c .before .before .before .before .before .args) .t1) ((c .before .before .before .before .loop) .i) ((c .before .before .before .before .loop) .inv)
-      (omega arith) _ ((c .before .before .before .loop-test) .taken) ((c .before .comes-before) .ensures) ((c .if1) .taken),
+  name-here (c .before .before .before .before .before .args .name)
+      (c .before .before .before .before .before .args .t1) (c .before .before .before .before .loop .i) (c .before .before .before .before .loop .inv)
+      (omega arith) _ (c .before .before .before .loop-test .taken) (c .before .comes-before .ensures) (c .if1 .taken),
 )
 
 comes-before-requires-2 : tie.Need-comes-before-requires-2 Inv-loop μ-loop
 comes-before-requires-2 c κs = search needs
 
 returns-2 : tie.Need-returns-2 Inv-loop μ-loop
-returns-2 c = let z : length ((c .before .before .before .before .before .before .before .args) .t1 .names) ≡ 512 = search (needs, unmapped) in (
+returns-2 c = let z : length (c .before .before .before .before .before .before .before .args .t1 .names) ≡ 512 = search (needs, unmapped) in (
   omega
       (arith, (c .before .before .before .before .before .loop-test) .taken),
-  name-there ((c .before .before .before .before .before .before .before .args) .name)
-      ((c .before .before .before .before .before .before .before .args) .t1) ((c .before .before .before .before .before .before .loop) .i)
-      ((c .before .before .before .before .before .before .loop) .inv) (omega arith) _ ((c .before .before .before .before .before .loop-test) .taken)
-      ((c .before .before .before .comes-before) .ensures) ((c .before .before .if1) .left) ((c .before .comes-before2) .ensures) (not-true _ ((c .if2) .taken)),
+  name-there (c .before .before .before .before .before .before .before .args .name)
+      (c .before .before .before .before .before .before .before .args .t1) (c .before .before .before .before .before .before .loop .i)
+      (c .before .before .before .before .before .before .loop .inv) (omega arith) _ (c .before .before .before .before .before .loop-test .taken)
+      (c .before .before .before .comes-before .ensures) (c .before .before .if1 .left) (c .before .comes-before2 .ensures) (not-true _ (c .if2 .taken)),
 )
 
 add-i : tie.Need-add-i Inv-loop μ-loop
@@ -57,17 +57,17 @@ loop-less : tie.Need-loop-less Inv-loop μ-loop
 loop-less c = omega (arith, (c .before .before .before .before .before .loop-test) .taken)
 
 loop-again : tie.Need-loop-again Inv-loop μ-loop
-loop-again c = let z : length ((c .before .before .before .before .before .before .before .args) .t1 .names) ≡ 512 = search (needs, unmapped) in name-on
-    ((c .before .before .before .before .before .before .before .args) .name) ((c .before .before .before .before .before .before .before .args) .t1)
-    ((c .before .before .before .before .before .before .loop) .i) ((c .before .before .before .before .before .before .loop) .inv) (omega arith) _
-    ((c .before .before .before .before .before .loop-test) .taken) ((c .before .before .before .comes-before) .ensures) ((c .before .before .if1) .left)
-    ((c .before .comes-before2) .ensures) (not-false _ ((c .if2) .left))
+loop-again c = let z : length (c .before .before .before .before .before .before .before .args .t1 .names) ≡ 512 = search (needs, unmapped) in name-on
+    (c .before .before .before .before .before .before .before .args .name) (c .before .before .before .before .before .before .before .args .t1)
+    (c .before .before .before .before .before .before .loop .i) (c .before .before .before .before .before .before .loop .inv) (omega arith) _
+    (c .before .before .before .before .before .loop-test .taken) (c .before .before .before .comes-before .ensures) (c .before .before .if1 .left)
+    (c .before .comes-before2 .ensures) (not-false _ (c .if2 .left))
 
 returns-3 : tie.Need-returns-3 Inv-loop μ-loop
-returns-3 c = let z : length ((c .before .before .args) .t1 .names) ≡ 512 = search (needs, unmapped) in (
+returns-3 c = let z : length (c .before .before .args .t1 .names) ≡ 512 = search (needs, unmapped) in (
   omega arith,
-  name-end ((c .before .before .args) .name)
-      ((c .before .before .args) .t1) ((c .before .loop) .i) ((c .before .loop) .inv) (omega arith) ((c .loop-test) .left),
+  name-end (c .before .before .args .name)
+      (c .before .before .args .t1) (c .before .loop .i) (c .before .loop .inv) (omega arith) (c .loop-test .left),
 )
 
 pub position-of-spec : {M : Type 1} → statement M

@@ -17,15 +17,15 @@ returns c =
     let c2 = c .before .before in
     let c3 = c2 .before in (
       omega (arith, (c .inserted) .ensures .0),
-      (c .inserted) .ensures .1 ∙ taken-up ((c2 .position-of) .result .new) _ (namesIn ((c3 .args) .u)) ((c .before .if1) .taken) ∙ sym
-          ((c2 .position-of) .ensures .1),
+      (c .inserted) .ensures .1 ∙ taken-up (c2 .position-of .result .new) _ (namesIn (c3 .args .u)) (c .before .if1 .taken) ∙ sym
+          (c2 .position-of .ensures .1),
       (c .inserted) .ensures .2,
     )
 
 returns-2 : tie.Need-returns-2
 returns-2 c = (
   omega arith,
-  left-out ((c .before .position-of) .result .new) _ (namesIn ((c .before .before .args) .u)) ((c .if1) .left) ∙ sym ((c .before .position-of) .ensures .1),
+  left-out (c .before .position-of .result .new) _ (namesIn (c .before .before .args .u)) (c .if1 .left) ∙ sym (c .before .position-of .ensures .1),
   λ e. e,
 )
 

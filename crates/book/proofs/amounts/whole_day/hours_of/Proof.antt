@@ -47,10 +47,10 @@ loop-less : tie.Need-loop-less Inv-loop μ-loop
 loop-less c = search needs
 
 loop-again : tie.Need-loop-again Inv-loop μ-loop
-loop-again c = hours-more ((c .before .before .before .loop) .inv) ((c .before .before .loop-test) .taken) _ ((c .hour-of) .result) ((c .hour-of) .ensures)
+loop-again c = hours-more (c .before .before .before .loop .inv) (c .before .before .loop-test .taken) _ (c .hour-of .result) (c .hour-of .ensures)
 
 returns : tie.Need-returns Inv-loop μ-loop
-returns c = hours-end ((c .before .loop) .inv) ((c .loop-test) .left)
+returns c = hours-end (c .before .loop .inv) (c .loop-test .left)
 
 pub hours-of-spec : {M : Type 1} → statement M
 hours-of-spec =

@@ -15,8 +15,8 @@ no-charges-requires-2 c κs = search needs
 returns : tie.Need-returns
 returns c =
     let c2 = c .before .before in
-    hour-blank ((c2 .no-guarantees) .ensures .0) ((c2 .no-guarantees) .ensures .2) ((c .before .no-charges) .ensures .0) ((c .before .no-charges) .ensures .2)
-    ((c .no-charges2) .ensures .0) ((c .no-charges2) .ensures .2)
+    hour-blank (c2 .no-guarantees .ensures .0) (c2 .no-guarantees .ensures .2) (c .before .no-charges .ensures .0) (c .before .no-charges .ensures .2)
+    (c .no-charges2 .ensures .0) (c .no-charges2 .ensures .2)
 
 pub no-hour-spec : {M : Type 1} → statement M
 no-hour-spec =

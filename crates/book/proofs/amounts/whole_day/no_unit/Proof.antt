@@ -8,7 +8,7 @@ no-name-requires : tie.Need-no-name-requires
 no-name-requires c κs = search needs
 
 returns : tie.Need-returns
-returns c = ap (λ (n : Name). record { name = n; day = record { number = 0; total = noTicks; reversal = noTicks } }) ((c .no-name) .ensures)
+returns c = ap (λ (n : Name). record { name = n; day = record { number = 0; total = noTicks; reversal = noTicks } }) (c .no-name .ensures)
 
 pub no-unit-spec : {M : Type 1} → statement M
 no-unit-spec = tie.close (tie.spec no-name-requires returns)

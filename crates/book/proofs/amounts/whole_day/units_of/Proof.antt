@@ -18,7 +18,7 @@ no-unit-requires : tie.Need-no-unit-requires Inv-loop μ-loop
 no-unit-requires c κs = search needs
 
 loop-holds : tie.Need-loop-holds Inv-loop μ-loop
-loop-holds c = dealt-start _ _ _ _ _ ((c .no-unit) .result) ((c .no-unit) .ensures) refl
+loop-holds c = dealt-start _ _ _ _ _ (c .no-unit .result) (c .no-unit .ensures) refl
 
 mul-name : tie.Need-mul-name Inv-loop μ-loop
 mul-name c = omega (arith, (c .before .before .before .before .pre) .1 .few, (c .loop-test) .taken)
@@ -30,7 +30,7 @@ of-unit-requires : tie.Need-of-unit-requires Inv-loop μ-loop
 of-unit-requires c κs =
     let c2 = c .before .before in
     let c5 = c2 .before .before .before in
-    ((c5 .pre) .0, unit-keyed ((c5 .pre) .1 .padded ((c2 .loop) .i) ((c .before .loop-test) .taken) _))
+    (c5 .pre .0, unit-keyed (c5 .pre .1 .padded (c2 .loop .i) (c .before .loop-test .taken) _))
 
 mul-units : tie.Need-mul-units Inv-loop μ-loop
 mul-units c = omega (arith, (c .before .before .before .before .before .before .pre) .1 .few, (c .before .before .loop-test) .taken)
@@ -49,13 +49,13 @@ loop-less : tie.Need-loop-less Inv-loop μ-loop
 loop-less c = omega (arith, (c .before .before .loop-test) .taken)
 
 loop-again : tie.Need-loop-again Inv-loop μ-loop
-loop-again c = let z : length ((c .before .before .before .before .before .before .args) .t4 .names) ≡ 512 = search (needs, unmapped) in dealt-more
-    ((c .before .before .before .loop) .inv) ((c .before .before .before .before .before .before .pre) .1 .few) z ((c .before .before .loop-test) .taken) _
-    ((c .of-unit) .result) ((c .of-unit) .ensures)
+loop-again c = let z : length (c .before .before .before .before .before .before .args .t4 .names) ≡ 512 = search (needs, unmapped) in dealt-more
+    (c .before .before .before .loop .inv) (c .before .before .before .before .before .before .pre .1 .few) z (c .before .before .loop-test .taken) _
+    (c .of-unit .result) (c .of-unit .ensures)
 
 returns : tie.Need-returns Inv-loop μ-loop
-returns c = let z : length ((c .before .before .before .before .args) .t4 .names) ≡ 512 = search (needs, unmapped) in dealt-end ((c .before .loop) .inv)
-    ((c .before .before .before .before .pre) .1 .few) z ((c .loop-test) .left)
+returns c = let z : length (c .before .before .before .before .args .t4 .names) ≡ 512 = search (needs, unmapped) in dealt-end (c .before .loop .inv)
+    (c .before .before .before .before .pre .1 .few) z (c .loop-test .left)
 
 pub units-of-spec : {M : Type 1} → statement M
 units-of-spec =

@@ -1,7 +1,7 @@
 use borrow.Author.Needs.{needs}
 use Rattle.book.proofs.book.Lemmas.{leaves-16}
 use Rattle.book.proofs.book.Rows.{is-rowed, not-rowed}
-use Rattle.book.proofs.log.held.Lemmas.{held-from, since-all, any-refused, any-taken}
+use Rattle.book.proofs.log.checked.Lemmas.{held-from, since-all, any-refused, any-taken}
 use Rattle.book.proofs.book.Book.change.Statement.{statement}
 use Rattle.book.proofs.book.Book.change.Tie as tie
 
@@ -20,27 +20,27 @@ returns c =
     let c3 = c2 .before in
     let c4 = c3 .before in
     let c9 = c4 .before .before .before .before .before in
-    any-refused ((c9 .args) .self) ((c9 .args) .log .now) (is-rowed _ _ ((c4 .check-rows) .ensures) ((c3 .if1) .taken)) ((c9 .args) .rec .now)
-    ((c2 .parse-any) .result) ((c2 .parse-any) .ensures) ((c .if2) .taken)
+    any-refused (c9 .args .self) (c9 .args .log .now) (is-rowed _ _ (c4 .check-rows .ensures) (c3 .if1 .taken)) (c9 .args .rec .now)
+    (c2 .parse-any .result) (c2 .parse-any .ensures) (c .if2 .taken)
 
 cast-n : tie.Need-cast-n
 cast-n c = search needs
 
-held-change-requires : tie.Need-held-change-requires
-held-change-requires c κs =
+checked-change-requires : tie.Need-checked-change-requires
+checked-change-requires c κs =
     let c4 = c .before .before .before .before in
     let c6 = c4 .before .before in
     let c7 = c6 .before in
     let c8 = c7 .before in
     let c13 = c8 .before .before .before .before .before in
-    let h = held-from ((c13 .args) .self) ((c13 .args) .log .now) ((c8 .check-rows) .ensures) ((c7 .if1) .taken) in
-    (h, (since-all h _, any-taken ((c13 .args) .rec .now) ((c6 .parse-any) .result) ((c6 .parse-any) .ensures) ((c4 .if2) .left)))
+    let h = held-from (c13 .args .self) (c13 .args .log .now) (c8 .check-rows .ensures) (c7 .if1 .taken) in
+    (h, (since-all h _, any-taken (c13 .args .rec .now) (c6 .parse-any .result) (c6 .parse-any .ensures) (c4 .if2 .left)))
 
 same-length-2 : tie.Need-same-length-2
 same-length-2 c = search needs
 
 returns-2 : tie.Need-returns-2
-returns-2 c = ((c .before .before .held-change) .ensures) .leaves
+returns-2 c = (c .before .before .checked-change .ensures) .leaves
 
 same-length-3 : tie.Need-same-length-3
 same-length-3 c = search needs
@@ -48,7 +48,7 @@ same-length-3 c = search needs
 returns-3 : tie.Need-returns-3
 returns-3 c =
     let c6 = c .before .before .before .before .before .before in
-    leaves-16 _ ((c6 .args) .self) ((c6 .args) .log .now) (not-rowed _ _ ((c .before .check-rows) .ensures) ((c .if1) .left))
+    leaves-16 _ (c6 .args .self) (c6 .args .log .now) (not-rowed _ _ (c .before .check-rows .ensures) (c .if1 .left))
 
 pub change-spec : {M : Type 1} → statement M
 change-spec =
@@ -59,7 +59,7 @@ change-spec =
     same-length
     returns
     cast-n
-    held-change-requires
+    checked-change-requires
     same-length-2
     returns-2
     same-length-3

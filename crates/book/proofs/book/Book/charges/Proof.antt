@@ -24,9 +24,9 @@ returns c =
     let c3 = c2 .before in
     let c4 = c3 .before in
     let c7 = c4 .before .before .before in
-    let x = is-rowed ((c7 .args) .self) ((c7 .args) .log .now) ((c4 .check-rows) .ensures) ((c3 .if1) .taken) in (
-      charges-other ((c7 .args) .mark) ((c7 .args) .hour) (load ((c7 .args) .self) ((c7 .args) .log .now)) (x .list) (x .is) _ ((c .no-charges) .ensures .0)
-          (sym ((c2 .is-failure) .ensures) ∙ not-true _ ((c .before .if2) .taken)),
+    let x = is-rowed (c7 .args .self) (c7 .args .log .now) (c4 .check-rows .ensures) (c3 .if1 .taken) in (
+      charges-other (c7 .args .mark) (c7 .args .hour) (load (c7 .args .self) (c7 .args .log .now)) (x .list) (x .is) _ (c .no-charges .ensures .0)
+          (sym (c2 .is-failure .ensures) ∙ not-true _ (c .before .if2 .taken)),
       (c .no-charges) .ensures .1,
       (c .no-charges) .ensures .2,
     )
@@ -45,10 +45,10 @@ returns-2 c =
     let c6 = c5 .before in
     let c7 = c6 .before in
     let c10 = c7 .before .before .before in
-    let x = is-rowed ((c10 .args) .self) ((c10 .args) .log .now) ((c7 .check-rows) .ensures) ((c6 .if1) .taken) in (
-      charges-wrong ((c10 .args) .mark) ((c10 .args) .hour) (load ((c10 .args) .self) ((c10 .args) .log .now)) (x .list) (x .is)
-          (sym ((c5 .is-failure) .ensures) ∙ not-false _ ((c4 .if2) .left)) ((c3 .hour-key) .result) ((c3 .hour-key) .ensures) _ ((c .no-charges2) .ensures .0)
-          ((c .before .if3) .taken),
+    let x = is-rowed (c10 .args .self) (c10 .args .log .now) (c7 .check-rows .ensures) (c6 .if1 .taken) in (
+      charges-wrong (c10 .args .mark) (c10 .args .hour) (load (c10 .args .self) (c10 .args .log .now)) (x .list) (x .is)
+          (sym (c5 .is-failure .ensures) ∙ not-false _ (c4 .if2 .left)) (c3 .hour-key .result) (c3 .hour-key .ensures) _ (c .no-charges2 .ensures .0)
+          (c .before .if3 .taken),
       (c .no-charges2) .ensures .1,
       (c .no-charges2) .ensures .2,
     )
@@ -63,9 +63,9 @@ price-in-requires c κs =
     let c7 = c4 .before .before .before in
     let c8 = c7 .before in
     let c11 = c8 .before .before .before in (
-      rowed-log ((c11 .args) .self) ((c11 .args) .log .now) ((c8 .check-rows) .ensures)
-          (is-rowed ((c11 .args) .self) ((c11 .args) .log .now) ((c8 .check-rows) .ensures) ((c7 .if1) .taken)),
-      hour-low ((c11 .args) .mark) ((c11 .args) .hour) ((c4 .hour-key) .result) ((c4 .hour-key) .ensures) ((c2 .if3) .left),
+      rowed-log (c11 .args .self) (c11 .args .log .now) (c8 .check-rows .ensures)
+          (is-rowed (c11 .args .self) (c11 .args .log .now) (c8 .check-rows .ensures) (c7 .if1 .taken)),
+      hour-low (c11 .args .mark) (c11 .args .hour) (c4 .hour-key .result) (c4 .hour-key .ensures) (c2 .if3 .left),
     )
 
 of-hour-requires : tie.Need-of-hour-requires
@@ -75,9 +75,9 @@ of-hour-requires c κs =
     let c9 = c6 .before .before .before in
     let c10 = c9 .before in
     let c13 = c10 .before .before .before in (
-      rowed-log ((c13 .args) .self) ((c13 .args) .log .now) ((c10 .check-rows) .ensures)
-          (is-rowed ((c13 .args) .self) ((c13 .args) .log .now) ((c10 .check-rows) .ensures) ((c9 .if1) .taken)),
-      hour-low ((c13 .args) .mark) ((c13 .args) .hour) ((c6 .hour-key) .result) ((c6 .hour-key) .ensures) ((c4 .if3) .left),
+      rowed-log (c13 .args .self) (c13 .args .log .now) (c10 .check-rows .ensures)
+          (is-rowed (c13 .args .self) (c13 .args .log .now) (c10 .check-rows .ensures) (c9 .if1 .taken)),
+      hour-low (c13 .args .mark) (c13 .args .hour) (c6 .hour-key .result) (c6 .hour-key .ensures) (c4 .if3 .left),
     )
 
 returns-3 : tie.Need-returns-3
@@ -90,12 +90,12 @@ returns-3 c =
     let c10 = c9 .before in
     let c11 = c10 .before in
     let c14 = c11 .before .before .before in
-    let x = is-rowed ((c14 .args) .self) ((c14 .args) .log .now) ((c11 .check-rows) .ensures) ((c10 .if1) .taken) in
-    let g = rowed-logged ((c14 .args) .self) ((c14 .args) .log .now) ((c11 .check-rows) .ensures) x in
-    let f = sym ((c9 .is-failure) .ensures) ∙ not-false _ ((c8 .if2) .left) in (
-      charges-at ((c14 .args) .mark) ((c14 .args) .hour) (load ((c14 .args) .self) ((c14 .args) .log .now)) (x .list) (x .is) f ((c7 .hour-key) .result)
-          ((c7 .hour-key) .ensures) ((c5 .if3) .left) _
-          ((c .of-hour) .ensures .0 (x .list) g f (priceOf (standing (x .list))) ((c2 .price-in) .ensures (x .list) g)),
+    let x = is-rowed (c14 .args .self) (c14 .args .log .now) (c11 .check-rows .ensures) (c10 .if1 .taken) in
+    let g = rowed-logged (c14 .args .self) (c14 .args .log .now) (c11 .check-rows .ensures) x in
+    let f = sym (c9 .is-failure .ensures) ∙ not-false _ (c8 .if2 .left) in (
+      charges-at (c14 .args .mark) (c14 .args .hour) (load (c14 .args .self) (c14 .args .log .now)) (x .list) (x .is) f (c7 .hour-key .result)
+          (c7 .hour-key .ensures) (c5 .if3 .left) _
+          (c .of-hour .ensures .0 (x .list) g f (priceOf (standing (x .list))) (c2 .price-in .ensures (x .list) g)),
       (c .of-hour) .ensures .1,
       (c .of-hour) .ensures .2,
     )
@@ -107,8 +107,8 @@ returns-4 : tie.Need-returns-4
 returns-4 c =
     let c2 = c .before .before in
     let c5 = c2 .before .before .before in (
-      charges-astray ((c5 .args) .mark) ((c5 .args) .hour) (load ((c5 .args) .self) ((c5 .args) .log .now)) _ ((c .no-charges3) .ensures .0)
-          (not-rowed ((c5 .args) .self) ((c5 .args) .log .now) ((c2 .check-rows) .ensures) ((c .before .if1) .left)),
+      charges-astray (c5 .args .mark) (c5 .args .hour) (load (c5 .args .self) (c5 .args .log .now)) _ (c .no-charges3 .ensures .0)
+          (not-rowed (c5 .args .self) (c5 .args .log .now) (c2 .check-rows .ensures) (c .before .if1 .left)),
       (c .no-charges3) .ensures .1,
       (c .no-charges3) .ensures .2,
     )

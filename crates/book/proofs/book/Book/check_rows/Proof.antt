@@ -13,10 +13,10 @@ cast-used c = search needs
 returns : tie.Need-returns
 returns c =
     let c3 = c .before .before .before in
-    astray-rowed _ _ (c3 .pre) (load-short ((c3 .args) .self) ((c3 .args) .log .now) ((c .if1) .taken))
+    astray-rowed _ _ (c3 .pre) (load-short (c3 .args .self) (c3 .args .log .now) (c .if1 .taken))
 
 slice-aggregate-replayed-rows : tie.Need-slice-aggregate-replayed-rows
-slice-aggregate-replayed-rows c = sym (length-take-le _ _ ((c .before .if1) .left))
+slice-aggregate-replayed-rows c = sym (length-take-le _ _ (c .before .if1 .left))
 
 replayed-rows-requires : tie.Need-replayed-rows-requires
 replayed-rows-requires c κs = search needs
@@ -25,7 +25,7 @@ returns-2 : tie.Need-returns-2
 returns-2 c =
     let c3 = c .before .before .before in
     let c6 = c3 .before .before .before in
-    rowed-by (load-long ((c6 .args) .self) ((c6 .args) .log .now) ((c3 .if1) .left)) ((c .replayed-rows) .ensures)
+    rowed-by (load-long (c6 .args .self) (c6 .args .log .now) (c3 .if1 .left)) (c .replayed-rows .ensures)
 
 pub check-rows-spec : {M : Type 1} → statement M
 check-rows-spec =

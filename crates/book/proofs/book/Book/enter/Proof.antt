@@ -1,7 +1,7 @@
 use borrow.Author.Needs.{needs}
 use Rattle.book.proofs.book.Lemmas.{leaves-16}
 use Rattle.book.proofs.book.Rows.{is-rowed, not-rowed}
-use Rattle.book.proofs.log.held.Lemmas.{held-from, since-all, parse-refused, parse-taken}
+use Rattle.book.proofs.log.checked.Lemmas.{held-from, since-all, parse-refused, parse-taken}
 use Rattle.book.proofs.book.Book.enter.Statement.{statement}
 use Rattle.book.proofs.book.Book.enter.Tie as tie
 
@@ -20,26 +20,26 @@ returns c =
     let c3 = c2 .before in
     let c4 = c3 .before in
     let c9 = c4 .before .before .before .before .before in
-    parse-refused ((c9 .args) .self) ((c9 .args) .log .now) (is-rowed _ _ ((c4 .check-rows) .ensures) ((c3 .if1) .taken)) ((c9 .args) .rec .now)
-    ((c9 .args) .want) ((c2 .parse-change) .result) ((c2 .parse-change) .ensures) ((c .if2) .taken)
+    parse-refused (c9 .args .self) (c9 .args .log .now) (is-rowed _ _ (c4 .check-rows .ensures) (c3 .if1 .taken)) (c9 .args .rec .now)
+    (c9 .args .want) (c2 .parse-change .result) (c2 .parse-change .ensures) (c .if2 .taken)
 
 cast-n : tie.Need-cast-n
 cast-n c = search needs
 
-held-enter-requires : tie.Need-held-enter-requires
-held-enter-requires c κs =
+checked-enter-requires : tie.Need-checked-enter-requires
+checked-enter-requires c κs =
     let c4 = c .before .before .before .before in
     let c6 = c4 .before .before in
     let c7 = c6 .before in
     let c8 = c7 .before in
     let c13 = c8 .before .before .before .before .before in
-    let h = held-from ((c13 .args) .self) ((c13 .args) .log .now) ((c8 .check-rows) .ensures) ((c7 .if1) .taken) in (
+    let h = held-from (c13 .args .self) (c13 .args .log .now) (c8 .check-rows .ensures) (c7 .if1 .taken) in (
       h,
       (
         since-all h _,
         record {
           want = _;
-          change = parse-taken ((c13 .args) .want) ((c13 .args) .rec .now) ((c6 .parse-change) .result) ((c6 .parse-change) .ensures) ((c4 .if2) .left);
+          change = parse-taken (c13 .args .want) (c13 .args .rec .now) (c6 .parse-change .result) (c6 .parse-change .ensures) (c4 .if2 .left);
         },
       ),
     )
@@ -53,8 +53,8 @@ returns-2 c =
     let c7 = c2 .before .before .before .before .before in
     let c9 = c7 .before .before in
     let c16 = c9 .before .before .before .before .before .before .before in
-    ((c2 .held-enter) .ensures ((c16 .args) .want)
-    (parse-taken ((c16 .args) .want) ((c16 .args) .rec .now) ((c9 .parse-change) .result) ((c9 .parse-change) .ensures) ((c7 .if2) .left))) .leaves
+    (c2 .checked-enter .ensures (c16 .args .want)
+    (parse-taken (c16 .args .want) (c16 .args .rec .now) (c9 .parse-change .result) (c9 .parse-change .ensures) (c7 .if2 .left))) .leaves
 
 same-length-3 : tie.Need-same-length-3
 same-length-3 c = search needs
@@ -62,7 +62,7 @@ same-length-3 c = search needs
 returns-3 : tie.Need-returns-3
 returns-3 c =
     let c6 = c .before .before .before .before .before .before in
-    leaves-16 _ ((c6 .args) .self) ((c6 .args) .log .now) (not-rowed _ _ ((c .before .check-rows) .ensures) ((c .if1) .left))
+    leaves-16 _ (c6 .args .self) (c6 .args .log .now) (not-rowed _ _ (c .before .check-rows .ensures) (c .if1 .left))
 
 pub enter-spec : {M : Type 1} → statement M
 enter-spec =
@@ -73,7 +73,7 @@ enter-spec =
     same-length
     returns
     cast-n
-    held-enter-requires
+    checked-enter-requires
     same-length-2
     returns-2
     same-length-3

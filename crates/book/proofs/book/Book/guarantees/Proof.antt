@@ -25,9 +25,9 @@ returns c =
     let c4 = c3 .before in
     let c5 = c4 .before in
     let c8 = c5 .before .before .before in
-    let x = is-rowed ((c8 .args) .self) ((c8 .args) .log .now) ((c5 .check-rows) .ensures) ((c4 .if1) .taken) in (
-      hour-wrong ((c8 .args) .self) ((c8 .args) .log .now) ((c8 .args) .hour) x ((c3 .hour-key) .result) ((c3 .hour-key) .ensures) _
-          ((c .no-guarantees) .ensures .0) ((c .before .if2) .taken),
+    let x = is-rowed (c8 .args .self) (c8 .args .log .now) (c5 .check-rows .ensures) (c4 .if1 .taken) in (
+      hour-wrong (c8 .args .self) (c8 .args .log .now) (c8 .args .hour) x (c3 .hour-key .result) (c3 .hour-key .ensures) _
+          (c .no-guarantees .ensures .0) (c .before .if2 .taken),
       (c .no-guarantees) .ensures .1,
       (c .no-guarantees) .ensures .2,
     )
@@ -42,9 +42,9 @@ price-in-requires c κs =
     let c5 = c4 .before in
     let c6 = c5 .before in
     let c9 = c6 .before .before .before in (
-      rowed-log ((c9 .args) .self) ((c9 .args) .log .now) ((c6 .check-rows) .ensures)
-          (is-rowed ((c9 .args) .self) ((c9 .args) .log .now) ((c6 .check-rows) .ensures) ((c5 .if1) .taken)),
-      hour-low _ ((c9 .args) .hour) ((c4 .hour-key) .result) ((c4 .hour-key) .ensures) ((c2 .if2) .left),
+      rowed-log (c9 .args .self) (c9 .args .log .now) (c6 .check-rows .ensures)
+          (is-rowed (c9 .args .self) (c9 .args .log .now) (c6 .check-rows .ensures) (c5 .if1 .taken)),
+      hour-low _ (c9 .args .hour) (c4 .hour-key .result) (c4 .hour-key .ensures) (c2 .if2 .left),
     )
 
 of-hour-requires : tie.Need-of-hour-requires
@@ -54,9 +54,9 @@ of-hour-requires c κs =
     let c7 = c6 .before in
     let c8 = c7 .before in
     let c11 = c8 .before .before .before in (
-      rowed-log ((c11 .args) .self) ((c11 .args) .log .now) ((c8 .check-rows) .ensures)
-          (is-rowed ((c11 .args) .self) ((c11 .args) .log .now) ((c8 .check-rows) .ensures) ((c7 .if1) .taken)),
-      hour-low _ ((c11 .args) .hour) ((c6 .hour-key) .result) ((c6 .hour-key) .ensures) ((c4 .if2) .left),
+      rowed-log (c11 .args .self) (c11 .args .log .now) (c8 .check-rows .ensures)
+          (is-rowed (c11 .args .self) (c11 .args .log .now) (c8 .check-rows .ensures) (c7 .if1 .taken)),
+      hour-low _ (c11 .args .hour) (c6 .hour-key .result) (c6 .hour-key .ensures) (c4 .if2 .left),
     )
 
 returns-2 : tie.Need-returns-2
@@ -67,10 +67,10 @@ returns-2 c =
     let c8 = c7 .before in
     let c9 = c8 .before in
     let c12 = c9 .before .before .before in
-    let x = is-rowed ((c12 .args) .self) ((c12 .args) .log .now) ((c9 .check-rows) .ensures) ((c8 .if1) .taken) in
-    let g = rowed-logged ((c12 .args) .self) ((c12 .args) .log .now) ((c9 .check-rows) .ensures) x in (
-      hour-right ((c12 .args) .self) ((c12 .args) .log .now) ((c12 .args) .hour) x ((c7 .hour-key) .result) ((c7 .hour-key) .ensures) ((c5 .if2) .left) _
-          ((c .of-hour) .ensures .0 (x .list) g (priceOf (standing (x .list))) ((c2 .price-in) .ensures (x .list) g)),
+    let x = is-rowed (c12 .args .self) (c12 .args .log .now) (c9 .check-rows .ensures) (c8 .if1 .taken) in
+    let g = rowed-logged (c12 .args .self) (c12 .args .log .now) (c9 .check-rows .ensures) x in (
+      hour-right (c12 .args .self) (c12 .args .log .now) (c12 .args .hour) x (c7 .hour-key .result) (c7 .hour-key .ensures) (c5 .if2 .left) _
+          (c .of-hour .ensures .0 (x .list) g (priceOf (standing (x .list))) (c2 .price-in .ensures (x .list) g)),
       (c .of-hour) .ensures .1,
       (c .of-hour) .ensures .2,
     )
@@ -82,10 +82,10 @@ returns-3 : tie.Need-returns-3
 returns-3 c =
     let c2 = c .before .before in
     let c5 = c2 .before .before .before in (
-      subst (λ (y : Reply). Meets (ask (hourGuarantees ((c5 .args) .hour))) ((c5 .args) .self) ((c5 .args) .log .now) ((c5 .args) .self) y ((c5 .args) .log .now))
-          (sym ((c .no-guarantees2) .ensures .0))
-          (leaves-16 _ ((c5 .args) .self) ((c5 .args) .log .now)
-          (not-rowed ((c5 .args) .self) ((c5 .args) .log .now) ((c2 .check-rows) .ensures) ((c .before .if1) .left))),
+      subst (λ (y : Reply). Meets (ask (hourGuarantees (c5 .args .hour))) (c5 .args .self) (c5 .args .log .now) (c5 .args .self) y (c5 .args .log .now))
+          (sym (c .no-guarantees2 .ensures .0))
+          (leaves-16 _ (c5 .args .self) (c5 .args .log .now)
+          (not-rowed (c5 .args .self) (c5 .args .log .now) (c2 .check-rows .ensures) (c .before .if1 .left))),
       (c .no-guarantees2) .ensures .1,
       (c .no-guarantees2) .ensures .2,
     )

@@ -25,7 +25,7 @@ names-in-requires c κs =
     let c7 = c4 .before .before .before in
     let a = c7 .args in
     let w = (c4 .check-rows) .ensures in
-    rowed-log (a .self) (a .log .now) w (is-rowed (a .self) (a .log .now) w ((c3 .if1) .taken))
+    rowed-log (a .self) (a .log .now) w (is-rowed (a .self) (a .log .now) w (c3 .if1 .taken))
 
 returns : tie.Need-returns
 returns c =
@@ -34,12 +34,12 @@ returns c =
     let c8 = c5 .before .before .before in
     let a = c8 .args in
     let w = (c5 .check-rows) .ensures in
-    let x = is-rowed (a .self) (a .log .now) w ((c4 .if1) .taken) in
+    let x = is-rowed (a .self) (a .log .now) w (c4 .if1 .taken) in
     let u = (c .names-in) .result in (
-      units-at (load (a .self) (a .log .now)) (x .list) (x .is) ((c .before .key-of) .result) ((c .before .key-of) .ensures) u
-          ((c .names-in) .ensures .0 (x .list) (rowed-logged (a .self) (a .log .now) w x)),
+      units-at (load (a .self) (a .log .now)) (x .list) (x .is) (c .before .key-of .result) (c .before .key-of .ensures) u
+          (c .names-in .ensures .0 (x .list) (rowed-logged (a .self) (a .log .now) w x)),
       (c .names-in) .ensures .1,
-      with-units 0 u (namesIn u) ((c .names-in) .ensures .2),
+      with-units 0 u (namesIn u) (c .names-in .ensures .2),
     )
 
 no-names-requires : tie.Need-no-names-requires
@@ -48,9 +48,9 @@ no-names-requires c κs = search needs
 returns-2 : tie.Need-returns-2
 returns-2 c =
     let a = c .before .before .before .before .before .args in (
-      sym (ap unitNames (not-rowed (a .self) (a .log .now) ((c .before .before .check-rows) .ensures) ((c .before .if1) .left))),
-      no-names-few ((c .no-names) .result) ((c .no-names) .ensures),
-      with-units 16 ((c .no-names) .result) [] ((c .no-names) .ensures),
+      sym (ap unitNames (not-rowed (a .self) (a .log .now) (c .before .before .check-rows .ensures) (c .before .if1 .left))),
+      no-names-few (c .no-names .result) (c .no-names .ensures),
+      with-units 16 (c .no-names .result) [] (c .no-names .ensures),
     )
 
 pub units-spec : {M : Type 1} → statement M

@@ -25,7 +25,7 @@ returns c =
     let c3 = c2 .before in (
       omega (arith, (c .before .wide) .ensures .0, (c .wide2) .ensures .0, (c2 .order) .ensures),
       omega
-          (arith, (c .before .wide) .ensures .0, (c .wide2) .ensures .1, (c2 .order) .ensures, order-low ((c3 .args) .key .mark)),
+          (arith, (c .before .wide) .ensures .0, (c .wide2) .ensures .1, (c2 .order) .ensures, order-low (c3 .args .key .mark)),
     )
 
 pub hour-slot-spec : {M : Type 1} → statement M

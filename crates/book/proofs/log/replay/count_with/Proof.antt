@@ -19,7 +19,7 @@ returns : tie.Need-returns
 returns c =
     let c2 = c .before .before in
     let c3 = c2 .before in
-    count-1 (kindIn ((c3 .args) .view .act)) _ (filing-by ((c2 .kind-of) .ensures) ((c .before .is-filing) .ensures) ((c .if1) .taken))
+    count-1 (kindIn (c3 .args .view .act)) _ (filing-by (c2 .kind-of .ensures) (c .before .is-filing .ensures) (c .if1 .taken))
 
 is-withdrawal-requires : tie.Need-is-withdrawal-requires
 is-withdrawal-requires c κs = search needs
@@ -32,9 +32,9 @@ returns-2 c =
     let c5 = c4 .before in
     let c6 = c5 .before in
     let e = (c5 .kind-of) .ensures in
-    count-3 (kindIn ((c6 .args) .view .act)) ((c6 .args) .count) 0
-    (filing-by e ((c4 .is-filing) .ensures) ((c3 .if1) .left))
-    (withdrawal-by e ((c2 .is-withdrawal) .ensures) ((c .before .if2) .taken)) (omega arith)
+    count-3 (kindIn (c6 .args .view .act)) (c6 .args .count) 0
+    (filing-by e (c4 .is-filing .ensures) (c3 .if1 .left))
+    (withdrawal-by e (c2 .is-withdrawal .ensures) (c .before .if2 .taken)) (omega arith)
 
 sub-result : tie.Need-sub-result
 sub-result c = search needs
@@ -47,9 +47,9 @@ returns-3 c =
     let c5 = c4 .before in
     let c6 = c5 .before in
     let e = (c5 .kind-of) .ensures in
-    count-3 (kindIn ((c6 .args) .view .act)) ((c6 .args) .count) _
-    (filing-by e ((c4 .is-filing) .ensures) ((c3 .if1) .left))
-    (withdrawal-by e ((c2 .is-withdrawal) .ensures) ((c .before .if2) .taken)) refl
+    count-3 (kindIn (c6 .args .view .act)) (c6 .args .count) _
+    (filing-by e (c4 .is-filing .ensures) (c3 .if1 .left))
+    (withdrawal-by e (c2 .is-withdrawal .ensures) (c .before .if2 .taken)) refl
 
 returns-4 : tie.Need-returns-4
 returns-4 c =
@@ -58,8 +58,8 @@ returns-4 c =
     let c4 = c3 .before in
     let c5 = c4 .before in
     let e = (c4 .kind-of) .ensures in
-    count-2 (kindIn ((c5 .args) .view .act)) _ (filing-by e ((c3 .is-filing) .ensures) ((c2 .if1) .left))
-    (withdrawal-by e ((c .before .is-withdrawal) .ensures) ((c .if2) .left))
+    count-2 (kindIn (c5 .args .view .act)) _ (filing-by e (c3 .is-filing .ensures) (c2 .if1 .left))
+    (withdrawal-by e (c .before .is-withdrawal .ensures) (c .if2 .left))
 
 pub count-with-spec : {M : Type 1} → statement M
 count-with-spec =

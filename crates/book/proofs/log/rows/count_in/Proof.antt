@@ -18,29 +18,29 @@ loop-holds : tie.Need-loop-holds Inv-loop μ-loop
 loop-holds c = counting-start _ _ _
 
 mul-counted : tie.Need-mul-counted Inv-loop μ-loop
-mul-counted c = omega (arith, counting-room ((c .before .loop) .inv) (c .before .before .before .pre) ((c .loop-test) .taken) .0)
+mul-counted c = omega (arith, counting-room (c .before .loop .inv) (c .before .before .before .pre) (c .loop-test .taken) .0)
 
 element-copy-out-counted : tie.Need-element-copy-out-counted Inv-loop μ-loop
-element-copy-out-counted c = counting-room ((c .before .loop) .inv) (c .before .before .before .pre) ((c .loop-test) .taken) .0
+element-copy-out-counted c = counting-room (c .before .loop .inv) (c .before .before .before .pre) (c .loop-test .taken) .0
 
 counted-requires : tie.Need-counted-requires Inv-loop μ-loop
-counted-requires c κs = counting-room ((c .before .before .loop) .inv) (c .before .before .before .before .pre) ((c .before .loop-test) .taken) .1
+counted-requires c κs = counting-room (c .before .before .loop .inv) (c .before .before .before .before .pre) (c .before .loop-test .taken) .1
 
 add-i : tie.Need-add-i Inv-loop μ-loop
 add-i c =
     let c2 = c .before .before in
     let c3 = c2 .before in
     let c5 = c3 .before .before in
-    omega (arith, counting-room ((c3 .loop) .inv) (c5 .pre) ((c2 .loop-test) .taken) .0)
+    omega (arith, counting-room (c3 .loop .inv) (c5 .pre) (c2 .loop-test .taken) .0)
 
 loop-less : tie.Need-loop-less Inv-loop μ-loop
 loop-less c = omega (arith, (c .before .before .loop-test) .taken)
 
 loop-again : tie.Need-loop-again Inv-loop μ-loop
-loop-again c = counting-next ((c .before .before .before .loop) .inv) ((c .before .before .loop-test) .taken) _ ((c .counted) .ensures)
+loop-again c = counting-next (c .before .before .before .loop .inv) (c .before .before .loop-test .taken) _ (c .counted .ensures)
 
 returns : tie.Need-returns Inv-loop μ-loop
-returns c = counting-end ((c .before .loop) .inv) ((c .loop-test) .left) ((c .before .before .before .args) .key) ((c .before .before .hour-slot) .ensures .0)
+returns c = counting-end (c .before .loop .inv) (c .loop-test .left) (c .before .before .before .args .key) (c .before .before .hour-slot .ensures .0)
 
 pub count-in-spec : {M : Type 1} → statement M
 count-in-spec =

@@ -11,10 +11,10 @@ add-result : tie.Need-add-result
 add-result c = search needs
 
 returns : tie.Need-returns
-returns c = taken-up _ _ _ (sym ((c .before .stands-in) .ensures) ∙ (c .if1) .taken)
+returns c = taken-up _ _ _ (sym (c .before .stands-in .ensures) ∙ (c .if1) .taken)
 
 returns-2 : tie.Need-returns-2
-returns-2 c = left-out _ _ _ (sym ((c .before .stands-in) .ensures) ∙ (c .if1) .left)
+returns-2 c = left-out _ _ _ (sym (c .before .stands-in .ensures) ∙ (c .if1) .left)
 
 pub counted-spec : {M : Type 1} → statement M
 counted-spec = tie.close (tie.spec stands-in-requires add-result returns returns-2)

@@ -15,8 +15,8 @@ not-found-requires c κs = search needs
 returns : tie.Need-returns
 returns c =
     let c3 = c .before .before .before in
-    λ l g hk hp few. subst⁻¹ (λ (r : Seek). Sought ((c3 .args) .rows .now) ((c3 .args) .n) ((c3 .args) .key) r l) ((c .not-found) .ensures)
-    (seeking-none ((c3 .pre) .1) ((c .before .if1) .taken) ((c3 .args) .key) l g hk hp few)
+    λ l g hk hp few. subst⁻¹ (λ (r : Seek). Sought (c3 .args .rows .now) (c3 .args .n) (c3 .args .key) r l) (c .not-found .ensures)
+    (seeking-none (c3 .pre .1) (c .before .if1 .taken) (c3 .args .key) l g hk hp few)
 
 hour-slot-requires : tie.Need-hour-slot-requires
 hour-slot-requires c κs = search needs
@@ -25,11 +25,11 @@ record-head-requires : tie.Need-record-head-requires
 record-head-requires c κs = search needs
 
 array-share-prefix-bytes : tie.Need-array-share-prefix-bytes
-array-share-prefix-bytes c = let z : length ((c .before .record-head) .result .bytes) ≡ 44 = search needs in omega (arith, (c .before .record-head) .ensures .1)
+array-share-prefix-bytes c = let z : length (c .before .record-head .result .bytes) ≡ 44 = search needs in omega (arith, (c .before .record-head) .ensures .1)
 
 slice-aggregate-find-head : tie.Need-slice-aggregate-find-head
-slice-aggregate-find-head c = let z : length ((c .before .before .record-head) .result .bytes) ≡ 44 = search needs in sym (length-take-le
-    ((c .before .before .record-head) .result .len) ((c .before .before .record-head) .result .bytes)
+slice-aggregate-find-head c = let z : length (c .before .before .record-head .result .bytes) ≡ 44 = search needs in sym (length-take-le
+    (c .before .before .record-head .result .len) (c .before .before .record-head .result .bytes)
     (omega (arith, (c .before .before .record-head) .ensures .1)))
 
 find-head-requires : tie.Need-find-head-requires
@@ -40,7 +40,7 @@ returns-2 c =
     let c3 = c .before .before .before in
     let c4 = c3 .before in
     let c7 = c4 .before .before .before in
-    λ l g hk hp few. (c .find-head) .ensures ((c7 .args) .key) l
+    λ l g hk hp few. (c .find-head) .ensures (c7 .args .key) l
     (record { logged = g; slot-is = (c4 .hour-slot) .ensures .0; head-is = (c3 .record-head) .ensures .0; low = hk; padded = hp; few = few })
 
 pub find-in-spec : {M : Type 1} → statement M

@@ -25,8 +25,8 @@ returns c =
     let c2 = c .before .before in
     let c3 = c2 .before in
     let c4 = c3 .before in (
-      ap (λ x. x + 2) ((c .start-in) .ensures .0) ∙ place-co (rowKind ((c4 .args) .row)) (rowStart ((c4 .args) .row))
-          (correction-by ((c3 .kind-in) .ensures) ((c2 .is-correction) .ensures) ((c .before .if1) .taken)),
+      ap (λ x. x + 2) (c .start-in .ensures .0) ∙ place-co (rowKind (c4 .args .row)) (rowStart (c4 .args .row))
+          (correction-by (c3 .kind-in .ensures) (c2 .is-correction .ensures) (c .before .if1 .taken)),
       omega (arith, (c .start-in) .ensures .1),
     )
 
@@ -38,8 +38,8 @@ returns-2 c =
     let c2 = c .before .before in
     let c3 = c2 .before in
     let c4 = c3 .before in (
-      (c .start-in2) .ensures .0 ∙ place-filed (rowKind ((c4 .args) .row)) (rowStart ((c4 .args) .row))
-          (correction-by ((c3 .kind-in) .ensures) ((c2 .is-correction) .ensures) ((c .before .if1) .left)),
+      (c .start-in2) .ensures .0 ∙ place-filed (rowKind (c4 .args .row)) (rowStart (c4 .args .row))
+          (correction-by (c3 .kind-in .ensures) (c2 .is-correction .ensures) (c .before .if1 .left)),
       omega (arith, (c .start-in2) .ensures .1),
     )
 

@@ -39,8 +39,8 @@ returns c =
     let c2 = c .before .before in
     let c3 = c2 .before in
     let c4 = c3 .before in
-    row-gone (kindIn ((c4 .args) .view .act)) _ _ _ (((c2 .code-of) .ensures .0) ∙ ap kindCode ((c3 .kind-of) .ensures))
-    (withdrawal-by ((c3 .kind-of) .ensures) ((c .before .is-withdrawal) .ensures) ((c .if1) .taken))
+    row-gone (kindIn (c4 .args .view .act)) _ _ _ ((c2 .code-of .ensures .0) ∙ ap kindCode (c3 .kind-of .ensures))
+    (withdrawal-by (c3 .kind-of .ensures) (c .before .is-withdrawal .ensures) (c .if1 .taken))
 
 add-result : tie.Need-add-result
 add-result c = omega (arith, (c .before .before .code-of) .ensures .1)
@@ -50,8 +50,8 @@ returns-2 c =
     let c2 = c .before .before in
     let c3 = c2 .before in
     let c4 = c3 .before in
-    row-live (kindIn ((c4 .args) .view .act)) _ _ _ (((c2 .code-of) .ensures .0) ∙ ap kindCode ((c3 .kind-of) .ensures))
-    (withdrawal-by ((c3 .kind-of) .ensures) ((c .before .is-withdrawal) .ensures) ((c .if1) .left))
+    row-live (kindIn (c4 .args .view .act)) _ _ _ ((c2 .code-of .ensures .0) ∙ ap kindCode (c3 .kind-of .ensures))
+    (withdrawal-by (c3 .kind-of .ensures) (c .before .is-withdrawal .ensures) (c .if1 .left))
 
 pub row-for-spec : {M : Type 1} → statement M
 row-for-spec =

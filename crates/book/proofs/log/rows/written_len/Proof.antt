@@ -20,7 +20,7 @@ peek-requires c κs = search needs
 returns : tie.Need-returns
 returns c =
     let c3 = c .before .before .before in
-    ap (λ (v : View). v .len) ((c .peek) .ensures ∙ ap (λ r. viewOf (scan r)) (to-end ((c3 .args) .start) ((c3 .args) .log .now)))
+    ap (λ (v : View). v .len) (c .peek .ensures ∙ ap (λ r. viewOf (scan r)) (to-end (c3 .args .start) (c3 .args .log .now)))
 
 pub written-len-spec : {M : Type 1} → statement M
 written-len-spec =

@@ -8,7 +8,7 @@ fresh-requires : tie.Need-fresh-requires
 fresh-requires c κs = search needs
 
 returns : tie.Need-returns
-returns c = ap (λ (b : Book). record { book = b; count = 0; held = 0; number = 0 }) ((c .fresh) .ensures)
+returns c = ap (λ (b : Book). record { book = b; count = 0; held = 0; number = 0 }) (c .fresh .ensures)
 
 pub fresh-spec : {M : Type 1} → statement M
 fresh-spec = tie.close (tie.spec fresh-requires returns)

@@ -16,8 +16,8 @@ returns c =
     let c2 = c .before .before in
     let c4 = c2 .before .before in
     let c8 = c4 .before .before .before .before in
-    prints-text statementOf longestStatement ((c8 .args) .self) _ ((c8 .args) .out .now) _ ((c2 .statement) .result) ((c4 .if1) .taken)
-    ((c2 .statement) .ensures)
+    prints-text statementOf longestStatement (c8 .args .self) _ (c8 .args .out .now) _ (c2 .statement .result) (c4 .if1 .taken)
+    (c2 .statement .ensures)
 
 ordinal-requires : tie.Need-ordinal-requires
 ordinal-requires c κs = search needs
@@ -34,8 +34,8 @@ returns-2 c =
     let c4 = c2 .before .before in
     let c5 = c4 .before in
     let c9 = c5 .before .before .before .before in
-    prints-refusal statementOf longestStatement ((c9 .args) .self) _ ((c9 .args) .out .now) _ ((c2 .refusal) .result) ((c4 .ordinal) .result) (omega arith)
-    ((c5 .if1) .left) ((c4 .ordinal) .ensures) ((c2 .refusal) .ensures)
+    prints-refusal statementOf longestStatement (c9 .args .self) _ (c9 .args .out .now) _ (c2 .refusal .result) (c4 .ordinal .result) (omega arith)
+    (c5 .if1 .left) (c4 .ordinal .ensures) (c2 .refusal .ensures)
 
 pub output-spec : {M : Type 1} → statement M
 output-spec =

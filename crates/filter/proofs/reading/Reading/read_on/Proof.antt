@@ -10,7 +10,7 @@ is-over-requires c κs = search needs
 returns : tie.Need-returns
 returns c =
     let c4 = c .before .before .before .before in
-    over ((c4 .args) .self) ((c4 .args) .log .now) ((c4 .args) .input .now) ((c4 .args) .n) (sym ((c .before .is-over) .ensures) ∙ (c .if1) .taken)
+    over (c4 .args .self) (c4 .args .log .now) (c4 .args .input .now) (c4 .args .n) (sym (c .before .is-over .ensures) ∙ (c .if1) .taken)
 
 end-at-requires : tie.Need-end-at-requires
 end-at-requires c κs = search needs
@@ -27,8 +27,8 @@ returns-2 c =
     let c5 = c4 .before in
     let c6 = c5 .before in
     let c9 = c6 .before .before .before in
-    waiting ((c9 .args) .self) ((c9 .args) .log .now) ((c9 .args) .input .now) ((c9 .args) .n) ((c4 .end-at) .result) ((c4 .end-at) .ensures)
-    (sym ((c6 .is-over) .ensures) ∙ (c5 .if1) .left) (sym ((c .if2) .taken) ∙ (c .before .waits-at) .ensures)
+    waiting (c9 .args .self) (c9 .args .log .now) (c9 .args .input .now) (c9 .args .n) (c4 .end-at .result) (c4 .end-at .ensures)
+    (sym (c6 .is-over .ensures) ∙ (c5 .if1) .left) (sym (c .if2 .taken) ∙ (c .before .waits-at) .ensures)
 
 feed-front-requires : tie.Need-feed-front-requires
 feed-front-requires c κs = search needs
@@ -55,9 +55,9 @@ returns-3 c =
     let c16 = c15 .before in
     let c17 = c16 .before in
     let c20 = c17 .before .before .before in
-    going ((c20 .args) .self) ((c20 .args) .log .now) ((c20 .args) .input .now) ((c20 .args) .n) ((c15 .end-at) .result) ((c15 .end-at) .ensures)
-    ((c8 .feed-front) .result) (sym ((c17 .is-over) .ensures) ∙ (c16 .if1) .left) (sym ((c11 .if2) .left) ∙ (c12 .waits-at) .ensures)
-    ((c8 .feed-front) .ensures) ((c4 .to-front) .ensures) ((c .plus) .ensures)
+    going (c20 .args .self) (c20 .args .log .now) (c20 .args .input .now) (c20 .args .n) (c15 .end-at .result) (c15 .end-at .ensures)
+    (c8 .feed-front .result) (sym (c17 .is-over .ensures) ∙ (c16 .if1) .left) (sym (c11 .if2 .left) ∙ (c12 .waits-at) .ensures)
+    (c8 .feed-front .ensures) (c4 .to-front .ensures) (c .plus .ensures)
 
 pub read-on-spec : {M : Type 1} → statement M
 read-on-spec =

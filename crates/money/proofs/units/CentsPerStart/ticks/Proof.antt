@@ -12,13 +12,13 @@ cast-t2 c = search needs
 
 mul-t3 : tie.Need-mul-t3
 mul-t3 c =
-    let f : Fits w32 ((c .before .args) .self .0) = search needs in
-    fits (u32 ((c .before .args) .self .0) 4294967295 ⊗ var (pos 120) 120) (omega (arith, f .fits))
+    let f : Fits w32 (c .before .args .self .0) = search needs in
+    fits (u32 (c .before .args .self .0) 4294967295 ⊗ var (pos 120) 120) (omega (arith, f .fits))
 
 returns : tie.Need-returns
 returns c =
-    let f : Fits w32 ((c .before .args) .self .0) = search needs in
-    same (u32 ((c .before .args) .self .0) 4294967295 ⊗ var (pos 120) 120) (omega (arith, f .fits))
+    let f : Fits w32 (c .before .args .self .0) = search needs in
+    same (u32 (c .before .args .self .0) 4294967295 ⊗ var (pos 120) 120) (omega (arith, f .fits))
 
 pub ticks-spec : {M : Type 1} → statement M
 ticks-spec = tie.close (tie.spec cast-t2 mul-t3 returns)

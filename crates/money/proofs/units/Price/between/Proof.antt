@@ -7,7 +7,7 @@ sub-part : tie.Need-sub-part
 sub-part c = search needs
 
 for-quantity-requires : tie.Need-for-quantity-requires
-for-quantity-requires c κs = ((c .before .before .pre) .0, omega (arith, (c .before .before .pre) .1 .1))
+for-quantity-requires c κs = (c .before .before .pre .0, omega (arith, (c .before .before .pre) .1 .1))
 
 returns : tie.Need-returns
 returns c = (c .for-quantity) .ensures

@@ -23,7 +23,7 @@ use Rattle.book.specs.Meaning.{belongs, load, Valid, bookOf, stepped, Le
 use Rattle.book.specs.tables.Tables.{changeFault}
 use Rattle.book.specs.tables.Index.{hourSlot, bucket, latestOf}
 use Rattle.book.specs.tables.Rows.{packed, rowStart, Rows, Rowed, Ruled, Rules, Logged, Log, Sought, cleared}
-use Rattle.book.specs.tables.Held.{Checked, Makes, Since, IsChange, IsEntry}
+use Rattle.book.specs.tables.Checked.{Checked, Makes, Since, IsChange, IsEntry}
 use Rattle.book.specs.laws.RegisterLaws.{by-test, survey-found, refusal-judge}
 use Rattle.book.specs.laws.ReplayLaws.{listed-valid}
 use Rattle.book.specs.laws.LoadLaws.{Loaded, load-whole, loaded-whole}
@@ -205,8 +205,8 @@ module _ {b : Book} {s rows : List ℕ} (h : Checked b s rows) {want : Wanted} {
 -- ---- what is refused before it is listed
 
 module _ (b : Book) (s : List ℕ) (x : Loaded b s) (rec : List ℕ) where
-  pub parse-refused : (want : Wanted) (p : Parsed) → p ≡ parsedOf (parse want rec) → (p .number ≡ 0 → ⊥) → Leaves (listed (parse want rec)) b s b
-      (refused (p .number)) s
+  pub parse-refused : (want : Wanted) (p : Parsed) → p ≡ parsedOf (parse want rec) → (p .number ≡ 0 → ⊥)
+      → Leaves (listed (parse want rec)) b s b (refused (p .number)) s
   parse-refused want p e z = leaves-answered (listed (parse want rec)) b s (refused (p .number))
       (step-is (listed (parse want rec)) b s x ∙ go (parse want rec) e)
     where
@@ -307,16 +307,16 @@ module _ {b : Book} {s rows : List ℕ} (h : Checked b s rows) where
           makes-accepted h less _ s rows′ (back-step false t ∙ ap (shorter (b .closed)) (last .list-is)) book-is refl rest-bytes rest-valid kept n
           (λ m z. omega (arith, older-less (last .what) (last .rest) m, ap (latestOf m) (last .list-is)))
 
-      pub back-makes : {k : Key} {rows′ : List ℕ} → ((c : Change) (l : List Change) → Logged s rows (b .changes) (c ∷ l) → Rows rows′ l l) ×
-          (length rows′ ≡ 512)
+      pub back-makes : {k : Key} {rows′ : List ℕ}
+          → ((c : Change) (l : List Change) → Logged s rows (b .changes) (c ∷ l) → Rows rows′ l l) × (length rows′ ≡ 512)
           → Makes (takenBack 0) b s k (record { book = record { changes = b .changes - 1; used = q; closed = b .closed }; answer = Accepted }) s rows′
       back-makes w = back-taken (w .0 (last .what) (last .rest) (subst (Logged s rows (b .changes)) (last .list-is) (held-logged h))) (w .1)
 
 -- ---- a book that is closed
 
 module _ {b : Book} {s rows : List ℕ} (h : Checked b s rows) where
-  close-step : (t : Bool) → b .closed ≡ t → stepped (closing 0) b s (load b s) ≡ cond t (answered (refused 9))
-      (becomes (record { list = h .base .list; closed = true }))
+  close-step : (t : Bool) → b .closed ≡ t
+      → stepped (closing 0) b s (load b s) ≡ cond t (answered (refused 9)) (becomes (record { list = h .base .list; closed = true }))
   close-step t e = step-is (closing 0) b s (h .base) ∙ ap
       (λ (y : Bool). cond y (answered (refused 9)) (becomes (record { list = h .base .list; closed = true }))) e
 
@@ -376,8 +376,8 @@ sort-of (a ∷ b ∷ s) =
 general-fault : (rec : List ℕ) (n : ℕ) → parseAny rec ≡ fault n → (lent : ℕ) (g : Reg) → general rec lent g ≡ answered (refused n)
 general-fault rec n e lent g = go (sort-of rec)
   where
-    bare : (x : Entry) (m : ℕ) (f : ℕ → ℕ → Reg → Step) → ((k : ℕ) → f (suc k) lent g ≡ answered (refused (suc k))) → alone x m ≡ fault n → f m lent g ≡
-        answered (refused n)
+    bare : (x : Entry) (m : ℕ) (f : ℕ → ℕ → Reg → Step) → ((k : ℕ) → f (suc k) lent g ≡ answered (refused (suc k))) → alone x m ≡ fault n
+        → f m lent g ≡ answered (refused n)
     bare x zero f r q = absurd (let z : _≡_ {A = ℕ} 0 1 = cc in omega arith)
     bare x (suc k) f r q = let p : suc k ≡ n = cc in r k ∙ ap (λ (j : ℕ). answered (refused j)) p
 
@@ -470,12 +470,12 @@ module _ {rec : List ℕ} {v : View} (r : IsEntry rec v) where
       go takingBack a = absurd (let y : _≡_ {A = ℕ} 0 1 = cc in omega arith)
       go closingEntry a = absurd (let y : _≡_ {A = ℕ} 0 1 = cc in omega arith)
 
-pub makes-by : {f g : ℕ → Reg → Step} {b : Book} {s : List ℕ} {k : Key} {d : Done} {s′ rows′ : List ℕ} → g ≡ f → Makes f b s k d s′ rows′ → Makes g b s k d s′
-    rows′
+pub makes-by : {f g : ℕ → Reg → Step} {b : Book} {s : List ℕ} {k : Key} {d : Done} {s′ rows′ : List ℕ} → g ≡ f → Makes f b s k d s′ rows′
+    → Makes g b s k d s′ rows′
 makes-by {b = b} {s = s} {k = k} {d = d} {s′ = s′} {rows′ = rows′} e m = subst⁻¹ (λ (y : ℕ → Reg → Step). Makes y b s k d s′ rows′) e m
 
-pub any-refused : (b : Book) (s : List ℕ) (x : Loaded b s) (rec : List ℕ) (p : Parsed) → p ≡ entryOf (parseAny rec) → (p .number ≡ 0 → ⊥) → Leaves (general rec)
-    b s b (refused (p .number)) s
+pub any-refused : (b : Book) (s : List ℕ) (x : Loaded b s) (rec : List ℕ) (p : Parsed) → p ≡ entryOf (parseAny rec) → (p .number ≡ 0 → ⊥)
+    → Leaves (general rec) b s b (refused (p .number)) s
 any-refused b s x rec p e z = leaves-answered (general rec) b s (refused (p .number)) (step-is (general rec) b s x ∙ go (parseAny rec) refl)
   where
     go : (i : Input Entry) → parseAny rec ≡ i → general rec (length s) (regOf b s x) ≡ answered (refused (p .number))

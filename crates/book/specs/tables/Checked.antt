@@ -67,5 +67,5 @@ pub record Undoing (s rows : List ℕ) (n hs : ℕ) (head : List ℕ) (c : Chang
 -- which of n changes wrote the record that stands under a key
 pub record Wrote (n : ℕ) (k : Key) (r : ℕ) (l : List Change) : Type 0 where
   pub inside : r < n
-  pub live : (d : Change) (m : List Change) → drop (n - (r + 1)) l ≡ d ∷ m → (same (keyOf d) k ≡ true) ×
-      (liveAt (survey (keyOf d) l) (kindOf d) (length (writeAll m)) ≡ true)
+  pub live : (d : Change) (m : List Change) → drop (n - (r + 1)) l ≡ d ∷ m
+      → (same (keyOf d) k ≡ true) × (liveAt (survey (keyOf d) l) (kindOf d) (length (writeAll m)) ≡ true)

@@ -33,7 +33,7 @@ ghost use Prim.Native.Nat.{ℕ, _<_};
 ghost use Rattle.book.specs.Layer.{Key, Change, keyOf, isWithdrawal, parse};
 ghost use Rattle.book.specs.Register.{listed, takenBack, closing, general};
 ghost use Rattle.book.specs.tables.Rows.{rowSlot, rowKind, Rows, Logged, Log};
-ghost use Rattle.book.specs.tables.Held.{Checked, Makes, Since, IsChange, Viewing, IsEntry, Undoing, Wrote};
+ghost use Rattle.book.specs.tables.Checked.{Checked, Makes, Since, IsChange, Viewing, IsEntry, Undoing, Wrote};
 
 // Whether a change filed or corrected a record of the mark and hour.
 fn wrote_in(row: u32, slot: usize) -> bool
@@ -96,7 +96,7 @@ fn restore(log: &[u8], rows: &mut [u32; CHANGES_MAX], n: usize)
 
 impl Book {
     // A filing, correction or withdrawal that was read. Its key is looked for among the first `from` changes.
-    pub(crate) fn held_enter(
+    pub(crate) fn checked_enter(
         mut self,
         log: &mut [u8],
         rows: &mut [u32; CHANGES_MAX],
@@ -140,7 +140,7 @@ impl Book {
     }
 
     // The used part then ends where the last change begins.
-    pub(crate) fn held_take_back(mut self, log: &[u8], rows: &mut [u32; CHANGES_MAX]) -> Done
+    pub(crate) fn checked_take_back(mut self, log: &[u8], rows: &mut [u32; CHANGES_MAX]) -> Done
         requires { ⌜ Checked self (now log) (now rows) ⌝ }
         ensures { λ r. ⌜ ((k : Key) → Makes (takenBack 0) self (now (log .entry)) k r (now (log .entry)) (now (rows .exit))) ⌝ }
     {
@@ -167,7 +167,7 @@ impl Book {
         }
     }
 
-    pub(crate) fn held_close(mut self) -> Done
+    pub(crate) fn checked_close(mut self) -> Done
         ensures { λ r. ⌜ ((s rows : List ℕ) (k : Key) → Checked self s rows → Makes (closing 0) self s k r s rows) ⌝ }
     {
         if self.closed {
@@ -184,7 +184,7 @@ impl Book {
     }
 
     // A change of any mark that was read.
-    pub(crate) fn held_change(
+    pub(crate) fn checked_change(
         mut self,
         log: &mut [u8],
         rows: &mut [u32; CHANGES_MAX],
@@ -197,10 +197,10 @@ impl Book {
     {
         let act = view.act;
         match act {
-            Act::Record(_k) => self.held_enter(log, rows, from, view, rec),
-            Act::TakeBack => self.held_take_back(log, rows),
-            Act::Close => self.held_close(),
-            Act::Nothing => self.held_enter(log, rows, from, view, rec),
+            Act::Record(_k) => self.checked_enter(log, rows, from, view, rec),
+            Act::TakeBack => self.checked_take_back(log, rows),
+            Act::Close => self.checked_close(),
+            Act::Nothing => self.checked_enter(log, rows, from, view, rec),
         }
     }
 }

@@ -3,18 +3,18 @@ use lib.ListN.{length}
 use lib.Seq.{length-take-le}
 use native.Mathlib.Omega.{arith}
 use borrow.Author.Needs.{needs}
-use Rattle.book.proofs.log.held.Restoring.{restored, back-rows, undoing, newest-few, newest-within, wrote-few}
-use Rattle.book.proofs.log.held.restore.Statement.{statement}
-use Rattle.book.proofs.log.held.restore.Tie as tie
+use Rattle.book.proofs.log.checked.Restoring.{restored, back-rows, undoing, newest-few, newest-within, wrote-few}
+use Rattle.book.proofs.log.checked.restore.Statement.{statement}
+use Rattle.book.proofs.log.checked.restore.Tie as tie
 
 sub-row : tie.Need-sub-row
 sub-row c = search needs
 
 mul-row : tie.Need-mul-row
-mul-row c = omega (arith, newest-few ((c .before .pre) .0) ((c .before .pre) .1 .0))
+mul-row c = omega (arith, newest-few (c .before .pre .0) (c .before .pre .1 .0))
 
 element-copy-out-row : tie.Need-element-copy-out-row
-element-copy-out-row c = newest-few ((c .before .pre) .0) ((c .before .pre) .1 .0)
+element-copy-out-row c = newest-few (c .before .pre .0) (c .before .pre .1 .0)
 
 kind-in-requires : tie.Need-kind-in-requires
 kind-in-requires c κs = search needs
@@ -26,7 +26,7 @@ returns : tie.Need-returns
 returns c =
     let c2 = c .before .before in
     let c5 = c2 .before .before .before in
-    ((λ d l g. back-rows g ((c2 .kind-in) .ensures) (sym ((c .before .is-filing) .ensures) ∙ (c .if1) .taken)), (c5 .pre) .1 .1)
+    ((λ d l g. back-rows g (c2 .kind-in .ensures) (sym (c .before .is-filing .ensures) ∙ (c .if1) .taken)), (c5 .pre) .1 .1)
 
 start-in-requires : tie.Need-start-in-requires
 start-in-requires c κs = search needs
@@ -34,12 +34,12 @@ start-in-requires c κs = search needs
 sub-head-key : tie.Need-sub-head-key
 sub-head-key c =
     let c6 = c .before .before .before .before .before .before in
-    newest-within ((c6 .pre) .0) ((c6 .pre) .1 .0) ((c .start-in) .ensures .0)
+    newest-within (c6 .pre .0) (c6 .pre .1 .0) (c .start-in .ensures .0)
 
 part-head-key-start : tie.Need-part-head-key-start
 part-head-key-start c =
     let c6 = c .before .before .before .before .before .before in
-    omega (arith, newest-within ((c6 .pre) .0) ((c6 .pre) .1 .0) ((c .start-in) .ensures .0))
+    omega (arith, newest-within (c6 .pre .0) (c6 .pre .1 .0) (c .start-in .ensures .0))
 
 part-head-key-end : tie.Need-part-head-key-end
 part-head-key-end c = search needs
@@ -54,12 +54,12 @@ record-head-requires : tie.Need-record-head-requires
 record-head-requires c κs = search needs
 
 array-share-prefix-bytes : tie.Need-array-share-prefix-bytes
-array-share-prefix-bytes c = let z : length ((c .before .before .record-head) .result .bytes) ≡ 44 = search needs in omega
+array-share-prefix-bytes c = let z : length (c .before .before .record-head .result .bytes) ≡ 44 = search needs in omega
     (arith, (c .before .before .record-head) .ensures .1)
 
 slice-aggregate-written-before : tie.Need-slice-aggregate-written-before
-slice-aggregate-written-before c = let z : length ((c .before .before .before .record-head) .result .bytes) ≡ 44 = search needs in sym (length-take-le
-    ((c .before .before .before .record-head) .result .len) ((c .before .before .before .record-head) .result .bytes)
+slice-aggregate-written-before c = let z : length (c .before .before .before .record-head .result .bytes) ≡ 44 = search needs in sym (length-take-le
+    (c .before .before .before .record-head .result .len) (c .before .before .before .record-head .result .bytes)
     (omega (arith, (c .before .before .before .record-head) .ensures .1)))
 
 written-before-requires : tie.Need-written-before-requires
@@ -77,9 +77,9 @@ mul-was c =
     let c15 = c12 .before .before .before in
     omega (
       arith,
-      wrote-few ((c15 .pre) .0) ((c15 .pre) .1 .0) (λ d l g. (c .written-before) .ensures d l (undoing g ((c12 .kind-in) .ensures)
-          (sym ((c11 .is-filing) .ensures) ∙ (c10 .if1) .left) ((c9 .start-in) .ensures .0) ((c7 .head-key) .ensures) ((c5 .hour-slot) .ensures .0)
-          ((c4 .record-head) .ensures .0))),
+      wrote-few (c15 .pre .0) (c15 .pre .1 .0) (λ d l g. (c .written-before) .ensures d l (undoing g (c12 .kind-in .ensures)
+          (sym (c11 .is-filing .ensures) ∙ (c10 .if1) .left) (c9 .start-in .ensures .0) (c7 .head-key .ensures) (c5 .hour-slot .ensures .0)
+          (c4 .record-head .ensures .0))),
     )
 
 element-copy-out-was : tie.Need-element-copy-out-was
@@ -92,9 +92,9 @@ element-copy-out-was c =
     let c11 = c10 .before in
     let c12 = c11 .before in
     let c15 = c12 .before .before .before in
-    wrote-few ((c15 .pre) .0) ((c15 .pre) .1 .0) (λ d l g. (c .written-before) .ensures d l (undoing g ((c12 .kind-in) .ensures)
-    (sym ((c11 .is-filing) .ensures) ∙ (c10 .if1) .left) ((c9 .start-in) .ensures .0) ((c7 .head-key) .ensures) ((c5 .hour-slot) .ensures .0)
-    ((c4 .record-head) .ensures .0)))
+    wrote-few (c15 .pre .0) (c15 .pre .1 .0) (λ d l g. (c .written-before) .ensures d l (undoing g (c12 .kind-in .ensures)
+    (sym (c11 .is-filing .ensures) ∙ (c10 .if1) .left) (c9 .start-in .ensures .0) (c7 .head-key .ensures) (c5 .hour-slot .ensures .0)
+    (c4 .record-head .ensures .0)))
 
 add-rows : tie.Need-add-rows
 add-rows c = search needs
@@ -111,9 +111,9 @@ mul-rows c =
     let c16 = c13 .before .before .before in
     omega (
       arith,
-      wrote-few ((c16 .pre) .0) ((c16 .pre) .1 .0) (λ d l g. (c .before .written-before) .ensures d l (undoing g ((c13 .kind-in) .ensures)
-          (sym ((c12 .is-filing) .ensures) ∙ (c11 .if1) .left) ((c10 .start-in) .ensures .0) ((c8 .head-key) .ensures) ((c6 .hour-slot) .ensures .0)
-          ((c5 .record-head) .ensures .0))),
+      wrote-few (c16 .pre .0) (c16 .pre .1 .0) (λ d l g. (c .before .written-before) .ensures d l (undoing g (c13 .kind-in .ensures)
+          (sym (c12 .is-filing .ensures) ∙ (c11 .if1) .left) (c10 .start-in .ensures .0) (c8 .head-key .ensures) (c6 .hour-slot .ensures .0)
+          (c5 .record-head .ensures .0))),
     )
 
 element-write-rows : tie.Need-element-write-rows
@@ -126,9 +126,9 @@ element-write-rows c =
     let c12 = c11 .before in
     let c13 = c12 .before in
     let c16 = c13 .before .before .before in
-    wrote-few ((c16 .pre) .0) ((c16 .pre) .1 .0) (λ d l g. (c .before .written-before) .ensures d l (undoing g ((c13 .kind-in) .ensures)
-    (sym ((c12 .is-filing) .ensures) ∙ (c11 .if1) .left) ((c10 .start-in) .ensures .0) ((c8 .head-key) .ensures) ((c6 .hour-slot) .ensures .0)
-    ((c5 .record-head) .ensures .0)))
+    wrote-few (c16 .pre .0) (c16 .pre .1 .0) (λ d l g. (c .before .written-before) .ensures d l (undoing g (c13 .kind-in .ensures)
+    (sym (c12 .is-filing .ensures) ∙ (c11 .if1) .left) (c10 .start-in .ensures .0) (c8 .head-key .ensures) (c6 .hour-slot .ensures .0)
+    (c5 .record-head .ensures .0)))
 
 returns-2 : tie.Need-returns-2
 returns-2 c =
@@ -140,9 +140,9 @@ returns-2 c =
     let c12 = c11 .before in
     let c13 = c12 .before in
     let c16 = c13 .before .before .before in
-    restored ((c16 .pre) .1 .1) ((c .before .written-before) .result) (λ d l g. (c .before .written-before) .ensures d l (undoing g ((c13 .kind-in) .ensures)
-    (sym ((c12 .is-filing) .ensures) ∙ (c11 .if1) .left) ((c10 .start-in) .ensures .0) ((c8 .head-key) .ensures) ((c6 .hour-slot) .ensures .0)
-    ((c5 .record-head) .ensures .0)))
+    restored (c16 .pre .1 .1) (c .before .written-before .result) (λ d l g. (c .before .written-before) .ensures d l (undoing g (c13 .kind-in .ensures)
+    (sym (c12 .is-filing .ensures) ∙ (c11 .if1) .left) (c10 .start-in .ensures .0) (c8 .head-key .ensures) (c6 .hour-slot .ensures .0)
+    (c5 .record-head .ensures .0)))
 
 pub restore-spec : {M : Type 1} → statement M
 restore-spec =

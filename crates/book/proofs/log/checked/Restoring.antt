@@ -17,7 +17,7 @@ use Rattle.book.specs.tables.Tables.{Survey, survey}
 use Rattle.book.specs.tables.Index.{hourSlot}
 use Rattle.book.specs.tables.Places.{leadLength, liveAt}
 use Rattle.book.specs.tables.Rows.{packed, rowStart, rowSlot, rowKind, rowPlace, rowOf, Rows, Logged, Log}
-use Rattle.book.specs.tables.Held.{rowStands, Undoing, Wrote}
+use Rattle.book.specs.tables.Checked.{rowStands, Undoing, Wrote}
 use Rattle.book.specs.laws.StandLaws.{At}
 use Rattle.book.specs.laws.RegisterLaws.{by-test, true≠false, survey-found, refusal-found}
 use Rattle.book.proofs.log.Survey.{to-end, valid-size, valid-drop}
@@ -88,8 +88,8 @@ module _ {s rows : List ℕ} {n : ℕ} {c : Change} {l : List Change} (g : Logge
           place-one (g .ruled) j r (omega (arith, g .ruled .count)) (omega (arith, w .inside, g .ruled .count))
           (p ∙ sym (live-place r (w .inside) (o .what) (drop (length l - r) l) (o .rest) (v .0) (v .1)))
 
-      at : (j : ℕ) (d : Change) (m : List Change) → j < length l → drop (length l - (j + 1)) l ≡ d ∷ m → getD (set rows r x) j 0 ≡ rowOf l (length (writeAll m))
-          d
+      at : (j : ℕ) (d : Change) (m : List Change) → j < length l → drop (length l - (j + 1)) l ≡ d ∷ m
+          → getD (set rows r x) j 0 ≡ rowOf l (length (writeAll m)) d
       at j d m lt e =
           let q = length (writeAll m) in
           let old = liveAt (survey (keyOf d) (c ∷ l)) (kindOf d) q in
@@ -137,8 +137,8 @@ record Stands-at (s : List ℕ) (q : ℕ) (d : Change) : Type 0 where
   rest : List ℕ
   bytes : drop q s ≡ write d ++ rest
 
-stands-at : {s rows : List ℕ} {n : ℕ} {l : List Change} (g : Logged s rows n l) (m : ℕ) (d : Change) (r : List Change) → drop m l ≡ d ∷ r → Stands-at s
-    (length (writeAll r)) d
+stands-at : {s rows : List ℕ} {n : ℕ} {l : List Change} (g : Logged s rows n l) (m : ℕ) (d : Change) (r : List Change) → drop m l ≡ d ∷ r
+    → Stands-at s (length (writeAll r)) d
 stands-at {s} {l = l} g m d r e =
     let w = split-at m l d r e in
     let v = drop (length (writeAll l)) s in
@@ -193,8 +193,8 @@ backward-start {n = n} h = record {
 }
 
 -- one of the changes has the key
-pub backward-end : {s rows : List ℕ} {n hs : ℕ} {head : List ℕ} {i : ℕ} → Backward s rows n hs head i → i ≤ 0 → (r : ℕ) (c : Change) (l : List Change) → Undoing
-    s rows n hs head c l → Wrote (length l) (keyOf c) r l
+pub backward-end : {s rows : List ℕ} {n hs : ℕ} {head : List ℕ} {i : ℕ} → Backward s rows n hs head i → i ≤ 0 → (r : ℕ) (c : Change) (l : List Change)
+    → Undoing s rows n hs head c l → Wrote (length l) (keyOf c) r l
 unfolding survey
 backward-end {n = n} {i = i} h z r c l u =
     let e : drop (n - i) (c ∷ l) ≡ [] = drop-of-length-le (c ∷ l) {i = n - i} (omega (arith, u .logged .ruled .count)) in
@@ -308,8 +308,8 @@ module _ {s rows : List ℕ} {n hs : ℕ} {head : List ℕ} {i : ℕ} (h : Backw
         sc : same (keyOf c) (keyOf (what g)) ≡ true
         sc = sym (same-there u) ∙ t
 
-        wrote : (d : Change) (m : List Change) → what g ≡ d → older g ≡ m → (same (keyOf d) (keyOf c) ≡ true) ×
-            (liveAt (survey (keyOf d) l) (kindOf d) (length (writeAll m)) ≡ true)
+        wrote : (d : Change) (m : List Change) → what g ≡ d → older g ≡ m
+            → (same (keyOf d) (keyOf c) ≡ true) × (liveAt (survey (keyOf d) l) (kindOf d) (length (writeAll m)) ≡ true)
         wrote d m y z =
             let q = length (writeAll m) in
             let sd : same (keyOf c) (keyOf d) ≡ true = ap (λ (v : Change). same (keyOf c) (keyOf v)) (sym y) ∙ sc in

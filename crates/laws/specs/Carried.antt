@@ -1,5 +1,6 @@
 -- What a signed local of the machine holds. Code on signed numbers reads back what it wrote, `toZ w (ofZ w z)`, which is z where z fits the width.
--- `Carried m z B` says that the machine's m is the number z, of magnitude at most B. Sums, differences and products of carried numbers are carried. That one fits an `i64` is `B < 2 ^ 63`: `lit< tt` or `omega arith`.
+-- `Carried m z B` says that the machine's m is the number z, of magnitude at most B. Sums, differences and products of carried numbers are carried.
+-- That one fits an `i64` is `B < 2 ^ 63`: `lit< tt` or `omega arith`.
 -- Assumes nothing.
 use mathlib.Core.Path.{_≡_, refl, sym, ap, _∙_, subst}
 use mathlib.Core.Bool.{Bool}

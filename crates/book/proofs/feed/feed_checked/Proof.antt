@@ -4,8 +4,8 @@ use lib.ListN.{length}
 use native.Mathlib.Omega.{arith}
 use borrow.Author.Needs.{needs}
 use Rattle.book.proofs.feed.Lemmas.{Going, started, finished, since, unread, end-within, end-after, read-there, stops, continues, ends-by}
-use Rattle.book.proofs.feed.feed_held.Statement.{statement}
-use Rattle.book.proofs.feed.feed_held.Tie as tie
+use Rattle.book.proofs.feed.feed_checked.Statement.{statement}
+use Rattle.book.proofs.feed.feed_checked.Tie as tie
 
 abbrev Inv-loop : tie.InvT-loop
 Inv-loop book₀ log₀ rows₀ input latest₀ count₀ at₀ book log rows latest count at = Going book₀ log₀ input book rows latest log count at
@@ -39,7 +39,7 @@ returns c =
     let c3 = c .before .before .before in
     let c5 = c3 .before .before in
     let c6 = c5 .before in
-    λ l e. ends-by ((c .fed-so) .ensures) (unread ((c6 .loop) .inv) ((c5 .loop-test) .taken) ((c3 .first-change) .ensures) ((c .before .if1) .taken) l e)
+    λ l e. ends-by (c .fed-so .ensures) (unread (c6 .loop .inv) (c5 .loop-test .taken) (c3 .first-change .ensures) (c .before .if1 .taken) l e)
 
 add-ordinal : tie.Need-add-ordinal Inv-loop μ-loop
 add-ordinal c =
@@ -54,7 +54,7 @@ add-end c =
     let c5 = c3 .before .before in
     let c6 = c5 .before in
     let c9 = c6 .before .before .before in
-    omega (arith, end-within ((c6 .loop) .inv) ((c5 .loop-test) .taken) ((c3 .first-change) .ensures) ((c .before .if1) .left), (c9 .good))
+    omega (arith, end-within (c6 .loop .inv) (c5 .loop-test .taken) (c3 .first-change .ensures) (c .before .if1 .left), (c9 .good))
 
 bucket-of-requires : tie.Need-bucket-of-requires Inv-loop μ-loop
 bucket-of-requires c κs = search needs
@@ -68,33 +68,33 @@ array-read-search-from c = (c .bucket-of) .ensures .1
 search-from-requires : tie.Need-search-from-requires Inv-loop μ-loop
 search-from-requires c κs = search needs
 
-sub-held-change : tie.Need-sub-held-change Inv-loop μ-loop
-sub-held-change c = omega arith
+sub-checked-change : tie.Need-sub-checked-change Inv-loop μ-loop
+sub-checked-change c = omega arith
 
-part-held-change-start : tie.Need-part-held-change-start Inv-loop μ-loop
-part-held-change-start c = omega arith
+part-checked-change-start : tie.Need-part-checked-change-start Inv-loop μ-loop
+part-checked-change-start c = omega arith
 
-part-held-change-end : tie.Need-part-held-change-end Inv-loop μ-loop
-part-held-change-end c =
+part-checked-change-end : tie.Need-part-checked-change-end Inv-loop μ-loop
+part-checked-change-end c =
     let c6 = c .before .before .before .before .before .before in
     let c8 = c6 .before .before in
     let c10 = c8 .before .before in
     let c11 = c10 .before in
-    end-within ((c11 .loop) .inv) ((c10 .loop-test) .taken) ((c8 .first-change) .ensures) ((c6 .if1) .left)
+    end-within (c11 .loop .inv) (c10 .loop-test .taken) (c8 .first-change .ensures) (c6 .if1 .left)
 
-held-change-requires : tie.Need-held-change-requires Inv-loop μ-loop
-held-change-requires c κs = (
+checked-change-requires : tie.Need-checked-change-requires Inv-loop μ-loop
+checked-change-requires c κs = (
   (c .before .before .before .before .before .before .before .before .before .before .before .before .loop) .inv .held,
   (
     since
-        ((c .before .before .before .before .before .before .before .before .before .before .before .before .loop) .inv)
-        ((c .before .before .before .before .bucket-of) .ensures .0) ((c .before .before .before .before .bucket-of) .ensures .1)
-        ((c .before .before .before .search-from) .ensures),
+        (c .before .before .before .before .before .before .before .before .before .before .before .before .loop .inv)
+        (c .before .before .before .before .bucket-of .ensures .0) (c .before .before .before .before .bucket-of .ensures .1)
+        (c .before .before .before .search-from .ensures),
     read-there
-        ((c .before .before .before .before .before .before .before .before .before .before .before .before .loop) .inv)
-        ((c .before .before .before .before .before .before .before .before .before .before .before .loop-test) .taken)
-        ((c .before .before .before .before .before .before .before .before .before .first-change) .ensures)
-        ((c .before .before .before .before .before .before .before .if1) .left),
+        (c .before .before .before .before .before .before .before .before .before .before .before .before .loop .inv)
+        (c .before .before .before .before .before .before .before .before .before .before .before .loop-test .taken)
+        (c .before .before .before .before .before .before .before .before .before .first-change .ensures)
+        (c .before .before .before .before .before .before .before .if1 .left),
   ),
 )
 
@@ -108,7 +108,7 @@ same-length-2 : tie.Need-same-length-2 Inv-loop μ-loop
 same-length-2 c =
     let c6 = c .before .before .before .before .before .before in
     let c19 = c6 .before .before .before .before .before .before .before .before .before .before .before .before .before in
-    (c6 .held-change) .ensures .leaves .size ∙ (c19 .loop) .inv .size
+    (c6 .checked-change) .ensures .leaves .size ∙ (c19 .loop) .inv .size
 
 returns-2 : tie.Need-returns-2 Inv-loop μ-loop
 returns-2 c =
@@ -118,8 +118,8 @@ returns-2 c =
     let c16 = c14 .before .before in
     let c18 = c16 .before .before in
     let c19 = c18 .before in
-    λ l e. ends-by ((c .fed-so2) .ensures) (stops ((c19 .loop) .inv) ((c18 .loop-test) .taken) ((c16 .first-change) .ensures) ((c14 .if1) .left)
-    ((c6 .held-change) .ensures) ((c3 .refusal-in) .ensures) ((c .before .if2) .taken) l e)
+    λ l e. ends-by (c .fed-so2 .ensures) (stops (c19 .loop .inv) (c18 .loop-test .taken) (c16 .first-change .ensures) (c14 .if1 .left)
+    (c6 .checked-change .ensures) (c3 .refusal-in .ensures) (c .before .if2 .taken) l e)
 
 mul-latest : tie.Need-mul-latest Inv-loop μ-loop
 mul-latest c =
@@ -139,9 +139,9 @@ loop-less c =
     let c18 = c17 .before in
     omega (
       arith,
-      end-after ((c18 .loop) .inv) ((c17 .loop-test) .taken) ((c15 .first-change) .ensures) ((c13 .if1) .left),
-      end-within ((c18 .loop) .inv)
-          ((c17 .loop-test) .taken) ((c15 .first-change) .ensures) ((c13 .if1) .left),
+      end-after (c18 .loop .inv) (c17 .loop-test .taken) (c15 .first-change .ensures) (c13 .if1 .left),
+      end-within (c18 .loop .inv)
+          (c17 .loop-test .taken) (c15 .first-change .ensures) (c13 .if1 .left),
     )
 
 loop-again : tie.Need-loop-again Inv-loop μ-loop
@@ -153,8 +153,8 @@ loop-again c =
     let c15 = c13 .before .before in
     let c17 = c15 .before .before in
     let c18 = c17 .before in
-    continues ((c18 .loop) .inv) ((c17 .loop-test) .taken) ((c15 .first-change) .ensures) ((c13 .if1) .left) ((c5 .held-change) .ensures)
-    ((c2 .refusal-in) .ensures) ((c .if2) .left) ((c10 .bucket-of) .ensures .0) ((c10 .bucket-of) .ensures .1)
+    continues (c18 .loop .inv) (c17 .loop-test .taken) (c15 .first-change .ensures) (c13 .if1 .left) (c5 .checked-change .ensures)
+    (c2 .refusal-in .ensures) (c .if2 .left) (c10 .bucket-of .ensures .0) (c10 .bucket-of .ensures .1)
 
 fed-so-requires-3 : tie.Need-fed-so-requires-3 Inv-loop μ-loop
 fed-so-requires-3 c κs = search needs
@@ -163,10 +163,10 @@ same-length-3 : tie.Need-same-length-3 Inv-loop μ-loop
 same-length-3 c = search needs
 
 returns-3 : tie.Need-returns-3 Inv-loop μ-loop
-returns-3 c = λ l e. ends-by ((c .fed-so3) .ensures) (finished ((c .before .before .loop) .inv) ((c .before .loop-test) .left) l e)
+returns-3 c = λ l e. ends-by (c .fed-so3 .ensures) (finished (c .before .before .loop .inv) (c .before .loop-test .left) l e)
 
-pub feed-held-spec : {M : Type 1} → statement M
-feed-held-spec =
+pub feed-checked-spec : {M : Type 1} → statement M
+feed-checked-spec =
     tie.close
     (tie.spec
     Inv-loop
@@ -185,10 +185,10 @@ feed-held-spec =
     mul-search-from
     array-read-search-from
     search-from-requires
-    sub-held-change
-    part-held-change-start
-    part-held-change-end
-    held-change-requires
+    sub-checked-change
+    part-checked-change-start
+    part-checked-change-end
+    checked-change-requires
     refusal-in-requires
     fed-so-requires-2
     same-length-2
