@@ -232,7 +232,7 @@ impl Cents {
 }
 
 // The size of a signed number, of the least one too, which has no negative.
-pub fn magnitude(n: i64) -> u64
+fn magnitude(n: i64) -> u64
     ensures { λ r. ⌜ r ≡ natAbs n ⌝ ∗ ⌜ r ≤ 9223372036854775808 ⌝ }
 {
     if n < 0 {

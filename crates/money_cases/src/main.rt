@@ -18,12 +18,12 @@ use money::production::component_3;
 use money::production::component_4;
 use money::production::unit_hour;
 use money::units::Answer;
+use money::units::Cents;
 use money::units::CentsPerHour;
 use money::units::CentsPerStart;
 use money::units::Price;
 use money::units::Quantity;
 use money::units::Ticks;
-use money::units::magnitude;
 ghost use mathlib.Core.Path.{_≡_};
 ghost use Prim.Native.Nat.{_≤_};
 ghost use lib.ListN.{take};
@@ -31,17 +31,17 @@ ghost use Rattle.money.specs.Offset.{offsetAnswer};
 
 // ---- printing
 
-fn print_signed(t: Ticks) {
-    if t.0 < 0 {
+fn print_signed(n: Cents) {
+    if n.0 < 0 {
         io::write_all(1, b"-");
     }
-    io::print_decimal(1, magnitude(t.0));
+    io::print_decimal(1, n.magnitude());
 }
 
 fn print_amount(t: Ticks) {
-    print_signed(t);
+    print_signed(Cents(t.0));
     io::write_all(1, b" ticks, ");
-    print_signed(Ticks(t.cents().0));
+    print_signed(t.cents());
     io::write_all(1, b" cents\n");
 }
 
