@@ -110,7 +110,7 @@ impl Names {
     }
 }
 
-/// The number of a key: `slot_of` in the proved book's `index.rt`. Nothing but
+/// The number of a key: `bucket_of` in the proved book's `log/index.rt`. Nothing but
 /// the choice of these names depends on it.
 fn number(mark: usize, hour: u8, name: &[u8; 12]) -> usize {
     let mut sum = mark * 32 + usize::from(hour);
@@ -158,7 +158,7 @@ mod tests {
     /// Names made for another index would be names like any others.
     #[test]
     fn the_number_is_that_of_the_proved_index() {
-        let path = concat!(env!("CARGO_MANIFEST_DIR"), "/../crates/book/src/index.rt");
+        let path = concat!(env!("CARGO_MANIFEST_DIR"), "/../crates/book/src/log/index.rt");
         let source = fs::read_to_string(path).expect("the source of the index");
         let steps = [
             "wide(order(mark)) * 32 + wide(key.hour)",
