@@ -4,18 +4,16 @@
 -- Assumes nothing.
 use mathlib.Core.Path.{_≡_, refl, sym, ap, _∙_, subst}
 use mathlib.Core.Bool.{Bool}
-use Prim.Native.Nat as Nat
 use Prim.Native.Nat.{ℕ, _+_, _*_, _^_, _≤_, _<_}
-use native.Mathlib.Nat.{le-refl, le-trans, lt-of-le-of-lt}
+use native.Mathlib.Nat.{le-refl, lt-of-le-of-lt}
 use native.Mathlib.Omega.{arith}
-use lib.Dec.{T, leb}
+use lib.Dec.{T}
 use lib.IntN.{ℤ, pos, negsuc, negℤ, natAbs, _+ℤ_, _-ℤ_, _*ℤ_, +ℤ-idl}
-use lib.Signed.{mag, ltZ, leZ, nonNeg, _≤ℤ_, yes-nonNeg, pos-natAbs}
+use lib.Signed.{mag, ltZ, leZ, nonNeg, _≤ℤ_, yes-nonNeg}
 use mir.Syntax.{Width, w32, w64}
 use mir.Val.{Fits, SFits, toZ, ofZ, hbits}
-use mir.Facts.{toZ-ofZ, toZ-pos, sfits-widen, fits-natAbs}
-use Rattle.laws.specs.Ints.{minℤ, maxℤ}
-use Rattle.laws.specs.IntLaws.{add-within, sub-within, mul-within, min-within, max-within, abs-neg}
+use mir.Facts.{toZ-ofZ, toZ-pos, fits-natAbs}
+use Rattle.laws.specs.IntLaws.{add-within, sub-within, mul-within, abs-neg}
 
 mag-le : (z : ℤ) → mag z ≤ natAbs z
 mag-le (pos n) = le-refl n
@@ -31,9 +29,6 @@ pub record Carried (m z : ℤ) (B : ℕ) : Type 0 where
 -- the bound, of what the machine has
 pub size : {m z : ℤ} {B : ℕ} → Carried m z B → natAbs m ≤ B
 size {B = B} k = subst (λ (y : ℤ). natAbs y ≤ B) (sym (k .same)) (k .within)
-
-pub upto : {m z : ℤ} {B C : ℕ} → Carried m z B → B ≤ C → Carried m z C
-upto k h = record { same = k .same; within = le-trans (k .within) h }
 
 -- ---- where numbers come from
 -- a number as it is: a literal, an element of an array before it is read, a loop's variable, `toZ w64 sum`
@@ -61,10 +56,6 @@ num64 z h t = carried (sfits-lt z (lt-of-le-of-lt h t)) h
 pub nat : {n B : ℕ} → n ≤ B → B < 2 ^ 63 → Carried (toZ w64 n) (pos n) B
 nat h t = record { same = toZ-pos w64 (lt-of-le-of-lt h t); within = h }
 
--- what a call returned, by its `ensures`, an equation of the machine's arguments
-pub of : {r m z : ℤ} {B : ℕ} → r ≡ m → Carried m z B → Carried r z B
-of e k = record { same = e ∙ k .same; within = k .within }
-
 -- ---- what is asked of them
 -- it fits an `i64`
 pub fits : {m z : ℤ} {B : ℕ} → Carried m z B → B < 2 ^ 63 → SFits w64 m
@@ -84,13 +75,6 @@ module _ {m z m′ z′ : ℤ} {B B′ : ℕ} (h : Carried m z B) (k : Carried m
   pub mul : Carried (m *ℤ m′) (z *ℤ z′) (B * B′)
   mul = record { same = λ i. h .same i *ℤ k .same i; within = mul-within z z′ (h .within) (k .within) }
 
-  -- what a call of a function returned whose contract is by `minℤ` or `maxℤ`, with `of`
-  pub min : Carried (minℤ m m′) (minℤ z z′) (Nat.max B B′)
-  min = record { same = λ i. minℤ (h .same i) (k .same i); within = min-within z z′ (h .within) (k .within) }
-
-  pub max : Carried (maxℤ m m′) (maxℤ z z′) (Nat.max B B′)
-  max = record { same = λ i. maxℤ (h .same i) (k .same i); within = max-within z z′ (h .within) (k .within) }
-
   -- the outcome of a test, of the numbers themselves
   pub test-lt : {t : Bool} → ltZ m m′ ≡ t → ltZ z z′ ≡ t
   test-lt e = (λ i. ltZ (sym (h .same) i) (sym (k .same) i)) ∙ e
@@ -107,20 +91,9 @@ pub neg : {m z : ℤ} {B : ℕ} → Carried m z B → Carried (pos 0 -ℤ m) (ne
 neg {m} {z} {B} k = record { same = (λ i. pos 0 -ℤ k .same i) ∙ +ℤ-idl (negℤ z); within = subst (λ (n : ℕ). n ≤ B) (sym (abs-neg z)) (k .within) }
 
 -- ---- casts
--- to `i64` from a narrower signed type
-pub widens : {w : Width} {z : ℤ} → SFits w z → T (leb (hbits w) 63) → SFits w64 (toZ w (ofZ w z))
-widens f t = subst (SFits w64) (sym (toZ-ofZ f)) (sfits-widen t f)
-
-pub widened : {w : Width} {z : ℤ} → SFits w z → T (leb (hbits w) 63) → Carried (toZ w64 (ofZ w64 (toZ w (ofZ w z)))) z (natAbs z)
-widened {w} {z} f t = record { same = toZ-ofZ (widens f t) ∙ toZ-ofZ f; within = le-refl (natAbs z) }
-
 -- to `u64` of a number that is not negative
-module _ {m z : ℤ} {B : ℕ} (k : Carried m z B) (p : pos 0 ≤ℤ z) where
-  pub to-nat : B < 2 ^ 64 → T (nonNeg m) × Fits w64 (natAbs m)
-  to-nat t = (subst (λ (y : ℤ). T (nonNeg y)) (sym (k .same)) (yes-nonNeg p), record { fits = lt-of-le-of-lt (size k) t })
-
-  pub is-nat : pos (natAbs m) ≡ z
-  is-nat = subst (λ (y : ℤ). pos (natAbs y) ≡ z) (sym (k .same)) (pos-natAbs z (yes-nonNeg p))
+pub to-nat : {m z : ℤ} {B : ℕ} → Carried m z B → pos 0 ≤ℤ z → B < 2 ^ 64 → T (nonNeg m) × Fits w64 (natAbs m)
+to-nat k p t = (subst (λ (y : ℤ). T (nonNeg y)) (sym (k .same)) (yes-nonNeg p), record { fits = lt-of-le-of-lt (size k) t })
 
 -- the magnitude of what an `i64` holds
 pub abs-fits : {z : ℤ} → SFits w64 z → natAbs z < 2 ^ 64

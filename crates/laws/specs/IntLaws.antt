@@ -1,7 +1,7 @@
 -- Laws of the signed numbers ℤ, so that `omega` proves their linear arithmetic. `dif a b` is a − b for two naturals; every ℤ is one (`by₁` .. `by₄`),
 -- and the set `ints` takes a statement of ℤ over `dif`s to one of ℕ: `by₂ (λ a a′ b b′. simp ints (omega arith)) x y`. Assumes nothing.
 use mathlib.Core.Path.{_≡_, refl, sym, ap, subst}
-use mathlib.Core.Logic.{_↔_, _⊎_, inl, inr}
+use mathlib.Core.Logic.{_↔_}
 use mathlib.Core.Bool.{Bool, true, false, not, cond}
 use Prim.Native.Nat.{ℕ, zero, suc, _+_, _*_, _-_, _≤_, _<_, min, max}
 use native.Mathlib.Omega.{arith}
@@ -253,52 +253,9 @@ module _ (x y : ℤ) {A B : ℕ} (h : natAbs x ≤ A) (k : natAbs y ≤ B) where
   pub mul-within : natAbs (x *ℤ y) ≤ A * B
   mul-within = rw (abs-mul x y) (mul-le-mul h k)
 
-  pub min-within : natAbs (minℤ x y) ≤ max A B
-  min-within = by₂ (λ x y. natAbs x ≤ A → natAbs y ≤ B → natAbs (minℤ x y) ≤ max A B) (λ a a′ b b′. simp ints (omega arith)) x y h k
-
-  pub max-within : natAbs (maxℤ x y) ≤ max A B
-  max-within = by₂ (λ x y. natAbs x ≤ A → natAbs y ≤ B → natAbs (maxℤ x y) ≤ max A B) (λ a a′ b b′. simp ints (omega arith)) x y h k
-
 -- ---- the order
-pub ≤ℤ-trans : (x y z : ℤ) → x ≤ℤ y → y ≤ℤ z → x ≤ℤ z
-≤ℤ-trans = by₃ _ (λ a a′ b b′ c c′. simp ints (omega arith))
-
-pub <ℤ-≤ℤ : (x y : ℤ) → x <ℤ y → x ≤ℤ y
-<ℤ-≤ℤ = by₂ _ (λ a a′ b b′. simp ints (omega arith))
-
 pub ≤ℤ-antisym : (x y : ℤ) → x ≤ℤ y → y ≤ℤ x → x ≡ y
 ≤ℤ-antisym = by₂ _ (λ a a′ b b′. simp ints (omega arith))
-
-pub ≤ℤ-total : (x y : ℤ) → (x ≤ℤ y) ⊎ (y ≤ℤ x)
-≤ℤ-total x y = go (ltZ x y) refl
-  where
-    go : (t : Bool) → ltZ x y ≡ t → (x ≤ℤ y) ⊎ (y ≤ℤ x)
-    go true e = inl (<ℤ-≤ℤ x y (lt-true x y e))
-    go false e = inr (lt-false x y e)
-
-pub +-mono : (x y z w : ℤ) → x ≤ℤ y → z ≤ℤ w → (x +ℤ z) ≤ℤ (y +ℤ w)
-+-mono = by₄ _ (λ a a′ b b′ c c′ d d′. simp ints (omega arith))
-
-pub neg-anti : (x y : ℤ) → x ≤ℤ y → negℤ y ≤ℤ negℤ x
-neg-anti = by₂ _ (λ a a′ b b′. simp ints (omega arith))
-
-pub min-l : (x y : ℤ) → minℤ x y ≤ℤ x
-min-l = by₂ _ (λ a a′ b b′. simp ints (omega arith))
-
-pub min-r : (x y : ℤ) → minℤ x y ≤ℤ y
-min-r = by₂ _ (λ a a′ b b′. simp ints (omega arith))
-
-pub min-glb : (x y z : ℤ) → z ≤ℤ x → z ≤ℤ y → z ≤ℤ minℤ x y
-min-glb = by₃ _ (λ a a′ b b′ c c′. simp ints (omega arith))
-
-pub max-l : (x y : ℤ) → x ≤ℤ maxℤ x y
-max-l = by₂ _ (λ a a′ b b′. simp ints (omega arith))
-
-pub max-r : (x y : ℤ) → y ≤ℤ maxℤ x y
-max-r = by₂ _ (λ a a′ b b′. simp ints (omega arith))
-
-pub min-comm : (x y : ℤ) → minℤ x y ≡ minℤ y x
-min-comm = by₂ _ (λ a a′ b b′. simp ints (omega arith))
 
 pub min-max-neg : (x y : ℤ) → negℤ (minℤ x y) ≡ maxℤ (negℤ x) (negℤ y)
 min-max-neg = by₂ _ (λ a a′ b b′. simp ints (omega arith))
@@ -306,9 +263,6 @@ min-max-neg = by₂ _ (λ a a′ b b′. simp ints (omega arith))
 -- ---- the ring
 pub *-distrib-+ : (x y z : ℤ) → x *ℤ (y +ℤ z) ≡ x *ℤ y +ℤ x *ℤ z
 *-distrib-+ = by₃ _ (λ a a′ b b′ c c′. simp ints (omega arith))
-
-pub *-distrib-- : (x y z : ℤ) → x *ℤ (y -ℤ z) ≡ x *ℤ y -ℤ x *ℤ z
-*-distrib-- = by₃ _ (λ a a′ b b′ c c′. simp ints (omega arith))
 
 pub *-assoc : (x y z : ℤ) → (x *ℤ y) *ℤ z ≡ x *ℤ (y *ℤ z)
 *-assoc = by₃ _ (λ a a′ b b′ c c′. simp ints (omega arith))

@@ -49,9 +49,6 @@ unfolding Σℕ
 pub Σℤ-step : (n : ℕ) (f : ℕ → ℤ) {s r x : ℤ} → s ≡ Σℤ n f → r ≡ s +ℤ x → x ≡ f n → r ≡ Σℤ (n + 1) f
 Σℤ-step n f e k l = k ∙ (λ i. e i +ℤ l i) ∙ sym (Σℤ-more n f)
 
-pub Σℕ-step : (n : ℕ) (f : ℕ → ℕ) {s r x : ℕ} → s ≡ Σℕ n f → r ≡ s + x → x ≡ f n → r ≡ Σℕ (n + 1) f
-Σℕ-step n f e k l = k ∙ (λ i. e i + l i) ∙ sym (Σℕ-more n f)
-
 -- ---- the terms that count
 pub Σℤ-ext : (n : ℕ) (f g : ℕ → ℤ) → ((j : ℕ) → j < n → f j ≡ g j) → Σℤ n f ≡ Σℤ n g
 unfolding Σℤ

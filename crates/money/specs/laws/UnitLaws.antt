@@ -60,10 +60,6 @@ pub quantities-all : (qs : List Quantity) → ((k : ℕ) → k < intervals → q
 unfolding quantitiesOk
 quantities-all qs h = every-yes intervals (λ k. quantityOk (getD qs k noQuantity)) h
 
-pub within-every : (qs : List Quantity) (last : ℕ) → withinOk qs last ≡ every intervals (λ k. leb (quantityAt qs k) last)
-unfolding withinOk
-within-every qs last = refl
-
 pub within-at : (qs : List Quantity) (last : ℕ) → withinOk qs last ≡ true → (k : ℕ) → k < intervals → quantityAt qs k ≤ last
 unfolding withinOk
 within-at qs last w k l = leb-true _ _ (every-at intervals (λ k. leb (quantityAt qs k) last) w k l)
