@@ -7,7 +7,7 @@ use lib.IntN.{ℤ, pos, _+ℤ_}
 use lib.ListN.{length}
 use Rattle.laws.specs.Sums.{Σℤ, every}
 use Rattle.money.specs.Refusals.{noSuchKey, priceMissing}
-use Rattle.money.specs.Units.{dayHours, intervals}
+use Rattle.money.specs.Units.{dayHours, intervals, ticksPerCent}
 use Rattle.book.specs.Layer.{Key, Rec, Mark, Pr, Im, Ex, HourPrices, emptyName, same, atHour, Quantity, pricesOf, exportOf, quantityAt, rowOf, offset, offsetEntry, creditTicks, unitTicks, startCents, reversal, chargeTicks}
 use Rattle.book.specs.declared.answers.NamedAmount.{NamedAmount}
 use Rattle.book.specs.ByName.{byName}
@@ -71,7 +71,7 @@ guaranteesOf rs price h = guaranteesAt (price h) (byName (hourKey Im h) rs) (byN
 abbrev pub hourTicks : Pick → HourPricing → ℤ
 hourTicks nil q = pos 0
 hourTicks (is r) unpriced = pos 0
-hourTicks (is r) (priced p) = unitTicks r p +ℤ pos (startCents r * 120)
+hourTicks (is r) (priced p) = unitTicks r p +ℤ pos (startCents r * ticksPerCent)
 
 abbrev pub absent : Pick → Bool
 absent (is r) = false

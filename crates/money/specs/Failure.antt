@@ -7,7 +7,7 @@ use Rattle.money.specs.Refusals.{numberOutside}
 use Rattle.money.specs.declared.units.Price.{Price}
 use Rattle.money.specs.declared.units.Answer.{Answer}
 use Rattle.money.specs.declared.failure.Failure.{Failure}
-use Rattle.money.specs.Units.{priceOk, quantityOk, unless, answer}
+use Rattle.money.specs.Units.{intervals, priceOk, quantityOk, unless, answer}
 
 -- "day-ahead quantity, pre-dispatch quantity, DA price, PD price"
 abbrev pub dayAheadQuantity : Failure → ℕ
@@ -26,9 +26,9 @@ preDispatchPrice f = f .«pre_dispatch_price» .0
 abbrev pub dev : Failure → ℕ
 dev f = dayAheadQuantity f - preDispatchQuantity f
 
--- the lesser of two differences, none below 0, "× dev × 12 ticks"
+-- the lesser of two differences, none below 0, "× dev × 12 ticks", over the intervals of an hour
 unfoldable pub charge : ℤ → ℤ → ℕ → ℤ
-charge x y n = minℤ (maxℤ (pos 0) x) (maxℤ (pos 0) y) *ℤ pos n *ℤ pos 12
+charge x y n = minℤ (maxℤ (pos 0) x) (maxℤ (pos 0) y) *ℤ pos n *ℤ pos intervals
 
 -- "Import: min(max(0, PD market price - DA offer), max(0, PD offer - DA offer)) × dev × 12 ticks"
 abbrev pub importCharge : Failure → Price → ℤ

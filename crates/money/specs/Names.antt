@@ -30,9 +30,16 @@ sameBytes (x ∷ xs) (y ∷ ys) = eqb x y && sameBytes xs ys
 unfoldable pub sameName : Name → Name → Bool
 sameName a b = sameBytes (decodedBytes a) (decodedBytes b)
 
+-- "each 0x21 to 0x7E": the first and the last visible byte
+abbrev pub firstVisible : ℕ
+firstVisible = 33
+
+abbrev pub lastVisible : ℕ
+lastVisible = 126
+
 -- "Decoded .., 1 to 12 bytes, each 0x21 to 0x7E"
 abbrev pub nameByteOk : ℕ → Bool
-nameByteOk b = leb 33 b && leb b 126
+nameByteOk b = leb firstVisible b && leb b lastVisible
 
 unfoldable pub nameOk : Name → Bool
 nameOk a = (leb 1 (a .len) && leb (a .len) maxName) && every (a .len) (λ i. nameByteOk (getD (a .bytes) i 0))

@@ -18,7 +18,7 @@ use Rattle.money.specs.declared.production.Reserve.{Reserve}
 use Rattle.money.specs.declared.production.UnitHour.{UnitHour}
 use Rattle.money.specs.declared.production.DayAnswer.{DayAnswer}
 use Rattle.money.specs.declared.production.DayAnswer.the-variants.{Day, Refused}
-use Rattle.money.specs.Units.{intervals, dayHours, priceAt, quantityAt, pricesOk, quantitiesOk, withinOk, maxCents, unless, answer}
+use Rattle.money.specs.Units.{intervals, dayHours, ticksPerCent, noloadTicks, maxCents, priceAt, quantityAt, pricesOk, quantitiesOk, withinOk, unless, answer}
 use Rattle.money.specs.Offers.{lastQ, offerFault, cost}
 use Rattle.money.specs.Guarantee.{profit}
 
@@ -28,7 +28,7 @@ delivered d r a = min d (min r a)
 
 -- "C1 = DA(m) - EMP × m, plus speed no-load (cents per hour) × 10 ticks where m > 0"
 unfoldable pub shortfall : Offer → ℤ → ℕ → ℕ → ℤ
-shortfall da emp noload m = cost da m -ℤ emp *ℤ pos m +ℤ cond (ltb 0 m) (pos (noload * 10)) (pos 0)
+shortfall da emp noload m = cost da m -ℤ emp *ℤ pos m +ℤ cond (ltb 0 m) (pos (noload * noloadTicks)) (pos 0)
 
 abbrev pub component1 : Offer → ℤ → ℕ → ℕ → ℕ → ℕ → ℤ
 component1 da emp noload d r a = shortfall da emp noload (delivered d r a)
@@ -160,7 +160,7 @@ noStart = record { 0 = 0 }
 
 -- "Day total of a unit = C1 + C2 - C3 - C4 over all its intervals, plus its start-up amounts (120 ticks a cent)": an hour's part
 abbrev pub hourPart : List Ticks → List CentsPerStart → ℕ → ℤ
-hourPart ts ss i = getD ts i noTicks .0 +ℤ pos (getD ss i noStart .0 * 120)
+hourPart ts ss i = getD ts i noTicks .0 +ℤ pos (getD ss i noStart .0 * ticksPerCent)
 
 unfoldable pub daySum : List Ticks → List CentsPerStart → ℤ
 daySum ts ss = Σℤ dayHours (hourPart ts ss)

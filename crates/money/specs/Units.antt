@@ -53,6 +53,14 @@ priceRead c = cond (priceOk (record { 0 = c })) (priceRead-variants.Good (record
 abbrev pub quantityRead : ℕ → QuantityRead
 quantityRead n = cond (quantityOk (record { 0 = n })) (quantityRead-variants.Good (record { 0 = n })) (quantityRead-variants.Refused numberOutside)
 
+-- "Money: ticks of 1/120 cent, signed"
+abbrev pub ticksPerCent : ℕ
+ticksPerCent = 120
+
+-- "speed no-load (cents per hour) × 10 ticks": a cent per hour, for one interval
+abbrev pub noloadTicks : ℕ
+noloadTicks = 10
+
 -- start-up and speed no-load cents are "each at most 100,000,000"
 abbrev pub maxCents : ℕ
 maxCents = 100000000
@@ -98,7 +106,7 @@ abbrev pub answer : ℕ → ℤ → Answer
 answer zero x = Amount (record { 0 = x })
 answer (suc f) x = Refused (suc f)
 
--- "dollars with two decimals, rounded half away from zero": 120 ticks are a cent
+-- "dollars with two decimals, rounded half away from zero"
 unfoldable pub centsOf : ℤ → ℤ
-centsOf (pos n) = pos ((n + 60) / 120)
-centsOf (negsuc n) = negℤ (pos ((suc n + 60) / 120))
+centsOf (pos n) = pos ((n + ticksPerCent / 2) / ticksPerCent)
+centsOf (negsuc n) = negℤ (pos ((suc n + ticksPerCent / 2) / ticksPerCent))

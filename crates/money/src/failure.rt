@@ -9,7 +9,7 @@ ghost use mathlib.Core.Path.{_≡_};
 ghost use Prim.Native.Nat.{_≤_, _-_};
 ghost use lib.IntN.{ℤ, pos, natAbs, _-ℤ_, _*ℤ_};
 ghost use Rattle.laws.specs.Ints.{minℤ, maxℤ};
-ghost use Rattle.money.specs.Units.{maxGap};
+ghost use Rattle.money.specs.Units.{intervals, maxGap};
 ghost use Rattle.money.specs.Failure.{dev, failureOk, importChargeAnswer, exportChargeAnswer};
 
 // A failed import or export of an hour: the quantities scheduled, and the prices offered or bid, day-ahead and in pre-dispatch.
@@ -43,7 +43,7 @@ fn gap(high: Price, low: Price) -> PriceGap
 // The lesser of two gaps, for a quantity over a whole hour.
 fn charge_of(a: PriceGap, b: PriceGap, dev: Quantity) -> Ticks
     requires { ⌜ natAbs (a .0) ≤ maxGap ⌝ ∗ ⌜ natAbs (b .0) ≤ maxGap ⌝ ∗ ⌜ dev .0 ≤ 100000 ⌝ }
-    ensures { λ r. ⌜ r .0 ≡ minℤ (a .0) (b .0) *ℤ pos (dev .0) *ℤ pos 12 ⌝ }
+    ensures { λ r. ⌜ r .0 ≡ minℤ (a .0) (b .0) *ℤ pos (dev .0) *ℤ pos intervals ⌝ }
 {
     a.lesser(b).for_an_hour(dev)
 }

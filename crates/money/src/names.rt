@@ -1,10 +1,15 @@
 // Decoded names: their rule and their order.
 ghost use mathlib.Core.Path.{_≡_};
 ghost use Prim.Native.Nat.{min};
-ghost use Rattle.money.specs.Names.{decodedBytes, nameBefore, sameName, nameByteOk, nameOk};
+ghost use Rattle.money.specs.Names.{maxName, decodedBytes, nameBefore, sameName, nameByteOk, nameOk};
 
 // Bytes of a decoded name, at most.
 pub const NAME_MAX: usize = 12;
+
+// The first and the last visible byte.
+const FIRST_VISIBLE: u8 = 0x21;
+
+const LAST_VISIBLE: u8 = 0x7E;
 
 // A decoded name: its length, and places for twelve bytes.
 pub struct Name {
@@ -14,12 +19,13 @@ pub struct Name {
 
 // The number of places that a name uses.
 fn used(a: Name) -> usize
-    ensures { λ r. ⌜ r ≡ min (a .len) 12 ⌝ }
+    ensures { λ r. ⌜ r ≡ min (a .len) maxName ⌝ }
 {
-    if 12 < a.len {
-        return 12;
+    let n = a.len as usize;
+    if NAME_MAX < n {
+        return NAME_MAX;
     }
-    a.len as usize
+    n
 }
 
 // Byte order, a prefix first.
@@ -72,20 +78,20 @@ pub fn same_name(a: Name, b: Name) -> bool
 fn byte_ok(b: u8) -> bool
     ensures { λ r. ⌜ r ≡ nameByteOk b ⌝ }
 {
-    33 <= b && b <= 126
+    FIRST_VISIBLE <= b && b <= LAST_VISIBLE
 }
 
 // 1 to 12 bytes, each 0x21 to 0x7E.
 pub fn name_ok(a: Name) -> bool
     ensures { λ r. ⌜ r ≡ nameOk a ⌝ }
 {
-    if a.len < 1 {
-        return false;
-    }
-    if 12 < a.len {
-        return false;
-    }
     let n = a.len as usize;
+    if n < 1 {
+        return false;
+    }
+    if NAME_MAX < n {
+        return false;
+    }
     let mut i: usize = 0;
     while i < n {
         let b = a.bytes[i];

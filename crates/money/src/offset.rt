@@ -4,6 +4,7 @@ use crate::imports::IMPORTS_MAX;
 use crate::imports::Import;
 use crate::imports::list_fault;
 use crate::imports::up_to;
+use crate::names::NAME_MAX;
 use crate::names::Name;
 use crate::offers::Offer;
 use crate::offers::PAIRS_MAX;
@@ -213,7 +214,7 @@ pub(crate) fn start(prices: [Price; INTERVALS], totals: [Quantity; INTERVALS]) -
     };
     let name = Name {
         len: 0,
-        bytes: [0; 12],
+        bytes: [0; NAME_MAX],
     };
     let none = Import {
         name: name,

@@ -1,10 +1,10 @@
 // Prices, quantities and money, each a type of its own, and what a call answers.
 use crate::refusals::NUMBER_OUTSIDE;
 ghost use mathlib.Core.Path.{_≡_};
-ghost use Prim.Native.Nat.{_<_, _≤_, _+_, _-_, _*_, min, max};
+ghost use Prim.Native.Nat.{_<_, _≤_, _+_, _-_, _*_, _^_, min, max};
 ghost use lib.IntN.{ℤ, pos, negℤ, natAbs, _+ℤ_, _-ℤ_, _*ℤ_};
 ghost use Rattle.laws.specs.Ints.{minℤ};
-ghost use Rattle.money.specs.Units.{maxGap, priceOk, quantityOk, priceRead, quantityRead, pricesOk, quantitiesOk, withinOk, sameℤ, centsOf};
+ghost use Rattle.money.specs.Units.{intervals, maxGap, ticksPerCent, noloadTicks, priceOk, quantityOk, priceRead, quantityRead, pricesOk, quantitiesOk, withinOk, sameℤ, centsOf};
 ghost use Rattle.money.specs.laws.UnitLaws.{Moderate};
 
 // The intervals of an hour.
@@ -12,6 +12,12 @@ pub const INTERVALS: usize = 12;
 
 // The hours of a trading day.
 pub const HOURS: usize = 24;
+
+// The ticks of a cent.
+pub const TICKS_PER_CENT: u64 = 120;
+
+// The ticks of a cent per hour in one interval.
+const NOLOAD_TICKS: i64 = 10;
 
 // Cents per MWh.
 pub struct Price(pub i32);
@@ -101,9 +107,9 @@ impl PriceGap {
     // This gap for a quantity over a whole hour, of twelve intervals.
     pub(crate) fn for_an_hour(self, q: Quantity) -> Ticks
         requires { ⌜ natAbs (self .0) ≤ maxGap ⌝ ∗ ⌜ q .0 ≤ 100000 ⌝ }
-        ensures { λ r. ⌜ r .0 ≡ self .0 *ℤ pos (q .0) *ℤ pos 12 ⌝ }
+        ensures { λ r. ⌜ r .0 ≡ self .0 *ℤ pos (q .0) *ℤ pos intervals ⌝ }
     {
-        Ticks((self.0 as i64) * (q.0 as i64) * 12)
+        Ticks((self.0 as i64) * (q.0 as i64) * (INTERVALS as i64))
     }
 }
 
@@ -157,22 +163,21 @@ impl Quantity {
 impl CentsPerStart {
     pub const MAX: CentsPerStart = CentsPerStart(100000000);
 
-    // 120 ticks a cent.
     pub fn ticks(self) -> Ticks
-        ensures { λ r. ⌜ r .0 ≡ pos (self .0 * 120) ⌝ }
+        ensures { λ r. ⌜ r .0 ≡ pos (self .0 * ticksPerCent) ⌝ }
     {
-        Ticks((self.0 as i64) * 120)
+        Ticks((self.0 as i64) * (TICKS_PER_CENT as i64))
     }
 }
 
 impl CentsPerHour {
     pub const MAX: CentsPerHour = CentsPerHour(100000000);
 
-    // A twelfth of the hour's: 10 ticks a cent.
+    // A twelfth of the hour's.
     pub fn an_interval(self) -> Ticks
-        ensures { λ r. ⌜ r .0 ≡ pos (self .0 * 10) ⌝ }
+        ensures { λ r. ⌜ r .0 ≡ pos (self .0 * noloadTicks) ⌝ }
     {
-        Ticks((self.0 as i64) * 10)
+        Ticks((self.0 as i64) * NOLOAD_TICKS)
     }
 }
 
@@ -215,7 +220,7 @@ impl Ticks {
     pub fn cents(self) -> Cents
         ensures { λ r. ⌜ r .0 ≡ centsOf (self .0) ⌝ }
     {
-        let whole = ((magnitude(self.0) + 60) / 120) as i64;
+        let whole = ((magnitude(self.0) + TICKS_PER_CENT / 2) / TICKS_PER_CENT) as i64;
         if self.0 < 0 {
             return Cents(-whole);
         }
@@ -225,7 +230,7 @@ impl Ticks {
 
 impl Cents {
     pub fn magnitude(self) -> u64
-        ensures { λ r. ⌜ r ≡ natAbs (self .0) ⌝ ∗ ⌜ r ≤ 9223372036854775808 ⌝ }
+        ensures { λ r. ⌜ r ≡ natAbs (self .0) ⌝ ∗ ⌜ r ≤ 2 ^ 63 ⌝ }
     {
         magnitude(self.0)
     }
@@ -233,7 +238,7 @@ impl Cents {
 
 // The size of a signed number, of the least one too, which has no negative.
 fn magnitude(n: i64) -> u64
-    ensures { λ r. ⌜ r ≡ natAbs n ⌝ ∗ ⌜ r ≤ 9223372036854775808 ⌝ }
+    ensures { λ r. ⌜ r ≡ natAbs n ⌝ ∗ ⌜ r ≤ 2 ^ 63 ⌝ }
 {
     if n < 0 {
         return (-1 - n) as u64 + 1;

@@ -12,7 +12,7 @@ use Rattle.laws.specs.SumLaws.{and-true}
 use Rattle.money.specs.declared.units.Price.{Price}
 use Rattle.money.specs.declared.units.Answer.the-variants.{Amount}
 use Rattle.money.specs.declared.failure.Failure.{Failure}
-use Rattle.money.specs.Units.{maxGap, priceOk, quantityOk, unless, answer}
+use Rattle.money.specs.Units.{intervals, maxGap, priceOk, quantityOk, unless, answer}
 use Rattle.money.specs.laws.UnitLaws.{price-in}
 use Rattle.money.specs.Failure.{dayAheadQuantity, preDispatchQuantity, dayAheadPrice, preDispatchPrice, dev, charge, importCharge, exportCharge, failureOk, importChargeAnswer, exportChargeAnswer}
 
@@ -73,9 +73,9 @@ lesser-size a b h k e = rw e (least a b h k)
     least = by₂ _ (λ a a′ b b′. simp ints (omega arith))
 
 -- what the calls returned: two differences, a quantity, and the charge
-pub charge-is : (x y : ℤ) (n : ℕ) {a b r : ℤ} {m : ℕ} → a ≡ maxℤ (pos 0) x → b ≡ maxℤ (pos 0) y → m ≡ n → r ≡ minℤ a b *ℤ pos m *ℤ pos 12 → r ≡ charge x y n
+pub charge-is : (x y : ℤ) (n : ℕ) {a b r : ℤ} {m : ℕ} → a ≡ maxℤ (pos 0) x → b ≡ maxℤ (pos 0) y → m ≡ n → r ≡ minℤ a b *ℤ pos m *ℤ pos intervals → r ≡ charge x y n
 unfolding charge
-charge-is x y n e f k g = g ∙ (λ i. minℤ (e i) (f i) *ℤ pos (k i) *ℤ pos 12)
+charge-is x y n e f k g = g ∙ (λ i. minℤ (e i) (f i) *ℤ pos (k i) *ℤ pos intervals)
 
 -- dev as 01 writes it, over ℤ
 dev-dif : (n m : ℕ) → dif (n - m) 0 ≡ maxℤ (dif 0 0) (dif n 0 -ℤ dif m 0)

@@ -24,7 +24,7 @@ use Rattle.money.specs.declared.production.Pick.the-variants.{Lesser, Gr
 use Rattle.money.specs.declared.production.Reserve.{Reserve}
 use Rattle.money.specs.declared.production.UnitHour.{UnitHour}
 use Rattle.money.specs.declared.production.DayAnswer.the-variants.{Day}
-use Rattle.money.specs.Units.{intervals, dayHours, priceAt, pricesOk, quantitiesOk, withinOk, maxCents, unless, answer}
+use Rattle.money.specs.Units.{intervals, dayHours, ticksPerCent, noloadTicks, maxCents, priceAt, pricesOk, quantitiesOk, withinOk, unless, answer}
 use Rattle.money.specs.Offers.{maxPairs, before, lastQ, offerFault, cost}
 use Rattle.money.specs.Guarantee.{profit, profits}
 use Rattle.money.specs.Production.{component1, shortfall, component2, arranged, component3, congestion, reserveNet, component4, S, D, R, U, A, K, C1, C2, C3, C4, interval, hourAmount, reserveFault, reserveNumbersOk, reservesNumbersOk, numbersFine, withinFine, listsFault, unitFault, intervalFault, noTicks, noStart, hourPart, maxHour, daySum, amountOk, hoursOk, reversal, dayAnswer, hourAnswer}
@@ -40,7 +40,7 @@ pickOf Above x y = x - y
 
 -- an interval's speed no-load, where something is delivered
 abbrev pub running : ℕ → ℕ → ℤ
-running noload m = cond (ltb 0 m) (pos (noload * 10)) (pos 0)
+running noload m = cond (ltb 0 m) (pos (noload * noloadTicks)) (pos 0)
 
 -- a reserve that passed its checks: its list keeps the rule, or is empty
 pub record Usable (s : Reserve) : Type 0 where
@@ -111,13 +111,13 @@ module _ (o : Offer) (q : ℕ) (good : Good o) (within : q ≤ lastQ o) (p : ℤ
 pub running-none : (noload q : ℕ) → q < 1 → pos 0 ≡ running noload q
 running-none noload q h = rw (le-ltb 0 q (omega arith)) refl
 
-pub running-some : (noload q : ℕ) {t : ℤ} → 1 ≤ q → t ≡ pos (noload * 10) → t ≡ running noload q
+pub running-some : (noload q : ℕ) {t : ℤ} → 1 ≤ q → t ≡ pos (noload * noloadTicks) → t ≡ running noload q
 running-some noload q h e = e ∙ rw (lt-ltb 0 q (omega arith)) refl
 
 running-size : (noload q : ℕ) → noload ≤ 100000000 → natAbs (running noload q) ≤ 1000000000
 running-size noload q small = go (ltb 0 q)
   where
-    go : (t : Bool) → natAbs (cond t (pos (noload * 10)) (pos 0)) ≤ 1000000000
+    go : (t : Bool) → natAbs (cond t (pos (noload * noloadTicks)) (pos 0)) ≤ 1000000000
     go true = omega arith
     go false = omega arith
 
@@ -617,16 +617,16 @@ day-of ts ss e =
 
 module _ {ts : List Ticks} {ss : List CentsPerStart} (ready : DayReady ts ss) where
   part-size : (j : ℕ) → j < dayHours → natAbs (hourPart ts ss j) ≤ 100012000000000
-  part-size j l = add-within (getD ts j noTicks .0) (pos (getD ss j noStart .0 * 120)) {B = 12000000000} (ready .amounts j l) (omega (arith, ready .starts j l))
+  part-size j l = add-within (getD ts j noTicks .0) (pos (getD ss j noStart .0 * ticksPerCent)) {B = 12000000000} (ready .amounts j l) (omega (arith, ready .starts j l))
 
   pub day-room : {sum : ℤ} {i : ℕ} → Summed dayHours (hourPart ts ss) sum i → Moderate sum
   day-room {i = i} u = rw (u .so-far) (omega (arith, u .upto, Σℤ-within 100012000000000 i (hourPart ts ss) (λ j m. part-size j (omega (arith, u .upto)))))
 
-  pub start-room : (i : ℕ) → i < dayHours → {x : ℤ} → x ≡ pos (getD ss i noStart .0 * 120) → Moderate x
+  pub start-room : (i : ℕ) → i < dayHours → {x : ℤ} → x ≡ pos (getD ss i noStart .0 * ticksPerCent) → Moderate x
   start-room i l e = rw e (omega (arith, ready .starts i l))
 
   -- what the calls of a turn returned: the start-up's ticks, and the hour's part
-  module _ (i : ℕ) (l : i < dayHours) {x p : ℤ} (e : x ≡ pos (getD ss i noStart .0 * 120)) (f : p ≡ getD ts i noTicks .0 +ℤ x) where
+  module _ (i : ℕ) (l : i < dayHours) {x p : ℤ} (e : x ≡ pos (getD ss i noStart .0 * ticksPerCent)) (f : p ≡ getD ts i noTicks .0 +ℤ x) where
     pub part-is : p ≡ hourPart ts ss i
     part-is = f ∙ ap (λ (z : ℤ). getD ts i noTicks .0 +ℤ z) e
 

@@ -2,7 +2,7 @@
 use mathlib.Core.Path.{_≡_, refl, sym, ap, _∙_, subst}
 use mathlib.Core.Bool.{Bool, true, false, _&&_}
 use mathlib.Core.List.{List, [], _∷_, map}
-use Prim.Native.Nat.{ℕ, zero, suc, _+_, _-_, _*_, _/_, _≤_, _<_, zero-le}
+use Prim.Native.Nat.{ℕ, zero, suc, _+_, _-_, _*_, _/_, _^_, _≤_, _<_, zero-le}
 use native.Mathlib.Omega.{arith}
 use borrow.Author.Tests.{leb-true}
 use lib.Dec.{T, leb, ltb→lt}
@@ -21,7 +21,7 @@ use Rattle.laws.specs.SumLaws.{every-yes, every-at, and-true, last-or}
 use Rattle.money.specs.declared.units.Price.{Price}
 use Rattle.money.specs.declared.units.Quantity.{Quantity}
 use Rattle.money.specs.declared.units.Answer.the-variants.{Amount, Refused}
-use Rattle.money.specs.Units.{intervals, minPrice, maxPrice, noPrice, noQuantity, priceOk, quantityOk, priceAt, quantityAt, rowOf, pricesOk, quantitiesOk, withinOk, sameℤ, unless, answer, centsOf}
+use Rattle.money.specs.Units.{intervals, ticksPerCent, minPrice, maxPrice, noPrice, noQuantity, priceOk, quantityOk, priceAt, quantityAt, rowOf, pricesOk, quantitiesOk, withinOk, sameℤ, unless, answer, centsOf}
 
 -- an amount that any sum or difference of two such still holds in 64 bits
 abbrev pub Moderate : ℤ → Type 0
@@ -132,7 +132,7 @@ flip-abs = by₁ _ (λ a a′. simp (ints, dif-abs) (omega arith))
 pub flip-above : (x : ℤ) → x <ℤ pos 0 → pos 0 ≤ℤ (negsuc 0 -ℤ x)
 flip-above = by₁ _ (λ a a′. simp ints (omega arith))
 
-pub abs-most : (x : ℤ) → SFits w64 x → natAbs x ≤ 9223372036854775808
+pub abs-most : (x : ℤ) → SFits w64 x → natAbs x ≤ 2 ^ 63
 abs-most (pos n) f = omega (arith, f .sfits)
 abs-most (negsuc n) f = omega (arith, f .sfits)
 
@@ -140,12 +140,12 @@ pub flipped : {z : ℤ} → SFits w64 z → z <ℤ pos 0 → Carried (negsuc 0 -
 flipped {z} f l = record { same = ap (λ (y : ℤ). negsuc 0 -ℤ y) (toZ-ofZ f); within = omega (arith, flip-abs z l, abs-most z f) }
 
 -- ---- ticks to cents, by the test that code makes
-pub cents-below : (x : ℤ) → x <ℤ pos 0 → negℤ (pos ((natAbs x + 60) / 120)) ≡ centsOf x
+pub cents-below : (x : ℤ) → x <ℤ pos 0 → negℤ (pos ((natAbs x + ticksPerCent / 2) / ticksPerCent)) ≡ centsOf x
 unfolding centsOf
 cents-below (pos n) h = let l : n < 0 = ltb→lt n 0 (h .lt) in absurd (omega arith)
 cents-below (negsuc n) h = refl
 
-pub cents-above : (x : ℤ) → pos 0 ≤ℤ x → pos ((natAbs x + 60) / 120) ≡ centsOf x
+pub cents-above : (x : ℤ) → pos 0 ≤ℤ x → pos ((natAbs x + ticksPerCent / 2) / ticksPerCent) ≡ centsOf x
 unfolding centsOf
 cents-above (pos n) h = refl
 cents-above (negsuc n) h = absurd (h .le)
@@ -160,7 +160,7 @@ near a b h k = subst (λ (x : ℤ). natAbs x ≤ 60) (sym (λ i. pos-dif a i -�
 opposite : (x y : ℤ) → natAbs (negℤ x -ℤ negℤ y) ≡ natAbs (x -ℤ y)
 opposite = by₂ _ (λ a a′ b b′. simp (ints, dif-abs) (omega arith))
 
-pub cents-near : (t : ℤ) → natAbs (centsOf t *ℤ pos 120 -ℤ t) ≤ 60
+pub cents-near : (t : ℤ) → natAbs (centsOf t *ℤ pos ticksPerCent -ℤ t) ≤ ticksPerCent / 2
 unfolding centsOf
 cents-near (pos n) = near ((n + 60) / 120 * 120) n (omega arith) (omega arith)
 cents-near (negsuc n) = rw (neg-* (pos ((suc n + 60) / 120)) (pos 120), opposite (pos ((suc n + 60) / 120 * 120)) (pos (suc n)))

@@ -1,6 +1,7 @@
 use mathlib.Core.Path.{ap, _∙_}
 use lib.IntN.{ℤ, pos, _*ℤ_}
 use borrow.Author.Needs.{needs}
+use Rattle.money.specs.Units.{intervals}
 use Rattle.money.specs.laws.FailureLaws.{lesser-size}
 use Rattle.money.proofs.failure.charge_of.Statement.{statement}
 use Rattle.money.proofs.failure.charge_of.Tie as tie
@@ -16,7 +17,7 @@ for-an-hour-requires c κs = (
 )
 
 returns : tie.Need-returns
-returns c = (c .for-an-hour) .ensures ∙ ap (λ (z : ℤ). z *ℤ pos (c .before .before .args .dev .0) *ℤ pos 12) (c .before .lesser .ensures)
+returns c = (c .for-an-hour) .ensures ∙ ap (λ (z : ℤ). z *ℤ pos (c .before .before .args .dev .0) *ℤ pos intervals) (c .before .lesser .ensures)
 
 pub charge-of-spec : {M : Type 1} → statement M
 charge-of-spec = tie.close (tie.spec lesser-requires for-an-hour-requires returns)

@@ -14,6 +14,9 @@ Inv-loop a n i₀ i = Passed (a .len) (λ j. nameByteOk (getD (a .bytes) j 0)) i
 abbrev μ-loop : tie.MeasureT-loop
 μ-loop a n i₀ i = n - i
 
+cast-n : tie.Need-cast-n Inv-loop μ-loop
+cast-n c = search needs
+
 returns : tie.Need-returns Inv-loop μ-loop
 unfolding nameOk
 returns c = rw (lt-leb _ _ (c .if1 .taken))
@@ -21,9 +24,6 @@ returns c = rw (lt-leb _ _ (c .if1 .taken))
 returns-2 : tie.Need-returns-2 Inv-loop μ-loop
 unfolding nameOk
 returns-2 c = rw (le-leb _ _ (c .before .if1 .left), lt-leb _ _ (c .if2 .taken))
-
-cast-n : tie.Need-cast-n Inv-loop μ-loop
-cast-n c = search needs
 
 loop-holds : tie.Need-loop-holds Inv-loop μ-loop
 loop-holds c = passed-none _ _
@@ -73,9 +73,9 @@ name-ok-spec =
     (tie.spec
     Inv-loop
     μ-loop
+    cast-n
     returns
     returns-2
-    cast-n
     loop-holds
     element-copy-out-b
     byte-ok-requires

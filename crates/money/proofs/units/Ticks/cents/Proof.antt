@@ -21,8 +21,8 @@ add-whole c = record { fits = omega (arith, (c .magnitude) .ensures .1) }
 cast-whole : tie.Need-cast-whole
 cast-whole c = search needs
 
-sub-t7 : tie.Need-sub-t7
-sub-t7 c =
+sub-t8 : tie.Need-sub-t8
+sub-t8 c =
     let c3 = c .before .before .before in
     fits (neg (u32 ((c3 .magnitude .result + 60) / 120) 100000000000000000)) (omega (arith, (c3 .magnitude) .ensures .1))
 
@@ -41,4 +41,4 @@ returns-2 c =
     (omega (arith, (c .before .before .before .magnitude) .ensures .1)) ∙ rw (c .before .before .before .magnitude .ensures .0, h.plain f .same) (cents-above _ l)
 
 pub cents-spec : {M : Type 1} → statement M
-cents-spec = tie.close (tie.spec magnitude-requires add-whole cast-whole sub-t7 returns returns-2)
+cents-spec = tie.close (tie.spec magnitude-requires add-whole cast-whole sub-t8 returns returns-2)
