@@ -71,11 +71,11 @@ entryFault ps e = unless (nameOk (e .name)) nameFault
 unfoldable pub freshName : List Import → ℕ → Bool
 freshName es i = every i (λ j. not (sameName (entry es i .name) (entry es j .name)))
 
-unfoldable pub faultAt : List Price → List Import → ℕ → ℕ
-faultAt ps es i = orElse (entryFault ps (entry es i)) (unless (freshName es i) keyStands 0)
+unfoldable pub nthFault : List Price → List Import → ℕ → ℕ
+nthFault ps es i = orElse (entryFault ps (entry es i)) (unless (freshName es i) keyStands 0)
 
 unfoldable pub entriesFault : ℕ → List Price → List Import → ℕ
-entriesFault n ps es = firstOf n (faultAt ps es)
+entriesFault n ps es = firstOf n (nthFault ps es)
 
 -- "12 export totals (each at most 1,600,000)"
 abbrev pub maxTotal : ℕ

@@ -19,7 +19,7 @@ use crate::units::quantities_ok;
 use crate::units::within_ok;
 ghost use mathlib.Core.Path.{_≡_};
 ghost use Prim.Native.Nat.{_<_, _≤_};
-ghost use Rattle.money.specs.Offset.{maxImports, precedes, upTo, entryFault, freshName, faultAt, entriesFault};
+ghost use Rattle.money.specs.Offset.{maxImports, precedes, upTo, entryFault, freshName, nthFault, entriesFault};
 ghost use Rattle.money.specs.laws.UnitLaws.{Rates};
 
 // The number of imports that an hour may have.
@@ -109,9 +109,10 @@ fn fresh(entries: [Import; IMPORTS_MAX], i: usize) -> bool
     true
 }
 
-fn fault_at(entries: [Import; IMPORTS_MAX], prices: [Price; INTERVALS], i: usize) -> u8
+// What is wrong with entry i in its list: its number, or 0.
+fn nth_fault(entries: [Import; IMPORTS_MAX], prices: [Price; INTERVALS], i: usize) -> u8
     requires { ⌜ Rates prices ⌝ ∗ ⌜ i < maxImports ⌝ }
-    ensures { λ r. ⌜ r ≡ faultAt prices entries i ⌝ }
+    ensures { λ r. ⌜ r ≡ nthFault prices entries i ⌝ }
 {
     let e = entries[i];
     let f = entry_fault(e, prices);
@@ -125,13 +126,13 @@ fn fault_at(entries: [Import; IMPORTS_MAX], prices: [Price; INTERVALS], i: usize
 }
 
 // The first fault of the first n entries.
-pub(crate) fn list_fault(n: usize, entries: [Import; IMPORTS_MAX], prices: [Price; INTERVALS]) -> u8
+pub(crate) fn entries_fault(n: usize, entries: [Import; IMPORTS_MAX], prices: [Price; INTERVALS]) -> u8
     requires { ⌜ n ≤ maxImports ⌝ ∗ ⌜ Rates prices ⌝ }
     ensures { λ r. ⌜ r ≡ entriesFault n prices entries ⌝ }
 {
     let mut i: usize = 0;
     while i < n {
-        let f = fault_at(entries, prices, i);
+        let f = nth_fault(entries, prices, i);
         if f != 0 {
             return f;
         }

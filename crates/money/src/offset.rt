@@ -2,7 +2,7 @@
 use crate::guarantee::credit_of;
 use crate::imports::IMPORTS_MAX;
 use crate::imports::Import;
-use crate::imports::list_fault;
+use crate::imports::entries_fault;
 use crate::imports::up_to;
 use crate::names::NAME_MAX;
 use crate::names::Name;
@@ -189,7 +189,7 @@ pub fn offset_core(
     if !rates_ok(prices, totals) {
         return Answer::Refused(NUMBER_OUTSIDE);
     }
-    let f = list_fault(n, entries, prices);
+    let f = entries_fault(n, entries, prices);
     if f != 0 {
         return Answer::Refused(f);
     }

@@ -13,7 +13,7 @@ use Rattle.money.specs.Units.{rowOf, pricesOk, quantitiesOk, withinOk, centsOf}
 use Rattle.money.specs.Offers.{numbersOk, orderOk, offerFault, fullPairs, cost, costAnswer}
 use Rattle.money.specs.Guarantee.{profits, creditAnswer}
 use Rattle.money.specs.Names.{nameBefore, sameBytes, sameName, nameOk}
-use Rattle.money.specs.Offset.{precedes, upTo, counted, offset, entryFault, freshName, faultAt, entriesFault, ratesOk, offsetAnswer}
+use Rattle.money.specs.Offset.{precedes, upTo, counted, offset, entryFault, freshName, nthFault, entriesFault, ratesOk, offsetAnswer}
 use Rattle.money.specs.Production.{shortfall, arranged, congestion, component4, C1, C2, C3, C4, interval, hourAmount, reserveFault, reservesNumbersOk, numbersFine, withinFine, listsFault, unitFault, intervalFault}
 use Rattle.money.specs.Failure.{charge, failureOk}
 use Rattle.money.specs.laws.Examples as money
@@ -152,7 +152,7 @@ unfolding outputBy refusalLine settled fed firstRecord called run refusal stands
     hoursTo hourOf eachUnit unitOf textOf lineBytes whenBytes twoDigits kindBytes lineName spell spellByte unreserved digit figure sign dollars number decimal
     digits centsOf placeOf guaranteesOf byName inOrder priceOf pick chargesOf unitDayOf dayTotal atHour namesOf addName exported creditTicks unitTicks
     chargeTicks rowOf offset precedes upTo counted sameName sameBytes nameBefore profits cost fullPairs Σℤ Σℕ minℤ maxℤ every costAnswer offerFault numbersOk
-    orderOk creditAnswer pricesOk quantitiesOk withinOk offsetAnswer ratesOk entriesFault faultAt freshName entryFault nameOk firstOf shortfall arranged
+    orderOk creditAnswer pricesOk quantitiesOk withinOk offsetAnswer ratesOk entriesFault nthFault freshName entryFault nameOk firstOf shortfall arranged
     congestion component4 C1 C2 C3 C4 interval hourAmount reserveFault reservesNumbersOk numbersFine withinFine listsFault unitFault intervalFault charge
     failureOk
 examples = refl

@@ -19,7 +19,7 @@ use Rattle.money.specs.declared.units.Quantity.{Quantity}
 use Rattle.money.specs.declared.imports.Import.{Import}
 use Rattle.money.specs.Units.{quantityAt, unless}
 use Rattle.money.specs.Names.{decodedBytes, nameBefore, sameName}
-use Rattle.money.specs.Offset.{entry, mqsi, precedes, upTo, counted, adj, entryFault, freshName, faultAt, entriesFault}
+use Rattle.money.specs.Offset.{entry, mqsi, precedes, upTo, counted, adj, entryFault, freshName, nthFault, entriesFault}
 use Rattle.money.specs.laws.UnitLaws.{passes, neither}
 use Rattle.money.specs.laws.NameLaws.{name-trans, name-tri, name-self, same-of, same-names}
 
@@ -244,13 +244,13 @@ module _ (n : ℕ) (es : List Import) (d : Distinct n es) where
 
 -- a list that is not refused has distinct names
 pub distinct-of : (n : ℕ) (ps : List Price) (es : List Import) → entriesFault n ps es ≡ 0 → Distinct n es
-unfolding entriesFault faultAt freshName
+unfolding entriesFault nthFault freshName
 distinct-of n ps es h = record { differ = λ i j hi hj e. by i j hi hj e (decLt i j) (decLt j i) }
   where
     fresh : (i j : ℕ) → i < n → j < i → sameName (entry es i .name) (entry es j .name) ≡ true → ⊥
     fresh i j hi l e =
         let f = every-at i (λ j. not (sameName (entry es i .name) (entry es j .name)))
-        (passes (freshName es i) 9 0 (neither (entryFault ps (entry es i)) (unless (freshName es i) 10 0) (firstOf-zero n (faultAt ps es) h i hi) .1) .0) j
+        (passes (freshName es i) 9 0 (neither (entryFault ps (entry es i)) (unless (freshName es i) 10 0) (firstOf-zero n (nthFault ps es) h i hi) .1) .0) j
         l in
         never (sym f ∙ ap (λ (b : Bool). not b) e)
 

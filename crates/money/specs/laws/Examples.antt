@@ -21,7 +21,7 @@ use Rattle.money.specs.Units.{intervals, pricesOk, quantitiesOk, withinO
 use Rattle.money.specs.Offers.{numbersOk, orderOk, offerFault, fullPairs, cost, costAnswer}
 use Rattle.money.specs.Guarantee.{profits, creditAnswer}
 use Rattle.money.specs.Names.{nameBefore, sameBytes, sameName, nameOk}
-use Rattle.money.specs.Offset.{precedes, upTo, counted, offset, entryFault, freshName, faultAt, entriesFault, ratesOk, offsetAnswer}
+use Rattle.money.specs.Offset.{precedes, upTo, counted, offset, entryFault, freshName, nthFault, entriesFault, ratesOk, offsetAnswer}
 use Rattle.money.specs.Production.{shortfall, arranged, congestion, component4, C1, C2, C3, C4, interval, hourAmount, reserveFault, reservesNumbersOk, numbersFine, withinFine, listsFault, unitFault, intervalFault, component1Answer, component2Answer, component3Answer, component4Answer, hourAnswer}
 use Rattle.money.specs.Failure.{charge, failureOk, importChargeAnswer, exportChargeAnswer}
 
@@ -181,6 +181,6 @@ cases =
 
 pub examples : all cases ≡ true
 unfolding costAnswer offerFault numbersOk orderOk every cost fullPairs Σℤ Σℕ creditAnswer pricesOk quantitiesOk withinOk profits minℤ maxℤ offsetAnswer ratesOk
-    entriesFault faultAt freshName entryFault nameOk firstOf offset counted upTo precedes sameName sameBytes nameBefore centsOf shortfall arranged congestion
+    entriesFault nthFault freshName entryFault nameOk firstOf offset counted upTo precedes sameName sameBytes nameBefore centsOf shortfall arranged congestion
     component4 C1 C2 C3 C4 interval hourAmount reserveFault reservesNumbersOk numbersFine withinFine listsFault unitFault intervalFault charge failureOk
 examples = refl

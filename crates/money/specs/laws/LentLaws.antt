@@ -20,7 +20,7 @@ use Rattle.money.specs.declared.offset.Taken.{Taken}
 use Rattle.money.specs.Units.{intervals, quantityAt, unless, answer}
 use Rattle.money.specs.Guarantee.{credit}
 use Rattle.money.specs.Names.{sameName}
-use Rattle.money.specs.Offset.{maxImports, noImport, entry, mqsi, counted, adj, offset, entryFault, freshName, faultAt, entriesFault, ratesOk, offsetAnswer}
+use Rattle.money.specs.Offset.{maxImports, noImport, entry, mqsi, counted, adj, offset, entryFault, freshName, nthFault, entriesFault, ratesOk, offsetAnswer}
 use Rattle.money.specs.laws.GuaranteeLaws.{credit-ext}
 use Rattle.money.specs.Offers.{maxPairs}
 
@@ -40,8 +40,8 @@ module _ (n : ℕ) (es es′ : List Import) (same : (i : ℕ) → i < n → entr
       (λ i l. ap (λ (e : Import). credit (e .offer) ps (adj n es ts i)) (same i l) ∙ credit-ext (entry es′ i .offer) ps _ _ (λ k m. adj-front i l k)) in
       (λ x. a x -ℤ b x)
 
-  fault-front : (i : ℕ) → i < n → faultAt ps es i ≡ faultAt ps es′ i
-  unfolding faultAt freshName
+  fault-front : (i : ℕ) → i < n → nthFault ps es i ≡ nthFault ps es′ i
+  unfolding nthFault freshName
   fault-front i l =
       let f = every-ext i (λ j. not (sameName (entry es i .name) (entry es j .name))) (λ j. not (sameName (entry es′ i .name) (entry es′ j .name)))
       (λ j h. (λ x. not (sameName (same i l x .name) (same j (omega arith) x .name)))) in
@@ -50,7 +50,7 @@ module _ (n : ℕ) (es es′ : List Import) (same : (i : ℕ) → i < n → entr
   pub answer-front : offsetAnswer n es ps ts ≡ offsetAnswer n es′ ps ts
   unfolding offsetAnswer entriesFault
   answer-front =
-      let f = firstOf-ext n (faultAt ps es) (faultAt ps es′) fault-front in
+      let f = firstOf-ext n (nthFault ps es) (nthFault ps es′) fault-front in
       (λ x. cond (leb n maxImports) (cond (ratesOk ps ts) (answer (f x) (offset-front x)) (Refused 5)) (Refused 12))
 
 -- ---- what the functions that take the entries do

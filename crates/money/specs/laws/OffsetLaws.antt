@@ -18,7 +18,7 @@ use Rattle.money.specs.Units.{intervals, noPrice, noQuantity, quantityAt
 use Rattle.money.specs.Offers.{lastQ, offerFault}
 use Rattle.money.specs.Guarantee.{credit}
 use Rattle.money.specs.Names.{nameOk, sameName}
-use Rattle.money.specs.Offset.{maxTotal, maxImports, entry, mqsi, upTo, counted, reach, adj, offset, entryFault, freshName, faultAt, entriesFault, totalOk, totalsWith, rateOk, ratesOk, offsetAnswer}
+use Rattle.money.specs.Offset.{maxTotal, maxImports, entry, mqsi, upTo, counted, reach, adj, offset, entryFault, freshName, nthFault, entriesFault, totalOk, totalsWith, rateOk, ratesOk, offsetAnswer}
 use Rattle.money.specs.laws.UnitLaws.{Moderate, Fits, Rates, price-in, passes, neither, same-is, same-true, row-same}
 use Rattle.money.specs.laws.OfferLaws.{Good, last-size}
 use Rattle.money.specs.laws.GuaranteeLaws.{Ready, ready-of, credit-size, credit-ext}
@@ -124,8 +124,8 @@ sound-of ps e r h =
     record { good = y .good; within = y .within; small = rw (same-is (e .credit .0) (credit (e .offer) ps (mqsi e)) (f .0)) (credit-size _ _ _ y) }
 
 pub listed-of : (n : ℕ) (ps : List Price) (es : List Import) → n ≤ maxImports → Rates ps → entriesFault n ps es ≡ 0 → Listed n es
-unfolding entriesFault faultAt
-listed-of n ps es m r h = record { most = m; each = λ i l. sound-of ps (entry es i) r (neither _ _ (firstOf-zero n (faultAt ps es) h i l) .0) }
+unfolding entriesFault nthFault
+listed-of n ps es m r h = record { most = m; each = λ i l. sound-of ps (entry es i) r (neither _ _ (firstOf-zero n (nthFault ps es) h i l) .0) }
 
 pub rates-of : (ps : List Price) (ts : List Quantity) → ratesOk ps ts ≡ true → Rates ps
 unfolding ratesOk
@@ -158,10 +158,10 @@ pub offset-amount : (n : ℕ) (es : List Import) (ps : List Price) (ts : List Qu
     → ((i : ℕ) → i < n → entryFault ps (entry es i) ≡ 0)
     → ((i j : ℕ) → i < n → j < i → sameName (entry es i .name) (entry es j .name) ≡ false)
     → offsetAnswer n es ps ts ≡ Amount (record { 0 = offset n es ps ts })
-unfolding offsetAnswer entriesFault faultAt freshName
+unfolding offsetAnswer entriesFault nthFault freshName
 offset-amount n es ps ts m r h d =
     let fresh : (i : ℕ) → i < n → freshName es i ≡ true
     = λ i l. every-yes i (λ j. not (sameName (entry es i .name) (entry es j .name))) (λ j k. ap not (d i j l k)) in
     let none : entriesFault n ps es ≡ 0
-    = firstOf-none n (faultAt ps es) (λ i l. (λ x. orElse (h i l x) (unless (fresh i l x) 10 0))) in
+    = firstOf-none n (nthFault ps es) (λ i l. (λ x. orElse (h i l x) (unless (fresh i l x) 10 0))) in
     (λ x. cond (le-leb n maxImports m x) (cond (r x) (answer (none x) (offset n es ps ts)) (Refused 5)) (Refused 12))

@@ -20,8 +20,8 @@ returns-2 : tie.Need-returns-2
 unfolding offsetAnswer
 returns-2 c = rw (le-leb _ _ (c .before .before .if1 .left), sym (c .before .rates-ok .ensures) ∙ not-true _ (c .if2 .taken))
 
-list-fault-requires : tie.Need-list-fault-requires
-list-fault-requires c κs = (c .before .before .if1 .left, rates-of _ _ (sym (c .before .rates-ok .ensures) ∙ not-false _ (c .if2 .left)))
+entries-fault-requires : tie.Need-entries-fault-requires
+entries-fault-requires c κs = (c .before .before .if1 .left, rates-of _ _ (sym (c .before .rates-ok .ensures) ∙ not-false _ (c .if2 .left)))
 
 returns-3 : tie.Need-returns-3
 unfolding offsetAnswer
@@ -31,7 +31,7 @@ returns-3 c =
     let c4 = c3 .before in
     let c5 = c4 .before in
     rw (le-leb _ _ (c4 .if1 .left), sym (c3 .rates-ok .ensures) ∙ not-false _ (c2 .if2 .left)) (answer-fault
-    (offset (c5 .args .count) (c5 .args .entries) (c5 .args .prices) (c5 .args .totals)) (c .before .list-fault .ensures) (c .if3 .taken))
+    (offset (c5 .args .count) (c5 .args .entries) (c5 .args .prices) (c5 .args .totals)) (c .before .entries-fault .ensures) (c .if3 .taken))
 
 offset-of-requires : tie.Need-offset-of-requires
 offset-of-requires c κs =
@@ -40,7 +40,7 @@ offset-of-requires c κs =
     let c4 = c3 .before in
     let c5 = c4 .before in
     let r = rates-of (c5 .args .prices) (c5 .args .totals) (sym (c3 .rates-ok .ensures) ∙ not-false _ (c2 .if2 .left)) in
-    (listed-of _ _ _ (c4 .if1 .left) r (sym (c .before .list-fault .ensures) ∙ (c .if3) .left), r)
+    (listed-of _ _ _ (c4 .if1 .left) r (sym (c .before .entries-fault .ensures) ∙ (c .if3) .left), r)
 
 returns-4 : tie.Need-returns-4
 unfolding offsetAnswer
@@ -49,7 +49,7 @@ returns-4 c =
     let c3 = c2 .before in
     let c4 = c3 .before in
     let c5 = c4 .before in
-    rw (le-leb _ _ (c5 .if1 .left), sym (c4 .rates-ok .ensures) ∙ not-false _ (c3 .if2 .left), sym (c2 .list-fault .ensures) ∙ (c .before .if3) .left)
+    rw (le-leb _ _ (c5 .if1 .left), sym (c4 .rates-ok .ensures) ∙ not-false _ (c3 .if2 .left), sym (c2 .entries-fault .ensures) ∙ (c .before .if3) .left)
     (ap (λ (z : ℤ). Amount (record { 0 = z })) (c .offset-of .ensures))
 
 pub offset-core-spec : {M : Type 1} → statement M
@@ -59,7 +59,7 @@ offset-core-spec =
     returns
     rates-ok-requires
     returns-2
-    list-fault-requires
+    entries-fault-requires
     returns-3
     offset-of-requires
     returns-4)

@@ -1,11 +1,11 @@
 use mathlib.Core.Path.{sym, _∙_}
 use borrow.Author.Tests.{not-true, not-false}
 use borrow.Author.Needs.{needs}
-use Rattle.money.specs.Offset.{faultAt, freshName}
+use Rattle.money.specs.Offset.{nthFault, freshName}
 use Rattle.money.specs.Units.{unless}
 use Rattle.money.specs.laws.UnitLaws.{kept}
-use Rattle.money.proofs.imports.fault_at.Statement.{statement}
-use Rattle.money.proofs.imports.fault_at.Tie as tie
+use Rattle.money.proofs.imports.nth_fault.Statement.{statement}
+use Rattle.money.proofs.imports.nth_fault.Tie as tie
 
 mul-e : tie.Need-mul-e
 mul-e c = search needs
@@ -17,7 +17,7 @@ entry-fault-requires : tie.Need-entry-fault-requires
 entry-fault-requires c κs = search needs
 
 returns : tie.Need-returns
-unfolding faultAt
+unfolding nthFault
 returns c =
     let c3 = c .before .before .before in
     kept (unless (freshName (c3 .args .t1) (c3 .args .i)) 10 0) (c .before .entry-fault .ensures) (c .if1 .taken)
@@ -26,21 +26,21 @@ fresh-requires : tie.Need-fresh-requires
 fresh-requires c κs = (c .before .before .before .pre) .1
 
 returns-2 : tie.Need-returns-2
-unfolding faultAt
+unfolding nthFault
 returns-2 c =
     let c2 = c .before .before in
     let c3 = c2 .before in
     rw (sym (c3 .entry-fault .ensures) ∙ (c2 .if1) .left, sym (c .before .fresh .ensures) ∙ not-true _ (c .if2 .taken))
 
 returns-3 : tie.Need-returns-3
-unfolding faultAt
+unfolding nthFault
 returns-3 c =
     let c2 = c .before .before in
     let c3 = c2 .before in
     rw (sym (c3 .entry-fault .ensures) ∙ (c2 .if1) .left, sym (c .before .fresh .ensures) ∙ not-false _ (c .if2 .left))
 
-pub fault-at-spec : {M : Type 1} → statement M
-fault-at-spec =
+pub nth-fault-spec : {M : Type 1} → statement M
+nth-fault-spec =
     tie.close
     (tie.spec
     mul-e
