@@ -8,7 +8,7 @@ use lib.ListN.{length}
 use Rattle.laws.specs.Sums.{Σℤ, every}
 use Rattle.money.specs.Refusals.{noSuchKey, priceMissing}
 use Rattle.money.specs.Units.{dayHours, intervals, ticksPerCent}
-use Rattle.book.specs.Layer.{Key, Rec, Mark, Pr, Im, Ex, HourPrices, emptyName, same, atHour, Quantity, pricesOf, exportOf, quantityAt, rowOf, offset, offsetEntry, creditTicks, unitTicks, startCents, reversal, chargeTicks}
+use Rattle.book.specs.Layer.{Key, Rec, Mark, Pr, Im, Ex, HourPrices, emptyName, same, atHour, Quantity, pricesOf, exportOf, quantityAt, seriesOf, offset, offsetEntry, creditTicks, unitTicks, startCents, reversal, chargeTicks}
 use Rattle.book.specs.declared.answers.NamedAmount.{NamedAmount}
 use Rattle.book.specs.ByName.{byName}
 use Rattle.book.specs.Replies.{Reply, refused, guarantees, unitDay, charge}
@@ -52,7 +52,7 @@ exported [] k = 0
 exported (r ∷ rs) k = quantityAt (exportOf r .mqsw) k + exported rs k
 
 abbrev pub totalsOf : List Rec → List Quantity
-totalsOf es = rowOf 0 intervals (exported es)
+totalsOf es = seriesOf 0 intervals (exported es)
 
 -- of the imports and exports of the hour; "an hour without imports has offset 0 and needs none"
 abbrev pub guaranteesAt : HourPricing → List Rec → List Rec → Reply

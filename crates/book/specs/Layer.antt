@@ -38,7 +38,7 @@ pub use Rattle.records.specs.declared.amounts.EntryAnswer.{EntryAnswer}
 pub use Rattle.records.specs.declared.amounts.PartAnswer.{PartAnswer}
 pub use Rattle.records.specs.declared.amounts.TotalsAnswer.{TotalsAnswer}
 pub use Rattle.records.specs.Views.{pricesOf, exportOf, unitHourOf, pricesIn}
-pub use Rattle.records.specs.Amounts.{quantityAt, noQuantity, rowOf, entry, entryFault, totalsWith, offset, offsetAnswer, amountOk, hourPart, daySum, dayAnswer, reversal, noTicks, noStart, decodedBytes, nameBefore}
+pub use Rattle.records.specs.Amounts.{quantityAt, noQuantity, seriesOf, entry, entryFault, totalsWith, offset, offsetAnswer, amountOk, hourPart, daySum, dayAnswer, reversal, noTicks, noStart, decodedBytes, nameBefore}
 pub use Rattle.records.specs.Amounts.{creditTicks, unitTicks, startCents, chargeTicks, offsetEntry, offsetEntryIn, noPart, unitPartIn, totalsWithIn, chargeIn}
 pub use Rattle.money.specs.declared.units.Quantity.{Quantity}
 pub use Rattle.money.specs.declared.units.Ticks.{Ticks}

@@ -13,7 +13,7 @@ use Rattle.money.specs.declared.units.Quantity.{Quantity}
 use Rattle.money.specs.declared.units.Answer.{Answer}
 use Rattle.money.specs.declared.units.Answer.the-variants.{Refused}
 use Rattle.money.specs.declared.imports.Import.{Import}
-use Rattle.money.specs.Units.{intervals, noPrice, noQuantity, priceOk, quantityAt, rowOf, quantitiesOk, withinOk, sameℤ, unless, answer}
+use Rattle.money.specs.Units.{intervals, noPrice, noQuantity, priceOk, quantityAt, seriesOf, quantitiesOk, withinOk, sameℤ, unless, answer}
 use Rattle.money.specs.Offers.{lastQ, offerFault}
 use Rattle.money.specs.Guarantee.{credit}
 use Rattle.money.specs.Names.{decodedBytes, nameBefore, sameName, nameOk}
@@ -84,9 +84,9 @@ maxTotal = 1600000
 abbrev pub totalOk : Quantity → Bool
 totalOk t = leb (t .0) maxTotal
 
--- totals with one row of quantities more, as they are added up; what would be above the most is one more than that, which the offset refuses
+-- totals with one series of quantities more, as they are added up; what would be above the most is one more than that, which the offset refuses
 unfoldable pub totalsWith : List Quantity → List Quantity → List Quantity
-totalsWith ts ms = rowOf 0 intervals (λ (k : ℕ). min (quantityAt ts k + quantityAt ms k) (maxTotal + 1))
+totalsWith ts ms = seriesOf 0 intervals (λ (k : ℕ). min (quantityAt ts k + quantityAt ms k) (maxTotal + 1))
 
 abbrev pub rateOk : List Price → List Quantity → ℕ → Bool
 rateOk ps ts k = priceOk (getD ps k noPrice) && totalOk (getD ts k noQuantity)

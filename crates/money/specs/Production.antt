@@ -107,7 +107,7 @@ reserveNumbersOk s = pricesOk (s .prices) && quantitiesOk (s .schedules)
 unfoldable pub reservesNumbersOk : UnitHour → Bool
 reservesNumbersOk h = reserveNumbersOk (h .spinning) && (reserveNumbersOk (h .nonspinning) && reserveNumbersOk (h .thirty))
 
--- start-up and speed no-load, five rows of schedules, three reserves: all numbers before the lists
+-- start-up and speed no-load, five series of schedules, three reserves: all numbers before the lists
 unfoldable pub numbersFine : UnitHour → Bool
 numbersFine h =
     leb (h .startup .0) maxCents && (leb (h .noload .0) maxCents

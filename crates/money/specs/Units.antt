@@ -65,7 +65,7 @@ noloadTicks = 10
 abbrev pub maxCents : ℕ
 maxCents = 100000000
 
--- what stands past the end of a row: never met
+-- what stands past the end of a series: never met
 abbrev pub noPrice : Price
 noPrice = record { 0 = pos 0 }
 
@@ -80,9 +80,9 @@ abbrev pub quantityAt : List Quantity → ℕ → ℕ
 quantityAt qs k = getD qs k noQuantity .0
 
 -- n quantities f i, f (i + 1), ..
-unfoldable pub rowOf : ℕ → ℕ → (ℕ → ℕ) → List Quantity
-rowOf i zero f = []
-rowOf i (suc n) f = record { 0 = f i } ∷ rowOf (i + 1) n f
+unfoldable pub seriesOf : ℕ → ℕ → (ℕ → ℕ) → List Quantity
+seriesOf i zero f = []
+seriesOf i (suc n) f = record { 0 = f i } ∷ seriesOf (i + 1) n f
 
 unfoldable pub pricesOk : List Price → Bool
 pricesOk ps = every intervals (λ k. priceOk (getD ps k noPrice))

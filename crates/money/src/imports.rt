@@ -126,7 +126,11 @@ fn nth_fault(entries: [Import; IMPORTS_MAX], prices: [Price; INTERVALS], i: usiz
 }
 
 // The first fault of the first n entries.
-pub(crate) fn entries_fault(n: usize, entries: [Import; IMPORTS_MAX], prices: [Price; INTERVALS]) -> u8
+pub(crate) fn entries_fault(
+    n: usize,
+    entries: [Import; IMPORTS_MAX],
+    prices: [Price; INTERVALS],
+) -> u8
     requires { ⌜ n ≤ maxImports ⌝ ∗ ⌜ Rates prices ⌝ }
     ensures { λ r. ⌜ r ≡ entriesFault n prices entries ⌝ }
 {

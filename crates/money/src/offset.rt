@@ -48,32 +48,32 @@ pub fn totals_with(
 ) -> [Quantity; INTERVALS]
     ensures { λ r. ⌜ r ≡ totalsWith totals more ⌝ }
 {
-    let mut row = [Quantity(0); INTERVALS];
+    let mut series = [Quantity(0); INTERVALS];
     let mut k: usize = 0;
     while k < INTERVALS {
         let a = totals[k];
         let b = more[k];
-        row[k] = total_with(a, b);
+        series[k] = total_with(a, b);
         k = k + 1;
     }
-    row
+    series
 }
 
-// Two rows of quantities, added up.
-fn row_sum(a: [Quantity; INTERVALS], b: [Quantity; INTERVALS]) -> [Quantity; INTERVALS]
+// Two series of quantities, added up.
+fn series_sum(a: [Quantity; INTERVALS], b: [Quantity; INTERVALS]) -> [Quantity; INTERVALS]
     requires { ⌜ ((k : ℕ) → k < intervals → Fits (quantityAt a k + quantityAt b k)) ⌝ }
     ensures { λ r. ⌜ ((k : ℕ) → k < intervals → quantityAt r k ≡ quantityAt a k + quantityAt b k) ⌝ }
 {
-    let mut row = [Quantity(0); INTERVALS];
+    let mut series = [Quantity(0); INTERVALS];
     let mut k: usize = 0;
     while k < INTERVALS {
         let x = a[k];
         let y = b[k];
         let sum = x.0 + y.0;
-        row[k] = Quantity(sum);
+        series[k] = Quantity(sum);
         k = k + 1;
     }
-    row
+    series
 }
 
 // Sums with an import's quantities, if it precedes `e` or is `e`.
@@ -83,13 +83,13 @@ fn counted_in(sums: [Quantity; INTERVALS], a: Import, e: Import) -> [Quantity; I
 {
     if up_to(a, e) {
         let more = a.quantities;
-        return row_sum(sums, more);
+        return series_sum(sums, more);
     }
     sums
 }
 
 // For twelve intervals, the sum of the quantities up to and including import i.
-fn reach_row(n: usize, entries: [Import; IMPORTS_MAX], i: usize) -> [Quantity; INTERVALS]
+fn reach_series(n: usize, entries: [Import; IMPORTS_MAX], i: usize) -> [Quantity; INTERVALS]
     requires { ⌜ Listed n entries ⌝ ∗ ⌜ i < n ⌝ }
     ensures { λ r. ⌜ ((k : ℕ) → k < intervals → quantityAt r k ≡ reach n entries i k) ⌝ }
 {
@@ -106,7 +106,7 @@ fn reach_row(n: usize, entries: [Import; IMPORTS_MAX], i: usize) -> [Quantity; I
 }
 
 // The twelve adjusted quantities of import i.
-fn adj_row(
+fn adj_series(
     n: usize,
     entries: [Import; IMPORTS_MAX],
     totals: [Quantity; INTERVALS],
@@ -116,17 +116,17 @@ fn adj_row(
     ensures { λ r. ⌜ ((k : ℕ) → k < intervals → quantityAt r k ≡ adj n entries totals i k) ⌝ }
 {
     let e = entries[i];
-    let reached = reach_row(n, entries, i);
-    let mut row = [Quantity(0); INTERVALS];
+    let reached = reach_series(n, entries, i);
+    let mut series = [Quantity(0); INTERVALS];
     let mut k: usize = 0;
     while k < INTERVALS {
         let q = e.quantities[k];
         let s = reached[k];
         let t = totals[k];
-        row[k] = q.lesser(s.above(t));
+        series[k] = q.lesser(s.above(t));
         k = k + 1;
     }
-    row
+    series
 }
 
 // The offset of a sound list.
@@ -143,10 +143,10 @@ fn offset_of(
     let mut i: usize = 0;
     while i < n {
         let e = entries[i];
-        let row = adj_row(n, entries, totals, i);
+        let series = adj_series(n, entries, totals, i);
         let o = e.offer;
         let c = e.credit;
-        sum = sum.plus(c.minus(credit_of(o, prices, row)));
+        sum = sum.plus(c.minus(credit_of(o, prices, series)));
         i = i + 1;
     }
     sum

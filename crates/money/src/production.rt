@@ -218,18 +218,18 @@ fn picked(by: Pick, x: Quantity, y: Quantity) -> Quantity
     }
 }
 
-fn row_by(by: Pick, a: [Quantity; INTERVALS], b: [Quantity; INTERVALS]) -> [Quantity; INTERVALS]
+fn series_by(by: Pick, a: [Quantity; INTERVALS], b: [Quantity; INTERVALS]) -> [Quantity; INTERVALS]
     ensures { λ r. ⌜ ((k : ℕ) → k < intervals → quantityAt r k ≡ pickOf by (quantityAt a k) (quantityAt b k)) ⌝ }
 {
-    let mut row = [Quantity(0); INTERVALS];
+    let mut series = [Quantity(0); INTERVALS];
     let mut k: usize = 0;
     while k < INTERVALS {
         let x = a[k];
         let y = b[k];
-        row[k] = picked(by, x, y);
+        series[k] = picked(by, x, y);
         k = k + 1;
     }
-    row
+    series
 }
 
 // The speed no-load of the intervals in which something is delivered.
@@ -259,8 +259,8 @@ fn sum_1(
     requires { ⌜ Ready da prices (quantityAt d) ⌝ ∗ ⌜ noload .0 ≤ 100000000 ⌝ }
     ensures { λ x. ⌜ x .0 ≡ Σℤ intervals (λ (k : ℕ). component1 da (priceAt prices k) (noload .0) (quantityAt d k) (quantityAt r k) (quantityAt a k)) ⌝ }
 {
-    let ra = row_by(Pick::Lesser, r, a);
-    let m = row_by(Pick::Lesser, d, ra);
+    let ra = series_by(Pick::Lesser, r, a);
+    let m = series_by(Pick::Lesser, d, ra);
     noload_sum(noload, m).minus(profit_sum(da, prices, m))
 }
 
@@ -277,9 +277,9 @@ fn sum_2(
     requires { ⌜ Ready da prices (quantityAt d) ⌝ ∗ ⌜ Ready rt prices (quantityAt d) ⌝ }
     ensures { λ x. ⌜ x .0 ≡ Σℤ intervals (λ (k : ℕ). component2 da rt (quantityAt d k) (quantityAt r k) (quantityAt a k) (quantityAt cap k)) ⌝ }
 {
-    let to = row_by(Pick::Lesser, d, cap);
-    let ra = row_by(Pick::Greater, r, a);
-    let from = row_by(Pick::Lesser, to, ra);
+    let to = series_by(Pick::Lesser, d, cap);
+    let ra = series_by(Pick::Greater, r, a);
+    let from = series_by(Pick::Lesser, to, ra);
     let ahead = profit_sum(da, prices, from).minus(profit_sum(da, prices, to));
     let real = profit_sum(rt, prices, from).minus(profit_sum(rt, prices, to));
     ahead.minus(real)
@@ -296,8 +296,8 @@ fn sum_3(
     requires { ⌜ Ready rt prices (quantityAt d) ⌝ }
     ensures { λ x. ⌜ x .0 ≡ Σℤ intervals (λ (k : ℕ). component3 rt (priceAt prices k) (quantityAt d k) (quantityAt r k) (quantityAt u k)) ⌝ }
 {
-    let to = row_by(Pick::Lesser, r, d);
-    let from = row_by(Pick::Lesser, u, d);
+    let to = series_by(Pick::Lesser, r, d);
+    let from = series_by(Pick::Lesser, u, d);
     profit_sum(rt, prices, from).minus(profit_sum(rt, prices, to))
 }
 
@@ -312,7 +312,7 @@ fn reserve_sum(s: Reserve, left: [Quantity; INTERVALS]) -> Ticks
     }
     let schedules = s.schedules;
     let prices = s.prices;
-    let q = row_by(Pick::Lesser, left, schedules);
+    let q = series_by(Pick::Lesser, left, schedules);
     profit_sum(o, prices, q)
 }
 
@@ -329,9 +329,9 @@ fn sum_4(
 {
     let s1 = r1.schedules;
     let s2 = r2.schedules;
-    let left1 = row_by(Pick::Above, d, u);
-    let left2 = row_by(Pick::Above, left1, s1);
-    let left3 = row_by(Pick::Above, left2, s2);
+    let left1 = series_by(Pick::Above, d, u);
+    let left2 = series_by(Pick::Above, left1, s1);
+    let left3 = series_by(Pick::Above, left2, s2);
     let one = reserve_sum(r1, left1);
     let two = reserve_sum(r2, left2);
     let three = reserve_sum(r3, left3);

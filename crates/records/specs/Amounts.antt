@@ -6,7 +6,7 @@ use lib.IntN.{ℤ, pos}
 use Rattle.money.specs.Refusals.{markUnknown}
 pub use Rattle.money.specs.Units.{quantityAt}
 -- the money rules that an upper layer's definitions name: an hour's offset and export totals, a unit's day
-pub use Rattle.money.specs.Units.{noQuantity, rowOf}
+pub use Rattle.money.specs.Units.{noQuantity, seriesOf}
 pub use Rattle.money.specs.Offset.{noImport, entry, entryFault, totalsWith, offset, offsetAnswer}
 pub use Rattle.money.specs.Production.{amountOk, hourPart, daySum, dayAnswer, reversal, noTicks, noStart}
 pub use Rattle.money.specs.Names.{decodedBytes, nameBefore, sameName}

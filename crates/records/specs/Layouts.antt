@@ -19,7 +19,7 @@ use Rattle.records.specs.declared.layouts.HourPrices.{HourPrices}
 use Rattle.records.specs.declared.layouts.Import.{Import}
 use Rattle.records.specs.declared.layouts.Export.{Export}
 use Rattle.records.specs.declared.layouts.Schedules.{Schedules}
-use Rattle.records.specs.declared.layouts.ReserveRows.{ReserveRows}
+use Rattle.records.specs.declared.layouts.ReserveSeries.{ReserveSeries}
 use Rattle.records.specs.declared.layouts.Lists.{Lists}
 
 -- "Each MQSI must be within its list, D within both lists, each reserve schedule within its own"
@@ -49,8 +49,8 @@ schedules s =
     got (record { startup = record { 0 = su }; noload = record { 0 = nl }; ahead = d; constrained = r; unconstrained = u; metered = a; capacity = k }) s
 
 -- "then for each of the three reserves, in C4's order, 12 prices and 12 schedules,"
-unfoldable pub reserveRows : Reader ReserveRows
-reserveRows s = many intervals price s >>= λ ps s. many intervals quantity s >>= λ qs s. got (record { prices = ps; schedules = qs }) s
+unfoldable pub reserveSeries : Reader ReserveSeries
+reserveSeries s = many intervals price s >>= λ ps s. many intervals quantity s >>= λ qs s. got (record { prices = ps; schedules = qs }) s
 
 -- "A reserve list may be empty if its schedules are all 0, else count 0 gives 6"
 abbrev pub fewest : List Quantity → ℕ
@@ -82,12 +82,12 @@ unitOf h r1 r2 r3 da rt = record {
   realoffer = rt;
 }
 
-abbrev pub reserveOf : ReserveRows → Offer → Reserve
+abbrev pub reserveOf : ReserveSeries → Offer → Reserve
 reserveOf w o = record { prices = w .prices; schedules = w .schedules; offer = o }
 
 unfoldable pub unit : Reader UnitHour
 unit s =
-    schedules s >>= λ h s. reserveRows s >>= λ w1 s. reserveRows s >>= λ w2 s. reserveRows s >>= λ w3 s.
+    schedules s >>= λ h s. reserveSeries s >>= λ w1 s. reserveSeries s >>= λ w2 s. reserveSeries s >>= λ w3 s.
     lists (w1 .schedules) (w2 .schedules) (w3 .schedules) s >>= λ l s.
     check (allWithin l (h .ahead) (w1 .schedules) (w2 .schedules) (w3 .schedules)) beyondList
     (got (unitOf h (reserveOf w1 (l .spinning)) (reserveOf w2 (l .nonspinning)) (reserveOf w3 (l .thirty)) (l .ahead) (l .real)) s)

@@ -7,8 +7,8 @@ use crate::fields::quantity_then;
 use crate::lists::last_quantity;
 use crate::lists::list_then;
 use crate::marks::Mark;
-use crate::rows::prices_then;
-use crate::rows::quantities_then;
+use crate::series::prices_then;
+use crate::series::quantities_then;
 use money::failure::Failure;
 use money::offers::Offer;
 use money::production::Reserve;
@@ -22,7 +22,7 @@ use money::units::Quantity;
 use money::units::within_ok;
 ghost use mathlib.Core.Path.{_≡_};
 ghost use Prim.Native.Nat.{_≤_};
-ghost use Rattle.records.specs.Layouts.{hourPrices, import, export, failure, schedules, reserveRows, fewest, lists, within, allWithin, unitOf, unit, layout};
+ghost use Rattle.records.specs.Layouts.{hourPrices, import, export, failure, schedules, reserveSeries, fewest, lists, within, allWithin, unitOf, unit, layout};
 ghost use Rattle.records.specs.tables.Inner.{shown, EndIn, ListsIs, then};
 
 // The hour's energy prices, and its pre-dispatch price.
@@ -82,14 +82,14 @@ pub struct SchedulesRead {
     pub schedules: Schedules,
 }
 
-pub struct ReserveRows {
+pub struct ReserveSeries {
     pub prices: [Price; INTERVALS],
     pub schedules: [Quantity; INTERVALS],
 }
 
-pub struct ReserveRowsRead {
+pub struct ReserveSeriesRead {
     pub end: End,
-    pub rows: ReserveRows,
+    pub series: ReserveSeries,
 }
 
 pub struct Lists {
@@ -214,8 +214,8 @@ fn schedules_then(s: &[u8], e: End) -> SchedulesRead
     SchedulesRead { end, schedules }
 }
 
-fn reserve_rows_then(s: &[u8], e: End) -> ReserveRowsRead
-    ensures { λ r. ⌜ (shown (now (s .entry)) (r .end) (r .rows) ≡ then (now (s .entry)) e reserveRows) × EndIn (now (s .entry)) (r .end) ⌝ }
+fn reserve_series_then(s: &[u8], e: End) -> ReserveSeriesRead
+    ensures { λ r. ⌜ (shown (now (s .entry)) (r .end) (r .series) ≡ then (now (s .entry)) e reserveSeries) × EndIn (now (s .entry)) (r .end) ⌝ }
 {
     let p = prices_then(s, e);
     let e1 = p.end;
@@ -223,9 +223,9 @@ fn reserve_rows_then(s: &[u8], e: End) -> ReserveRowsRead
     let end = q.end;
     let prices = p.values;
     let schedules = q.values;
-    ReserveRowsRead {
+    ReserveSeriesRead {
         end,
-        rows: ReserveRows { prices, schedules },
+        series: ReserveSeries { prices, schedules },
     }
 }
 
@@ -315,11 +315,11 @@ fn all_inside(
     false
 }
 
-fn reserve(rows: ReserveRows, offer: Offer) -> Reserve
-    ensures { λ r. ⌜ r ≡ record { prices = rows .prices; schedules = rows .schedules; offer = offer } ⌝ }
+fn reserve(series: ReserveSeries, offer: Offer) -> Reserve
+    ensures { λ r. ⌜ r ≡ record { prices = series .prices; schedules = series .schedules; offer = offer } ⌝ }
 {
-    let prices = rows.prices;
-    let schedules = rows.schedules;
+    let prices = series.prices;
+    let schedules = series.schedules;
     Reserve {
         prices,
         schedules,
@@ -365,16 +365,16 @@ pub(crate) fn unit_then(s: &[u8], e: End) -> UnitRead
 {
     let h = schedules_then(s, e);
     let e0 = h.end;
-    let v1 = reserve_rows_then(s, e0);
+    let v1 = reserve_series_then(s, e0);
     let e1 = v1.end;
-    let v2 = reserve_rows_then(s, e1);
+    let v2 = reserve_series_then(s, e1);
     let e2 = v2.end;
-    let v3 = reserve_rows_then(s, e2);
+    let v3 = reserve_series_then(s, e2);
     let e3 = v3.end;
     let g = h.schedules;
-    let w1 = v1.rows;
-    let w2 = v2.rows;
-    let w3 = v3.rows;
+    let w1 = v1.series;
+    let w2 = v2.series;
+    let w3 = v3.series;
     let d = g.ahead;
     let s1 = w1.schedules;
     let s2 = w2.schedules;

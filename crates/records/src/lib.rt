@@ -12,7 +12,7 @@ pub mod lists;
 pub mod marks;
 pub mod names;
 pub mod parse;
-pub mod rows;
 pub mod scan;
+pub mod series;
 pub mod views;
 pub mod writing;

@@ -170,17 +170,17 @@ fn no_reserve() -> Reserve
 fn no_unit() -> UnitHour
     ensures { λ r. ⌜ r ≡ noUnit ⌝ }
 {
-    let row = [Quantity(0); INTERVALS];
+    let series = [Quantity(0); INTERVALS];
     let offer = no_offer();
     let reserve = no_reserve();
     UnitHour {
         startup: CentsPerStart(0),
         noload: CentsPerHour(0),
-        ahead: row,
-        constrained: row,
-        unconstrained: row,
-        metered: row,
-        capacity: row,
+        ahead: series,
+        constrained: series,
+        unconstrained: series,
+        metered: series,
+        capacity: series,
         spinning: reserve,
         nonspinning: reserve,
         thirty: reserve,

@@ -7,8 +7,8 @@ use native.Mathlib.Omega.{arith}
 use native.Mathlib.Nat.{not-suc-le-zero, le-of-suc-le-suc}
 use lib.ListN.{length, drop, getD}
 use Rattle.records.specs.Amounts.{sameName}
-use Rattle.book.specs.Layer.{Key, Name, Rec, Change, filed, Good, HourPrices, Quantity, Import, Amount, Pr, Im, Ex, decodedBytes, nameBefore, quantityAt, rowOf, totalsWith, totalsWithIn, entry, entryFault, offset, offsetAnswer, offsetEntry, exportOf, sameHour}
-use Rattle.book.specs.laws.LayerLaws.{PricesFit, row-none, row-at, row-same, totals-more, quantity-most, rates-ok, offset-amount, standing-export, entry-sound, same-names, hour-parts}
+use Rattle.book.specs.Layer.{Key, Name, Rec, Change, filed, Good, HourPrices, Quantity, Import, Amount, Pr, Im, Ex, decodedBytes, nameBefore, quantityAt, seriesOf, totalsWith, totalsWithIn, entry, entryFault, offset, offsetAnswer, offsetEntry, exportOf, sameHour}
+use Rattle.book.specs.laws.LayerLaws.{PricesFit, series-none, series-at, series-same, totals-more, quantity-most, rates-ok, offset-amount, standing-export, entry-sound, same-names, hour-parts}
 use Rattle.book.specs.declared.amounts.places.Spot.{Spot}
 use Rattle.book.specs.Register.{standing, guarantees}
 use Rattle.book.specs.Amounts.{priced, priceOf, priceFrom, pick, hourKey, creditAt, exported, totalsOf, guaranteesAt, guaranteesOf}
@@ -91,22 +91,22 @@ module _ (s : List ℕ) where
     pub added : (ts : List Quantity) → totalsWithIn (drop (x .start) s) ts .totals ≡ totalsWith ts (exportOf r .mqsw)
 
   totals-from : (m : ℕ) (f : ℕ → ℕ) {xs : List Spot} {rs : List Rec} → Each Adds xs rs → ((k : ℕ) → k < 12 → f k ≤ 100000 * m) → m + length rs ≤ 16
-      → totalsFrom (rowOf 0 12 f) s xs ≡ rowOf 0 12 (λ (k : ℕ). f k + exported rs k)
+      → totalsFrom (seriesOf 0 12 f) s xs ≡ seriesOf 0 12 (λ (k : ℕ). f k + exported rs k)
   unfolding totalsFrom exported
-  totals-from m f none b few = row-same 12 f (λ (k : ℕ). f k + 0) (λ k i. omega arith)
+  totals-from m f none b few = series-same 12 f (λ (k : ℕ). f k + 0) (λ k i. omega arith)
   totals-from m f (more {x = x} {r = r} {xs = xs} {rs = rs} w e) b few =
       let q = exportOf r .mqsw in
       let most = quantity-most q (standing-export r (w .good) (w .mark)) in
       let g : ℕ → ℕ = λ k. f k + quantityAt q k in
       ap (λ (y : List Quantity). totalsFrom y s xs)
-      (w .added (rowOf 0 12 f) ∙ totals-more (rowOf 0 12 f) q f (row-at 12 f) (λ k i. omega (arith, b k i, most k i)))
+      (w .added (seriesOf 0 12 f) ∙ totals-more (seriesOf 0 12 f) q f (series-at 12 f) (λ k i. omega (arith, b k i, most k i)))
       ∙ totals-from (m + 1) g e (λ k i. omega (arith, b k i, most k i)) (omega arith)
-      ∙ row-same 12 (λ (k : ℕ). g k + exported rs k) (λ (k : ℕ). f k + (quantityAt q k + exported rs k)) (λ k i. omega arith)
+      ∙ series-same 12 (λ (k : ℕ). g k + exported rs k) (λ (k : ℕ). f k + (quantityAt q k + exported rs k)) (λ k i. omega arith)
 
   pub totals-at : {xs : List Spot} {rs : List Rec} → Each Adds xs rs → length rs ≤ 16 → totalsIn s xs ≡ totalsOf rs
   totals-at {xs} {rs} e few =
-      ap (λ (y : List Quantity). totalsFrom y s xs) row-none ∙ totals-from 0 (λ (k : ℕ). 0) e (λ k i. omega arith) (omega arith)
-      ∙ row-same 12 (λ (k : ℕ). 0 + exported rs k) (exported rs) (λ k i. omega arith)
+      ap (λ (y : List Quantity). totalsFrom y s xs) series-none ∙ totals-from 0 (λ (k : ℕ). 0) e (λ k i. omega arith) (omega arith)
+      ∙ series-same 12 (λ (k : ℕ). 0 + exported rs k) (exported rs) (λ k i. omega arith)
 
 -- ---- the offset is not refused
 
@@ -131,7 +131,7 @@ pub offset-given : (l : List Change) → Valid l → (h : ℕ) (p : HourPrices) 
 offset-given l v h p f fi fe =
     offset-amount (length is) (map (offsetEntry p) is) (p .emp) (totalsOf es) fi
     (rates-ok (p .emp) (totalsOf es) (f .emp)
-    (λ k i. subst (λ (x : ℕ). x ≤ 1600000) (sym (row-at 12 (exported es) k i)) (omega (arith, totals-small h es (in-hour (hourKey Ex h) l v) k i))))
+    (λ k i. subst (λ (x : ℕ). x ≤ 1600000) (sym (series-at 12 (exported es) k i)) (omega (arith, totals-small h es (in-hour (hourKey Ex h) l v) k i))))
     sound apart
   where
     is : List Rec

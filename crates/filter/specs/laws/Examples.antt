@@ -9,7 +9,7 @@ use lib.ListN.{length, take}
 use Rattle.laws.specs.Ints.{minℤ, maxℤ}
 use Rattle.laws.specs.Sums.{Σℤ, Σℕ, every, firstOf}
 use Rattle.laws.specs.Text.{bytes}
-use Rattle.money.specs.Units.{rowOf, pricesOk, quantitiesOk, withinOk, centsOf}
+use Rattle.money.specs.Units.{seriesOf, pricesOk, quantitiesOk, withinOk, centsOf}
 use Rattle.money.specs.Offers.{numbersOk, orderOk, offerFault, fullPairs, cost, costAnswer}
 use Rattle.money.specs.Guarantee.{profits, creditAnswer}
 use Rattle.money.specs.Names.{nameBefore, sameBytes, sameName, nameOk}
@@ -21,7 +21,7 @@ use Rattle.records.specs.Reading.{byte, some, many}
 use Rattle.records.specs.Numbers.{word, price, quantity, amount, hour, pair, pairs, listFrom}
 use Rattle.records.specs.Names.{visible, hexVal, escaped, one, upTo as nameUpTo, decodeName, nameField, unreserved, digit, spellByte, spell}
 use Rattle.records.specs.Marks.{markAmong, mark}
-use Rattle.records.specs.Layouts.{hourPrices, import, export, schedules, reserveRows, lists, unit, failure, layout, taken}
+use Rattle.records.specs.Layouts.{hourPrices, import, export, schedules, reserveSeries, lists, unit, failure, layout, taken}
 use Rattle.records.specs.Changes.{head, nameFor, bodyFor, rest, change, entry, parse, parseAny, bare, nameBytes, headBytes, write}
 use Rattle.records.specs.Keys.{sameHour, same}
 use Rattle.records.specs.Hours.{limitOf, atHour}
@@ -148,10 +148,10 @@ cases = whole ++ (map tells register.examples ++ (map reads records.cases ++ (ma
 pub examples : all cases ≡ true
 unfolding outputBy refusalLine settled fed firstRecord called run refusal stands count standing writeAll without sameHour same limitOf parse parseAny bare write
     headBytes nameBytes entry change head mark markAmong rest hour byte nameFor bodyFor nameField some decodeName nameUpTo one escaped hexVal visible taken
-    layout hourPrices import export schedules reserveRows lists unit failure many pair pairs listFrom price quantity amount word statementOf statementLines
+    layout hourPrices import export schedules reserveSeries lists unit failure many pair pairs listFrom price quantity amount word statementOf statementLines
     hoursTo hourOf eachUnit unitOf textOf lineBytes whenBytes twoDigits kindBytes lineName spell spellByte unreserved digit figure sign dollars number decimal
     digits centsOf placeOf guaranteesOf byName inOrder priceOf pick chargesOf unitDayOf dayTotal atHour namesOf addName exported creditTicks unitTicks
-    chargeTicks rowOf offset precedes upTo counted sameName sameBytes nameBefore profits cost fullPairs Σℤ Σℕ minℤ maxℤ every costAnswer offerFault numbersOk
+    chargeTicks seriesOf offset precedes upTo counted sameName sameBytes nameBefore profits cost fullPairs Σℤ Σℕ minℤ maxℤ every costAnswer offerFault numbersOk
     orderOk creditAnswer pricesOk quantitiesOk withinOk offsetAnswer ratesOk entriesFault nthFault freshName entryFault nameOk firstOf shortfall arranged
     congestion component4 C1 C2 C3 C4 interval hourAmount reserveFault reservesNumbersOk numbersFine withinFine listsFault unitFault intervalFault charge
     failureOk

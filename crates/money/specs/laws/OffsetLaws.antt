@@ -14,12 +14,12 @@ use Rattle.money.specs.declared.units.Price.{Price}
 use Rattle.money.specs.declared.units.Quantity.{Quantity}
 use Rattle.money.specs.declared.units.Answer.the-variants.{Amount, Refused}
 use Rattle.money.specs.declared.imports.Import.{Import}
-use Rattle.money.specs.Units.{intervals, noPrice, noQuantity, quantityAt, rowOf, priceOk, pricesOk, quantitiesOk, withinOk, sameℤ, unless, answer}
+use Rattle.money.specs.Units.{intervals, noPrice, noQuantity, quantityAt, seriesOf, priceOk, pricesOk, quantitiesOk, withinOk, sameℤ, unless, answer}
 use Rattle.money.specs.Offers.{lastQ, offerFault}
 use Rattle.money.specs.Guarantee.{credit}
 use Rattle.money.specs.Names.{nameOk, sameName}
 use Rattle.money.specs.Offset.{maxTotal, maxImports, entry, mqsi, upTo, counted, reach, adj, offset, entryFault, freshName, nthFault, entriesFault, totalOk, totalsWith, rateOk, ratesOk, offsetAnswer}
-use Rattle.money.specs.laws.UnitLaws.{Moderate, Fits, Rates, price-in, passes, neither, same-is, same-true, row-same}
+use Rattle.money.specs.laws.UnitLaws.{Moderate, Fits, Rates, price-in, passes, neither, same-is, same-true, series-same}
 use Rattle.money.specs.laws.OfferLaws.{Good, last-size}
 use Rattle.money.specs.laws.GuaranteeLaws.{Ready, ready-of, credit-size, credit-ext}
 
@@ -72,8 +72,8 @@ module _ {n : ℕ} {es : List Import} {i : ℕ} {sums : List Quantity} {j : ℕ}
         Σℕ-within 100000 j (λ a. counted (entry es a) (entry es i) k) (λ a h. counted-size (entry es a) (entry es i) k (s .each a (omega arith)) m),
       )
 
-  pub reached-more : {row : List Quantity} → ((k : ℕ) → k < intervals → quantityAt row k ≡ quantityAt sums k + counted (entry es j) (entry es i) k)
-      → Reached n es i row (j + 1)
+  pub reached-more : {series : List Quantity} → ((k : ℕ) → k < intervals → quantityAt series k ≡ quantityAt sums k + counted (entry es j) (entry es i) k)
+      → Reached n es i series (j + 1)
   reached-more g = record { upto = omega arith; so-far = λ k m. omega (arith, g k m, r .so-far k m, Σℕ-more j (λ a. counted (entry es a) (entry es i) k)) }
 
 pub reached-all : {n : ℕ} {es : List Import} {i : ℕ} {sums : List Quantity} {j : ℕ} → Reached n es i sums j → n ≤ j → (k : ℕ) → k < intervals
@@ -98,10 +98,10 @@ module _ (ps : List Price) (ts : List Quantity) {n : ℕ} {es : List Import} (s 
     offsets-room = rw (r .so-far)
         (omega (arith, r .upto, s .most, Σℤ-within 10560000000000 i (gives n es ps ts) (λ j h. gives-size j (omega (arith, r .upto)))))
 
-    module _ {q : ℕ → ℕ} {x d : ℤ} (l : i < n) (row : (k : ℕ) → k < intervals → q k ≡ adj n es ts i k) (e : x ≡ credit (entry es i .offer) ps q)
+    module _ {q : ℕ → ℕ} {x d : ℤ} (l : i < n) (series : (k : ℕ) → k < intervals → q k ≡ adj n es ts i k) (e : x ≡ credit (entry es i .offer) ps q)
         (g : d ≡ entry es i .credit .0 -ℤ x) where
       pub gives-is : d ≡ gives n es ps ts i
-      gives-is = g ∙ ap (λ (z : ℤ). entry es i .credit .0 -ℤ z) (e ∙ credit-ext (entry es i .offer) ps q (adj n es ts i) row)
+      gives-is = g ∙ ap (λ (z : ℤ). entry es i .credit .0 -ℤ z) (e ∙ credit-ext (entry es i .offer) ps q (adj n es ts i) series)
 
       pub gives-room : Moderate d
       gives-room = rw gives-is (omega (arith, gives-size i l))
@@ -133,13 +133,13 @@ rates-of ps ts h = λ k l. price-in (getD ps k noPrice)
     (and-true (priceOk (getD ps k noPrice)) (totalOk (getD ts k noQuantity)) (every-at intervals (rateOk ps ts) h k l) .0)
 
 -- ---- totals, and a list that no check refuses
--- a row more, where no total comes to more than it may
+-- a series more, where no total comes to more than it may
 pub totals-more : (ts ms : List Quantity) (f : ℕ → ℕ) → ((k : ℕ) → k < intervals → quantityAt ts k ≡ f k)
     → ((k : ℕ) → k < intervals → f k + quantityAt ms k ≤ maxTotal)
-    → totalsWith ts ms ≡ rowOf 0 intervals (λ (k : ℕ). f k + quantityAt ms k)
+    → totalsWith ts ms ≡ seriesOf 0 intervals (λ (k : ℕ). f k + quantityAt ms k)
 unfolding totalsWith
 totals-more ts ms f h m =
-    row-same intervals (λ (k : ℕ). min (quantityAt ts k + quantityAt ms k) (maxTotal + 1)) (λ (k : ℕ). f k + quantityAt ms k)
+    series-same intervals (λ (k : ℕ). min (quantityAt ts k + quantityAt ms k) (maxTotal + 1)) (λ (k : ℕ). f k + quantityAt ms k)
     (λ k l. omega (arith, h k l, m k l))
 
 pub rates-ok : (ps : List Price) (ts : List Quantity) → pricesOk ps ≡ true → ((k : ℕ) → k < intervals → quantityAt ts k ≤ maxTotal) → ratesOk ps ts ≡ true

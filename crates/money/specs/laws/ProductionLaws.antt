@@ -388,14 +388,14 @@ module _ {s : Reserve} (u : Usable s) (left : ℕ → ℕ) where
   reserve-none h = sym
       (Σℤ-cut intervals 0 (reserved s left) zero-le (λ k a l. sym (idle u k (min (left k) (S s k)) (omega (arith, u .within k l, last-none (s .offer) h)))))
 
-  module _ (q : ℕ → ℕ) (row : (k : ℕ) → k < intervals → q k ≡ min (left k) (S s k)) where
+  module _ (q : ℕ → ℕ) (series : (k : ℕ) → k < intervals → q k ≡ min (left k) (S s k)) where
     pub reserve-ready : 1 ≤ s .offer .count → Ready (s .offer) (s .prices) q
-    reserve-ready h = record { good = u .good h; prices = u .rates; within = λ k l. omega (arith, row k l, u .within k l) }
+    reserve-ready h = record { good = u .good h; prices = u .rates; within = λ k l. omega (arith, series k l, u .within k l) }
 
     pub reserve-is : {x : ℤ} → x ≡ profits (s .offer) (s .prices) q → x ≡ Σℤ intervals (reserved s left)
     unfolding profits
     reserve-is e = e ∙ Σℤ-ext intervals (λ k. profit (s .offer) (priceAt (s .prices) k) (q k)) (reserved s left)
-        (λ k l. ap (λ (n : ℕ). reserveNet s k n) (row k l))
+        (λ k l. ap (λ (n : ℕ). reserveNet s k n) (series k l))
 
   reserve-size : natAbs (Σℤ intervals (reserved s left)) ≤ 5280000000000
   reserve-size = Σℤ-within 440000000000 intervals (reserved s left) (λ k l. net-size u k (min (left k) (S s k)) l (omega (arith, u .within k l)))

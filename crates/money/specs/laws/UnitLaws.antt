@@ -1,4 +1,4 @@
--- Laws of units, of tests and refusals, and of rows of twelve quantities. Assumes nothing.
+-- Laws of units, of tests and refusals, and of series of twelve quantities. Assumes nothing.
 use mathlib.Core.Path.{_≡_, refl, sym, ap, _∙_, subst}
 use mathlib.Core.Bool.{Bool, true, false, _&&_}
 use mathlib.Core.List.{List, [], _∷_, map}
@@ -21,7 +21,7 @@ use Rattle.laws.specs.SumLaws.{every-yes, every-at, and-true, last-or}
 use Rattle.money.specs.declared.units.Price.{Price}
 use Rattle.money.specs.declared.units.Quantity.{Quantity}
 use Rattle.money.specs.declared.units.Answer.the-variants.{Amount, Refused}
-use Rattle.money.specs.Units.{intervals, ticksPerCent, minPrice, maxPrice, noPrice, noQuantity, priceOk, quantityOk, priceAt, quantityAt, rowOf, pricesOk, quantitiesOk, withinOk, sameℤ, unless, answer, centsOf}
+use Rattle.money.specs.Units.{intervals, ticksPerCent, minPrice, maxPrice, noPrice, noQuantity, priceOk, quantityOk, priceAt, quantityAt, seriesOf, pricesOk, quantitiesOk, withinOk, sameℤ, unless, answer, centsOf}
 
 -- an amount that any sum or difference of two such still holds in 64 bits
 abbrev pub Moderate : ℤ → Type 0
@@ -178,67 +178,67 @@ cents-half-below n = below (suc n * 120 - 60) (suc n) (omega arith) (omega arith
     below zero k h e = absurd (omega arith)
     below (suc m) k h e = ap (λ (x : ℕ). negℤ (pos x)) e
 
--- a row of zeros
+-- a series of zeros
 pub zeros : (n k : ℕ) → quantityAt (replicate n noQuantity) k ≡ 0
 zeros zero k = refl
 zeros (suc n) zero = refl
 zeros (suc n) (suc k) = zeros n k
 
--- ---- a row of twelve quantities, filled from the front
-pub record Filled (row : List Quantity) (f : ℕ → ℕ) (k : ℕ) : Type 0 where
+-- ---- a series of twelve quantities, filled from the front
+pub record Filled (series : List Quantity) (f : ℕ → ℕ) (k : ℕ) : Type 0 where
   pub upto : k ≤ intervals
-  pub long : length row ≡ intervals
-  pub so-far : (j : ℕ) → j < k → quantityAt row j ≡ f j
+  pub long : length series ≡ intervals
+  pub so-far : (j : ℕ) → j < k → quantityAt series j ≡ f j
 
-pub filled-none : (row : List Quantity) (f : ℕ → ℕ) → length row ≡ intervals → Filled row f 0
-filled-none row f h = record { upto = zero-le; long = h; so-far = λ j l. absurd (omega arith) }
+pub filled-none : (series : List Quantity) (f : ℕ → ℕ) → length series ≡ intervals → Filled series f 0
+filled-none series f h = record { upto = zero-le; long = h; so-far = λ j l. absurd (omega arith) }
 
-pub filled-more : {row : List Quantity} {f : ℕ → ℕ} {k : ℕ} {v : Quantity} → Filled row f k → k < intervals → v .0 ≡ f k → Filled (set row k v) f (k + 1)
-filled-more {row = row} {f = f} {k = k} {v = v} r l e = record {
+pub filled-more : {series : List Quantity} {f : ℕ → ℕ} {k : ℕ} {v : Quantity} → Filled series f k → k < intervals → v .0 ≡ f k → Filled (set series k v) f (k + 1)
+filled-more {series = series} {f = f} {k = k} {v = v} r l e = record {
   upto = omega arith;
   long = simp length-set (r .long);
   so-far = λ j h. last-or j k (omega arith)
-      (λ q. subst (λ (i : ℕ). quantityAt (set row k v) i ≡ f i) (sym q)
-      (ap (λ (x : Quantity). x .0) (getD-set-same row k v noQuantity (omega (arith, r .long))) ∙ e))
-      (λ q. ap (λ (x : Quantity). x .0) (getD-set-other row k j v noQuantity (λ z. omega arith)) ∙ r .so-far j q);
+      (λ q. subst (λ (i : ℕ). quantityAt (set series k v) i ≡ f i) (sym q)
+      (ap (λ (x : Quantity). x .0) (getD-set-same series k v noQuantity (omega (arith, r .long))) ∙ e))
+      (λ q. ap (λ (x : Quantity). x .0) (getD-set-other series k j v noQuantity (λ z. omega arith)) ∙ r .so-far j q);
 }
 
--- ---- a row by a function of its index
-at-from : (i n : ℕ) (f : ℕ → ℕ) (k : ℕ) → k < n → quantityAt (rowOf i n f) k ≡ f (i + k)
-unfolding rowOf
+-- ---- a series by a function of its index
+at-from : (i n : ℕ) (f : ℕ → ℕ) (k : ℕ) → k < n → quantityAt (seriesOf i n f) k ≡ f (i + k)
+unfolding seriesOf
 at-from i zero f k l = absurd (omega arith)
 at-from i (suc n) f zero l = ap f (omega arith)
 at-from i (suc n) f (suc k) l = at-from (i + 1) n f k (omega arith) ∙ ap f (omega arith)
 
-same-from : (i n : ℕ) (f g : ℕ → ℕ) → ((k : ℕ) → k < n → f (i + k) ≡ g (i + k)) → rowOf i n f ≡ rowOf i n g
-unfolding rowOf
+same-from : (i n : ℕ) (f g : ℕ → ℕ) → ((k : ℕ) → k < n → f (i + k) ≡ g (i + k)) → seriesOf i n f ≡ seriesOf i n g
+unfolding seriesOf
 same-from i zero f g h = refl
 same-from i (suc n) f g h =
     let a : f i ≡ g i = ap f (omega arith) ∙ h 0 (omega arith) ∙ ap g (omega arith) in
     let t = same-from (i + 1) n f g (λ k l. ap f (omega arith) ∙ h (suc k) (omega arith) ∙ ap g (omega arith)) in
     (λ x. record { 0 = a x } ∷ t x)
 
-built-from : (i n : ℕ) (f : ℕ → ℕ) (row : List Quantity) → length row ≡ n → ((k : ℕ) → k < n → quantityAt row k ≡ f (i + k)) → row ≡ rowOf i n f
-unfolding rowOf
+built-from : (i n : ℕ) (f : ℕ → ℕ) (series : List Quantity) → length series ≡ n → ((k : ℕ) → k < n → quantityAt series k ≡ f (i + k)) → series ≡ seriesOf i n f
+unfolding seriesOf
 built-from i zero f [] e h = refl
-built-from i zero f (q ∷ row) e h = absurd (omega arith)
+built-from i zero f (q ∷ series) e h = absurd (omega arith)
 built-from i (suc n) f [] e h = absurd (omega arith)
-built-from i (suc n) f (q ∷ row) e h =
+built-from i (suc n) f (q ∷ series) e h =
     let a : q .0 ≡ f i = h 0 (omega arith) ∙ ap f (omega arith) in
-    let t = built-from (i + 1) n f row (omega arith) (λ k l. h (suc k) (omega arith) ∙ ap f (omega arith)) in
+    let t = built-from (i + 1) n f series (omega arith) (λ k l. h (suc k) (omega arith) ∙ ap f (omega arith)) in
     (λ x. record { 0 = a x } ∷ t x)
 
-pub row-at : (n : ℕ) (f : ℕ → ℕ) (k : ℕ) → k < n → quantityAt (rowOf 0 n f) k ≡ f k
-row-at n f k l = at-from 0 n f k l ∙ ap f (omega arith)
+pub series-at : (n : ℕ) (f : ℕ → ℕ) (k : ℕ) → k < n → quantityAt (seriesOf 0 n f) k ≡ f k
+series-at n f k l = at-from 0 n f k l ∙ ap f (omega arith)
 
-pub row-same : (n : ℕ) (f g : ℕ → ℕ) → ((k : ℕ) → k < n → f k ≡ g k) → rowOf 0 n f ≡ rowOf 0 n g
-row-same n f g h = same-from 0 n f g (λ k l. ap f (omega arith) ∙ h k l ∙ ap g (omega arith))
+pub series-same : (n : ℕ) (f g : ℕ → ℕ) → ((k : ℕ) → k < n → f k ≡ g k) → seriesOf 0 n f ≡ seriesOf 0 n g
+series-same n f g h = same-from 0 n f g (λ k l. ap f (omega arith) ∙ h k l ∙ ap g (omega arith))
 
--- a row that is filled to its end
-pub filled-all : {row : List Quantity} {f : ℕ → ℕ} {k : ℕ} → Filled row f k → intervals ≤ k → row ≡ rowOf 0 intervals f
-filled-all {row = row} {f = f} r h = built-from 0 intervals f row (r .long) (λ j l. r .so-far j (omega arith) ∙ ap f (omega arith))
+-- a series that is filled to its end
+pub filled-all : {series : List Quantity} {f : ℕ → ℕ} {k : ℕ} → Filled series f k → intervals ≤ k → series ≡ seriesOf 0 intervals f
+filled-all {series = series} {f = f} r h = built-from 0 intervals f series (r .long) (λ j l. r .so-far j (omega arith) ∙ ap f (omega arith))
 
 -- nothing in twelve intervals
-pub row-none : replicate intervals noQuantity ≡ rowOf 0 intervals (λ (k : ℕ). 0)
-unfolding rowOf
-row-none = refl
+pub series-none : replicate intervals noQuantity ≡ seriesOf 0 intervals (λ (k : ℕ). 0)
+unfolding seriesOf
+series-none = refl

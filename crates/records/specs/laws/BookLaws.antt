@@ -67,8 +67,8 @@ pub use Rattle.records.specs.laws.AmountLaws.{unit-ready}
 -- names: the name of a record that stands keeps its rule
 pub use Rattle.records.specs.laws.AmountLaws.{name-sound}
 pub use Rattle.records.specs.laws.NameLaws.{Visible, Valid, decoded-valid, spelled-back, spelled-short, one-name, spelling-full, spelling-none, take-pad}
--- of the money rules: rows of totals, the offset and a day that are not refused, names
-pub use Rattle.money.specs.laws.UnitLaws.{row-at, row-same, row-none, quantity-most}
+-- of the money rules: series of totals, the offset and a day that are not refused, names
+pub use Rattle.money.specs.laws.UnitLaws.{series-at, series-same, series-none, quantity-most}
 pub use Rattle.money.specs.laws.OffsetLaws.{totals-more, rates-ok, offset-amount}
 pub use Rattle.money.specs.laws.LentLaws.{answer-front}
 pub use Rattle.money.specs.laws.ProductionLaws.{day-amount, day-sum, amount-ok}

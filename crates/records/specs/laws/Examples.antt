@@ -13,7 +13,7 @@ use Rattle.records.specs.Reading.{Res, bad, got, byte, some, many}
 use Rattle.records.specs.Numbers.{pad, word, price, quantity, amount, hour, pair, pairs, listFrom}
 use Rattle.records.specs.Names.{visible, hexVal, escaped, one, upTo, decodeName, nameField, unreserved, digit, spellByte, spell}
 use Rattle.records.specs.Marks.{markAmong, mark}
-use Rattle.records.specs.Layouts.{hourPrices, import, export, schedules, reserveRows, lists, unit, failure, layout, taken}
+use Rattle.records.specs.Layouts.{hourPrices, import, export, schedules, reserveSeries, lists, unit, failure, layout, taken}
 use Rattle.records.specs.Changes.{Input, fine, fault, parse, parseAny, change, entry, head, rest, nameFor, bodyFor, write, headBytes, nameBytes, putNumber}
 use Rattle.records.specs.declared.marks.Kind.the-variants.{File, Correct, Withdraw}
 use Rattle.records.specs.declared.marks.Wanted.{Wanted}
@@ -140,6 +140,6 @@ cases =
 
 all-hold : allHold cases ≡ true
 unfolding parse parseAny change entry head mark markAmong rest hour byte nameFor bodyFor nameField some decodeName upTo one escaped hexVal visible taken layout
-    hourPrices import export schedules reserveRows lists unit failure many pair pairs listFrom price quantity amount word spell spellByte unreserved digit write
+    hourPrices import export schedules reserveSeries lists unit failure many pair pairs listFrom price quantity amount word spell spellByte unreserved digit write
     headBytes nameBytes offerFault numbersOk orderOk withinOk every sameBytes
 all-hold = refl

@@ -15,7 +15,7 @@ use Rattle.records.specs.Reading.{Res, bad, got, Reader, _>>=_, check, b
 use Rattle.records.specs.Numbers.{between, word, signed, price, quantity, amount, hour, pair, offerOf, pairs, listOk, listFrom}
 use Rattle.records.specs.Names.{decodeName, nameField, nameFrom, emptyName}
 use Rattle.records.specs.Marks.{is, listing, markAmong, mark, markBytes, hasName}
-use Rattle.records.specs.Layouts.{within, hourPrices, import, export, schedules, reserveRows, fewest, lists, allWithin, unit, failure, skip, layout, taken}
+use Rattle.records.specs.Layouts.{within, hourPrices, import, export, schedules, reserveSeries, fewest, lists, allWithin, unit, failure, skip, layout, taken}
 use Rattle.records.specs.Changes.{Change, bodyOf, made, Head, allowed, inside, head, leadBytes, nameless, nameFor, bodyFor, rest, change, Entry, changed, takingBack, closing, entry, takeBackBytes, closeBytes, fine, fault, whole, parse, parseAny, begins}
 use Rattle.records.specs.laws.ReaderLaws.{bad-got, bind-got, check-got, Part, counted-bad, Lawful, lawful-got, lawful-bind, lawful-byte, lawful-word, taken-got, counted-taken}
 use Rattle.records.specs.laws.ChangeLaws.{counted-decode, body-rest, begins-true}
@@ -122,8 +122,8 @@ firm-list lo =
 
 -- ---- a line for each layout
 
-rows : Firm (many 12 quantity)
-rows = firm-many 12 quantity firm-quantity
+quantities : Firm (many 12 quantity)
+quantities = firm-many 12 quantity firm-quantity
 
 prices : Firm (many 12 price)
 prices = firm-many 12 price firm-price
@@ -134,22 +134,22 @@ firm-prices = firm-bind (many 12 price) _ prices (λ es. firm-bind price _ firm-
 
 firm-import : Firm import
 unfolding import
-firm-import = firm-bind (many 12 quantity) _ rows (λ qs. firm-bind (listFrom 1) _ (firm-list 1) (λ o. firm-check (within o qs) 7 _ (omega arith) (firm-got _)))
+firm-import = firm-bind (many 12 quantity) _ quantities (λ qs. firm-bind (listFrom 1) _ (firm-list 1) (λ o. firm-check (within o qs) 7 _ (omega arith) (firm-got _)))
 
 firm-export : Firm export
 unfolding export
-firm-export = firm-bind (many 12 quantity) _ rows (λ qs. firm-got _)
+firm-export = firm-bind (many 12 quantity) _ quantities (λ qs. firm-got _)
 
 firm-schedules : Firm schedules
 unfolding schedules
 firm-schedules =
     firm-bind (amount maxCents) _ (firm-amount maxCents) (λ su. firm-bind (amount maxCents) _ (firm-amount maxCents) (λ nl.
-    firm-bind (many 12 quantity) _ rows (λ d. firm-bind (many 12 quantity) _ rows
-    (λ r. firm-bind (many 12 quantity) _ rows (λ u. firm-bind (many 12 quantity) _ rows (λ a. firm-bind (many 12 quantity) _ rows (λ k. firm-got _)))))))
+    firm-bind (many 12 quantity) _ quantities (λ d. firm-bind (many 12 quantity) _ quantities
+    (λ r. firm-bind (many 12 quantity) _ quantities (λ u. firm-bind (many 12 quantity) _ quantities (λ a. firm-bind (many 12 quantity) _ quantities (λ k. firm-got _)))))))
 
-firm-reserve : Firm reserveRows
-unfolding reserveRows
-firm-reserve = firm-bind (many 12 price) _ prices (λ ps. firm-bind (many 12 quantity) _ rows (λ qs. firm-got _))
+firm-reserve : Firm reserveSeries
+unfolding reserveSeries
+firm-reserve = firm-bind (many 12 price) _ prices (λ ps. firm-bind (many 12 quantity) _ quantities (λ qs. firm-got _))
 
 firm-lists : (s1 s2 s3 : List Quantity) → Firm (lists s1 s2 s3)
 unfolding lists
@@ -162,7 +162,7 @@ firm-unit : Firm unit
 unfolding unit
 firm-unit =
     firm-bind schedules _ firm-schedules
-    (λ h. firm-bind reserveRows _ firm-reserve (λ w1. firm-bind reserveRows _ firm-reserve (λ w2. firm-bind reserveRows _ firm-reserve (λ w3.
+    (λ h. firm-bind reserveSeries _ firm-reserve (λ w1. firm-bind reserveSeries _ firm-reserve (λ w2. firm-bind reserveSeries _ firm-reserve (λ w3.
     firm-bind (lists (w1 .schedules) (w2 .schedules) (w3 .schedules)) _ (firm-lists (w1 .schedules) (w2 .schedules) (w3 .schedules)) (λ l.
     firm-check (allWithin l (h .ahead) (w1 .schedules) (w2 .schedules) (w3 .schedules)) 7 _ (omega arith) (firm-got _))))))
 

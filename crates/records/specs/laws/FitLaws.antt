@@ -18,7 +18,7 @@ use Rattle.money.specs.declared.production.UnitHour.{UnitHour}
 use Rattle.money.specs.declared.failure.Failure.{Failure}
 use Rattle.records.specs.Reading.{Res, got, Reader, _>>=_, check, byte, many}
 use Rattle.records.specs.Numbers.{between, word, signed, price, quantity, amount, pair, offerOf, pairs, listOk, listFrom}
-use Rattle.records.specs.Layouts.{within, hourPrices, import, export, schedules, reserveRows, fewest, lists, allWithin, reserveOf, unitOf, unit, failure}
+use Rattle.records.specs.Layouts.{within, hourPrices, import, export, schedules, reserveSeries, fewest, lists, allWithin, reserveOf, unitOf, unit, failure}
 use Rattle.records.specs.Changes.{Rec, filed, Good}
 use Rattle.records.specs.Views.{pricesOf, importOf, exportOf, unitHourOf, failureOf, noPrices, noImport, noExport, noUnit, noFailure}
 use Rattle.records.specs.laws.ReaderLaws.{bad-got, bind-got}
@@ -28,7 +28,7 @@ use Rattle.records.specs.laws.ChangeLaws.{and-left, and-right}
 use Rattle.records.specs.declared.layouts.HourPrices.{HourPrices}
 use Rattle.records.specs.declared.layouts.Import.{Import}
 use Rattle.records.specs.declared.layouts.Schedules.{Schedules}
-use Rattle.records.specs.declared.layouts.ReserveRows.{ReserveRows}
+use Rattle.records.specs.declared.layouts.ReserveSeries.{ReserveSeries}
 use Rattle.records.specs.declared.layouts.Lists.{Lists}
 
 -- whatever a reader gets has a property
@@ -76,7 +76,7 @@ amount-sound most =
     sound-bind word _ (λ u. Unit) (λ v. v ≤ most) (sound-any word) (λ v x.
     sound-check (leb v most) 5 (λ t. got v t) (λ v. v ≤ most) (λ h. sound-got (λ v. v ≤ most) v (leb-true v most h)))
 
--- ---- rows
+-- ---- series
 
 -- n of them, each with the property
 record Each {A : Type 0} (P : A → Type 0) (n : ℕ) (vs : List A) : Type 0 where
@@ -102,8 +102,8 @@ prices-sound = record {
   holds = λ s ps t e. prices-all ps (λ j h. many-sound price (λ p. priceOk p ≡ true) price-sound 12 .holds s ps t e .each noPrice j h);
 }
 
-row-sound : Sound (many 12 quantity) (λ qs. quantitiesOk qs ≡ true)
-row-sound = record {
+quantities-sound : Sound (many 12 quantity) (λ qs. quantitiesOk qs ≡ true)
+quantities-sound = record {
   holds = λ s qs t e. quantities-all qs (λ j h. many-sound quantity (λ q. quantityOk q ≡ true) quantity-sound 12 .holds s qs t e .each noQuantity j h);
 }
 
@@ -166,7 +166,7 @@ pub record ImportFits (i : Import) : Type 0 where
 import-sound : Sound import ImportFits
 unfolding import
 import-sound =
-    sound-bind (many 12 quantity) _ (λ qs. quantitiesOk qs ≡ true) ImportFits row-sound
+    sound-bind (many 12 quantity) _ (λ qs. quantitiesOk qs ≡ true) ImportFits quantities-sound
     (λ qs h. sound-bind (listFrom 1) _ (ListFits 1) ImportFits (list-sound 1) (λ o k.
     sound-check (within o qs) 7 _ ImportFits
     (λ e. sound-got ImportFits (record { mqsi = qs; offer = o }) (record { mqsi = h; offer = listed-full o k; inside = e }))))
@@ -174,7 +174,7 @@ import-sound =
 export-sound : Sound export (λ x. quantitiesOk (x .mqsw) ≡ true)
 unfolding export
 export-sound =
-    sound-bind (many 12 quantity) _ (λ qs. quantitiesOk qs ≡ true) (λ x. quantitiesOk (x .mqsw) ≡ true) row-sound
+    sound-bind (many 12 quantity) _ (λ qs. quantitiesOk qs ≡ true) (λ x. quantitiesOk (x .mqsw) ≡ true) quantities-sound
     (λ qs h. sound-got (λ x. quantitiesOk (x .mqsw) ≡ true) (record { mqsw = qs }) h)
 
 pub record FailureFits (f : Failure) : Type 0 where
@@ -225,30 +225,30 @@ record SchedulesFit (h : Schedules) : Type 0 where
   metered : quantitiesOk (h .metered) ≡ true
   capacity : quantitiesOk (h .capacity) ≡ true
 
-abbrev RowOk : List Quantity → Type 0
-RowOk qs = quantitiesOk qs ≡ true
+abbrev QuantitiesOk : List Quantity → Type 0
+QuantitiesOk qs = quantitiesOk qs ≡ true
 
 schedules-sound : Sound schedules SchedulesFit
 unfolding schedules
 schedules-sound =
     sound-bind (amount maxCents) _ (λ v. v ≤ maxCents) SchedulesFit (amount-sound maxCents) (λ su x1.
     sound-bind (amount maxCents) _ (λ v. v ≤ maxCents) SchedulesFit (amount-sound maxCents) (λ nl x2.
-    sound-bind (many 12 quantity) _ RowOk SchedulesFit row-sound
-    (λ d x3. sound-bind (many 12 quantity) _ RowOk SchedulesFit row-sound (λ r x4. sound-bind (many 12 quantity) _ RowOk SchedulesFit row-sound (λ u x5.
-    sound-bind (many 12 quantity) _ RowOk SchedulesFit row-sound (λ a x6. sound-bind (many 12 quantity) _ RowOk SchedulesFit row-sound (λ k x7.
+    sound-bind (many 12 quantity) _ QuantitiesOk SchedulesFit quantities-sound
+    (λ d x3. sound-bind (many 12 quantity) _ QuantitiesOk SchedulesFit quantities-sound (λ r x4. sound-bind (many 12 quantity) _ QuantitiesOk SchedulesFit quantities-sound (λ u x5.
+    sound-bind (many 12 quantity) _ QuantitiesOk SchedulesFit quantities-sound (λ a x6. sound-bind (many 12 quantity) _ QuantitiesOk SchedulesFit quantities-sound (λ k x7.
     sound-got SchedulesFit
     (record { startup = record { 0 = su }; noload = record { 0 = nl }; ahead = d; constrained = r; unconstrained = u; metered = a; capacity = k })
     (record { startup = x1; noload = x2; ahead = x3; constrained = x4; unconstrained = x5; metered = x6; capacity = x7 }))))))))
 
-record RowsFit (w : ReserveRows) : Type 0 where
+record SeriesFit (w : ReserveSeries) : Type 0 where
   prices : pricesOk (w .prices) ≡ true
   schedules : quantitiesOk (w .schedules) ≡ true
 
-rows-sound : Sound reserveRows RowsFit
-unfolding reserveRows
-rows-sound =
-    sound-bind (many 12 price) _ (λ ps. pricesOk ps ≡ true) RowsFit prices-sound (λ ps h. sound-bind (many 12 quantity) _ RowOk RowsFit row-sound (λ qs k.
-    sound-got RowsFit (record { prices = ps; schedules = qs }) (record { prices = h; schedules = k })))
+series-sound : Sound reserveSeries SeriesFit
+unfolding reserveSeries
+series-sound =
+    sound-bind (many 12 price) _ (λ ps. pricesOk ps ≡ true) SeriesFit prices-sound (λ ps h. sound-bind (many 12 quantity) _ QuantitiesOk SeriesFit quantities-sound (λ qs k.
+    sound-got SeriesFit (record { prices = ps; schedules = qs }) (record { prices = h; schedules = k })))
 
 record ListsFit (l : Lists) : Type 0 where
   ahead : offerFault (l .ahead) ≡ 0
@@ -267,7 +267,7 @@ lists-sound s1 s2 s3 =
     sound-got ListsFit (record { ahead = da; real = rt; spinning = l1; nonspinning = l2; thirty = l3 })
     (record { ahead = listed-full da a; real = listed-full rt b; spinning = c .listed; nonspinning = d .listed; thirty = e .listed }))))))
 
-unit-made : (h : Schedules) (w1 w2 w3 : ReserveRows) (l : Lists) → SchedulesFit h → RowsFit w1 → RowsFit w2 → RowsFit w3 → ListsFit l
+unit-made : (h : Schedules) (w1 w2 w3 : ReserveSeries) (l : Lists) → SchedulesFit h → SeriesFit w1 → SeriesFit w2 → SeriesFit w3 → ListsFit l
     → allWithin l (h .ahead) (w1 .schedules) (w2 .schedules) (w3 .schedules) ≡ true
     → UnitFits (unitOf h (reserveOf w1 (l .spinning)) (reserveOf w2 (l .nonspinning)) (reserveOf w3 (l .thirty)) (l .ahead) (l .real))
 unit-made h w1 w2 w3 l a b c d k e =
@@ -298,8 +298,8 @@ unit-sound : Sound unit UnitFits
 unfolding unit
 unit-sound =
     sound-bind schedules _ SchedulesFit UnitFits schedules-sound (λ h a.
-    sound-bind reserveRows _ RowsFit UnitFits rows-sound
-    (λ w1 b. sound-bind reserveRows _ RowsFit UnitFits rows-sound (λ w2 c. sound-bind reserveRows _ RowsFit UnitFits rows-sound (λ w3 d.
+    sound-bind reserveSeries _ SeriesFit UnitFits series-sound
+    (λ w1 b. sound-bind reserveSeries _ SeriesFit UnitFits series-sound (λ w2 c. sound-bind reserveSeries _ SeriesFit UnitFits series-sound (λ w3 d.
     sound-bind (lists (w1 .schedules) (w2 .schedules) (w3 .schedules)) _ ListsFit UnitFits (lists-sound (w1 .schedules) (w2 .schedules) (w3 .schedules)) (λ l k.
     sound-check (allWithin l (h .ahead) (w1 .schedules) (w2 .schedules) (w3 .schedules)) 7 _ UnitFits (λ e.
     sound-got UnitFits (unitOf h (reserveOf w1 (l .spinning)) (reserveOf w2 (l .nonspinning)) (reserveOf w3 (l .thirty)) (l .ahead) (l .real))

@@ -14,7 +14,7 @@ use Rattle.records.specs.Numbers.{between, word, signed, price, quantity
 use Rattle.records.specs.Names.{visible, hexVal, escaped, one, upTo, decodeName, nameField, nameFrom, emptyName}
 use Rattle.records.specs.Marks.{is, listing, markAmong, mark, markBytes, hasName}
 use Rattle.records.specs.laws.MarkLaws.{every-mark, mark-two}
-use Rattle.records.specs.Layouts.{within, hourPrices, import, export, schedules, reserveRows, fewest, lists, allWithin, unit, failure, skip, layout, taken}
+use Rattle.records.specs.Layouts.{within, hourPrices, import, export, schedules, reserveSeries, fewest, lists, allWithin, unit, failure, skip, layout, taken}
 use Rattle.records.specs.Changes.{Rec, Change, filed, Head, allowed, inside, head, leadBytes, nameless, nameFor, bodyFor, rest, change, Entry, changed, takingBack, closing, entry, takeBackBytes, closeBytes, fine, fault, whole, parse, parseAny, bare, begins, nameBytes, headBytes, write, Good}
 use Rattle.records.specs.laws.ReaderLaws.{bad-got}
 use Rattle.records.specs.laws.ChangeLaws.{and-left, and-right, begins-true, good-kept}
@@ -159,8 +159,8 @@ brief-list lo =
 
 -- ---- a line for each layout
 
-rows : Brief 48 (many 12 quantity)
-rows = brief-many 12 4 quantity brief-quantity
+quantities : Brief 48 (many 12 quantity)
+quantities = brief-many 12 4 quantity brief-quantity
 
 prices : Brief 48 (many 12 price)
 prices = brief-many 12 4 price brief-price
@@ -171,23 +171,23 @@ brief-prices = brief-bind 48 4 (many 12 price) _ prices (λ es. brief-bind 4 0 p
 
 brief-import : Brief 209 import
 unfolding import
-brief-import = brief-bind 48 161 (many 12 quantity) _ rows
+brief-import = brief-bind 48 161 (many 12 quantity) _ quantities
     (λ qs. brief-bind 161 0 (listFrom 1) _ (brief-list 1) (λ o. brief-check 0 (within o qs) 7 _ (λ z. omega arith) (λ e. brief-got _)))
 
 brief-export : Brief 48 export
 unfolding export
-brief-export = brief-bind 48 0 (many 12 quantity) _ rows (λ qs. brief-got _)
+brief-export = brief-bind 48 0 (many 12 quantity) _ quantities (λ qs. brief-got _)
 
 brief-schedules : Brief 248 schedules
 unfolding schedules
 brief-schedules =
     brief-bind 4 244 (amount maxCents) _ (brief-amount maxCents) (λ su. brief-bind 4 240 (amount maxCents) _ (brief-amount maxCents) (λ nl.
-    brief-bind 48 192 (many 12 quantity) _ rows (λ d. brief-bind 48 144 (many 12 quantity) _ rows (λ r. brief-bind 48 96 (many 12 quantity) _ rows (λ u.
-    brief-bind 48 48 (many 12 quantity) _ rows (λ a. brief-bind 48 0 (many 12 quantity) _ rows (λ k. brief-got _)))))))
+    brief-bind 48 192 (many 12 quantity) _ quantities (λ d. brief-bind 48 144 (many 12 quantity) _ quantities (λ r. brief-bind 48 96 (many 12 quantity) _ quantities (λ u.
+    brief-bind 48 48 (many 12 quantity) _ quantities (λ a. brief-bind 48 0 (many 12 quantity) _ quantities (λ k. brief-got _)))))))
 
-brief-reserve : Brief 96 reserveRows
-unfolding reserveRows
-brief-reserve = brief-bind 48 48 (many 12 price) _ prices (λ ps. brief-bind 48 0 (many 12 quantity) _ rows (λ qs. brief-got _))
+brief-reserve : Brief 96 reserveSeries
+unfolding reserveSeries
+brief-reserve = brief-bind 48 48 (many 12 price) _ prices (λ ps. brief-bind 48 0 (many 12 quantity) _ quantities (λ qs. brief-got _))
 
 brief-lists : (s1 s2 s3 : List Quantity) → Brief 805 (lists s1 s2 s3)
 unfolding lists
@@ -199,8 +199,8 @@ brief-lists s1 s2 s3 =
 brief-unit : Brief 1341 unit
 unfolding unit
 brief-unit =
-    brief-bind 248 1093 schedules _ brief-schedules (λ h. brief-bind 96 997 reserveRows _ brief-reserve
-    (λ w1. brief-bind 96 901 reserveRows _ brief-reserve (λ w2. brief-bind 96 805 reserveRows _ brief-reserve (λ w3.
+    brief-bind 248 1093 schedules _ brief-schedules (λ h. brief-bind 96 997 reserveSeries _ brief-reserve
+    (λ w1. brief-bind 96 901 reserveSeries _ brief-reserve (λ w2. brief-bind 96 805 reserveSeries _ brief-reserve (λ w3.
     brief-bind 805 0 (lists (w1 .schedules) (w2 .schedules) (w3 .schedules)) _ (brief-lists (w1 .schedules) (w2 .schedules) (w3 .schedules)) (λ l.
     brief-check 0 (allWithin l (h .ahead) (w1 .schedules) (w2 .schedules) (w3 .schedules)) 7 _ (λ z. omega arith) (λ e. brief-got _))))))
 

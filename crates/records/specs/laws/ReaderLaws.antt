@@ -12,7 +12,7 @@ use Rattle.money.specs.Units.{priceOk, quantityOk, maxCents}
 use Rattle.money.specs.declared.units.Quantity.{Quantity}
 use Rattle.records.specs.Reading.{Res, bad, got, Reader, _>>=_, check, byte, many}
 use Rattle.records.specs.Numbers.{between, le32, word, signed, price, quantity, amount, pair, offerOf, pairs, listOk, listFrom}
-use Rattle.records.specs.Layouts.{within, hourPrices, import, export, schedules, reserveRows, fewest, lists, allWithin, unit, failure, skip, layout, taken}
+use Rattle.records.specs.Layouts.{within, hourPrices, import, export, schedules, reserveSeries, fewest, lists, allWithin, unit, failure, skip, layout, taken}
 use Rattle.records.specs.declared.marks.Mark.{Mark}
 use Rattle.records.specs.declared.marks.Mark.the-variants.{Pr, Im, Ex, Gh, Fi, Fe}
 
@@ -172,8 +172,8 @@ lawful-list lo =
 
 -- ---- a line for each layout
 
-rows : Lawful (many 12 quantity)
-rows = lawful-many 12 quantity lawful-quantity
+quantities : Lawful (many 12 quantity)
+quantities = lawful-many 12 quantity lawful-quantity
 
 prices : Lawful (many 12 price)
 prices = lawful-many 12 price lawful-price
@@ -185,22 +185,22 @@ lawful-prices = lawful-bind (many 12 price) _ prices (λ es. lawful-bind price _
 pub lawful-import : Lawful import
 unfolding import
 lawful-import =
-    lawful-bind (many 12 quantity) _ rows (λ qs. lawful-bind (listFrom 1) _ (lawful-list 1) (λ o. lawful-check (within o qs) 7 _ (omega arith) (lawful-got _)))
+    lawful-bind (many 12 quantity) _ quantities (λ qs. lawful-bind (listFrom 1) _ (lawful-list 1) (λ o. lawful-check (within o qs) 7 _ (omega arith) (lawful-got _)))
 
 pub lawful-export : Lawful export
 unfolding export
-lawful-export = lawful-bind (many 12 quantity) _ rows (λ qs. lawful-got _)
+lawful-export = lawful-bind (many 12 quantity) _ quantities (λ qs. lawful-got _)
 
 lawful-schedules : Lawful schedules
 unfolding schedules
 lawful-schedules =
     lawful-bind (amount maxCents) _ (lawful-amount maxCents) (λ su. lawful-bind (amount maxCents) _ (lawful-amount maxCents) (λ nl.
-    lawful-bind (many 12 quantity) _ rows (λ d. lawful-bind (many 12 quantity) _ rows (λ r. lawful-bind (many 12 quantity) _ rows
-    (λ u. lawful-bind (many 12 quantity) _ rows (λ a. lawful-bind (many 12 quantity) _ rows (λ k. lawful-got _)))))))
+    lawful-bind (many 12 quantity) _ quantities (λ d. lawful-bind (many 12 quantity) _ quantities (λ r. lawful-bind (many 12 quantity) _ quantities
+    (λ u. lawful-bind (many 12 quantity) _ quantities (λ a. lawful-bind (many 12 quantity) _ quantities (λ k. lawful-got _)))))))
 
-lawful-reserve : Lawful reserveRows
-unfolding reserveRows
-lawful-reserve = lawful-bind (many 12 price) _ prices (λ ps. lawful-bind (many 12 quantity) _ rows (λ qs. lawful-got _))
+lawful-reserve : Lawful reserveSeries
+unfolding reserveSeries
+lawful-reserve = lawful-bind (many 12 price) _ prices (λ ps. lawful-bind (many 12 quantity) _ quantities (λ qs. lawful-got _))
 
 lawful-lists : (s1 s2 s3 : List Quantity) → Lawful (lists s1 s2 s3)
 unfolding lists
@@ -213,7 +213,7 @@ pub lawful-unit : Lawful unit
 unfolding unit
 lawful-unit =
     lawful-bind schedules _ lawful-schedules
-    (λ h. lawful-bind reserveRows _ lawful-reserve (λ w1. lawful-bind reserveRows _ lawful-reserve (λ w2. lawful-bind reserveRows _ lawful-reserve (λ w3.
+    (λ h. lawful-bind reserveSeries _ lawful-reserve (λ w1. lawful-bind reserveSeries _ lawful-reserve (λ w2. lawful-bind reserveSeries _ lawful-reserve (λ w3.
     lawful-bind (lists (w1 .schedules) (w2 .schedules) (w3 .schedules)) _ (lawful-lists (w1 .schedules) (w2 .schedules) (w3 .schedules)) (λ l.
     lawful-check (allWithin l (h .ahead) (w1 .schedules) (w2 .schedules) (w3 .schedules)) 7 _ (omega arith) (lawful-got _))))))
 

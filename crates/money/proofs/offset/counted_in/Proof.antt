@@ -8,8 +8,8 @@ use Rattle.money.proofs.offset.counted_in.Tie as tie
 up-to-requires : tie.Need-up-to-requires
 up-to-requires c κs = search needs
 
-row-sum-requires : tie.Need-row-sum-requires
-row-sum-requires c κs = c .before .before .before .pre
+series-sum-requires : tie.Need-series-sum-requires
+series-sum-requires c κs = c .before .before .before .pre
 
 returns : tie.Need-returns
 returns c =
@@ -19,7 +19,7 @@ returns c =
     let a = (c4 .args) .a in
     let e = (c4 .args) .e in
     let yes = sym (c3 .up-to .ensures) ∙ (c2 .if1) .taken in
-    λ k l. omega (arith, (c .row-sum) .ensures k l, counted-yes a e k yes)
+    λ k l. omega (arith, (c .series-sum) .ensures k l, counted-yes a e k yes)
 
 returns-2 : tie.Need-returns-2
 returns-2 c =
@@ -27,4 +27,4 @@ returns-2 c =
     λ k l. omega (arith, counted-no (c2 .args .a) (c2 .args .e) k (sym (c .before .up-to .ensures) ∙ (c .if1) .left))
 
 pub counted-in-spec : {M : Type 1} → statement M
-counted-in-spec = tie.close (tie.spec up-to-requires row-sum-requires returns returns-2)
+counted-in-spec = tie.close (tie.spec up-to-requires series-sum-requires returns returns-2)

@@ -23,8 +23,8 @@ mul-e c = search needs
 array-copy-out-e : tie.Need-array-copy-out-e Inv-loop μ-loop
 array-copy-out-e c = search needs
 
-adj-row-requires : tie.Need-adj-row-requires Inv-loop μ-loop
-adj-row-requires c κs = (c .before .before .before .pre .0, (c .before .loop-test) .taken)
+adj-series-requires : tie.Need-adj-series-requires Inv-loop μ-loop
+adj-series-requires c κs = (c .before .before .before .pre .0, (c .before .loop-test) .taken)
 
 credit-of-requires : tie.Need-credit-of-requires Inv-loop μ-loop
 credit-of-requires c κs =
@@ -32,8 +32,8 @@ credit-of-requires c κs =
     let c4 = c2 .before .before in
     let c5 = c4 .before in
     let c6 = c5 .before in
-    adj-ready (c6 .args .prices) (c6 .args .totals) (c6 .pre .0) (c6 .pre .1) {q = quantityAt (c2 .adj-row .result)} {i = (c5 .loop) .i}
-    (c4 .loop-test .taken) (c2 .adj-row .ensures)
+    adj-ready (c6 .args .prices) (c6 .args .totals) (c6 .pre .0) (c6 .pre .1) {q = quantityAt (c2 .adj-series .result)} {i = (c5 .loop) .i}
+    (c4 .loop-test .taken) (c2 .adj-series .ensures)
 
 minus-requires : tie.Need-minus-requires Inv-loop μ-loop
 minus-requires c κs =
@@ -41,8 +41,8 @@ minus-requires c κs =
     let c5 = c3 .before .before in
     let c6 = c5 .before in
     let c7 = c6 .before in
-    let r = adj-ready (c7 .args .prices) (c7 .args .totals) (c7 .pre .0) (c7 .pre .1) {q = quantityAt (c3 .adj-row .result)} {i = (c6 .loop) .i}
-    (c5 .loop-test .taken) (c3 .adj-row .ensures) in
+    let r = adj-ready (c7 .args .prices) (c7 .args .totals) (c7 .pre .0) (c7 .pre .1) {q = quantityAt (c3 .adj-series .result)} {i = (c6 .loop) .i}
+    (c5 .loop-test .taken) (c3 .adj-series .ensures) in
     (omega (arith, (c7 .pre) .0 .each (c6 .loop .i) (c5 .loop-test .taken) .small), credit-room r (c .credit-of .ensures))
 
 plus-requires : tie.Need-plus-requires Inv-loop μ-loop
@@ -53,7 +53,7 @@ plus-requires c κs =
     let c8 = c7 .before in (
       offsets-room (c8 .args .prices) (c8 .args .totals) (c8 .pre .0) (c8 .pre .1) (c7 .loop .inv),
       gives-room (c8 .args .prices)
-          (c8 .args .totals) (c8 .pre .0) (c8 .pre .1) (c7 .loop .inv) (c6 .loop-test .taken) (c4 .adj-row .ensures) (c .before .credit-of .ensures)
+          (c8 .args .totals) (c8 .pre .0) (c8 .pre .1) (c7 .loop .inv) (c6 .loop-test .taken) (c4 .adj-series .ensures) (c .before .credit-of .ensures)
           (c .minus .ensures),
     )
 
@@ -71,7 +71,7 @@ loop-again c =
     let c8 = c7 .before in
     let c9 = c8 .before in
     summed-more (c8 .loop .inv) (c7 .loop-test .taken) (c .plus .ensures) (gives-is (c9 .args .prices) (c9 .args .totals) (c9 .pre .0)
-    (c9 .pre .1) (c8 .loop .inv) (c7 .loop-test .taken) (c5 .adj-row .ensures) (c2 .credit-of .ensures) (c .before .minus .ensures))
+    (c9 .pre .1) (c8 .loop .inv) (c7 .loop-test .taken) (c5 .adj-series .ensures) (c2 .credit-of .ensures) (c .before .minus .ensures))
 
 returns : tie.Need-returns Inv-loop μ-loop
 returns c = offsets-all _ _ _ _ (c .before .loop .inv) (c .loop-test .left)
@@ -85,7 +85,7 @@ offset-of-spec =
     loop-holds
     mul-e
     array-copy-out-e
-    adj-row-requires
+    adj-series-requires
     credit-of-requires
     minus-requires
     plus-requires

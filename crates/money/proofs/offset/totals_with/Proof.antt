@@ -8,10 +8,10 @@ use Rattle.money.proofs.offset.totals_with.Statement.{statement}
 use Rattle.money.proofs.offset.totals_with.Tie as tie
 
 abbrev Inv-loop : tie.InvT-loop
-Inv-loop totals more row₀ k₀ row k = Filled row (λ (j : ℕ). min (quantityAt totals j + quantityAt more j) (maxTotal + 1)) k
+Inv-loop totals more series₀ k₀ series k = Filled series (λ (j : ℕ). min (quantityAt totals j + quantityAt more j) (maxTotal + 1)) k
 
 abbrev μ-loop : tie.MeasureT-loop
-μ-loop totals more row₀ k₀ row k = intervals - k
+μ-loop totals more series₀ k₀ series k = intervals - k
 
 loop-holds : tie.Need-loop-holds Inv-loop μ-loop
 loop-holds c = filled-none _ _ refl
@@ -31,11 +31,11 @@ array-copy-out-b c = search needs
 total-with-requires : tie.Need-total-with-requires Inv-loop μ-loop
 total-with-requires c κs = search needs
 
-mul-row : tie.Need-mul-row Inv-loop μ-loop
-mul-row c = search needs
+mul-series : tie.Need-mul-series Inv-loop μ-loop
+mul-series c = search needs
 
-array-set-from-row : tie.Need-array-set-from-row Inv-loop μ-loop
-array-set-from-row c = search needs
+array-set-from-series : tie.Need-array-set-from-series Inv-loop μ-loop
+array-set-from-series c = search needs
 
 add-k : tie.Need-add-k Inv-loop μ-loop
 add-k c = search needs
@@ -62,8 +62,8 @@ totals-with-spec =
     mul-b
     array-copy-out-b
     total-with-requires
-    mul-row
-    array-set-from-row
+    mul-series
+    array-set-from-series
     add-k
     loop-less
     loop-again

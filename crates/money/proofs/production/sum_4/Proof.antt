@@ -4,14 +4,14 @@ use Rattle.money.specs.laws.ProductionLaws.{reserve-room, two-reserves, 
 use Rattle.money.proofs.production.sum_4.Statement.{statement}
 use Rattle.money.proofs.production.sum_4.Tie as tie
 
-row-by-requires : tie.Need-row-by-requires
-row-by-requires c κs = search needs
+series-by-requires : tie.Need-series-by-requires
+series-by-requires c κs = search needs
 
-row-by-requires-2 : tie.Need-row-by-requires-2
-row-by-requires-2 c κs = search needs
+series-by-requires-2 : tie.Need-series-by-requires-2
+series-by-requires-2 c κs = search needs
 
-row-by-requires-3 : tie.Need-row-by-requires-3
-row-by-requires-3 c κs = search needs
+series-by-requires-3 : tie.Need-series-by-requires-3
+series-by-requires-3 c κs = search needs
 
 reserve-sum-requires : tie.Need-reserve-sum-requires
 reserve-sum-requires c κs = search needs
@@ -28,9 +28,9 @@ plus-requires c κs =
     let c4 = c2 .before .before in
     let c5 = c4 .before in
     let c8 = c5 .before .before .before in (
-      reserve-room (c8 .pre .0) (quantityAt (c5 .row-by .result)) (c2 .reserve-sum .ensures),
+      reserve-room (c8 .pre .0) (quantityAt (c5 .series-by .result)) (c2 .reserve-sum .ensures),
       reserve-room (c8 .pre .1 .0)
-          (quantityAt (c4 .row-by2 .result)) (c .before .reserve-sum2 .ensures),
+          (quantityAt (c4 .series-by2 .result)) (c .before .reserve-sum2 .ensures),
     )
 
 plus-requires-2 : tie.Need-plus-requires-2
@@ -41,9 +41,9 @@ plus-requires-2 c κs =
     let c5 = c4 .before in
     let c6 = c5 .before in
     let c9 = c6 .before .before .before in (
-      two-reserves (c9 .pre .0) (c9 .pre .1 .0) (quantityAt (c6 .row-by .result)) (quantityAt (c5 .row-by2 .result)) (c3 .reserve-sum .ensures)
+      two-reserves (c9 .pre .0) (c9 .pre .1 .0) (quantityAt (c6 .series-by .result)) (quantityAt (c5 .series-by2 .result)) (c3 .reserve-sum .ensures)
           (c2 .reserve-sum2 .ensures) (c .plus .ensures),
-      reserve-room (c9 .pre .1 .1) (quantityAt (c4 .row-by3 .result))
+      reserve-room (c9 .pre .1 .1) (quantityAt (c4 .series-by3 .result))
           (c .before .reserve-sum3 .ensures),
     )
 
@@ -57,17 +57,17 @@ returns c =
     let c7 = c6 .before in
     let c10 = c7 .before .before .before in
     sum4-is (c10 .args .r1) (c10 .args .r2) (c10 .args .r3) (quantityAt (c10 .args .d)) (quantityAt (c10 .args .u))
-    (quantityAt (c7 .row-by .result)) (quantityAt (c6 .row-by2 .result)) (quantityAt (c5 .row-by3 .result))
-    (c7 .row-by .ensures) (c6 .row-by2 .ensures) (c5 .row-by3 .ensures) (c4 .reserve-sum .ensures) (c3 .reserve-sum2 .ensures)
+    (quantityAt (c7 .series-by .result)) (quantityAt (c6 .series-by2 .result)) (quantityAt (c5 .series-by3 .result))
+    (c7 .series-by .ensures) (c6 .series-by2 .ensures) (c5 .series-by3 .ensures) (c4 .reserve-sum .ensures) (c3 .reserve-sum2 .ensures)
     (c2 .reserve-sum3 .ensures) (c .before .plus .ensures) (c .plus2 .ensures)
 
 pub sum-4-spec : {M : Type 1} → statement M
 sum-4-spec =
     tie.close
     (tie.spec
-    row-by-requires
-    row-by-requires-2
-    row-by-requires-3
+    series-by-requires
+    series-by-requires-2
+    series-by-requires-3
     reserve-sum-requires
     reserve-sum-requires-2
     reserve-sum-requires-3

@@ -1,6 +1,6 @@
 use mathlib.Core.Path.{sym, _∙_}
 use borrow.Author.Needs.{needs}
-use Rattle.records.specs.Layouts.{unit, schedules, reserveRows, lists, allWithin}
+use Rattle.records.specs.Layouts.{unit, schedules, reserveSeries, lists, allWithin}
 use Rattle.records.specs.tables.Inner.{guarded}
 use Rattle.records.proofs.fields.Step.{next, test, last, guarded-in}
 use Rattle.records.proofs.layouts.unit_then.Statement.{statement}
@@ -9,14 +9,14 @@ use Rattle.records.proofs.layouts.unit_then.Tie as tie
 schedules-then-requires : tie.Need-schedules-then-requires
 schedules-then-requires c κs = search needs
 
-reserve-rows-then-requires : tie.Need-reserve-rows-then-requires
-reserve-rows-then-requires c κs = search needs
+reserve-series-then-requires : tie.Need-reserve-series-then-requires
+reserve-series-then-requires c κs = search needs
 
-reserve-rows-then-requires-2 : tie.Need-reserve-rows-then-requires-2
-reserve-rows-then-requires-2 c κs = search needs
+reserve-series-then-requires-2 : tie.Need-reserve-series-then-requires-2
+reserve-series-then-requires-2 c κs = search needs
 
-reserve-rows-then-requires-3 : tie.Need-reserve-rows-then-requires-3
-reserve-rows-then-requires-3 c κs = search needs
+reserve-series-then-requires-3 : tie.Need-reserve-series-then-requires-3
+reserve-series-then-requires-3 c κs = search needs
 
 lists-then-requires : tie.Need-lists-then-requires
 lists-then-requires c κs = search needs
@@ -54,13 +54,13 @@ returns c =
     let c26 = c24 .before .before in
     let s = (c26 .args) .s .now in
     let h = (c24 .schedules-then) .result in
-    let v1 = (c23 .reserve-rows-then) .result in
-    let v2 = (c22 .reserve-rows-then2) .result in
-    let v3 = (c21 .reserve-rows-then3) .result in
+    let v1 = (c23 .reserve-series-then) .result in
+    let v2 = (c22 .reserve-series-then2) .result in
+    let v3 = (c21 .reserve-series-then3) .result in
     let k = (c12 .lists-then) .result in
-    let s1 = v1 .rows .schedules in
-    let s2 = v2 .rows .schedules in
-    let s3 = v3 .rows .schedules in
+    let s1 = v1 .series .schedules in
+    let s2 = v2 .series .schedules in
+    let s3 = v3 .series .schedules in
     let ok = allWithin (k .lists) (h .schedules .ahead) s1 s2 s3 in (
       rw (
         (c .unit-of) .ensures,
@@ -71,9 +71,9 @@ returns c =
         (c10 .all-inside) .ensures,
       )
           (sym (next s (c26 .args .e) (h .end) (h .schedules) schedules _ (c24 .schedules-then .ensures .0)
-          ∙ next s (h .end) (v1 .end) (v1 .rows) reserveRows _ (c23 .reserve-rows-then .ensures .0)
-          ∙ next s (v1 .end) (v2 .end) (v2 .rows) reserveRows _ (c22 .reserve-rows-then2 .ensures .0)
-          ∙ next s (v2 .end) (v3 .end) (v3 .rows) reserveRows _ (c21 .reserve-rows-then3 .ensures .0)
+          ∙ next s (h .end) (v1 .end) (v1 .series) reserveSeries _ (c23 .reserve-series-then .ensures .0)
+          ∙ next s (v1 .end) (v2 .end) (v2 .series) reserveSeries _ (c22 .reserve-series-then2 .ensures .0)
+          ∙ next s (v2 .end) (v3 .end) (v3 .series) reserveSeries _ (c21 .reserve-series-then3 .ensures .0)
           ∙ next s (v3 .end) (k .end) (k .lists) (lists s1 s2 s3) _ (c12 .lists-then .ensures .value)
           ∙ test s (k .end) ok 7 _
           ∙ last s (guarded (k .end) ok 7) _)),
@@ -85,9 +85,9 @@ unit-then-spec =
     tie.close
     (tie.spec
     schedules-then-requires
-    reserve-rows-then-requires
-    reserve-rows-then-requires-2
-    reserve-rows-then-requires-3
+    reserve-series-then-requires
+    reserve-series-then-requires-2
+    reserve-series-then-requires-3
     lists-then-requires
     all-inside-requires
     guard-end-requires

@@ -6,8 +6,8 @@ use native.Mathlib.Omega.{arith}
 use Rattle.records.specs.Numbers.{quantity}
 use Rattle.records.specs.tables.Inner.{quantityAt}
 use Rattle.records.proofs.fields.Lemmas.{Filled, filled-none, filled-more, filled-bad, filled-all}
-use Rattle.records.proofs.rows.read_quantities.Statement.{statement}
-use Rattle.records.proofs.rows.read_quantities.Tie as tie
+use Rattle.records.proofs.series.read_quantities.Statement.{statement}
+use Rattle.records.proofs.series.read_quantities.Tie as tie
 
 abbrev Inv-loop : tie.InvT-loop
 Inv-loop s at values₀ next₀ i₀ values next i = (i ≤ 12) × (length values ≡ 12) × (1 ≤ i → next ≤ length s) × Filled quantity s 12 at values i next

@@ -1,6 +1,6 @@
 use borrow.Author.Needs.{needs}
-use Rattle.records.proofs.rows.prices_then.Statement.{statement}
-use Rattle.records.proofs.rows.prices_then.Tie as tie
+use Rattle.records.proofs.series.prices_then.Statement.{statement}
+use Rattle.records.proofs.series.prices_then.Tie as tie
 
 enum-known-e : tie.Need-enum-known-e
 enum-known-e c = search needs

@@ -2,10 +2,10 @@ use mathlib.Core.Path.{sym, _∙_}
 use borrow.Author.Needs.{needs}
 use Rattle.records.specs.Reading.{many}
 use Rattle.records.specs.Numbers.{price, quantity}
-use Rattle.records.specs.Layouts.{reserveRows}
+use Rattle.records.specs.Layouts.{reserveSeries}
 use Rattle.records.proofs.fields.Step.{next, last}
-use Rattle.records.proofs.layouts.reserve_rows_then.Statement.{statement}
-use Rattle.records.proofs.layouts.reserve_rows_then.Tie as tie
+use Rattle.records.proofs.layouts.reserve_series_then.Statement.{statement}
+use Rattle.records.proofs.layouts.reserve_series_then.Tie as tie
 
 prices-then-requires : tie.Need-prices-then-requires
 prices-then-requires c κs = search needs
@@ -14,7 +14,7 @@ quantities-then-requires : tie.Need-quantities-then-requires
 quantities-then-requires c κs = search needs
 
 returns : tie.Need-returns
-unfolding reserveRows
+unfolding reserveSeries
 returns c =
     let c2 = c .before .before in
     let c3 = c2 .before in
@@ -28,5 +28,5 @@ returns c =
       (c2 .quantities-then) .ensures .1,
     )
 
-pub reserve-rows-then-spec : {M : Type 1} → statement M
-reserve-rows-then-spec = tie.close (tie.spec prices-then-requires quantities-then-requires returns)
+pub reserve-series-then-spec : {M : Type 1} → statement M
+reserve-series-then-spec = tie.close (tie.spec prices-then-requires quantities-then-requires returns)

@@ -1,18 +1,17 @@
 use mathlib.Core.Path.{refl}
-use Prim.Native.Nat.{ℕ, _-_}
-use borrow.Author.Needs.{needs}
+use Prim.Native.Nat.{ℕ, _+_, _-_}
 use native.Mathlib.Omega.{arith}
+use borrow.Author.Needs.{needs}
 use Rattle.money.specs.Units.{intervals, quantityAt}
 use Rattle.money.specs.laws.UnitLaws.{Filled, filled-none, filled-more}
-use Rattle.money.specs.laws.ProductionLaws.{pickOf}
-use Rattle.money.proofs.production.row_by.Statement.{statement}
-use Rattle.money.proofs.production.row_by.Tie as tie
+use Rattle.money.proofs.offset.series_sum.Statement.{statement}
+use Rattle.money.proofs.offset.series_sum.Tie as tie
 
 abbrev Inv-loop : tie.InvT-loop
-Inv-loop by a b row₀ k₀ row k = Filled row (λ (j : ℕ). pickOf by (quantityAt a j) (quantityAt b j)) k
+Inv-loop a b series₀ k₀ series k = Filled series (λ (j : ℕ). quantityAt a j + quantityAt b j) k
 
 abbrev μ-loop : tie.MeasureT-loop
-μ-loop by a b row₀ k₀ row k = intervals - k
+μ-loop a b series₀ k₀ series k = intervals - k
 
 loop-holds : tie.Need-loop-holds Inv-loop μ-loop
 loop-holds c = filled-none _ _ refl
@@ -29,14 +28,18 @@ mul-y c = search needs
 array-copy-out-y : tie.Need-array-copy-out-y Inv-loop μ-loop
 array-copy-out-y c = search needs
 
-picked-requires : tie.Need-picked-requires Inv-loop μ-loop
-picked-requires c κs = search needs
+add-sum : tie.Need-add-sum Inv-loop μ-loop
+add-sum c =
+    let c4 = c .before .before .before .before in
+    let c5 = c4 .before in
+    let c6 = c5 .before in
+    omega (arith, (c6 .pre) (c5 .loop .k) (c4 .loop-test .taken))
 
-mul-row : tie.Need-mul-row Inv-loop μ-loop
-mul-row c = search needs
+mul-series : tie.Need-mul-series Inv-loop μ-loop
+mul-series c = search needs
 
-array-set-from-row : tie.Need-array-set-from-row Inv-loop μ-loop
-array-set-from-row c = search needs
+array-set-from-series : tie.Need-array-set-from-series Inv-loop μ-loop
+array-set-from-series c = search needs
 
 add-k : tie.Need-add-k Inv-loop μ-loop
 add-k c = search needs
@@ -45,13 +48,16 @@ loop-less : tie.Need-loop-less Inv-loop μ-loop
 loop-less c = search needs
 
 loop-again : tie.Need-loop-again Inv-loop μ-loop
-loop-again c = filled-more (c .before .before .before .before .loop .inv) (c .before .before .before .loop-test .taken) (c .picked .ensures)
+loop-again c =
+    let c4 = c .before .before .before .before in
+    let c5 = c4 .before in
+    filled-more (c5 .loop .inv) (c4 .loop-test .taken) refl
 
 returns : tie.Need-returns Inv-loop μ-loop
 returns c = λ j l. (c .before .loop) .inv .so-far j (omega (arith, (c .loop-test) .left))
 
-pub row-by-spec : {M : Type 1} → statement M
-row-by-spec =
+pub series-sum-spec : {M : Type 1} → statement M
+series-sum-spec =
     tie.close
     (tie.spec
     Inv-loop
@@ -61,9 +67,9 @@ row-by-spec =
     array-copy-out-x
     mul-y
     array-copy-out-y
-    picked-requires
-    mul-row
-    array-set-from-row
+    add-sum
+    mul-series
+    array-set-from-series
     add-k
     loop-less
     loop-again

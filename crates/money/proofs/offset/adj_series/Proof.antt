@@ -5,14 +5,14 @@ use native.Mathlib.Omega.{arith}
 use Rattle.money.specs.Units.{intervals, quantityAt}
 use Rattle.money.specs.Offset.{mqsi, entry}
 use Rattle.money.specs.laws.UnitLaws.{Filled, filled-none, filled-more}
-use Rattle.money.proofs.offset.adj_row.Statement.{statement}
-use Rattle.money.proofs.offset.adj_row.Tie as tie
+use Rattle.money.proofs.offset.adj_series.Statement.{statement}
+use Rattle.money.proofs.offset.adj_series.Tie as tie
 
 abbrev Inv-loop : tie.InvT-loop
-Inv-loop n i totals e reached row₀ k₀ row k = Filled row (λ j. min (mqsi e j) (quantityAt reached j - quantityAt totals j)) k
+Inv-loop n i totals e reached series₀ k₀ series k = Filled series (λ j. min (mqsi e j) (quantityAt reached j - quantityAt totals j)) k
 
 abbrev μ-loop : tie.MeasureT-loop
-μ-loop n i totals e reached row₀ k₀ row k = intervals - k
+μ-loop n i totals e reached series₀ k₀ series k = intervals - k
 
 mul-e : tie.Need-mul-e Inv-loop μ-loop
 mul-e c = search needs
@@ -20,8 +20,8 @@ mul-e c = search needs
 array-copy-out-e : tie.Need-array-copy-out-e Inv-loop μ-loop
 array-copy-out-e c = search needs
 
-reach-row-requires : tie.Need-reach-row-requires Inv-loop μ-loop
-reach-row-requires c κs = (c .before .pre)
+reach-series-requires : tie.Need-reach-series-requires Inv-loop μ-loop
+reach-series-requires c κs = (c .before .pre)
 
 loop-holds : tie.Need-loop-holds Inv-loop μ-loop
 loop-holds c = filled-none _ _ refl
@@ -50,11 +50,11 @@ above-requires c κs = search needs
 lesser-requires : tie.Need-lesser-requires Inv-loop μ-loop
 lesser-requires c κs = search needs
 
-mul-row : tie.Need-mul-row Inv-loop μ-loop
-mul-row c = search needs
+mul-series : tie.Need-mul-series Inv-loop μ-loop
+mul-series c = search needs
 
-array-set-from-row : tie.Need-array-set-from-row Inv-loop μ-loop
-array-set-from-row c = search needs
+array-set-from-series : tie.Need-array-set-from-series Inv-loop μ-loop
+array-set-from-series c = search needs
 
 add-k : tie.Need-add-k Inv-loop μ-loop
 add-k c = search needs
@@ -73,17 +73,17 @@ returns c =
     let c2 = c .before .before in
     let c4 = c2 .before .before in
     λ k h. (c .before .loop) .inv .so-far k (omega (arith, (c .loop-test) .left)) ∙ ap
-    (λ (x : ℕ). min (mqsi (entry (c4 .args .t2) (c4 .args .i)) k) (x - quantityAt (c4 .args .t3) k)) (c2 .reach-row .ensures k h)
+    (λ (x : ℕ). min (mqsi (entry (c4 .args .t2) (c4 .args .i)) k) (x - quantityAt (c4 .args .t3) k)) (c2 .reach-series .ensures k h)
 
-pub adj-row-spec : {M : Type 1} → statement M
-adj-row-spec =
+pub adj-series-spec : {M : Type 1} → statement M
+adj-series-spec =
     tie.close
     (tie.spec
     Inv-loop
     μ-loop
     mul-e
     array-copy-out-e
-    reach-row-requires
+    reach-series-requires
     loop-holds
     mul-q
     element-copy-out-q
@@ -93,8 +93,8 @@ adj-row-spec =
     array-copy-out-t
     above-requires
     lesser-requires
-    mul-row
-    array-set-from-row
+    mul-series
+    array-set-from-series
     add-k
     loop-less
     loop-again

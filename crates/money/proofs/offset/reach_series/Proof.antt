@@ -3,8 +3,8 @@ use borrow.Author.Needs.{needs}
 use Rattle.money.specs.laws.UnitLaws.{zeros}
 use Rattle.money.specs.laws.OffsetLaws.{Reached, reached-none, reached-room, reached-more, reached-all}
 use Rattle.money.specs.Units.{intervals}
-use Rattle.money.proofs.offset.reach_row.Statement.{statement}
-use Rattle.money.proofs.offset.reach_row.Tie as tie
+use Rattle.money.proofs.offset.reach_series.Statement.{statement}
+use Rattle.money.proofs.offset.reach_series.Tie as tie
 
 abbrev Inv-loop : tie.InvT-loop
 Inv-loop n i entries e sums₀ j₀ sums j = Reached n entries i sums j
@@ -42,8 +42,8 @@ loop-again c = reached-more (c .before .before .before .loop .inv) (c .before .b
 returns : tie.Need-returns Inv-loop μ-loop
 returns c = reached-all (c .before .loop .inv) (c .loop-test .left)
 
-pub reach-row-spec : {M : Type 1} → statement M
-reach-row-spec =
+pub reach-series-spec : {M : Type 1} → statement M
+reach-series-spec =
     tie.close
     (tie.spec
     Inv-loop

@@ -12,17 +12,17 @@ ghost use Rattle.records.specs.Reading.{from, many};
 ghost use Rattle.records.specs.Numbers.{price, quantity};
 ghost use Rattle.records.specs.tables.Inner.{shown, EndIn, then};
 
-pub struct PriceRow {
+pub struct PriceSeries {
     pub end: End,
     pub values: [Price; INTERVALS],
 }
 
-pub struct QuantityRow {
+pub struct QuantitySeries {
     pub end: End,
     pub values: [Quantity; INTERVALS],
 }
 
-fn read_prices(s: &[u8], at: usize) -> PriceRow
+fn read_prices(s: &[u8], at: usize) -> PriceSeries
     ensures { λ r. ⌜ (shown (now (s .entry)) (r .end) (r .values) ≡ many 12 price (from (now (s .entry)) at)) × EndIn (now (s .entry)) (r .end) ⌝ }
 {
     let mut values = [Price(0); INTERVALS];
@@ -37,20 +37,20 @@ fn read_prices(s: &[u8], at: usize) -> PriceRow
                 i += 1;
             }
             PriceAt::No(k) => {
-                return PriceRow {
+                return PriceSeries {
                     end: End::No(k),
                     values,
                 };
             }
         }
     }
-    PriceRow {
+    PriceSeries {
         end: End::At(next),
         values,
     }
 }
 
-fn read_quantities(s: &[u8], at: usize) -> QuantityRow
+fn read_quantities(s: &[u8], at: usize) -> QuantitySeries
     ensures { λ r. ⌜ (shown (now (s .entry)) (r .end) (r .values) ≡ many 12 quantity (from (now (s .entry)) at)) × EndIn (now (s .entry)) (r .end) ⌝ }
 {
     let mut values = [Quantity(0); INTERVALS];
@@ -65,27 +65,27 @@ fn read_quantities(s: &[u8], at: usize) -> QuantityRow
                 i += 1;
             }
             QuantityAt::No(k) => {
-                return QuantityRow {
+                return QuantitySeries {
                     end: End::No(k),
                     values,
                 };
             }
         }
     }
-    QuantityRow {
+    QuantitySeries {
         end: End::At(next),
         values,
     }
 }
 
-pub(crate) fn prices_then(s: &[u8], e: End) -> PriceRow
+pub(crate) fn prices_then(s: &[u8], e: End) -> PriceSeries
     ensures { λ r. ⌜ (shown (now (s .entry)) (r .end) (r .values) ≡ then (now (s .entry)) e (many 12 price)) × EndIn (now (s .entry)) (r .end) ⌝ }
 {
     match e {
         End::At(at) => read_prices(s, at),
         End::No(k) => {
             let values = [Price(0); INTERVALS];
-            PriceRow {
+            PriceSeries {
                 end: End::No(k),
                 values,
             }
@@ -93,14 +93,14 @@ pub(crate) fn prices_then(s: &[u8], e: End) -> PriceRow
     }
 }
 
-pub(crate) fn quantities_then(s: &[u8], e: End) -> QuantityRow
+pub(crate) fn quantities_then(s: &[u8], e: End) -> QuantitySeries
     ensures { λ r. ⌜ (shown (now (s .entry)) (r .end) (r .values) ≡ then (now (s .entry)) e (many 12 quantity)) × EndIn (now (s .entry)) (r .end) ⌝ }
 {
     match e {
         End::At(at) => read_quantities(s, at),
         End::No(k) => {
             let values = [Quantity(0); INTERVALS];
-            QuantityRow {
+            QuantitySeries {
                 end: End::No(k),
                 values,
             }
