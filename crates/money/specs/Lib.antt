@@ -6,4 +6,5 @@ pub mod Names
 pub mod Offset
 pub mod Production
 pub mod Failure
+pub mod tables
 pub mod laws

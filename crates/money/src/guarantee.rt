@@ -16,7 +16,7 @@ use crate::units::within_ok;
 ghost use mathlib.Core.Path.{_≡_};
 ghost use Rattle.money.specs.Units.{quantityAt};
 ghost use Rattle.money.specs.Guarantee.{profits, credit, creditAnswer};
-ghost use Rattle.money.specs.laws.GuaranteeLaws.{Ready};
+ghost use Rattle.money.specs.tables.Ready.{Ready};
 
 // The profits of twelve intervals. The walk over the pairs stops at the first one that reaches the quantity; what the pairs before it cost is known.
 pub(crate) fn profit_sum(o: Offer, prices: [Price; INTERVALS], qs: [Quantity; INTERVALS]) -> Ticks

@@ -20,7 +20,7 @@ use crate::units::within_ok;
 ghost use mathlib.Core.Path.{_≡_};
 ghost use Prim.Native.Nat.{_<_, _≤_};
 ghost use Rattle.money.specs.Offset.{maxImports, precedes, upTo, entryFault, freshName, nthFault, entriesFault};
-ghost use Rattle.money.specs.laws.UnitLaws.{Rates};
+ghost use Rattle.money.specs.tables.Ready.{Rates};
 
 // The number of imports that an hour may have.
 pub const IMPORTS_MAX: usize = 16;

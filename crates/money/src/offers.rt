@@ -12,7 +12,8 @@ ghost use mathlib.Core.Bool.{_&&_};
 ghost use Rattle.laws.specs.Sums.{Σℤ};
 ghost use Rattle.money.specs.Units.{priceOk, quantityOk};
 ghost use Rattle.money.specs.Offers.{maxPairs, numbersOk, rises, orderOk, offerFault, lastQ, piece, cost, costAnswer};
-ghost use Rattle.money.specs.laws.OfferLaws.{Good, ticksAt};
+ghost use Rattle.money.specs.tables.Numbers.{ticksAt};
+ghost use Rattle.money.specs.tables.Ready.{Good};
 
 // The number of pairs that an offer may have.
 pub const PAIRS_MAX: usize = 20;

@@ -21,9 +21,9 @@ ghost use mathlib.Core.Bool.{_&&_};
 ghost use lib.ListN.{length};
 ghost use Rattle.money.specs.Units.{intervals, priceOk, quantityAt};
 ghost use Rattle.money.specs.Offset.{maxTotal, mqsi, counted, reach, adj, offset, totalOk, totalsWith, ratesOk, offsetAnswer};
-ghost use Rattle.money.specs.laws.UnitLaws.{Fits, Rates};
-ghost use Rattle.money.specs.laws.OffsetLaws.{Listed};
-ghost use Rattle.money.specs.laws.LentLaws.{startOf, addOf, finishOf};
+ghost use Rattle.money.specs.tables.Numbers.{Fits};
+ghost use Rattle.money.specs.tables.Ready.{Rates, Listed};
+ghost use Rattle.money.specs.tables.Taken.{startOf, addOf, finishOf};
 
 // What an hour's sixteen exports can come to.
 pub const TOTAL_MAX: Quantity = Quantity(1600000);

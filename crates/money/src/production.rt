@@ -22,12 +22,10 @@ ghost use Prim.Native.Nat.{ℕ, _<_, _≤_, min};
 ghost use lib.IntN.{natAbs};
 ghost use Rattle.laws.specs.Sums.{Σℤ};
 ghost use Rattle.money.specs.Units.{intervals, priceAt, quantityAt, withinOk};
-ghost use Rattle.money.specs.laws.UnitLaws.{Moderate};
 ghost use Rattle.money.specs.Offers.{maxPairs, lastQ};
-ghost use Rattle.money.specs.laws.OfferLaws.{Good};
-ghost use Rattle.money.specs.laws.GuaranteeLaws.{Ready};
 ghost use Rattle.money.specs.Production.{component1, component2, component3, component4, reserveNet, S, C1, C2, C3, C4, hourAmount, reserveFault, reserveNumbersOk, reservesNumbersOk, numbersFine, listsFault, withinFine, unitFault, intervalFault, component1Answer, component2Answer, component3Answer, component4Answer, hourAnswer, amountOk, hoursOk, daySum, dayAnswer};
-ghost use Rattle.money.specs.laws.ProductionLaws.{running, pickOf, Usable, ListsGood, UnitReady, DayReady};
+ghost use Rattle.money.specs.tables.Numbers.{Moderate, pickOf, running};
+ghost use Rattle.money.specs.tables.Ready.{Good, Ready, Usable, ListsGood, UnitReady, DayReady};
 
 // A kind of operating reserve in an hour: prices, unconstrained schedules, and the list offered, which may be empty.
 pub struct Reserve {

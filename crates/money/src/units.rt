@@ -5,7 +5,7 @@ ghost use Prim.Native.Nat.{_<_, _≤_, _+_, _-_, _*_, _^_, min, max};
 ghost use lib.IntN.{ℤ, pos, negℤ, natAbs, _+ℤ_, _-ℤ_, _*ℤ_};
 ghost use Rattle.laws.specs.Ints.{minℤ};
 ghost use Rattle.money.specs.Units.{intervals, maxGap, ticksPerCent, noloadTicks, priceOk, quantityOk, priceRead, quantityRead, pricesOk, quantitiesOk, withinOk, sameℤ, centsOf};
-ghost use Rattle.money.specs.laws.UnitLaws.{Moderate};
+ghost use Rattle.money.specs.tables.Numbers.{Moderate};
 
 // The intervals of an hour.
 pub const INTERVALS: usize = 12;

@@ -16,14 +16,10 @@ use Rattle.money.specs.declared.offers.Offer.{Offer}
 use Rattle.money.specs.Units.{intervals, priceAt, quantityAt, pricesOk, quantitiesOk, withinOk, unless, answer}
 use Rattle.money.specs.Offers.{lastQ, offerFault, cost}
 use Rattle.money.specs.Guarantee.{profit, profits, credit, creditAnswer}
-use Rattle.money.specs.laws.UnitLaws.{Moderate, Rates, within-at}
-use Rattle.money.specs.laws.OfferLaws.{Good, good-of, abs-mul-pos, in-range, spends}
-
--- what the credit of an hour wants: twelve prices in range, twelve quantities within the offer
-pub record Ready (o : Offer) (ps : List Price) (q : ℕ → ℕ) : Type 0 where
-  pub good : Good o
-  pub prices : (k : ℕ) → k < intervals → natAbs (priceAt ps k) ≤ 200000
-  pub within : (k : ℕ) → k < intervals → q k ≤ lastQ o
+use Rattle.money.specs.tables.Numbers.{Moderate}
+use Rattle.money.specs.tables.Ready.{Rates, Ready}
+use Rattle.money.specs.laws.UnitLaws.{within-at}
+use Rattle.money.specs.laws.OfferLaws.{good-of, abs-mul-pos, in-range, spends}
 
 module _ (o : Offer) (ps : List Price) (q : ℕ → ℕ) (r : Ready o ps q) where
   pub profit-size : (k : ℕ) → k < intervals → natAbs (profit o (priceAt ps k) (q k)) ≤ 440000000000

@@ -6,23 +6,22 @@ use Prim.Native.Nat.{ℕ, zero, suc, _+_, _-_, _≤_, _<_, min}
 use native.Mathlib.Omega.{arith}
 use borrow.Author.Tests.{lt-ltb, le-ltb, lt-leb}
 use lib.Dec.{ltb, leb}
-use lib.IntN.{pos, _-ℤ_}
-use lib.ListN.{set, length, length-set, replicate}
+use lib.IntN.{_-ℤ_}
+use lib.ListN.{set, length, length-set}
 use lib.Seq.{getD-set-same, getD-set-other}
 use Rattle.laws.specs.Sums.{orElse}
 use Rattle.laws.specs.SumLaws.{Σℤ-ext, Σℕ-ext, every-ext, firstOf-ext, below-or}
 use Rattle.money.specs.declared.units.Price.{Price}
 use Rattle.money.specs.declared.units.Quantity.{Quantity}
-use Rattle.money.specs.declared.units.Answer.{Answer}
 use Rattle.money.specs.declared.units.Answer.the-variants.{Refused}
 use Rattle.money.specs.declared.imports.Import.{Import}
 use Rattle.money.specs.declared.offset.Taken.{Taken}
-use Rattle.money.specs.Units.{intervals, quantityAt, unless, answer}
+use Rattle.money.specs.Units.{quantityAt, unless, answer}
 use Rattle.money.specs.Guarantee.{credit}
 use Rattle.money.specs.Names.{sameName}
 use Rattle.money.specs.Offset.{maxImports, noImport, entry, mqsi, counted, adj, offset, entryFault, freshName, nthFault, entriesFault, ratesOk, offsetAnswer}
 use Rattle.money.specs.laws.GuaranteeLaws.{credit-ext}
-use Rattle.money.specs.Offers.{maxPairs}
+use Rattle.money.specs.tables.Taken.{startOf, foldOf, finishOf, offsetOf}
 
 -- ---- the answer hangs on the first n entries only
 module _ (n : ℕ) (es es′ : List Import) (same : (i : ℕ) → i < n → entry es i ≡ entry es′ i) (ps : List Price) (ts : List Quantity) where
@@ -52,34 +51,6 @@ module _ (n : ℕ) (es es′ : List Import) (same : (i : ℕ) → i < n → entr
   answer-front =
       let f = firstOf-ext n (nthFault ps es) (nthFault ps es′) fault-front in
       (λ x. cond (leb n maxImports) (cond (ratesOk ps ts) (answer (f x) (offset-front x)) (Refused 5)) (Refused 12))
-
--- ---- what the functions that take the entries do
-abbrev pub blank : Import
-blank = record {
-  name = record { len = 0; bytes = replicate 12 0 };
-  credit = record { 0 = pos 0 };
-  quantities = replicate intervals (record { 0 = 0 });
-  offer = record { count = 0; prices = replicate maxPairs (record { 0 = pos 0 }); quantities = replicate maxPairs (record { 0 = 0 }) };
-}
-
-abbrev pub startOf : List Price → List Quantity → Taken
-startOf ps ts = record { count = 0; prices = ps; totals = ts; entries = replicate maxImports blank }
-
--- the entries are kept, as many as may be; one more is only counted
-abbrev pub addOf : Taken → Import → Taken
-addOf s e =
-    cond (ltb (s .count) maxImports) (record { count = s .count + 1; prices = s .prices; totals = s .totals; entries = set (s .entries) (s .count) e })
-    (record { count = maxImports + 1; prices = s .prices; totals = s .totals; entries = s .entries })
-
-unfoldable pub foldOf : Taken → List Import → Taken
-foldOf s [] = s
-foldOf s (e ∷ es) = foldOf (addOf s e) es
-
-abbrev pub finishOf : Taken → Answer
-finishOf s = offsetAnswer (s .count) (s .entries) (s .prices) (s .totals)
-
-abbrev pub offsetOf : List Import → List Price → List Quantity → Answer
-offsetOf es ps ts = finishOf (foldOf (startOf ps ts) es)
 
 record Kept (s : Taken) (es : List Import) (t : Taken) : Type 0 where
   number : t .count ≡ s .count + length es

@@ -19,15 +19,9 @@ use Rattle.money.specs.declared.units.Ticks.{Ticks}
 use Rattle.money.specs.declared.offers.Offer.{Offer}
 use Rattle.money.specs.Units.{noPrice, priceOk}
 use Rattle.money.specs.Offers.{maxPairs, P, Q, before, lastQ, countOk, numberOk, numbersOk, risesAt, orderOk, offerFault, piece, partPair, fullPairs, cost}
-use Rattle.money.specs.laws.UnitLaws.{Moderate, price-in, passes}
-
--- an offer that keeps its rule
-pub record Good (o : Offer) : Type 0 where
-  pub some : 1 ≤ o .count
-  pub most : o .count ≤ maxPairs
-  pub prices-in : (i : ℕ) → i < o .count → natAbs (P o i) ≤ 200000
-  pub quantities-in : (i : ℕ) → i < o .count → Q o i ≤ 100000
-  pub rising : (i : ℕ) → i < o .count → before o i < Q o i
+use Rattle.money.specs.tables.Numbers.{Moderate, ticksAt}
+use Rattle.money.specs.tables.Ready.{Good}
+use Rattle.money.specs.laws.UnitLaws.{price-in, passes}
 
 module _ (o : Offer) (good : Good o) where
   pub mono : (j i : ℕ) → i < o .count → j < i → Q o j < Q o i
@@ -186,10 +180,6 @@ module _ {o : Offer} {q : ℕ} (good : Good o) (within : q ≤ lastQ o) {acc : �
 
   pub walked : {t r : ℤ} → q ≤ Q o i → t ≡ P o i *ℤ pos (q - last) → r ≡ acc +ℤ t → r ≡ cost o q
   walked h e k = ends o q good within acc last i w _ h (k ∙ ap (λ (z : ℤ). acc +ℤ z) e)
-
--- ---- what the pairs before each pair cost, as a loop finds it
-abbrev pub ticksAt : List Ticks → ℕ → ℤ
-ticksAt ts i = getD ts i (record { 0 = pos 0 }) .0
 
 pub record Costed (o : Offer) (costs : List Ticks) (acc : ℤ) (last i : ℕ) : Type 0 where
   pub upto : i ≤ o .count

@@ -19,19 +19,11 @@ use Rattle.money.specs.Offers.{lastQ, offerFault}
 use Rattle.money.specs.Guarantee.{credit}
 use Rattle.money.specs.Names.{nameOk, sameName}
 use Rattle.money.specs.Offset.{maxTotal, maxImports, entry, mqsi, upTo, counted, reach, adj, offset, entryFault, freshName, nthFault, entriesFault, totalOk, totalsWith, rateOk, ratesOk, offsetAnswer}
-use Rattle.money.specs.laws.UnitLaws.{Moderate, Fits, Rates, price-in, passes, neither, same-is, same-true, series-same}
-use Rattle.money.specs.laws.OfferLaws.{Good, last-size}
-use Rattle.money.specs.laws.GuaranteeLaws.{Ready, ready-of, credit-size, credit-ext}
-
--- an import that may take part
-pub record Sound (e : Import) : Type 0 where
-  pub good : Good (e .offer)
-  pub within : (k : ℕ) → k < intervals → mqsi e k ≤ lastQ (e .offer)
-  pub small : natAbs (e .credit .0) ≤ 5280000000000
-
-pub record Listed (n : ℕ) (es : List Import) : Type 0 where
-  pub most : n ≤ maxImports
-  pub each : (i : ℕ) → i < n → Sound (entry es i)
+use Rattle.money.specs.tables.Numbers.{Moderate, Fits}
+use Rattle.money.specs.tables.Ready.{Rates, Ready, Sound, Listed}
+use Rattle.money.specs.laws.UnitLaws.{price-in, passes, neither, same-is, same-true, series-same}
+use Rattle.money.specs.laws.OfferLaws.{last-size}
+use Rattle.money.specs.laws.GuaranteeLaws.{ready-of, credit-size, credit-ext}
 
 -- ---- the sum up to and including import i
 pub counted-size : (a e : Import) (k : ℕ) → Sound a → k < intervals → counted a e k ≤ 100000

@@ -19,8 +19,6 @@ use Rattle.money.specs.declared.units.Ticks.{Ticks}
 use Rattle.money.specs.declared.units.Answer.the-variants.{Amount}
 use Rattle.money.specs.declared.units.CentsPerStart.{CentsPerStart}
 use Rattle.money.specs.declared.offers.Offer.{Offer}
-use Rattle.money.specs.declared.production.Pick.{Pick}
-use Rattle.money.specs.declared.production.Pick.the-variants.{Lesser, Greater, Above}
 use Rattle.money.specs.declared.production.Reserve.{Reserve}
 use Rattle.money.specs.declared.production.UnitHour.{UnitHour}
 use Rattle.money.specs.declared.production.DayAnswer.the-variants.{Day}
@@ -28,51 +26,11 @@ use Rattle.money.specs.Units.{intervals, dayHours, ticksPerCent, noloadT
 use Rattle.money.specs.Offers.{maxPairs, before, lastQ, offerFault, cost}
 use Rattle.money.specs.Guarantee.{profit, profits}
 use Rattle.money.specs.Production.{component1, shortfall, component2, arranged, component3, congestion, reserveNet, component4, S, D, R, U, A, K, C1, C2, C3, C4, interval, hourAmount, reserveFault, reserveNumbersOk, reservesNumbersOk, numbersFine, withinFine, listsFault, unitFault, intervalFault, noTicks, noStart, hourPart, maxHour, daySum, amountOk, hoursOk, reversal, dayAnswer, hourAnswer}
-use Rattle.money.specs.laws.UnitLaws.{Moderate, Rates, prices-of, within-at, passes, neither}
-use Rattle.money.specs.laws.OfferLaws.{Good, good-of, cost-none, abs-mul-pos, in-range, spends}
-use Rattle.money.specs.laws.GuaranteeLaws.{Ready, profit-size, profits-size}
-
--- what two quantities give
-abbrev pub pickOf : Pick → ℕ → ℕ → ℕ
-pickOf Lesser x y = min x y
-pickOf Greater x y = max x y
-pickOf Above x y = x - y
-
--- an interval's speed no-load, where something is delivered
-abbrev pub running : ℕ → ℕ → ℤ
-running noload m = cond (ltb 0 m) (pos (noload * noloadTicks)) (pos 0)
-
--- a reserve that passed its checks: its list keeps the rule, or is empty
-pub record Usable (s : Reserve) : Type 0 where
-  pub rates : Rates (s .prices)
-  pub most : s .offer .count ≤ maxPairs
-  pub good : 0 < s .offer .count → Good (s .offer)
-  pub within : (k : ℕ) → k < intervals → S s k ≤ lastQ (s .offer)
-
--- lists that passed theirs
-pub record ListsGood (h : UnitHour) : Type 0 where
-  pub ahead : Good (h .aheadoffer)
-  pub real : Good (h .realoffer)
-  pub spinning : h .spinning .offer .count ≤ maxPairs
-  pub nonspinning : h .nonspinning .offer .count ≤ maxPairs
-  pub thirty : h .thirty .offer .count ≤ maxPairs
-
--- an hour that passed its checks
-pub record UnitReady (h : UnitHour) (ps : List Price) : Type 0 where
-  pub rates : Rates ps
-  pub noload : h .noload .0 ≤ 100000000
-  pub ahead : Good (h .aheadoffer)
-  pub real : Good (h .realoffer)
-  pub ahead-within : (k : ℕ) → k < intervals → D h k ≤ lastQ (h .aheadoffer)
-  pub real-within : (k : ℕ) → k < intervals → D h k ≤ lastQ (h .realoffer)
-  pub spinning : Usable (h .spinning)
-  pub nonspinning : Usable (h .nonspinning)
-  pub thirty : Usable (h .thirty)
-
--- 24 hours that passed theirs
-pub record DayReady (ts : List Ticks) (ss : List CentsPerStart) : Type 0 where
-  pub amounts : (i : ℕ) → i < dayHours → natAbs (getD ts i noTicks .0) ≤ 100000000000000
-  pub starts : (i : ℕ) → i < dayHours → getD ss i noStart .0 ≤ 100000000
+use Rattle.money.specs.tables.Numbers.{Moderate, running}
+use Rattle.money.specs.tables.Ready.{Good, Ready, Usable, ListsGood, UnitReady, DayReady}
+use Rattle.money.specs.laws.UnitLaws.{prices-of, within-at, passes, neither}
+use Rattle.money.specs.laws.OfferLaws.{good-of, cost-none, abs-mul-pos, in-range, spends}
+use Rattle.money.specs.laws.GuaranteeLaws.{profit-size, profits-size}
 
 -- ---- amounts that code holds, by what they are
 -- a cost, a profit or a component of one interval

@@ -21,19 +21,8 @@ use Rattle.laws.specs.SumLaws.{every-yes, every-at, and-true, last-or}
 use Rattle.money.specs.declared.units.Price.{Price}
 use Rattle.money.specs.declared.units.Quantity.{Quantity}
 use Rattle.money.specs.declared.units.Answer.the-variants.{Amount, Refused}
-use Rattle.money.specs.Units.{intervals, ticksPerCent, minPrice, maxPrice, noPrice, noQuantity, priceOk, quantityOk, priceAt, quantityAt, seriesOf, pricesOk, quantitiesOk, withinOk, sameℤ, unless, answer, centsOf}
-
--- an amount that any sum or difference of two such still holds in 64 bits
-abbrev pub Moderate : ℤ → Type 0
-Moderate z = natAbs z ≤ 100000000000000000
-
--- a sum of quantities that a quantity's 32 bits hold
-abbrev pub Fits : ℕ → Type 0
-Fits n = n ≤ 4294967295
-
--- twelve prices in range
-abbrev pub Rates : List Price → Type 0
-Rates ps = (k : ℕ) → k < intervals → natAbs (priceAt ps k) ≤ 200000
+use Rattle.money.specs.Units.{intervals, ticksPerCent, minPrice, maxPrice, noPrice, noQuantity, priceOk, quantityOk, quantityAt, seriesOf, pricesOk, quantitiesOk, withinOk, sameℤ, unless, answer, centsOf}
+use Rattle.money.specs.tables.Ready.{Rates}
 
 -- what owning an array of structs tells of its list
 pub unmapped : {X Y : Type 0} (f : X → Y) (l : List X) (n : ℕ) → length (map f l) ≡ n → length l ≡ n

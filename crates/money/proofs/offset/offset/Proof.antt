@@ -57,7 +57,8 @@ use Rattle.money.proofs.units.Price.Laws as P′
 use Rattle.money.proofs.units.Quantity as Q
 use Rattle.money.proofs.units.Quantity.Laws as Q′
 use Rattle.money.specs.Offset.{noImport, offsetAnswer}
-use Rattle.money.specs.laws.LentLaws.{whole, startOf, addOf, foldOf, finishOf}
+use Rattle.money.specs.tables.Taken.{startOf, addOf, foldOf, finishOf}
+use Rattle.money.specs.laws.LentLaws.{whole}
 use Rattle.money.specs.declared.imports.Import.{Import}
 use Rattle.money.specs.declared.offset.Taken.{Taken}
 use Rattle.money.specs.declared.units.Answer.{Answer}

@@ -2,7 +2,8 @@ use Prim.Native.Nat.{ℕ, _-_}
 use borrow.Author.Needs.{needs}
 use Rattle.laws.specs.SumLaws.{Summed, summed-none, summed-more, summed-all}
 use Rattle.money.specs.Units.{intervals, quantityAt}
-use Rattle.money.specs.laws.ProductionLaws.{running, running-room, runs-room}
+use Rattle.money.specs.tables.Numbers.{running}
+use Rattle.money.specs.laws.ProductionLaws.{running-room, runs-room}
 use Rattle.money.proofs.production.noload_sum.Statement.{statement}
 use Rattle.money.proofs.production.noload_sum.Tie as tie
 

@@ -3,8 +3,8 @@ use Prim.Native.Nat.{ℕ, _-_}
 use borrow.Author.Needs.{needs}
 use native.Mathlib.Omega.{arith}
 use Rattle.money.specs.Units.{intervals, quantityAt}
+use Rattle.money.specs.tables.Numbers.{pickOf}
 use Rattle.money.specs.laws.UnitLaws.{Filled, filled-none, filled-more}
-use Rattle.money.specs.laws.ProductionLaws.{pickOf}
 use Rattle.money.proofs.production.series_by.Statement.{statement}
 use Rattle.money.proofs.production.series_by.Tie as tie
 
