@@ -1,13 +1,13 @@
 -- 01, "The statement and its examples": the text of a line. Assumes nothing.
 use mathlib.Core.List.{List, [], _∷_, _++_}
 use mathlib.Core.Bool.{Bool, true, false, cond}
-use Prim.Native.Nat.{ℕ, _/_, _%_}
+use Prim.Native.Nat.{ℕ, _+_, _/_, _%_}
 use lib.Dec.{eqb}
 use lib.IntN.{ℤ, pos, negsuc, natAbs}
 use Rattle.laws.specs.Text.{bytes}
 use Rattle.money.specs.Names.{nameOk}
 use Rattle.money.specs.declared.names.Name.{Name}
-use Rattle.records.specs.Names.{spell, bytesOf}
+use Rattle.records.specs.Names.{maxSpelling, spell, bytesOf}
 use Rattle.statement.specs.Decimal.{twoDigits, decimal}
 use Rattle.statement.specs.declared.lines.Kind.{Kind}
 use Rattle.statement.specs.declared.lines.Kind.the-variants.{Iog, Off, Ifc, Efc, Pcg, Rev, Err}
@@ -66,6 +66,14 @@ newline = bytes "\n"
 -- "Fields: hour or `DD`, kind, written name or `-`, dollars with two decimals"; one space between fields, one newline after each line
 unfoldable pub lineBytes : Line → List ℕ
 lineBytes l = whenBytes (l .hour) ++ space ++ kindBytes (l .kind) ++ space ++ nameBytes (l .name) ++ space ++ figure (l .kind) (l .cents .0) ++ newline
+
+-- the most bytes of a figure: those of a signed 64-bit number of cents, as dollars
+abbrev pub maxFigure : ℕ
+maxFigure = 21
+
+-- the most bytes of a line: the hour's 2, the kind's 3, the name's and the figure's, three spaces and a newline
+abbrev pub maxLine : ℕ
+maxLine = 9 + maxSpelling + maxFigure
 
 -- the text of lines, one after the other
 unfoldable pub textOf : List Line → List ℕ

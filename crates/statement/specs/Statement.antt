@@ -3,7 +3,7 @@
 use mathlib.Core.Path.{_≡_}
 use mathlib.Core.Bool.{cond}
 use mathlib.Core.List.{List, [], _∷_, _++_, map}
-use Prim.Native.Nat.{ℕ, zero, suc, _≤_}
+use Prim.Native.Nat.{ℕ, zero, suc, _+_, _*_, _≤_}
 use lib.Dec.{eqb, leb}
 use lib.IntN.{ℤ, pos}
 use lib.ListN.{length}
@@ -16,9 +16,10 @@ use Rattle.book.specs.Replies.{Reply, refused, accepted, place, number, guarant
 use Rattle.book.specs.Amounts.{HourPricing, ChargesReply, charged, no, hourKey, priceOf, guaranteesOf, chargesOf, unitDayOf}
 use Rattle.book.specs.ByName.{namesOf}
 use Rattle.book.specs.UnitNames.{ghKey, unitKey}
-use Rattle.book.specs.Register.{standing}
+use Rattle.book.specs.Register.{standing, maxChanges}
 use Rattle.book.specs.Meaning.{Load, belongs, mismatched}
-use Rattle.statement.specs.Lines.{textOf}
+use Rattle.book.specs.Handed.{maxCredits, maxCharges}
+use Rattle.statement.specs.Lines.{maxLine, textOf}
 use Rattle.statement.specs.declared.lines.Kind.{Kind}
 use Rattle.statement.specs.declared.lines.Kind.the-variants.{Iog, Off, Ifc, Efc, Pcg, Rev, Err}
 use Rattle.statement.specs.declared.lines.Line.{Line}
@@ -142,9 +143,31 @@ pub record AnswersBy (t : List Change → List ℕ) (longest : ℕ) (x : Load) (
 abbrev pub outcomeOf : Load → List ℕ → Outcome
 outcomeOf x out = outcomeBy statementOf x out
 
--- 24 hours of at most 49 lines and 512 units of 2, each of at most 66 bytes: no statement is longer than `STATEMENT_MAX`
+-- the most lines of an hour: an `IOG` for each credit, an `OFF`, an `IFC` and an `EFC` for each charge
+abbrev pub maxHourLines : ℕ
+maxHourLines = maxCredits + 1 + 2 * maxCharges
+
+-- the most lines of a unit: `PCG` and `REV`
+abbrev pub maxUnitLines : ℕ
+maxUnitLines = 2
+
+-- the most bytes of an hour, and of a unit
+abbrev pub maxHour : ℕ
+maxHour = maxHourLines * maxLine
+
+abbrev pub maxUnit : ℕ
+maxUnit = maxUnitLines * maxLine
+
+-- the most bytes of all hours, and of all units: there is one for each change at most
+abbrev pub maxHours : ℕ
+maxHours = dayHours * maxHour
+
+abbrev pub maxUnits : ℕ
+maxUnits = maxChanges * maxUnit
+
+-- no statement is longer than this, `STATEMENT_MAX`
 abbrev pub longestStatement : ℕ
-longestStatement = 145200
+longestStatement = maxHours + maxUnits
 
 abbrev pub Answers : Load → List ℕ → List ℕ → Written → Type 0
 Answers x lent left w = AnswersBy statementOf longestStatement x lent left w

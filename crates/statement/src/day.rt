@@ -2,7 +2,10 @@
 use crate::bytes::write_front;
 use crate::hours::put_hour;
 use crate::lines::Cursor;
+use crate::lines::LINE_MAX;
 use crate::units::put_unit;
+use book::answers::CHARGES_MAX;
+use book::answers::CREDITS_MAX;
 use book::answers::DayAmounts;
 use book::answers::HourAmounts;
 use book::answers::UnitAmounts;
@@ -12,12 +15,19 @@ use money::refusals::NOT_TOGETHER;
 use money::units::HOURS;
 ghost use Prim.Native.Nat.{_+_, _≤_};
 ghost use lib.ListN.{length, take};
+ghost use Rattle.money.specs.Units.{dayHours};
+ghost use Rattle.book.specs.Register.{maxChanges};
 ghost use Rattle.book.specs.Meaning.{load};
-ghost use Rattle.statement.specs.Statement.{Answers};
+ghost use Rattle.statement.specs.Statement.{maxHours, maxUnits, longestStatement, Answers};
 ghost use Rattle.statement.specs.tables.Inner.{WritesLines, FewInAll, linesOfHours, linesOfUnits, linesOfDay};
 
-// (24 * 49 + 2 * 512) * 66: 24 hours of at most 49 lines, and 2 lines for each of at most 512 units.
-pub const STATEMENT_MAX: usize = 145200;
+// The most lines of an hour: an `IOG` for each credit, an `OFF`, an `IFC` and an `EFC` for each charge; and of a unit.
+const HOUR_LINES_MAX: usize = CREDITS_MAX + 1 + 2 * CHARGES_MAX;
+
+const UNIT_LINES_MAX: usize = 2;
+
+// The most bytes of a statement: 145,200.
+pub const STATEMENT_MAX: usize = (HOURS * HOUR_LINES_MAX + CHANGES_MAX * UNIT_LINES_MAX) * LINE_MAX;
 
 // 0 and how many bytes were written, or the number of a refusal.
 pub struct Written {
@@ -27,8 +37,8 @@ pub struct Written {
 
 // Writes the hours in turn.
 fn put_hours(out: &mut [u8], c: Cursor, hours: [HourAmounts; HOURS]) -> Cursor
-    requires { ⌜ FewInAll hours × (c .at + 77616 ≤ length (now out)) ⌝ }
-    ensures { λ r. ⌜ WritesLines (now (out .entry)) c (linesOfHours 24 hours) (now (out .exit)) r × (r .at ≤ c .at + 77616) ⌝ }
+    requires { ⌜ FewInAll hours × (c .at + maxHours ≤ length (now out)) ⌝ }
+    ensures { λ r. ⌜ WritesLines (now (out .entry)) c (linesOfHours dayHours hours) (now (out .exit)) r × (r .at ≤ c .at + maxHours) ⌝ }
 {
     let mut next = c;
     let mut h: usize = 0;
@@ -42,8 +52,8 @@ fn put_hours(out: &mut [u8], c: Cursor, hours: [HourAmounts; HOURS]) -> Cursor
 
 // Writes the first n units in turn.
 fn put_units(out: &mut [u8], c: Cursor, units: [UnitAmounts; CHANGES_MAX], n: usize) -> Cursor
-    requires { ⌜ (n ≤ 512) × (c .at + 67584 ≤ length (now out)) ⌝ }
-    ensures { λ r. ⌜ WritesLines (now (out .entry)) c (linesOfUnits (take n units)) (now (out .exit)) r × (r .at ≤ c .at + 67584) ⌝ }
+    requires { ⌜ (n ≤ maxChanges) × (c .at + maxUnits ≤ length (now out)) ⌝ }
+    ensures { λ r. ⌜ WritesLines (now (out .entry)) c (linesOfUnits (take n units)) (now (out .exit)) r × (r .at ≤ c .at + maxUnits) ⌝ }
 {
     let mut next = c;
     let mut i: usize = 0;
@@ -57,8 +67,8 @@ fn put_units(out: &mut [u8], c: Cursor, units: [UnitAmounts; CHANGES_MAX], n: us
 
 // Writes all lines of a day from the first byte on.
 fn put_day(out: &mut [u8], day: DayAmounts) -> Cursor
-    requires { ⌜ (day .n ≤ 512) × FewInAll (day .hours) × (145200 ≤ length (now out)) ⌝ }
-    ensures { λ r. ⌜ WritesLines (now (out .entry)) (record { at = 0 }) (linesOfDay day) (now (out .exit)) r × (r .at ≤ 145200) ⌝ }
+    requires { ⌜ (day .n ≤ maxChanges) × FewInAll (day .hours) × (longestStatement ≤ length (now out)) ⌝ }
+    ensures { λ r. ⌜ WritesLines (now (out .entry)) (record { at = 0 }) (linesOfDay day) (now (out .exit)) r × (r .at ≤ longestStatement) ⌝ }
 {
     let hours = day.hours;
     let units = day.units;

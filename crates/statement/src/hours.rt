@@ -17,7 +17,8 @@ ghost use Prim.Native.Nat.{_+_, _*_, _≤_};
 ghost use lib.ListN.{length, take};
 ghost use Rattle.book.specs.Handed.{maxCredits, maxCharges};
 ghost use Rattle.statement.specs.declared.lines.Kind.the-variants.{Iog};
-ghost use Rattle.statement.specs.Statement.{amountLine, lineOf, errorLine, hourError, offsetLines};
+ghost use Rattle.statement.specs.Lines.{maxLine};
+ghost use Rattle.statement.specs.Statement.{amountLine, lineOf, errorLine, hourError, offsetLines, maxHour};
 ghost use Rattle.statement.specs.tables.Inner.{WritesLines, linesOfHour, FewLines};
 
 pub(crate) fn amount_line(hour: u8, kind: Kind, name: Name, ticks: Ticks) -> Line
@@ -34,8 +35,8 @@ pub(crate) fn amount_line(hour: u8, kind: Kind, name: Name, ticks: Ticks) -> Lin
 
 // A price lacks: the only line.
 pub(crate) fn put_error(out: &mut [u8], c: Cursor, hour: u8, name: Name) -> Cursor
-    requires { ⌜ c .at + 66 ≤ length (now out) ⌝ }
-    ensures { λ r. ⌜ WritesLines (now (out .entry)) c (errorLine hour name ∷ []) (now (out .exit)) r × (r .at ≤ c .at + 66) ⌝ }
+    requires { ⌜ c .at + maxLine ≤ length (now out) ⌝ }
+    ensures { λ r. ⌜ WritesLines (now (out .entry)) c (errorLine hour name ∷ []) (now (out .exit)) r × (r .at ≤ c .at + maxLine) ⌝ }
 {
     let line = Line {
         hour,
@@ -47,16 +48,16 @@ pub(crate) fn put_error(out: &mut [u8], c: Cursor, hour: u8, name: Name) -> Curs
 }
 
 fn put_hour_error(out: &mut [u8], c: Cursor, hour: u8) -> Cursor
-    requires { ⌜ c .at + 66 ≤ length (now out) ⌝ }
-    ensures { λ r. ⌜ WritesLines (now (out .entry)) c (hourError hour) (now (out .exit)) r × (r .at ≤ c .at + 66) ⌝ }
+    requires { ⌜ c .at + maxLine ≤ length (now out) ⌝ }
+    ensures { λ r. ⌜ WritesLines (now (out .entry)) c (hourError hour) (now (out .exit)) r × (r .at ≤ c .at + maxLine) ⌝ }
 {
     put_error(out, c, hour, no_name())
 }
 
 // A line for each credit, in their order.
 fn put_credits(out: &mut [u8], c: Cursor, hour: u8, a: Credits) -> Cursor
-    requires { ⌜ (a .n ≤ maxCredits) × (c .at + 66 * a .n ≤ length (now out)) ⌝ }
-    ensures { λ r. ⌜ WritesLines (now (out .entry)) c (map (lineOf hour Iog) (take (a .n) (a .list))) (now (out .exit)) r × (r .at ≤ c .at + 66 * a .n)
+    requires { ⌜ (a .n ≤ maxCredits) × (c .at + maxLine * a .n ≤ length (now out)) ⌝ }
+    ensures { λ r. ⌜ WritesLines (now (out .entry)) c (map (lineOf hour Iog) (take (a .n) (a .list))) (now (out .exit)) r × (r .at ≤ c .at + maxLine * a .n)
         × (a .n ≡ length (take (a .n) (a .list))) ⌝ }
 {
     let n = a.n;
@@ -74,8 +75,8 @@ fn put_credits(out: &mut [u8], c: Cursor, hour: u8, a: Credits) -> Cursor
 
 // A line for each charge, in their order.
 fn put_charges(out: &mut [u8], c: Cursor, hour: u8, kind: Kind, a: ChargeList) -> Cursor
-    requires { ⌜ (a .n ≤ maxCharges) × (c .at + 66 * a .n ≤ length (now out)) ⌝ }
-    ensures { λ r. ⌜ WritesLines (now (out .entry)) c (map (lineOf hour kind) (take (a .n) (a .list))) (now (out .exit)) r × (r .at ≤ c .at + 66 * a .n)
+    requires { ⌜ (a .n ≤ maxCharges) × (c .at + maxLine * a .n ≤ length (now out)) ⌝ }
+    ensures { λ r. ⌜ WritesLines (now (out .entry)) c (map (lineOf hour kind) (take (a .n) (a .list))) (now (out .exit)) r × (r .at ≤ c .at + maxLine * a .n)
         × (a .n ≡ length (take (a .n) (a .list))) ⌝ }
 {
     let n = a.n;
@@ -93,8 +94,8 @@ fn put_charges(out: &mut [u8], c: Cursor, hour: u8, kind: Kind, a: ChargeList) -
 
 // The wheel offset, where imports stand.
 fn put_offset(out: &mut [u8], c: Cursor, hour: u8, imports: usize, offset: Ticks) -> Cursor
-    requires { ⌜ c .at + 66 ≤ length (now out) ⌝ }
-    ensures { λ r. ⌜ WritesLines (now (out .entry)) c (offsetLines hour imports (offset .0)) (now (out .exit)) r × (r .at ≤ c .at + 66) ⌝ }
+    requires { ⌜ c .at + maxLine ≤ length (now out) ⌝ }
+    ensures { λ r. ⌜ WritesLines (now (out .entry)) c (offsetLines hour imports (offset .0)) (now (out .exit)) r × (r .at ≤ c .at + maxLine) ⌝ }
 {
     if imports == 0 {
         return c;
@@ -104,8 +105,8 @@ fn put_offset(out: &mut [u8], c: Cursor, hour: u8, imports: usize, offset: Ticks
 
 // The lines of an hour's amounts.
 pub(crate) fn put_hour(out: &mut [u8], c: Cursor, hour: u8, a: HourAmounts) -> Cursor
-    requires { ⌜ FewLines a × (c .at + 3234 ≤ length (now out)) ⌝ }
-    ensures { λ r. ⌜ WritesLines (now (out .entry)) c (linesOfHour hour a) (now (out .exit)) r × (r .at ≤ c .at + 3234) ⌝ }
+    requires { ⌜ FewLines a × (c .at + maxHour ≤ length (now out)) ⌝ }
+    ensures { λ r. ⌜ WritesLines (now (out .entry)) c (linesOfHour hour a) (now (out .exit)) r × (r .at ≤ c .at + maxHour) ⌝ }
 {
     let g = a.guarantees;
     let f = a.imports;

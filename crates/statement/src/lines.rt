@@ -6,17 +6,21 @@ use crate::bytes::put_three;
 use crate::bytes::put_two;
 use money::names::Name;
 use money::units::Cents;
+use records::names::SPELLING_MAX;
 use records::names::spell_name;
 ghost use mathlib.Core.Path.{_≡_};
 ghost use mathlib.Core.List.{[], _∷_};
 ghost use Prim.Native.Nat.{_+_, _≤_, _<_};
 ghost use lib.IntN.{natAbs};
 ghost use lib.ListN.{length};
-ghost use Rattle.statement.specs.Lines.{whenBytes, kindBytes, isNumber, nameBytes, sign, figure};
+ghost use Rattle.records.specs.Names.{maxSpelling};
+ghost use Rattle.statement.specs.Lines.{whenBytes, kindBytes, isNumber, nameBytes, sign, figure, maxFigure, maxLine};
 ghost use Rattle.statement.specs.tables.Inner.{Writes, WritesLines};
 
-// The bytes of the longest line.
-pub const LINE_MAX: usize = 66;
+// The most bytes of a figure, and of a line.
+const FIGURE_MAX: usize = 21;
+
+pub const LINE_MAX: usize = 9 + SPELLING_MAX + FIGURE_MAX;
 
 pub enum Kind {
     Iog,
@@ -70,7 +74,7 @@ fn put_kind(out: &mut [u8], at: usize, kind: Kind) -> usize
 
 // The name as written, or `-` where there is none.
 fn put_name(out: &mut [u8], at: usize, name: Name) -> usize
-    requires { ⌜ at + 36 ≤ length (now out) ⌝ }
+    requires { ⌜ at + maxSpelling ≤ length (now out) ⌝ }
     ensures { λ r. ⌜ Writes (now (out .entry)) at (nameBytes name) (now (out .exit)) r ⌝ }
 {
     let s = spell_name(name);
@@ -108,7 +112,7 @@ fn put_sign(out: &mut [u8], at: usize, cents: Cents) -> usize
 
 // Dollars with two decimals, or the number of an `Err`.
 fn put_figure(out: &mut [u8], at: usize, kind: Kind, cents: Cents) -> usize
-    requires { ⌜ at + 21 ≤ length (now out) ⌝ }
+    requires { ⌜ at + maxFigure ≤ length (now out) ⌝ }
     ensures { λ r. ⌜ Writes (now (out .entry)) at (figure kind (cents .0)) (now (out .exit)) r × (natAbs (cents .0) ≤ 9223372036854775808) ⌝ }
 {
     let n = cents.magnitude();
@@ -123,8 +127,8 @@ fn put_figure(out: &mut [u8], at: usize, kind: Kind, cents: Cents) -> usize
 
 // Writes the text of a line.
 pub(crate) fn put_line(out: &mut [u8], c: Cursor, line: Line) -> Cursor
-    requires { ⌜ c .at + 66 ≤ length (now out) ⌝ }
-    ensures { λ r. ⌜ WritesLines (now (out .entry)) c (line ∷ []) (now (out .exit)) r × (r .at ≤ c .at + 66) ⌝ }
+    requires { ⌜ c .at + maxLine ≤ length (now out) ⌝ }
+    ensures { λ r. ⌜ WritesLines (now (out .entry)) c (line ∷ []) (now (out .exit)) r × (r .at ≤ c .at + maxLine) ⌝ }
 {
     let kind = line.kind;
     let name = line.name;

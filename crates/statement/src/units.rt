@@ -7,12 +7,13 @@ use crate::lines::put_line;
 use book::answers::UnitAmounts;
 ghost use Prim.Native.Nat.{_+_, _≤_};
 ghost use lib.ListN.{length};
+ghost use Rattle.statement.specs.Statement.{maxUnit};
 ghost use Rattle.statement.specs.tables.Inner.{WritesLines, linesOfUnit};
 
 // The day total and the reversal of a unit, or its error.
 pub(crate) fn put_unit(out: &mut [u8], c: Cursor, u: UnitAmounts) -> Cursor
-    requires { ⌜ c .at + 132 ≤ length (now out) ⌝ }
-    ensures { λ r. ⌜ WritesLines (now (out .entry)) c (linesOfUnit u) (now (out .exit)) r × (r .at ≤ c .at + 132) ⌝ }
+    requires { ⌜ c .at + maxUnit ≤ length (now out) ⌝ }
+    ensures { λ r. ⌜ WritesLines (now (out .entry)) c (linesOfUnit u) (now (out .exit)) r × (r .at ≤ c .at + maxUnit) ⌝ }
 {
     let name = u.name;
     let day = u.day;

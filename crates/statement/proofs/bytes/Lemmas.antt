@@ -9,7 +9,7 @@ use lib.ListN.{length, take, set, getD, length-append, length-set, length-map, l
 use lib.Seq.{take-suc, take-all}
 use Rattle.book.specs.Amounts.{charged}
 use Rattle.book.specs.declared.answers.NamedAmount.{NamedAmount}
-use Rattle.statement.specs.Lines.{lineBytes, textOf}
+use Rattle.statement.specs.Lines.{lineBytes, maxLine, textOf}
 use Rattle.statement.specs.laws.LineLaws.{text-none, text-one, text-append}
 use Rattle.statement.specs.laws.PutLaws.{put, put-none, put-one, put-more, put-next, put-length}
 use Rattle.statement.specs.Statement.{lineOf, offsetLines, chargedLines}
@@ -59,14 +59,14 @@ copied-all {d} {e} {at} {i} {n} {xs} p h q room = record { room = room; bytes = 
 pub lines-size : {d e : List ℕ} {c r : Cursor} {ls : List Line} → WritesLines d c ls e r → length e ≡ length d
 lines-size w = writes-size (w .text)
 
-pub lines-end : {d e : List ℕ} {c r : Cursor} {ls : List Line} (n : ℕ) → length ls ≤ n → WritesLines d c ls e r → r .at ≤ c .at + 66 * n
+pub lines-end : {d e : List ℕ} {c r : Cursor} {ls : List Line} (n : ℕ) → length ls ≤ n → WritesLines d c ls e r → r .at ≤ c .at + maxLine * n
 lines-end n h w = omega (arith, w .text .behind, w .few)
 
 pub lines-none : (d : List ℕ) (c : Cursor) → c .at ≤ length d → WritesLines d c [] d c
 lines-none d c h = record
     { text = subst (λ (xs : List ℕ). Writes d (c .at) xs d (c .at)) (sym text-none) (writes-none d (c .at) h); few = omega (arith, ap length text-none) }
 
-pub lines-one : {d e : List ℕ} {c : Cursor} {at : ℕ} (l : Line) → length (lineBytes l) ≤ 66 → Writes d (c .at) (lineBytes l) e at
+pub lines-one : {d e : List ℕ} {c : Cursor} {at : ℕ} (l : Line) → length (lineBytes l) ≤ maxLine → Writes d (c .at) (lineBytes l) e at
     → WritesLines d c (l ∷ []) e (record { at = at })
 lines-one {d} {e} {c} {at} l h w =
     record { text = subst (λ (xs : List ℕ). Writes d (c .at) xs e at) (sym (text-one l)) w; few = omega (arith, ap length (text-one l)) }

@@ -8,6 +8,7 @@ use borrow.Author.Tests.{le-leb, lt-leb}
 use Rattle.book.specs.Layer.{Change}
 use Rattle.book.specs.declared.book.Book.{Book}
 use Rattle.book.specs.declared.answers.DayAmounts.{DayAmounts}
+use Rattle.book.specs.Register.{maxChanges}
 use Rattle.book.specs.Meaning.{Load, belongs, mismatched, load, Valid}
 use Rattle.book.specs.laws.LoadLaws.{loaded-valid}
 use Rattle.book.specs.WholeDay.{dayAmounts, dayFrom}
@@ -60,8 +61,8 @@ module _ (b : Book) (s : List ℕ) (day : DayAmounts) (e : day ≡ dayFrom (dayA
       go mismatched q = q
       go (belongs l) q = absurd (z (ap (λ (x : DayAmounts). x .number) (e ∙ ap (λ (x : Load). dayFrom (dayAmounts x)) q) ∙ number-whole l))
 
-pub few-units : {b : Book} {s : List ℕ} {day : DayAmounts} → Held b s day → day .n ≤ 512
-few-units x = subst (λ (d : DayAmounts). d .n ≤ 512) (sym (x .amounts)) (units-are (x .list) (x .valid) .few)
+pub few-units : {b : Book} {s : List ℕ} {day : DayAmounts} → Held b s day → day .n ≤ maxChanges
+few-units x = subst (λ (d : DayAmounts). d .n ≤ maxChanges) (sym (x .amounts)) (units-are (x .list) (x .valid) .few)
 
 pub few-hours : {b : Book} {s : List ℕ} {day : DayAmounts} → Held b s day → FewInAll (day .hours)
 few-hours x = subst (λ (d : DayAmounts). FewInAll (d .hours)) (sym (x .amounts)) (day-few (x .list) (x .valid))

@@ -11,12 +11,12 @@ use lib.ListN.{length, take, length-append, length-take}
 use Rattle.money.specs.Names.{nameOk}
 use Rattle.money.specs.declared.names.Name.{Name}
 use Rattle.records.specs.Numbers.{pad}
-use Rattle.records.specs.Names.{spell, bytesOf, spellingOf, spellingBytes}
+use Rattle.records.specs.Names.{maxSpelling, spell, bytesOf, spellingOf, spellingBytes}
 use Rattle.records.specs.laws.BookLaws.{name-most, spelled-short, spelling-full, spelling-none, take-pad}
 use Rattle.records.specs.declared.names.Spelling.{Spelling}
 use Rattle.statement.specs.Decimal.{twoDigits, decimal}
 use Rattle.statement.specs.laws.DecimalLaws.{decimal-length}
-use Rattle.statement.specs.Lines.{whenBytes, kindBytes, isNumber, nameBytes, sign, dollars, number, figure, lineBytes, textOf}
+use Rattle.statement.specs.Lines.{whenBytes, kindBytes, isNumber, nameBytes, sign, dollars, number, figure, lineBytes, maxFigure, maxLine, textOf}
 use Rattle.statement.specs.declared.lines.Kind.{Kind}
 use Rattle.statement.specs.declared.lines.Kind.the-variants.{Iog, Off, Ifc, Efc, Pcg, Rev, Err}
 use Rattle.statement.specs.declared.lines.Line.{Line}
@@ -41,13 +41,13 @@ pub name-some : (n : Name) → nameOk n ≡ true → nameBytes n ≡ spell (byte
 unfolding nameBytes
 name-some n h = rw h
 
-spelled-most : (n : Name) → nameOk n ≡ true → length (spell (bytesOf n)) ≤ 36
+spelled-most : (n : Name) → nameOk n ≡ true → length (spell (bytesOf n)) ≤ maxSpelling
 spelled-most n h = spelled-short (bytesOf n) (omega (arith, length-take (n .len) (n .bytes), name-most n h))
 
 -- the spelling that records gives of a name is what its line shows
 pub record Spells (n : Name) (s : Spelling) : Type 0 where
   pub bytes : take (s .len) (s .bytes) ≡ nameBytes n
-  pub few : s .len ≤ 36
+  pub few : s .len ≤ maxSpelling
   pub within : s .len ≤ length (s .bytes)
   pub all : s .len ≡ length (take (s .len) (s .bytes))
 
@@ -55,12 +55,12 @@ pub spells : (n : Name) (s : Spelling) → nameOk n ≡ true → s ≡ spellingO
 spells n s h e =
     let q : s ≡ spellingBytes 0 (spell (bytesOf n)) = e ∙ spelling-full n h in
     let xs : List ℕ = spell (bytesOf n) in
-    let m : length xs ≤ 36 = spelled-most n h in
-    let p : take (length xs) (pad 0 36 xs) ≡ xs = take-pad 0 36 xs m in
+    let m : length xs ≤ maxSpelling = spelled-most n h in
+    let p : take (length xs) (pad 0 maxSpelling xs) ≡ xs = take-pad 0 maxSpelling xs m in
     rw q (record {
       bytes = p ∙ sym (name-some n h);
       few = m;
-      within = omega (arith, ap length p, length-take (length xs) (pad 0 36 xs));
+      within = omega (arith, ap length p, length-take (length xs) (pad 0 maxSpelling xs));
       all = ap length (sym p);
     })
 
@@ -80,11 +80,11 @@ module _ (n : Name) (s : Spelling) (e : s ≡ spellingOf n) where
       go true h = absurd (z (ap (λ (x : Spelling). x .number) (e ∙ spelling-full n h)))
       go false h = name-none n h
 
-pub name-length : (n : Name) → length (nameBytes n) ≤ 36
+pub name-length : (n : Name) → length (nameBytes n) ≤ maxSpelling
 unfolding nameBytes
 name-length n = go (nameOk n) refl
   where
-    go : (b : Bool) → nameOk n ≡ b → length (cond b (spell (bytesOf n)) (45 ∷ [])) ≤ 36
+    go : (b : Bool) → nameOk n ≡ b → length (cond b (spell (bytesOf n)) (45 ∷ [])) ≤ maxSpelling
     go true e = spelled-most n e
     go false e = omega arith
 
@@ -135,17 +135,17 @@ pub two-length : (n : ℕ) → length (twoDigits n) ≡ 2
 unfolding twoDigits
 two-length n = refl
 
-pub figure-length : (k : Kind) (z : ℤ) → Fits64 z → length (figure k z) ≤ 21
+pub figure-length : (k : Kind) (z : ℤ) → Fits64 z → length (figure k z) ≤ maxFigure
 figure-length k z h = go (isNumber k) refl
   where
-    go : (b : Bool) → isNumber k ≡ b → length (figure k z) ≤ 21
+    go : (b : Bool) → isNumber k ≡ b → length (figure k z) ≤ maxFigure
     go true e = rw (figure-number k z e, length-append) (omega (arith, sign-length z, number-digits (natAbs z) h))
     go false e = rw (figure-dollars k z e) (simp length-append (omega (arith, sign-length z, dollar-digits (natAbs z) h, two-length (natAbs z % 100))))
 
 -- ---- lines
 
--- the longest line has 66 bytes
-pub line-length : (l : Line) → Fits64 (l .cents .0) → length (lineBytes l) ≤ 66
+-- no line is longer than the longest
+pub line-length : (l : Line) → Fits64 (l .cents .0) → length (lineBytes l) ≤ maxLine
 unfolding lineBytes
 line-length l h = simp length-append
     (omega (arith, when-length (l .hour), kind-length (l .kind), name-length (l .name), figure-length (l .kind) (l .cents .0) h))

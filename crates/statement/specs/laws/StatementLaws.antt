@@ -6,6 +6,7 @@ use native.Mathlib.Omega.{arith}
 use native.Mathlib.Numerals.{add-one}
 use lib.ListN.{length, take, getD}
 use lib.Seq.{take-suc}
+use Rattle.money.specs.Units.{dayHours}
 use Rattle.money.specs.declared.names.Name.{Name}
 use Rattle.book.specs.Layer.{Change}
 use Rattle.book.specs.declared.answers.HourAmounts.{HourAmounts}
@@ -70,7 +71,7 @@ module _ (l : List Change) (v : Valid l) where
   abbrev day : DayAmounts
   day = dayFrom (dayAmounts (belongs l))
 
-  hour-lines : (h : ℕ) → h < 24 → linesOfHour (suc h) (getD (day .hours) (suc h - 1) noHour) ≡ hourOf (standing l) (priceOf (standing l)) (suc h)
+  hour-lines : (h : ℕ) → h < dayHours → linesOfHour (suc h) (getD (day .hours) (suc h - 1) noHour) ≡ hourOf (standing l) (priceOf (standing l)) (suc h)
   unfolding hourOf
   hour-lines h lt =
       let m : suc h - 1 ≡ h = omega arith in
@@ -83,7 +84,7 @@ module _ (l : List Change) (v : Valid l) where
   pub day-lines : linesOfDay day ≡ statementLines (standing l) (priceOf (standing l))
   unfolding statementLines
   day-lines =
-      let s = hours-same (λ (h : ℕ). linesOfHour h (getD (day .hours) (h - 1) noHour)) (hourOf (standing l) (priceOf (standing l))) 24 hour-lines in
+      let s = hours-same (λ (h : ℕ). linesOfHour h (getD (day .hours) (h - 1) noHour)) (hourOf (standing l) (priceOf (standing l))) dayHours hour-lines in
       let t = ap linesOfUnits (units-are l v .units) ∙ units-same l (namesOf ghKey (standing l)) in
       λ i. s i ++ t i
 

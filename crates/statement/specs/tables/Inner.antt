@@ -3,6 +3,7 @@ use mathlib.Core.Path.{_≡_}
 use mathlib.Core.List.{List, [], _∷_, _++_}
 use Prim.Native.Nat.{ℕ, _+_, _-_, _*_, _≤_, _<_}
 use lib.ListN.{length, take, getD}
+use Rattle.money.specs.Units.{dayHours}
 use Rattle.records.specs.Changes.{put}
 use Rattle.book.specs.declared.answers.HourAmounts.{HourAmounts}
 use Rattle.book.specs.declared.answers.UnitAmounts.{UnitAmounts}
@@ -10,7 +11,7 @@ use Rattle.book.specs.declared.answers.DayAmounts.{DayAmounts}
 use Rattle.book.specs.Meaning.{guaranteesReply, chargesReply, dayReply}
 use Rattle.book.specs.WholeDay.{noHour}
 use Rattle.book.specs.Handed.{maxCredits, maxCharges}
-use Rattle.statement.specs.Lines.{textOf}
+use Rattle.statement.specs.Lines.{maxLine, textOf}
 use Rattle.statement.specs.Statement.{hourLines, unitLines, hoursTo}
 use Rattle.statement.specs.declared.lines.Line.{Line}
 use Rattle.statement.specs.declared.lines.Cursor.{Cursor}
@@ -23,10 +24,10 @@ pub record Writes (d : List ℕ) (at : ℕ) (xs e : List ℕ) (r : ℕ) : Type 0
   pub bytes : e ≡ put d at xs
   pub behind : r ≡ at + length xs
 
--- the text of lines was put at a cursor, none of them longer than 66 bytes
+-- the text of lines was put at a cursor, none of them longer than the longest
 pub record WritesLines (d : List ℕ) (c : Cursor) (ls : List Line) (e : List ℕ) (r : Cursor) : Type 0 where
   pub text : Writes d (c .at) (textOf ls) e (r .at)
-  pub few : length (textOf ls) ≤ 66 * length ls
+  pub few : length (textOf ls) ≤ maxLine * length ls
 
 -- ---- the lines of a day's amounts, as the book hands them over
 
@@ -45,7 +46,7 @@ linesOfUnits [] = []
 linesOfUnits (u ∷ us) = linesOfUnit u ++ linesOfUnits us
 
 abbrev pub linesOfDay : DayAmounts → List Line
-linesOfDay d = linesOfHours 24 (d .hours) ++ linesOfUnits (take (d .n) (d .units))
+linesOfDay d = linesOfHours dayHours (d .hours) ++ linesOfUnits (take (d .n) (d .units))
 
 -- an hour has at most 16 `IOG`, an `OFF`, 16 `IFC` and 16 `EFC`
 pub record FewLines (a : HourAmounts) : Type 0 where
@@ -54,4 +55,4 @@ pub record FewLines (a : HourAmounts) : Type 0 where
   pub exports : a .exports .charges .n ≤ maxCharges
 
 pub record FewInAll (hs : List HourAmounts) : Type 0 where
-  pub hour : (j : ℕ) → j < 24 → (d : HourAmounts) → FewLines (getD hs j d)
+  pub hour : (j : ℕ) → j < dayHours → (d : HourAmounts) → FewLines (getD hs j d)

@@ -3,7 +3,9 @@ use Prim.Native.Nat.{_≤_, _+_, _-_, _*_}
 use lib.ListN.{length}
 use borrow.Author.Needs.{needs}
 use native.Mathlib.Omega.{arith}
+use Rattle.money.specs.Units.{dayHours}
 use Rattle.money.specs.laws.UnitLaws.{unmapped}
+use Rattle.statement.specs.Statement.{maxHour, maxHours}
 use Rattle.statement.specs.tables.Inner.{WritesLines, linesOfHours, FewInAll}
 use Rattle.statement.specs.laws.StatementLaws.{hours-none, hours-more}
 use Rattle.statement.proofs.bytes.Lemmas.{lines-none, lines-then, lines-as, lines-size}
@@ -11,11 +13,11 @@ use Rattle.statement.proofs.day.put_hours.Statement.{statement}
 use Rattle.statement.proofs.day.put_hours.Tie as tie
 
 abbrev Inv-loop : tie.InvT-loop
-Inv-loop out₀ hours next₀ h₀ out next h = (h ≤ 24) × (length hours ≡ 24) × (next₀ .at + 77616 ≤ length out₀) × (next .at ≤ next₀ .at + 3234 * h) × FewInAll
+Inv-loop out₀ hours next₀ h₀ out next h = (h ≤ dayHours) × (length hours ≡ dayHours) × (next₀ .at + maxHours ≤ length out₀) × (next .at ≤ next₀ .at + maxHour * h) × FewInAll
     hours × WritesLines out₀ next₀ (linesOfHours h hours) out next
 
 abbrev μ-loop : tie.MeasureT-loop
-μ-loop out₀ hours next₀ h₀ out next h = 24 - h
+μ-loop out₀ hours next₀ h₀ out next h = dayHours - h
 
 loop-holds : tie.Need-loop-holds Inv-loop μ-loop
 loop-holds c = (
@@ -69,7 +71,7 @@ same-length c = lines-size (c .before .loop .inv .5)
 returns : tie.Need-returns Inv-loop μ-loop
 returns c =
     let v = (c .before .loop) .inv in
-    let e : (c .before .loop) .h ≡ 24 = omega arith in
+    let e : (c .before .loop) .h ≡ dayHours = omega arith in
     (rw e at (v .5), omega (arith, v .3))
 
 pub put-hours-spec : {M : Type 1} → statement M

@@ -4,6 +4,8 @@ use lib.ListN.{length, take}
 use borrow.Author.Needs.{needs}
 use native.Mathlib.Omega.{arith}
 use Rattle.money.specs.laws.UnitLaws.{unmapped}
+use Rattle.book.specs.Register.{maxChanges}
+use Rattle.statement.specs.Statement.{maxUnit, maxUnits}
 use Rattle.statement.specs.tables.Inner.{WritesLines, linesOfUnits}
 use Rattle.statement.specs.laws.StatementLaws.{units-none, units-more}
 use Rattle.statement.proofs.bytes.Lemmas.{lines-none, lines-then, lines-as, lines-size}
@@ -11,7 +13,7 @@ use Rattle.statement.proofs.day.put_units.Statement.{statement}
 use Rattle.statement.proofs.day.put_units.Tie as tie
 
 abbrev Inv-loop : tie.InvT-loop
-Inv-loop out₀ n units next₀ i₀ out next i = (i ≤ n) × (n ≤ 512) × (length units ≡ 512) × (next₀ .at + 67584 ≤ length out₀) × (next .at ≤ next₀ .at + 132 * i) ×
+Inv-loop out₀ n units next₀ i₀ out next i = (i ≤ n) × (n ≤ maxChanges) × (length units ≡ maxChanges) × (next₀ .at + maxUnits ≤ length out₀) × (next .at ≤ next₀ .at + maxUnit * i) ×
     WritesLines out₀ next₀ (linesOfUnits (take i units)) out next
 
 abbrev μ-loop : tie.MeasureT-loop

@@ -4,6 +4,7 @@ use lib.ListN.{length-replicate}
 use lib.Seq.{length-take-le}
 use native.Mathlib.Omega.{arith}
 use borrow.Author.Needs.{needs}
+use Rattle.statement.specs.Statement.{longestStatement}
 use Rattle.statement.proofs.bytes.Lemmas.{writes-size}
 use Rattle.statement.proofs.day.Lemmas.{held, is-astray, few-units, few-hours, stated, fits-written, fits-front, answers-astray, answers-fitted}
 use Rattle.statement.proofs.day.statement.Statement.{statement}
@@ -48,7 +49,7 @@ put-day-requires-2 c κs =
     let c4 = c2 .before .before in
     let c7 = c4 .before .before .before in
     let x = held (c7 .args .book) (c7 .args .log .now) (c4 .day .result) (c4 .day .ensures) (c2 .if1 .left) in
-    (few-units x, few-hours x, omega (arith, length-replicate {A = ℕ} 145200 0))
+    (few-units x, few-hours x, omega (arith, length-replicate {A = ℕ} longestStatement 0))
 
 array-share-prefix-aside : tie.Need-array-share-prefix-aside
 array-share-prefix-aside c = let w = (c .before .before .put-day2) .ensures .0 .text in omega (arith, w .behind, w .room, writes-size w)

@@ -7,6 +7,7 @@ use borrow.Author.Needs.{needs}
 use native.Mathlib.Omega.{arith}
 use Rattle.money.specs.laws.UnitLaws.{unmapped}
 use Rattle.book.specs.Handed.{maxCharges}
+use Rattle.statement.specs.Lines.{maxLine}
 use Rattle.statement.specs.Statement.{lineOf}
 use Rattle.statement.specs.tables.Inner.{WritesLines}
 use Rattle.statement.specs.declared.lines.Line.{Line}
@@ -16,7 +17,7 @@ use Rattle.statement.proofs.hours.put_charges.Tie as tie
 
 abbrev Inv-loop : tie.InvT-loop
 Inv-loop out₀ hour kind a n next₀ i₀ out next i =
-    (i ≤ n) × (n ≡ a .n) × (a .n ≤ maxCharges) × (length (a .list) ≡ maxCharges) × (next₀ .at + 66 * n ≤ length out₀)
+    (i ≤ n) × (n ≡ a .n) × (a .n ≤ maxCharges) × (length (a .list) ≡ maxCharges) × (next₀ .at + maxLine * n ≤ length out₀)
     × WritesLines out₀ next₀ (map (lineOf hour kind) (take i (a .list))) out next
 
 abbrev μ-loop : tie.MeasureT-loop

@@ -8,6 +8,7 @@ use native.Mathlib.Omega.{arith}
 use Rattle.money.specs.laws.UnitLaws.{unmapped}
 use Rattle.book.specs.Handed.{maxCredits}
 use Rattle.statement.specs.declared.lines.Kind.the-variants.{Iog}
+use Rattle.statement.specs.Lines.{maxLine}
 use Rattle.statement.specs.Statement.{lineOf}
 use Rattle.statement.specs.tables.Inner.{WritesLines}
 use Rattle.statement.specs.declared.lines.Line.{Line}
@@ -17,7 +18,7 @@ use Rattle.statement.proofs.hours.put_credits.Tie as tie
 
 abbrev Inv-loop : tie.InvT-loop
 Inv-loop out₀ hour a n next₀ i₀ out next i =
-    (i ≤ n) × (n ≡ a .n) × (a .n ≤ maxCredits) × (length (a .list) ≡ maxCredits) × (next₀ .at + 66 * n ≤ length out₀)
+    (i ≤ n) × (n ≡ a .n) × (a .n ≤ maxCredits) × (length (a .list) ≡ maxCredits) × (next₀ .at + maxLine * n ≤ length out₀)
     × WritesLines out₀ next₀ (map (lineOf hour Iog) (take i (a .list))) out next
 
 abbrev μ-loop : tie.MeasureT-loop
