@@ -2,19 +2,20 @@
 use mathlib.Core.Path.{_≡_, refl, sym, ap, _∙_}
 use mathlib.Core.List.{List, [], _∷_, _++_, append-assoc, append-nil}
 use mathlib.Core.Bool.{Bool, true, false, cond}
-use Prim.Native.Nat.{ℕ, _+_, _/_, _%_, _≤_, _<_}
+use Prim.Native.Nat.{ℕ, _/_, _%_, _≤_, _<_}
 use native.Mathlib.Omega.{arith}
 use lib.Dec.{eqb, ltb→lt}
 use lib.IntN.{ℤ, pos, negsuc, natAbs}
 use lib.Signed.{_≤ℤ_, _<ℤ_}
 use lib.ListN.{length, take, length-append, length-take}
+use Rattle.laws.specs.Text.{bytes}
 use Rattle.money.specs.Names.{nameOk}
 use Rattle.money.specs.declared.names.Name.{Name}
 use Rattle.records.specs.Numbers.{pad}
 use Rattle.records.specs.Names.{maxSpelling, spell, bytesOf, spellingOf, spellingBytes}
 use Rattle.records.specs.laws.BookLaws.{name-most, spelled-short, spelling-full, spelling-none, take-pad}
 use Rattle.records.specs.declared.names.Spelling.{Spelling}
-use Rattle.statement.specs.Decimal.{twoDigits, decimal}
+use Rattle.statement.specs.Decimal.{digit, twoDigits, decimal}
 use Rattle.statement.specs.laws.DecimalLaws.{decimal-length}
 use Rattle.statement.specs.Lines.{whenBytes, kindBytes, isNumber, nameBytes, sign, dollars, number, figure, lineBytes, maxFigure, maxLine, textOf}
 use Rattle.statement.specs.declared.lines.Kind.{Kind}
@@ -22,7 +23,7 @@ use Rattle.statement.specs.declared.lines.Kind.the-variants.{Iog, Off, I
 use Rattle.statement.specs.declared.lines.Line.{Line}
 
 -- ---- signs
-pub sign-below : (z : ℤ) → z <ℤ pos 0 → sign z ≡ 45 ∷ []
+pub sign-below : (z : ℤ) → z <ℤ pos 0 → sign z ≡ bytes "-"
 unfolding sign
 sign-below (pos n) h = let l : n < 0 = ltb→lt n 0 (h .lt) in absurd (omega arith)
 sign-below (negsuc n) h = refl
@@ -33,7 +34,7 @@ sign-above (pos n) h = refl
 sign-above (negsuc n) h = absurd (h .le)
 
 -- ---- names
-pub name-none : (n : Name) → nameOk n ≡ false → nameBytes n ≡ 45 ∷ []
+pub name-none : (n : Name) → nameOk n ≡ false → nameBytes n ≡ bytes "-"
 unfolding nameBytes
 name-none n h = rw h
 
@@ -73,10 +74,10 @@ module _ (n : Name) (s : Spelling) (e : s ≡ spellingOf n) where
       go true h = h
       go false h = absurd (omega (arith, z, ap (λ (x : Spelling). x .number) (e ∙ spelling-none n h)))
 
-  pub name-unspelled : (s .number ≡ 0 → ⊥) → nameBytes n ≡ 45 ∷ []
+  pub name-unspelled : (s .number ≡ 0 → ⊥) → nameBytes n ≡ bytes "-"
   name-unspelled z = go (nameOk n) refl
     where
-      go : (b : Bool) → nameOk n ≡ b → nameBytes n ≡ 45 ∷ []
+      go : (b : Bool) → nameOk n ≡ b → nameBytes n ≡ bytes "-"
       go true h = absurd (z (ap (λ (x : Spelling). x .number) (e ∙ spelling-full n h)))
       go false h = name-none n h
 
@@ -84,7 +85,7 @@ pub name-length : (n : Name) → length (nameBytes n) ≤ maxSpelling
 unfolding nameBytes
 name-length n = go (nameOk n) refl
   where
-    go : (b : Bool) → nameOk n ≡ b → length (cond b (spell (bytesOf n)) (45 ∷ [])) ≤ maxSpelling
+    go : (b : Bool) → nameOk n ≡ b → length (cond b (spell (bytesOf n)) (bytes "-")) ≤ maxSpelling
     go true e = spelled-most n e
     go false e = omega arith
 
@@ -93,7 +94,7 @@ pub when-length : (h : ℕ) → length (whenBytes h) ≡ 2
 unfolding whenBytes twoDigits
 when-length h = go (eqb h 0)
   where
-    go : (b : Bool) → length (cond b (68 ∷ 68 ∷ []) ((48 + h / 10) ∷ (48 + h % 10) ∷ [])) ≡ 2
+    go : (b : Bool) → length (cond b (bytes "DD") (digit (h / 10) ∷ digit (h % 10) ∷ [])) ≡ 2
     go true = refl
     go false = refl
 
@@ -112,7 +113,7 @@ pub figure-number : (k : Kind) (z : ℤ) → isNumber k ≡ true → figure k z 
 unfolding figure number
 figure-number k z e = rw e
 
-pub figure-dollars : (k : Kind) (z : ℤ) → isNumber k ≡ false → figure k z ≡ sign z ++ decimal (natAbs z / 100) ++ (46 ∷ []) ++ twoDigits (natAbs z % 100)
+pub figure-dollars : (k : Kind) (z : ℤ) → isNumber k ≡ false → figure k z ≡ sign z ++ decimal (natAbs z / 100) ++ bytes "." ++ twoDigits (natAbs z % 100)
 unfolding figure dollars
 figure-dollars k z e = rw e
 
