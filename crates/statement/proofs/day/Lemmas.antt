@@ -5,6 +5,7 @@ use Prim.Native.Nat.{ℕ, _+_, _≤_, _<_}
 use native.Mathlib.Omega.{arith}
 use lib.ListN.{length, take}
 use borrow.Author.Tests.{le-leb, lt-leb}
+use Rattle.money.specs.Refusals.{noSpace, notTogether}
 use Rattle.book.specs.Layer.{Change}
 use Rattle.book.specs.declared.book.Book.{Book}
 use Rattle.book.specs.declared.answers.DayAmounts.{DayAmounts}
@@ -23,7 +24,7 @@ use Rattle.statement.specs.declared.lines.Cursor.{Cursor}
 
 -- ---- a text at the front
 
-pub fits-refused : (t d : List ℕ) → length d < length t → Fits t d d (record { number = 13; len = 0 })
+pub fits-refused : (t d : List ℕ) → length d < length t → Fits t d d (record { number = noSpace; len = 0 })
 fits-refused t d h = let x = lt-leb (length t) (length d) h in record { number = rw x; len = rw x; bytes = rw x }
 
 pub fits-written : {t d e : List ℕ} {n : ℕ} → Writes d 0 t e n → Fits t d e (record { number = 0; len = n })
@@ -40,17 +41,17 @@ fits-front {t} {a} {b} {d} {e} {n} {w} x f =
 -- ---- a day of a book
 
 -- the changes of a book whose day was asked for
-pub record Held (b : Book) (s : List ℕ) (day : DayAmounts) : Type 0 where
+pub record Loaded (b : Book) (s : List ℕ) (day : DayAmounts) : Type 0 where
   pub list : List Change
   pub is : load b s ≡ belongs list
   pub valid : Valid list
   pub amounts : day ≡ dayFrom (dayAmounts (belongs list))
 
 module _ (b : Book) (s : List ℕ) (day : DayAmounts) (e : day ≡ dayFrom (dayAmounts (load b s))) where
-  pub held : day .number ≡ 0 → Held b s day
-  held z = go (load b s) refl
+  pub loaded : day .number ≡ 0 → Loaded b s day
+  loaded z = go (load b s) refl
     where
-      go : (x : Load) → load b s ≡ x → Held b s day
+      go : (x : Load) → load b s ≡ x → Loaded b s day
       go (belongs l) q = record { list = l; is = q; valid = loaded-valid b s l q; amounts = e ∙ ap (λ (x : Load). dayFrom (dayAmounts x)) q }
       go mismatched q = absurd (omega (arith, ap (λ (x : DayAmounts). x .number) (e ∙ ap (λ (x : Load). dayFrom (dayAmounts x)) q), number-astray))
 
@@ -61,14 +62,14 @@ module _ (b : Book) (s : List ℕ) (day : DayAmounts) (e : day ≡ dayFrom (dayA
       go mismatched q = q
       go (belongs l) q = absurd (z (ap (λ (x : DayAmounts). x .number) (e ∙ ap (λ (x : Load). dayFrom (dayAmounts x)) q) ∙ number-whole l))
 
-pub few-units : {b : Book} {s : List ℕ} {day : DayAmounts} → Held b s day → day .n ≤ maxChanges
+pub few-units : {b : Book} {s : List ℕ} {day : DayAmounts} → Loaded b s day → day .n ≤ maxChanges
 few-units x = subst (λ (d : DayAmounts). d .n ≤ maxChanges) (sym (x .amounts)) (units-are (x .list) (x .valid) .few)
 
-pub few-hours : {b : Book} {s : List ℕ} {day : DayAmounts} → Held b s day → FewInAll (day .hours)
+pub few-hours : {b : Book} {s : List ℕ} {day : DayAmounts} → Loaded b s day → FewInAll (day .hours)
 few-hours x = subst (λ (d : DayAmounts). FewInAll (d .hours)) (sym (x .amounts)) (day-few (x .list) (x .valid))
 
 -- what is written of it is the statement
-pub stated : {b : Book} {s d e : List ℕ} {day : DayAmounts} {r : Cursor} (x : Held b s day) → WritesLines d (record { at = 0 }) (linesOfDay day) e r
+pub stated : {b : Book} {s d e : List ℕ} {day : DayAmounts} {r : Cursor} (x : Loaded b s day) → WritesLines d (record { at = 0 }) (linesOfDay day) e r
     → Writes d 0 (statementOf (x .list)) e (r .at)
 stated {b} {s} {d} {e} {day} {r} x w =
     subst (λ (t : List ℕ). Writes d 0 t e (r .at)) (ap (λ (y : DayAmounts). textOf (linesOfDay y)) (x .amounts) ∙ day-text (x .list) (x .valid)) (w .text)
@@ -78,8 +79,8 @@ stated {b} {s} {d} {e} {day} {r} x w =
 same-list : {l k : List Change} → belongs l ≡ belongs k → l ≡ k
 same-list e = cc
 
-pub answers-astray : {x : Load} (d : List ℕ) → x ≡ mismatched → Answers x d d (record { number = 16; len = 0 })
-answers-astray {x} d e = subst (λ (y : Load). Answers y d d (record { number = 16; len = 0 })) (sym e) (record {
+pub answers-astray : {x : Load} (d : List ℕ) → x ≡ mismatched → Answers x d d (record { number = notTogether; len = 0 })
+answers-astray {x} d e = subst (λ (y : Load). Answers y d d (record { number = notTogether; len = 0 })) (sym e) (record {
   number = refl;
   len = refl;
   bytes = refl;

@@ -6,7 +6,7 @@ use native.Mathlib.Omega.{arith}
 use borrow.Author.Needs.{needs}
 use Rattle.statement.specs.Statement.{longestStatement}
 use Rattle.statement.proofs.bytes.Lemmas.{writes-size}
-use Rattle.statement.proofs.day.Lemmas.{held, is-astray, few-units, few-hours, stated, fits-written, fits-front, answers-astray, answers-fitted}
+use Rattle.statement.proofs.day.Lemmas.{loaded, is-astray, few-units, few-hours, stated, fits-written, fits-front, answers-astray, answers-fitted}
 use Rattle.statement.proofs.day.statement.Statement.{statement}
 use Rattle.statement.proofs.day.statement.Tie as tie
 
@@ -24,7 +24,7 @@ put-day-requires c κs =
     let c2 = c .before .before in
     let c4 = c2 .before .before in
     let c7 = c4 .before .before .before in
-    let x = held (c7 .args .book) (c7 .args .log .now) (c4 .day .result) (c4 .day .ensures) (c2 .if1 .left) in
+    let x = loaded (c7 .args .book) (c7 .args .log .now) (c4 .day .result) (c4 .day .ensures) (c2 .if1 .left) in
     (few-units x, few-hours x, (c .before .if2) .taken)
 
 same-length : tie.Need-same-length
@@ -36,7 +36,7 @@ returns-2 c =
     let c5 = c2 .before .before .before in
     let c7 = c5 .before .before in
     let c10 = c7 .before .before .before in
-    let x = held (c10 .args .book) (c10 .args .log .now) (c7 .day .result) (c7 .day .ensures) (c5 .if1 .left) in
+    let x = loaded (c10 .args .book) (c10 .args .log .now) (c7 .day .result) (c7 .day .ensures) (c5 .if1 .left) in
     let w = stated x (c2 .put-day .ensures .0) in
     answers-fitted (x .list) (x .is) (omega (arith, w .behind, (c2 .put-day) .ensures .1)) (fits-written w)
 
@@ -48,7 +48,7 @@ put-day-requires-2 c κs =
     let c2 = c .before .before in
     let c4 = c2 .before .before in
     let c7 = c4 .before .before .before in
-    let x = held (c7 .args .book) (c7 .args .log .now) (c4 .day .result) (c4 .day .ensures) (c2 .if1 .left) in
+    let x = loaded (c7 .args .book) (c7 .args .log .now) (c4 .day .result) (c4 .day .ensures) (c2 .if1 .left) in
     (few-units x, few-hours x, omega (arith, length-replicate {A = ℕ} longestStatement 0))
 
 array-share-prefix-aside : tie.Need-array-share-prefix-aside
@@ -73,7 +73,7 @@ returns-3 c =
     let c9 = c6 .before .before .before in
     let c11 = c9 .before .before in
     let c14 = c11 .before .before .before in
-    let x = held (c14 .args .book) (c14 .args .log .now) (c11 .day .result) (c11 .day .ensures) (c9 .if1 .left) in
+    let x = loaded (c14 .args .book) (c14 .args .log .now) (c11 .day .result) (c11 .day .ensures) (c9 .if1 .left) in
     let w = stated x (c6 .put-day2 .ensures .0) in
     answers-fitted (x .list) (x .is) (omega (arith, w .behind, (c6 .put-day2) .ensures .1)) (fits-front w (c2 .write-front .ensures))
 
