@@ -16,9 +16,13 @@ use Rattle.statement.specs.Refusal.{refusalLine}
 use Rattle.statement.specs.declared.day.Written.{Written}
 use Rattle.filter.specs.declared.reading.Reading.{Reading}
 
+-- the most that is counted: 2^64 - 1, the greatest number of 64 bits
+abbrev pub maxCount : ℕ
+maxCount = 18446744073709551615
+
 -- a number of records, as far as 64 bits go
 abbrev pub counted : ℕ → ℕ
-counted n = min n 18446744073709551615
+counted n = min n maxCount
 
 -- ---- reading
 

@@ -11,6 +11,9 @@ ghost use Rattle.records.specs.Changes.{put};
 ghost use Rattle.book.specs.FeedPromise.{Feeds};
 ghost use Rattle.filter.specs.Reading.{counted, begun, isOver, waits, part, ReadsOn};
 
+// The most that is counted: 2^64 - 1.
+pub const COUNT_MAX: u64 = 18446744073709551615;
+
 // The book so far, and the records that it took; how many bytes of the next one are held, at the front of the input's bytes; and the number
 // of the refusal at which the reading stands, 0 for none. Bytes that end early may still go on.
 pub struct Reading {
@@ -24,8 +27,8 @@ pub struct Reading {
 pub(crate) fn plus(a: u64, b: u64) -> u64
     ensures { λ r. ⌜ r ≡ counted (a + b) ⌝ }
 {
-    if 18446744073709551615 - a < b {
-        return 18446744073709551615;
+    if COUNT_MAX - a < b {
+        return COUNT_MAX;
     }
     a + b
 }

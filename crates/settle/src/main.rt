@@ -1,5 +1,6 @@
 // Settles a day: reads records back to back from standard input into a book over 65,535 bytes, and prints the statement, or
 // `REF n r` where record n (from 1) is refused with number r.
+use book::book::USED_MAX;
 use statement::day::STATEMENT_MAX;
 use statement::day::Written;
 use stdin::Input;
@@ -34,7 +35,7 @@ fn print_input(input: Input, log: &[u8], out: &mut [u8]) -> Settled
 fn settle_input(out: &mut [u8]) -> Settled
     ensures { λ r. ⌜ Printed (now (out .entry)) (now (out .exit)) r ⌝ }
 {
-    let mut log = [0u8; 65535];
+    let mut log = [0u8; USED_MAX];
     let input = read_input(&mut log);
     print_input(input, &log, out)
 }

@@ -8,7 +8,7 @@ use lib.Dec.{eqb}
 use lib.IntN.{ℤ}
 use lib.ListN.{length, take, drop, length-take, length-drop}
 use Rattle.filter.specs.Reading.{isOver, ReadsOn}
-use Rattle.stdin.specs.Rounds.{brought, brokeOff, TakesIn, unread, Rounds, none, round, mostReads, ReadAll}
+use Rattle.stdin.specs.Rounds.{maxRead, brought, brokeOff, TakesIn, unread, Rounds, none, round, maxReads, ReadAll}
 use Rattle.stdin.specs.declared.Input.{Input}
 use Rattle.io.specs.Counts.{clamped}
 
@@ -32,15 +32,15 @@ taken-in {i} {i′} {got} {got′} {log} {log′} {bytes} {bytes′} {n} {over} 
 pub record Reached (left : ℕ) (i : Input) (log bytes : List ℕ) : Type 0 where
   pub pieces : List (List ℕ)
   pub rounds : Rounds pieces i log bytes
-  pub left-is : left ≤ mostReads
-  pub made : length pieces ≡ mostReads - left
+  pub left-is : left ≤ maxReads
+  pub made : length pieces ≡ maxReads - left
 
-pub reached-none : {i : Input} → i ≡ unread → (log bytes : List ℕ) → length bytes ≡ 65536 → Reached mostReads i log bytes
-reached-none e log bytes h = subst (λ (i : Input). Reached mostReads i log bytes) (sym e)
+pub reached-none : {i : Input} → i ≡ unread → (log bytes : List ℕ) → length bytes ≡ maxRead → Reached maxReads i log bytes
+reached-none e log bytes h = subst (λ (i : Input). Reached maxReads i log bytes) (sym e)
     (record { pieces = _; rounds = none log bytes h; left-is = omega arith; made = omega arith })
 
 pub reached-more : {left : ℕ} {i i′ : Input} {log log′ bytes lent bytes′ : List ℕ} {got : ℤ} → Reached left i log bytes → 0 < left → i .more ≡ true
-    → length lent ≡ 65536
+    → length lent ≡ maxRead
     → take (i .reading .held) lent ≡ take (i .reading .held) bytes → TakesIn i got log lent i′ log′ bytes′ → Reached (left - 1) i′ log′ bytes′
 reached-more {left} x h m e f t = record
     { pieces = _; rounds = round (x .rounds) m _ _ e f _ _ _ t; left-is = omega (arith, x .left-is); made = omega (arith, x .left-is, x .made) }

@@ -1,4 +1,5 @@
 // Standard input, read to its end into a book.
+use filter::reading::COUNT_MAX;
 use filter::reading::Reading;
 ghost use mathlib.Core.Path.{_≡_};
 ghost use mathlib.Core.Bool.{not, _&&_};
@@ -7,8 +8,10 @@ ghost use lib.Dec.{eqb};
 ghost use lib.ListN.{length, take};
 ghost use Rattle.stdin.specs.Rounds.{TakesIn, unread, ReadAll, failed};
 
-// So many reads of 65,536 bytes bring less than 2^64.
-const READS_MAX: u64 = 281474976710655;
+// The most bytes of a read, and so few reads that all that they bring can be counted.
+const READ_MAX: u64 = 65536;
+
+const READS_MAX: u64 = COUNT_MAX / READ_MAX;
 
 // The reading of all that was read; whether there may be more to read, and whether the last read broke off.
 pub struct Input {

@@ -14,6 +14,7 @@ use Rattle.records.specs.declared.parse.Front.{Front}
 use Rattle.book.specs.Meaning.{Load}
 use Rattle.book.specs.FeedPromise.{Feeds}
 use Rattle.book.specs.declared.feed.Fed.{Fed}
+use Rattle.statement.specs.Lines.{maxLine}
 use Rattle.statement.specs.Statement.{AnswersBy, Fits}
 use Rattle.statement.specs.Refusal.{refusalLine}
 use Rattle.statement.specs.declared.day.Written.{Written}
@@ -86,11 +87,11 @@ module _ (t : List Change → List ℕ) (longest : ℕ) (r : Reading) (x : Load)
       let e = eq-eqb (r .number) 0 z in
       record { number = rw e (a .number); len = rw e (a .len); bytes = rw e (a .bytes); most = λ l q. rw e (a .most l q) }
 
-  pub prints-refusal : (n : ℕ) → 66 ≤ longest → (r .number ≡ 0 → ⊥) → n ≡ ordinal r
-      → Fits (refusalLine n (r .number)) lent left w × (length (refusalLine n (r .number)) ≤ 66)
+  pub prints-refusal : (n : ℕ) → maxLine ≤ longest → (r .number ≡ 0 → ⊥) → n ≡ ordinal r
+      → Fits (refusalLine n (r .number)) lent left w × (length (refusalLine n (r .number)) ≤ maxLine)
       → Prints t longest r x lent left w
   prints-refusal n h z q a =
       let e = ne-eqb (r .number) 0 z in
       let b : Fits (refusalLine (ordinal r) (r .number)) lent left w = subst (λ (k : ℕ). Fits (refusalLine k (r .number)) lent left w) q (a .0) in
-      let m : length (refusalLine (ordinal r) (r .number)) ≤ 66 = subst (λ (k : ℕ). length (refusalLine k (r .number)) ≤ 66) q (a .1) in
+      let m : length (refusalLine (ordinal r) (r .number)) ≤ maxLine = subst (λ (k : ℕ). length (refusalLine k (r .number)) ≤ maxLine) q (a .1) in
       record { number = rw e (b .number); len = rw e (b .len); bytes = rw e (b .bytes); most = λ l p. rw e (omega arith) }

@@ -10,7 +10,7 @@ use lib.Seq.{drop-append-le, drop-drop, drop-length}
 use borrow.Author.Tests.{ltb-true, ltb-false, le-leb, ne-eqb}
 use Rattle.records.specs.Changes.{Change, put}
 use Rattle.book.specs.declared.book.Book.{Book}
-use Rattle.book.specs.Register.{fresh, writeAll}
+use Rattle.book.specs.Register.{maxUsed, fresh, writeAll}
 use Rattle.book.specs.Meaning.{Load, belongs, load, bookOf}
 use Rattle.book.specs.Feed.{FeedReply, stopped, later, feeding, verdict}
 use Rattle.book.specs.FeedPromise.{Ends, Feeds}
@@ -22,7 +22,7 @@ use Rattle.statement.specs.Statement.{Outcome, fitted, Fits}
 use Rattle.statement.specs.Refusal.{refusalLine}
 use Rattle.statement.specs.declared.day.Written.{Written}
 use Rattle.filter.specs.Output.{printedBy, outputBy}
-use Rattle.filter.specs.Reading.{counted, begun, isOver, atHand, waits, readOn, Takes, Waits, Stays, Reads, ReadsOn, ordinal, textIn, printing, Prints}
+use Rattle.filter.specs.Reading.{maxCount, counted, begun, isOver, atHand, waits, readOn, Takes, Waits, Stays, Reads, ReadsOn, ordinal, textIn, printing, Prints}
 use Rattle.filter.specs.Program.{inputOf, Run, start, next, Settles}
 use Rattle.filter.specs.laws.MoveLaws.{put-first, take-taken}
 use Rattle.filter.specs.laws.WaitLaws.{loaded-size, feeding-early}
@@ -214,26 +214,26 @@ front-is t lent left w f h =
     ap (λ (k : ℕ). take k left) n ∙ ap (take (length t)) y ∙ put-first lent t h
 
 module _ (t : List Change → List ℕ) (longest : ℕ) where
-  module _ (s : List ℕ) (r : Reading) (log input : List ℕ) (x : Stands 65535 s r log input) (h : length s < 18446744073709551616) where
+  module _ (s : List ℕ) (r : Reading) (log input : List ℕ) (x : Stands maxUsed s r log input) (h : length s ≤ maxCount) where
     -- the text of the reading is the output
-    text-is : textIn t r (reached 65535 s .reg .list) ≡ outputBy t s
+    text-is : textIn t r (reached maxUsed s .reg .list) ≡ outputBy t s
     unfolding outputBy
-    text-is = go (reached 65535 s .number) refl ∙ sym (ap (printedBy t) (settled-is s))
+    text-is = go (reached maxUsed s .number) refl ∙ sym (ap (printedBy t) (settled-is s))
       where
-        go : (n : ℕ) → reached 65535 s .number ≡ n
-            → textIn t r (reached 65535 s .reg .list) ≡ printedBy t (verdict (reached 65535 s .reg) (reached 65535 s .count) n)
+        go : (n : ℕ) → reached maxUsed s .number ≡ n
+            → textIn t r (reached maxUsed s .reg .list) ≡ printedBy t (verdict (reached maxUsed s .reg) (reached maxUsed s .count) n)
         go zero e = rw (x .number ∙ e)
         go (suc n) e =
-            let k = stops 65535 fresh s in
-            let o : ordinal r ≡ reached 65535 s .count + 1 = omega (arith, x .count, k .few, k .refused (λ z. omega arith)) in
+            let k = stops maxUsed fresh s in
+            let o : ordinal r ≡ reached maxUsed s .count + 1 = omega (arith, x .count, k .few, k .refused (λ z. omega arith)) in
             rw (ne-eqb (r .number) 0 (λ z. omega (arith, x .number)), x .number ∙ e) (ap (λ (m : ℕ). refusalLine m (suc n)) o)
 
     module _ (lent left : List ℕ) (w : Written) (m : Prints t longest r (load (r .book) log) lent left w) where
-      printing-is : printing t r (load (r .book) log) lent ≡ fitted (textIn t r (reached 65535 s .reg .list)) lent
+      printing-is : printing t r (load (r .book) log) lent ≡ fitted (textIn t r (reached maxUsed s .reg .list)) lent
       printing-is = ap (λ (y : Load). printing t r y lent) (x .loaded) ∙ go (eqb (r .number) 0)
         where
           l : List Change
-          l = reached 65535 s .reg .list
+          l = reached maxUsed s .reg .list
 
           go : (b : Bool) → cond b (fitted (t l) lent) (fitted (refusalLine (ordinal r) (r .number)) lent) ≡ fitted
               (cond b (t l) (refusalLine (ordinal r) (r .number))) lent
@@ -243,7 +243,7 @@ module _ (t : List Change → List ℕ) (longest : ℕ) where
       settles : Settles t longest s lent left w
       settles =
           let p : printing t r (load (r .book) log) lent ≡ fitted (outputBy t s) lent = printing-is ∙ ap (λ (y : List ℕ). fitted y lent) text-is in
-          let n : length (outputBy t s) ≤ longest = subst (λ (y : List ℕ). length y ≤ longest) text-is (m .most (reached 65535 s .reg .list) (x .loaded)) in
+          let n : length (outputBy t s) ≤ longest = subst (λ (y : List ℕ). length y ≤ longest) text-is (m .most (reached maxUsed s .reg .list) (x .loaded)) in
           let f : Fits (outputBy t s) lent left w =
           record {
             number = m .number ∙ ap (λ (o : Outcome). o .number) p;
@@ -254,8 +254,8 @@ module _ (t : List Change → List ℕ) (longest : ℕ) where
           record { fits = f; most = n; whole = λ k. front-is (outputBy t s) lent left w f (omega arith) }
 
   -- the theorem, of a program that prints the text t: for every list of pieces, from a fresh book over 65,535 bytes, what is written at the end is the output of the whole input
-  pub every-input : {ps : List (List ℕ)} {r : Reading} {log input : List ℕ} → Run ps r log input → length log ≡ 65535
-      → length (inputOf ps) < 18446744073709551616
+  pub every-input : {ps : List (List ℕ)} {r : Reading} {log input : List ℕ} → Run ps r log input → length log ≡ maxUsed
+      → length (inputOf ps) ≤ maxCount
       → (lent left : List ℕ) (w : Written) → Prints t longest r (load (r .book) log) lent left w → Settles t longest (inputOf ps) lent left w
   every-input {ps} {r} {log} {input} run e h lent left w m =
       settles (inputOf ps) r log input (subst (λ (n : ℕ). Stands n (inputOf ps) r log input) e (stands run)) h lent left w m

@@ -2,6 +2,7 @@ use mathlib.Core.Path.{_∙_}
 use Prim.Native.Nat.{ℕ}
 use lib.ListN.{length-replicate}
 use borrow.Author.Needs.{needs}
+use Rattle.book.specs.Register.{maxUsed}
 use Rattle.settle.specs.laws.SettleLaws.{printed}
 use Rattle.settle.proofs.settle_input.Statement.{statement}
 use Rattle.settle.proofs.settle_input.Tie as tie
@@ -24,7 +25,7 @@ same-length c = search needs
 returns : tie.Need-returns
 returns c =
     let r = (c .before .before .before .before .before .before .read-input) .ensures in
-    printed (r .0) (r .1 ∙ length-replicate {A = ℕ} 65535 0) (c .before .before .print-input .ensures)
+    printed (r .0) (r .1 ∙ length-replicate {A = ℕ} maxUsed 0) (c .before .before .print-input .ensures)
 
 pub settle-input-spec : {M : Type 1} → statement M
 settle-input-spec =

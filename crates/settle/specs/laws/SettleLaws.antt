@@ -9,6 +9,7 @@ use lib.ListN.{length}
 use borrow.Author.Tests.{leb-true}
 use Rattle.records.specs.Changes.{put}
 use Rattle.records.specs.laws.BookLaws.{put-length}
+use Rattle.book.specs.Register.{maxUsed}
 use Rattle.statement.specs.Statement.{Fits, statementOf, longestStatement}
 use Rattle.statement.specs.declared.day.Written.{Written}
 use Rattle.filter.specs.Program.{inputOf}
@@ -21,7 +22,7 @@ use Rattle.settle.specs.Settle.{Writes, Shows, Outputs, Printed}
 use Rattle.settle.specs.declared.Settled.{Settled}
 
 -- the output of what was read
-pub printed : {i : Input} {log : List ℕ} → ReadAll i log → length log ≡ 65535 → {lent left : List ℕ} {r : Settled} → Shows i log lent left r
+pub printed : {i : Input} {log : List ℕ} → ReadAll i log → length log ≡ maxUsed → {lent left : List ℕ} {r : Settled} → Shows i log lent left r
     → Printed lent left r
 printed {i} {log} x e {lent} {left} {r} s = record { input = i; log = log; read = x; fails = s .fails; outputs = go (failed i) (s .writes) }
   where

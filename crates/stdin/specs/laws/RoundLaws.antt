@@ -8,11 +8,11 @@ use lib.Dec.{eqb}
 use lib.IntN.{ℤ, pos, negsuc}
 use lib.ListN.{length, take, drop, length-drop, length-append}
 use lib.Seq.{take-add, length-take-le}
-use Rattle.filter.specs.Reading.{isOver, ReadsOn}
+use Rattle.filter.specs.Reading.{maxCount, isOver, ReadsOn}
 use Rattle.filter.specs.Program.{inputOf, Run, start, next}
 use Rattle.filter.specs.laws.OutputLaws.{held-short}
 use Rattle.filter.specs.declared.reading.Reading.{Reading}
-use Rattle.stdin.specs.Rounds.{brought, Rounds, none, round, ReadAll}
+use Rattle.stdin.specs.Rounds.{maxRead, brought, Rounds, none, round, ReadAll}
 use Rattle.stdin.specs.declared.Input.{Input}
 use Rattle.io.specs.Counts.{clamped}
 
@@ -34,10 +34,10 @@ more-open (none log bytes e) m = refl
 more-open (round {ps} {i} before o got lent e f i′ log′ bytes′ t) m = right-false (not (eqb (brought got (i .reading) lent) 0)) (isOver (i′ .reading))
     (sym (t .more) ∙ m)
 
--- the rounds are a run over what the reads brought, and this is less than 2^64 bytes
+-- the rounds are a run over what the reads brought, and each brought no more than a read can
 record Brings (ps : List (List ℕ)) (i : Input) (log bytes : List ℕ) : Type 0 where
   run : Run ps (i .reading) log bytes
-  few : length (inputOf ps) ≤ length ps * 65536
+  few : length (inputOf ps) ≤ length ps * maxRead
 
 brings : {ps : List (List ℕ)} {i : Input} {log bytes : List ℕ} → Rounds ps i log bytes → Brings ps i log bytes
 unfolding inputOf
@@ -66,5 +66,5 @@ room x m = held-short (brings x .run) (more-open x m)
 pub read-run : {i : Input} {log : List ℕ} (x : ReadAll i log) → Run (x .pieces) (i .reading) log (x .bytes)
 read-run x = brings (x .rounds) .run
 
-pub read-few : {i : Input} {log : List ℕ} (x : ReadAll i log) → length (inputOf (x .pieces)) < 18446744073709551616
+pub read-few : {i : Input} {log : List ℕ} (x : ReadAll i log) → length (inputOf (x .pieces)) ≤ maxCount
 read-few x = omega (arith, brings (x .rounds) .few, x .few)
