@@ -51,7 +51,7 @@ pub record CallsMade (ts : List Turn) (rs : List Reply) (s input : List ℕ) (r 
 
 -- what reading an input leaves, whatever list of calls came before on this book, all used bytes being lent
 abbrev pub ReadAsCalls : Book → List ℕ → List ℕ → Fed → List ℕ → Type 0
-ReadAsCalls b s input r s′ = (ts : List Turn) (rs : List Reply) (held : List ℕ) → Session ts rs b held → take (length held) s ≡ held → CallsMade ts rs s input r
+ReadAsCalls b s input r s′ = (ts : List Turn) (rs : List Reply) (log : List ℕ) → Session ts rs b log → take (length log) s ≡ log → CallsMade ts rs s input r
     s′
 
 -- ---- `charges`: "`IFC`, `EFC` by name"

@@ -31,7 +31,7 @@ use Rattle.demands.specs.Formulas.{Formulas}
 pub record Taken (call : Call) (b : Book) (s : List ℕ) (b′ : Book) (r : Reply) (s′ : List ℕ) : Type 0 where
   pub answer : r ≡ accepted
   pub before : List Change
-  pub held : load b s ≡ belongs before
+  pub stood : load b s ≡ belongs before
   pub next : Reg
   pub step : stepOf call (length s) (record { list = before; closed = b .closed }) ≡ becomes next
   pub book : b′ ≡ bookOf next
@@ -51,7 +51,7 @@ IsAnswer (charge t) = Unit {0}
 pub record Answered (q : Question) (b : Book) (s : List ℕ) (b′ : Book) (r : Reply) (s′ : List ℕ) : Type 0 where
   pub is-answer : IsAnswer r
   pub before : List Change
-  pub held : load b s ≡ belongs before
+  pub stood : load b s ≡ belongs before
   pub answer : r ≡ answer q (length s) (record { list = before; closed = b .closed })
   pub book : b′ ≡ b
   pub bytes : s′ ≡ s
@@ -118,25 +118,25 @@ pub record Demand2 : Type 0 where
 
 -- "After it the standing records, the free bytes and every amount are those that 01's formulas give for the register's records": what the
 -- book's questions answer over bytes that begin with its used part
-pub record Afterwards (ts : List Turn) (b : Book) (held : List ℕ) : Type 0 where
+pub record Afterwards (ts : List Turn) (b : Book) (log : List ℕ) : Type 0 where
   -- the key question shows the standing record of its key where it is written, and 11 where none stands
   pub found : (m : List ℕ) (h : ℕ) (n : List ℕ) (k : Key) (t : List ℕ) → keyAsked m h n ≡ got k t
-      → (s : List ℕ) → take (length held) s ≡ held → (b′ : Book) (r : Reply) (s′ : List ℕ) → Meets (ask (recordOf m h n)) b s b′ r s′
-      → Shows (pick k (standing (run ts .list))) held r
+      → (s : List ℕ) → take (length log) s ≡ log → (b′ : Book) (r : Reply) (s′ : List ℕ) → Meets (ask (recordOf m h n)) b s b′ r s′
+      → Shows (pick k (standing (run ts .list))) log r
   -- and the key of every standing record can be asked for
   pub reached : (k : Key) (x : Rec) → pick k (standing (run ts .list)) ≡ is x
       → keyAsked (markBytes (x .key .mark)) (x .key .hour) (askBytes (x .key)) ≡ got (x .key) []
   -- free bytes: "the lent length of the call (above 65,535 counted as 65,535) less" the used bytes
-  pub free : (s : List ℕ) → take (length held) s ≡ held → (b′ : Book) (r : Reply) (s′ : List ℕ) → Meets (ask freeBytes) b s b′ r s′
+  pub free : (s : List ℕ) → take (length log) s ≡ log → (b′ : Book) (r : Reply) (s′ : List ℕ) → Meets (ask freeBytes) b s b′ r s′
       → r ≡ number (capped (length s) - length (writeAll (run ts .list)))
   -- every amount is the formula's, over the register's standing records
-  pub amounts : (s : List ℕ) → take (length held) s ≡ held → Amounts b s (run ts .list)
+  pub amounts : (s : List ℕ) → take (length log) s ≡ log → Amounts b s (run ts .list)
   -- and every question gets the register's answer
-  pub asked : (q : Question) (s : List ℕ) → take (length held) s ≡ held → (b′ : Book) (r : Reply) (s′ : List ℕ) → Meets (ask q) b s b′ r s′
+  pub asked : (q : Question) (s : List ℕ) → take (length log) s ≡ log → (b′ : Book) (r : Reply) (s′ : List ℕ) → Meets (ask q) b s b′ r s′
       → r ≡ answer q (length s) (run ts)
   -- "what the book carries equals the register's, and the used part is the register's list as written"
   pub carried : b ≡ bookOf (run ts)
-  pub used : held ≡ writeAll (run ts .list)
+  pub used : log ≡ writeAll (run ts .list)
 
 -- an earlier moment of a list of calls
 pub data Earlier : List Turn → List Turn → Type 0 where
@@ -160,11 +160,11 @@ abbrev pub StandAgain : List Turn → List Turn → ℕ → Type 0
 StandAgain ts us zero = standing (run us .list) ≡ standing (run ts .list)
 StandAgain ts us (suc n) = Again ts us n
 
-pub record Demand3 {ts : List Turn} {rs : List Reply} {b : Book} {held : List ℕ} (σ : Session ts rs b held) : Type 0 where
+pub record Demand3 {ts : List Turn} {rs : List Reply} {b : Book} {log : List ℕ} (σ : Session ts rs b log) : Type 0 where
   -- "For every list of calls from a fresh book, each call in it gets the answer or the number that 01's plain register gives.": a `Session` is such a list
   pub answers : rs ≡ repliesOf ts
   -- "After it the standing records, the free bytes and every amount are those that 01's formulas give for the register's records."
-  pub after : Afterwards ts b held
+  pub after : Afterwards ts b log
   -- "If the book is then open, take any N up to the number of changes in the register's list: N takings back with all used bytes lent"
   pub back : b .closed ≡ false → {n : ℕ} {us : List Turn} {qs : List Reply} {d : Book} {kept : List ℕ} → n ≤ length (run ts .list) → Undo σ n us qs d kept
       -- "are accepted, and exactly the records that stood before the last N of these changes stand again."
@@ -177,5 +177,5 @@ pub record Demanded (call : Call) (b : Book) (s : List ℕ) (b′ : Book) (r : R
   -- demand 1, for each book and each buffer length
   pub one : Demand1 call b s b′ r s′
   -- and demand 3 with this call, whatever list of calls came before on this book
-  pub three : {ts : List Turn} {rs : List Reply} {held : List ℕ} (σ : Session ts rs b held) (h : take (length held) s ≡ take (length s) held)
+  pub three : {ts : List Turn} {rs : List Reply} {log : List ℕ} (σ : Session ts rs b log) (h : take (length log) s ≡ take (length s) log)
       → Demand3 (next σ call s h b′ r s′ meets)

@@ -83,7 +83,7 @@ made (suc n) lent ts (b ∷ s) = go (made n lent (t ∷ ts) rest) (called (chang
         goes h e (subst (λ (g : Reg). Made (t ∷ ts) (recordTurns n lent g rest) (fed n lent g rest)) k ih)
 
 pub read-as-calls : (b : Book) (s input : List ℕ) (r : Result) (s′ : List ℕ) → Feeds b s input r s′ → ReadAsCalls b s input r s′
-read-as-calls b s input r s′ f ts rs held σ h =
+read-as-calls b s input r s′ f ts rs log σ h =
     let a = agreed σ in
     let l : load b s ≡ belongs (run ts .list) =
     ap (λ (x : Book). load x s) (a .book) ∙ load-whole (run ts) s (a .valid) (subst (λ (x : List ℕ). take (length x) s ≡ x) (a .used) h) in

@@ -223,7 +223,7 @@ module _ (call : Call) (b : Book) (s : List ℕ) (b′ : Book) (r : Reply) (s′
         record {
           answer = w .1;
           before = l;
-          held = e;
+          stood = e;
           next = h;
           step = f;
           book = w .0;
@@ -247,7 +247,7 @@ module _ (b : Book) (s : List ℕ) (b′ : Book) (r : Reply) (s′ : List ℕ) w
     where
       go : (n : ℕ) → Told n (answer q (length s) (record { list = l; closed = b .closed }))
           → (r ≡ answer q (length s) (record { list = l; closed = b .closed })) × (b′ ≡ b) × (s′ ≡ s) → Verdict (ask q) b s b′ r s′ m n
-      go zero t w = record { is-answer = subst⁻¹ IsAnswer (w .0) t; before = l; held = e; answer = w .0; book = w .1; bytes = w .2 }
+      go zero t w = record { is-answer = subst⁻¹ IsAnswer (w .0) t; before = l; stood = e; answer = w .0; book = w .1; bytes = w .2 }
       go (suc n) t w = (w .0 ∙ t, w .1, w .2)
 
   list-verdict : (call : Call) (m : Meets call b s b′ r s′) (l : List Change) (e : load b s ≡ belongs l)

@@ -107,10 +107,10 @@ made-by (t ∷ ts) n h = go (λ m k. made-by ts m k) (run ts .list) (run (t ∷ 
 
 -- ---- what the questions answer
 
-afterwards : {ts : List Turn} {rs : List Reply} {b : Book} {held : List ℕ} → Agrees ts rs b held → Afterwards ts b held
-afterwards {ts} {rs} {b} {held} a = record {
+afterwards : {ts : List Turn} {rs : List Reply} {b : Book} {log : List ℕ} → Agrees ts rs b log → Afterwards ts b log
+afterwards {ts} {rs} {b} {log} a = record {
   found = λ m h n k t e s w b′ r s′ x.
-      subst⁻¹ (Shows (pick k (standing (run ts .list))) held)
+      subst⁻¹ (Shows (pick k (standing (run ts .list))) log)
       (a .questions (recordOf m h n) s w b′ r s′ x ∙ ap (λ (y : Asked). keyed y (λ j. placeOf j (run ts .list))) e) (a .finds k);
   reached = a .reached;
   free = λ s w b′ r s′ x. a .questions freeBytes s w b′ r s′ x;
@@ -123,19 +123,19 @@ afterwards {ts} {rs} {b} {held} a = record {
   used = a .used;
 }
 
-holding : {ts : List Turn} {rs : List Reply} {b : Book} {held : List ℕ} (σ : Session ts rs b held) → Holds σ
+holding : {ts : List Turn} {rs : List Reply} {b : Book} {log : List ℕ} (σ : Session ts rs b log) → Holds σ
 unfolding Throughout
 holding start = every-list start
 holding (next before call s h b′ r s′ m) = every-list (next before call s h b′ r s′ m) .1
 
-pub agreed : {ts : List Turn} {rs : List Reply} {b : Book} {held : List ℕ} → Session ts rs b held → Agrees ts rs b held
+pub agreed : {ts : List Turn} {rs : List Reply} {b : Book} {log : List ℕ} → Session ts rs b log → Agrees ts rs b log
 agreed σ = holding σ .agrees
 
 again : (ts us : List Turn) (n : ℕ) → n ≤ length (run ts .list) → run us .list ≡ drop n (run ts .list) → StandAgain ts us n
 again ts us zero h e = ap standing e
 again ts us (suc n) h e = let w = made-by ts n (omega arith) in record { moment = w; stand = ap standing (e ∙ sym (w .list)) }
 
-pub backed : {ts : List Turn} {rs : List Reply} {b : Book} {held : List ℕ} (σ : Session ts rs b held) {n : ℕ} {us : List Turn} {qs : List Reply} {d : Book}
+pub backed : {ts : List Turn} {rs : List Reply} {b : Book} {log : List ℕ} (σ : Session ts rs b log) {n : ℕ} {us : List Turn} {qs : List Reply} {d : Book}
     {kept : List ℕ}
     → b .closed ≡ false → n ≤ length (run ts .list) → Undo σ n us qs d kept → (qs ≡ replicate n accepted ++ rs) × StandAgain ts us n × Afterwards us d kept
 backed {ts} σ {n} {us} op le u =
@@ -144,5 +144,5 @@ backed {ts} σ {n} {us} op le u =
     (w .accepted-all, again ts us n le (ap (λ (g : Reg). g .list) (w .register)), afterwards (w .agrees))
 
 -- the theorem: every list of calls, so also after each call of it
-pub demand3 : {ts : List Turn} {rs : List Reply} {b : Book} {held : List ℕ} (σ : Session ts rs b held) → Demand3 σ
+pub demand3 : {ts : List Turn} {rs : List Reply} {b : Book} {log : List ℕ} (σ : Session ts rs b log) → Demand3 σ
 demand3 σ = let a = agreed σ in record { answers = a .answers; after = afterwards a; back = λ op le u. backed σ op le u }

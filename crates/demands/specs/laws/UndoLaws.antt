@@ -13,17 +13,17 @@ use Rattle.book.specs.Session.{Session, Undo, undone, undo}
 use Rattle.demands.specs.laws.ListLaws.{backed}
 use Rattle.demands.specs.laws.RealLaws.{possible, run-valid}
 
-pub record Undoable {ts : List Turn} {rs : List Reply} {b : Book} {held : List ℕ} (σ : Session ts rs b held) (n : ℕ) : Type 0 where
+pub record Undoable {ts : List Turn} {rs : List Reply} {b : Book} {log : List ℕ} (σ : Session ts rs b log) (n : ℕ) : Type 0 where
   pub turns : List Turn
   pub replies : List Reply
   pub book : Book
   pub kept : List ℕ
   pub is : Undo σ n turns replies book kept
 
-pub undoable : {ts : List Turn} {rs : List Reply} {b : Book} {held : List ℕ} (σ : Session ts rs b held) → b .closed ≡ false → (n : ℕ)
+pub undoable : {ts : List Turn} {rs : List Reply} {b : Book} {log : List ℕ} (σ : Session ts rs b log) → b .closed ≡ false → (n : ℕ)
     → n ≤ length (run ts .list) → Undoable σ n
-undoable {ts} {rs} {b} {held} σ op zero le = record { turns = ts; replies = rs; book = b; kept = held; is = undone }
-undoable {ts} {rs} {b} {held} σ op (suc n) le =
+undoable {ts} {rs} {b} {log} σ op zero le = record { turns = ts; replies = rs; book = b; kept = log; is = undone }
+undoable {ts} {rs} {b} {log} σ op (suc n) le =
     let u = undoable σ op n (omega arith) in
     let a = backed σ op (omega arith) (u .is) .2 in
     let g = run (u .turns) in
