@@ -22,7 +22,7 @@ ghost use Rattle.book.specs.Meaning.{replyOf, chargesReply};
 ghost use Rattle.book.specs.Session.{Session};
 ghost use Rattle.demands.specs.Demands.{Demanded};
 ghost use Rattle.demands.specs.Beside.{ReadAsCalls, ChargesByKey};
-ghost use Rattle.demands.specs.Script.{changeOf, questionOf, callOf, saidOf, Alone};
+ghost use Rattle.demands.specs.Script.{changeOf, questionOf, callOf, withAnswer, saidOf, Alone};
 
 // What a call hands back: the book, and its answer; or an hour's guarantees, or a unit's day, where it asked for these.
 pub struct Turned {
@@ -79,6 +79,7 @@ pub fn put_question(b: Book, log: &[u8], method: u8, mark: &[u8], hour: u8, byte
     b.failure_charge(log, mark, hour, bytes)
 }
 
+// No guarantees of an hour, and no day of a unit.
 fn no_guarantees() -> Guarantees
     ensures { λ r. ⌜ r ≡ guaranteesFrom accepted ⌝ }
 {
@@ -108,6 +109,22 @@ fn no_day() -> UnitDay
     }
 }
 
+// What a call hands back that asked for neither of these.
+fn with_answer(book: Book, answer: Answer) -> Turned
+    ensures { λ r. ⌜ r ≡ withAnswer book answer ⌝ }
+{
+    let guarantees = no_guarantees();
+    let day = no_day();
+    Turned {
+        book,
+        hourly: false,
+        daily: false,
+        answer,
+        guarantees,
+        day,
+    }
+}
+
 // Any call of the register: a change (0 to 5), an hour's guarantees (6), a unit's day (10), or another question (7 to 11).
 pub fn step(b: Book, log: &mut [u8], method: u8, mark: &[u8], hour: u8, bytes: &[u8]) -> Turned
     ensures { λ r. ⌜ Demanded (callOf method (now (mark .entry)) hour (now (bytes .entry))) b (now (log .entry)) (r .book) (saidOf r) (now (log .exit))
@@ -117,16 +134,7 @@ pub fn step(b: Book, log: &mut [u8], method: u8, mark: &[u8], hour: u8, bytes: &
         let d = make_change(b, log, method, bytes);
         let book = d.book;
         let answer = d.answer;
-        let guarantees = no_guarantees();
-        let day = no_day();
-        return Turned {
-            book,
-            hourly: false,
-            daily: false,
-            answer,
-            guarantees,
-            day,
-        };
+        return with_answer(book, answer);
     }
     if method == 6 {
         let guarantees = b.guarantees(&log[..], hour);
@@ -154,17 +162,7 @@ pub fn step(b: Book, log: &mut [u8], method: u8, mark: &[u8], hour: u8, bytes: &
             day,
         };
     }
-    let answer = put_question(b, &log[..], method, mark, hour, bytes);
-    let guarantees = no_guarantees();
-    let day = no_day();
-    Turned {
-        book: b,
-        hourly: false,
-        daily: false,
-        answer,
-        guarantees,
-        day,
-    }
+    with_answer(b, put_question(b, &log[..], method, mark, hour, bytes))
 }
 
 // ---- the calls beside the register's
