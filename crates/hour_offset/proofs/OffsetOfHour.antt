@@ -18,14 +18,14 @@ use Rattle.records.specs.declared.marks.Kind.the-variants.{File}
 use Rattle.records.specs.declared.marks.Wanted.the-variants.{Only}
 use Rattle.book.specs.declared.amounts.places.Spot.{Spot}
 use Rattle.book.specs.declared.amounts.places.Places.{Places}
-use Rattle.book.specs.tables.Places.{spots}
+use Rattle.book.specs.tables.Places.{maxPlaces, spots}
 use Rattle.book.specs.tables.Worked.{Inside, noSpot}
-use Rattle.book.specs.Register.{Reg, file, called, listed, judged, refusal, writeAll}
+use Rattle.book.specs.Register.{maxUsed, Reg, file, called, listed, judged, refusal, writeAll}
 use Rattle.book.specs.laws.CallLaws.{called-long}
 use Rattle.book.specs.laws.OffsetLaws.{Each, none, more}
 use Rattle.hour_offset.specs.HourOffset.{recordOn, recorded, offsetAfter, hourOffset, answerOf}
 use Rattle.hour_offset.specs.laws.HourOffsetLaws.{at-none, first-then}
-use Rattle.hour_offset.specs.tables.Tally.{Sheet, noSheet, sheetOf, Few, Ready, addNumber, adding, endOf}
+use Rattle.hour_offset.specs.tables.Tally.{Sheet, noSheet, sheetOf, Few, Ready, addFault, adding, endOf}
 use Rattle.hour_offset.specs.laws.TallyLaws.{Stood, Booked, booked-none, booked-few, rebased, added-is, stepped}
 use Rattle.hour_offset.specs.laws.EndLaws.{ended}
 use Rattle.hour_offset.specs.declared.tally.Tally.{Tally}
@@ -80,11 +80,11 @@ each-inside none (suc i) = omega arith
 each-inside (more a e) zero = a .inside
 each-inside (more a e) (suc i) = each-inside e i
 
-inside : {s : List ℕ} (p : Places) {rs : List Rec} → p .n ≤ 16 → Each (Stood s) (spots p) rs → Inside s p
+inside : {s : List ℕ} (p : Places) {rs : List Rec} → p .n ≤ maxPlaces → Each (Stood s) (spots p) rs → Inside s p
 inside {s} p h e = record { few = h; each = λ i l. subst (λ (x : Spot). x .start ≤ length s) (getD-take (p .n) (p .at) i noSpot l) (each-inside e i) }
 
 -- the used part of so few records
-used-few : (s : List ℕ) (o : ℕ) (l : List Change) (h : Sheet) → Booked s o l h → length (writeAll l) ≤ 65535
+used-few : (s : List ℕ) (o : ℕ) (l : List Change) (h : Sheet) → Booked s o l h → length (writeAll l) ≤ maxUsed
 used-few s o l h b = omega (arith, b .short, booked-few b)
 
 module _ (records : List ℕ) (t : Tally) (o at : ℕ) (g : Going records t o at) where
@@ -148,15 +148,15 @@ module _ (records : List ℕ) (t : Tally) (o at : ℕ) (g : Going records t o at
         booked = let w = good-hour (filed r) (rd .good) in rebased records (sheetOf t) (r .key .hour) (w .0) (w .1) (g .booked .hour) (g .booked) (rd .follows)
 
         abbrev number : ℕ
-        number = addNumber (r .key .mark) (r .key .name) (sheetOf t)
+        number = addFault (r .key .mark) (r .key .name) (sheetOf t)
 
-        refusal-is : refusal (g .list) 65535 (filed r) ≡ number
+        refusal-is : refusal (g .list) maxUsed (filed r) ≡ number
         refusal-is = added-is records (g .list) (sheetOf t) r (rd .good) (rd .of-hour) booked
 
-        called-is : called (file p) 65535 (regOf (g .list)) ≡ judged (filed r) (regOf (g .list)) number
+        called-is : called (file p) maxUsed (regOf (g .list)) ≡ judged (filed r) (regOf (g .list)) number
         called-is =
-            called-long (file p) 65535 (regOf (g .list)) (used-few records o (g .list) (sheetOf t) (g .booked))
-            ∙ ap (λ (i : Input Change). listed i 65535 (regOf (g .list))) (alone ∙ ap fine (rd .is))
+            called-long (file p) maxUsed (regOf (g .list)) (used-few records o (g .list) (sheetOf t) (g .booked))
+            ∙ ap (λ (i : Input Change). listed i maxUsed (regOf (g .list))) (alone ∙ ap fine (rd .is))
             ∙ ap (judged (filed r) (regOf (g .list))) refusal-is
 
         over : (n : ℕ) → number ≡ n → hourOffset records ≡ recordOn (r .key .hour) (x .left) offsetAfter (judged (filed r) (regOf (g .list)) n)
@@ -166,13 +166,13 @@ module _ (records : List ℕ) (t : Tally) (o at : ℕ) (g : Going records t o at
             ∙ ap (recordOn (keyOf (x .what) .hour) (x .left) offsetAfter) (called-is ∙ ap (judged (filed r) (regOf (g .list))) e)
             ∙ ap (λ (c : Change). recordOn (keyOf c .hour) (x .left) offsetAfter (judged (filed r) (regOf (g .list)) n)) (rd .is)
 
-        module _ (d : Tallied) (w : Adds (addNumber (f .key .mark) (f .key .name) (sheetOf t))
+        module _ (d : Tallied) (w : Adds (addFault (f .key .mark) (f .key .name) (sheetOf t))
             (adding (f .key .mark) (record { name = f .key .name; start = at }) (sheetOf t)) t d) where
           key-is : f .key ≡ r .key
           key-is = x .key ∙ ap keyOf (rd .is)
 
           number-is : d .number ≡ number
-          number-is = w .0 ∙ ap (λ (k : Key). addNumber (k .mark) (k .name) (sheetOf t)) key-is
+          number-is = w .0 ∙ ap (λ (k : Key). addFault (k .mark) (k .name) (sheetOf t)) key-is
 
           pub stops : (d .number ≡ 0 → ⊥) → _≡_ {A = Answer} (Refused (d .number)) (answerOf (hourOffset records))
           stops q = go (d .number) (sym number-is) q

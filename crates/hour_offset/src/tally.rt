@@ -24,9 +24,10 @@ ghost use mathlib.Core.Path.{_≡_};
 ghost use mathlib.Core.Bool.{cond};
 ghost use lib.ListN.{length, drop};
 ghost use Prim.Native.Nat.{_≤_};
+ghost use Rattle.money.specs.Refusals.{keyStands};
 ghost use Rattle.records.specs.Views.{pricesIn};
 ghost use Rattle.book.specs.tables.Places.{maxPlaces, putSpot, spots};
-ghost use Rattle.hour_offset.specs.tables.Tally.{Few, sheetOf, noSheet, among, placedNumber, withPrice, withImport, withExport, addNumber, adding, Ready, endOf};
+ghost use Rattle.hour_offset.specs.tables.Tally.{Few, sheetOf, noSheet, among, placedFault, withPrice, withImport, withExport, addFault, adding, Ready, endOf};
 
 // The place of the hour's prices, if there is one, and those of its imports and its exports, by name.
 pub struct Tally {
@@ -82,7 +83,7 @@ fn holds(p: Places, name: Name) -> bool
 // With a record's name and place; 10 where the name is there, 12 where all places are taken.
 fn with_place(p: Places, s: Spot) -> Placed
     requires { ⌜ p .n ≤ maxPlaces ⌝ }
-    ensures { λ r. ⌜ (r .number ≡ placedNumber (s .name) (spots p))
+    ensures { λ r. ⌜ (r .number ≡ placedFault (s .name) (spots p))
         × ((r .places .n ≤ maxPlaces) × (r .number ≡ 0 → spots (r .places) ≡ putSpot s (spots p))) ⌝ }
 {
     if holds(p, s.name) {
@@ -112,7 +113,7 @@ fn refused(number: u8, t: Tally) -> Tallied
 // With the hour's prices at a place; 10 where they are there.
 fn with_price(t: Tally, at: usize) -> Tallied
     requires { ⌜ Few t ⌝ }
-    ensures { λ r. ⌜ (r .number ≡ cond (t .priced) 10 0) × (Few (r .tally) × (r .number ≡ 0 → sheetOf (r .tally) ≡ withPrice at (sheetOf t))) ⌝ }
+    ensures { λ r. ⌜ (r .number ≡ cond (t .priced) keyStands 0) × (Few (r .tally) × (r .number ≡ 0 → sheetOf (r .tally) ≡ withPrice at (sheetOf t))) ⌝ }
 {
     if t.priced {
         return refused(KEY_STANDS, t);
@@ -133,7 +134,7 @@ fn with_price(t: Tally, at: usize) -> Tallied
 // With an import's name and place.
 fn with_import(t: Tally, s: Spot) -> Tallied
     requires { ⌜ Few t ⌝ }
-    ensures { λ r. ⌜ (r .number ≡ placedNumber (s .name) (sheetOf t .imports))
+    ensures { λ r. ⌜ (r .number ≡ placedFault (s .name) (sheetOf t .imports))
         × (Few (r .tally) × (r .number ≡ 0 → sheetOf (r .tally) ≡ withImport s (sheetOf t))) ⌝ }
 {
     let old = t.imports;
@@ -154,7 +155,7 @@ fn with_import(t: Tally, s: Spot) -> Tallied
 // With an export's name and place.
 fn with_export(t: Tally, s: Spot) -> Tallied
     requires { ⌜ Few t ⌝ }
-    ensures { λ r. ⌜ (r .number ≡ placedNumber (s .name) (sheetOf t .exports))
+    ensures { λ r. ⌜ (r .number ≡ placedFault (s .name) (sheetOf t .exports))
         × (Few (r .tally) × (r .number ≡ 0 → sheetOf (r .tally) ≡ withExport s (sheetOf t))) ⌝ }
 {
     let old = t.exports;
@@ -175,7 +176,7 @@ fn with_export(t: Tally, s: Spot) -> Tallied
 // With the record of a key that begins at a place, or the number of its refusal.
 pub(crate) fn with_record(t: Tally, key: Key, at: usize) -> Tallied
     requires { ⌜ Few t ⌝ }
-    ensures { λ r. ⌜ (r .number ≡ addNumber (key .mark) (key .name) (sheetOf t))
+    ensures { λ r. ⌜ (r .number ≡ addFault (key .mark) (key .name) (sheetOf t))
         × (Few (r .tally) × (r .number ≡ 0 → sheetOf (r .tally) ≡ adding (key .mark) (record { name = key .name; start = at }) (sheetOf t))) ⌝ }
 {
     let mark = key.mark;

@@ -8,12 +8,13 @@ use lib.Dec.{ltb}
 use lib.ListN.{length, take, drop, getD, length-drop, drop-of-length-le}
 use lib.Seq.{take-all, drop-cons, getD-take, length-take-le}
 use borrow.Author.Tests.{lt-ltb, le-ltb}
+use Rattle.money.specs.Refusals.{keyStands, hourFull}
 use Rattle.money.specs.Names.{sameName}
 use Rattle.money.specs.declared.names.Name.{Name}
 use Rattle.book.specs.declared.amounts.places.Spot.{Spot}
 use Rattle.book.specs.declared.amounts.places.Places.{Places}
-use Rattle.book.specs.tables.Places.{putSpot, spots}
-use Rattle.hour_offset.specs.tables.Tally.{Sheet, noSheet, sheetOf, Few, among, placedNumber, withPrice, withImport, withExport}
+use Rattle.book.specs.tables.Places.{maxPlaces, putSpot, spots}
+use Rattle.hour_offset.specs.tables.Tally.{Sheet, noSheet, sheetOf, Few, among, placedFault, withPrice, withImport, withExport}
 use Rattle.hour_offset.specs.declared.tally.Tally.{Tally}
 use Rattle.hour_offset.specs.declared.tally.Tallied.{Tallied}
 use Rattle.hour_offset.specs.declared.tally.Placed.{Placed}
@@ -60,27 +61,27 @@ none-tallied t a b c d =
     ((λ i. record { priced = a i; price = b i; imports = x i; exports = y i }), record { imports = omega arith; exports = omega arith })
 
 -- ---- a place more
-used-length : (p : Places) → length (p .at) ≡ 16 → p .n ≤ 16 → length (spots p) ≡ p .n
+used-length : (p : Places) → length (p .at) ≡ maxPlaces → p .n ≤ maxPlaces → length (spots p) ≡ p .n
 used-length p z h = length-take-le (p .n) (p .at) (omega arith)
 
 abbrev Puts : Places → Spot → Placed → Type 0
-Puts p s r = (r .number ≡ placedNumber (s .name) (spots p)) × ((r .places .n ≤ 16) × (r .number ≡ 0 → spots (r .places) ≡ putSpot s (spots p)))
+Puts p s r = (r .number ≡ placedFault (s .name) (spots p)) × ((r .places .n ≤ maxPlaces) × (r .number ≡ 0 → spots (r .places) ≡ putSpot s (spots p)))
 
-module _ (p : Places) (s : Spot) (z : length (p .at) ≡ 16) (h : p .n ≤ 16) (b : Bool) (e : b ≡ among (s .name) (spots p)) where
-  pub put-there : b ≡ true → Puts p s (record { number = 10; places = p })
-  put-there t = (sym (ap (λ (x : Bool). cond x 10 (cond (ltb (length (spots p)) 16) 0 12)) (sym e ∙ t)), (h, λ q. absurd (omega arith)))
+module _ (p : Places) (s : Spot) (z : length (p .at) ≡ maxPlaces) (h : p .n ≤ maxPlaces) (b : Bool) (e : b ≡ among (s .name) (spots p)) where
+  pub put-there : b ≡ true → Puts p s (record { number = keyStands; places = p })
+  put-there t = (sym (ap (λ (x : Bool). cond x keyStands (cond (ltb (length (spots p)) maxPlaces) 0 hourFull)) (sym e ∙ t)), (h, λ q. absurd (omega arith)))
 
-  number-is : b ≡ false → (x : Bool) → ltb (p .n) 16 ≡ x → cond x 0 12 ≡ placedNumber (s .name) (spots p)
+  number-is : b ≡ false → (x : Bool) → ltb (p .n) maxPlaces ≡ x → cond x 0 hourFull ≡ placedFault (s .name) (spots p)
   number-is t x q =
-      sym (ap (λ (y : Bool). cond y 10 (cond (ltb (length (spots p)) 16) 0 12)) (sym e ∙ t)
-      ∙ ap (λ (k : ℕ). cond (ltb k 16) 0 12) (used-length p z h) ∙ ap (λ (y : Bool). cond y 0 12) q)
+      sym (ap (λ (y : Bool). cond y keyStands (cond (ltb (length (spots p)) maxPlaces) 0 hourFull)) (sym e ∙ t)
+      ∙ ap (λ (k : ℕ). cond (ltb k maxPlaces) 0 hourFull) (used-length p z h) ∙ ap (λ (y : Bool). cond y 0 hourFull) q)
 
-  pub put-full : b ≡ false → 16 ≤ p .n → Puts p s (record { number = 12; places = p })
-  put-full t f = (number-is t false (le-ltb (p .n) 16 f), (h, λ q. absurd (omega arith)))
+  pub put-full : b ≡ false → maxPlaces ≤ p .n → Puts p s (record { number = hourFull; places = p })
+  put-full t f = (number-is t false (le-ltb (p .n) maxPlaces f), (h, λ q. absurd (omega arith)))
 
-  pub put-new : b ≡ false → p .n < 16 → (q : Places) (j : ℕ) → putSpot s (spots p) ≡ take j (spots p) ++ (s ∷ drop j (spots p))
+  pub put-new : b ≡ false → p .n < maxPlaces → (q : Places) (j : ℕ) → putSpot s (spots p) ≡ take j (spots p) ++ (s ∷ drop j (spots p))
       → (q .n ≡ p .n + 1) × (spots q ≡ take j (spots p) ++ (s ∷ drop j (spots p))) → Puts p s (record { number = 0; places = q })
-  put-new t f q j w v = (number-is t true (lt-ltb (p .n) 16 f), (omega (arith, v .0), λ x. v .1 ∙ sym w))
+  put-new t f q j w v = (number-is t true (lt-ltb (p .n) maxPlaces f), (omega (arith, v .0), λ x. v .1 ∙ sym w))
 
 -- ---- a record more
 abbrev pub Adds : ℕ → Sheet → Tally → Tallied → Type 0
@@ -90,12 +91,12 @@ pub adds-no : (n : ℕ) (h : Sheet) (t : Tally) (r : Tallied) (k : ℕ) → Few 
 adds-no n h t r k f w e z = (w .0 ∙ e, (subst Few (sym (w .1)) f, λ q. absurd (z (sym (w .0) ∙ q))))
 
 pub adds-price : (t : Tally) (at : ℕ) → Few t → t .priced ≡ false
-    → Adds (cond (t .priced) 10 0) (withPrice at (sheetOf t)) t
+    → Adds (cond (t .priced) keyStands 0) (withPrice at (sheetOf t)) t
     (record { number = 0; tally = record { priced = true; price = at; imports = t .imports; exports = t .exports } })
-adds-price t at f e = (sym (ap (λ (b : Bool). cond b 10 0) e), (record { imports = f .imports; exports = f .exports }, λ q. refl))
+adds-price t at f e = (sym (ap (λ (b : Bool). cond b keyStands 0) e), (record { imports = f .imports; exports = f .exports }, λ q. refl))
 
 pub adds-import : (t : Tally) (s : Spot) (d : Placed) → Few t → Puts (t .imports) s d
-    → Adds (placedNumber (s .name) (spots (t .imports))) (withImport s (sheetOf t)) t
+    → Adds (placedFault (s .name) (spots (t .imports))) (withImport s (sheetOf t)) t
     (record { number = d .number; tally = record { priced = t .priced; price = t .price; imports = d .places; exports = t .exports } })
 adds-import t s d f w = (
   w .0,
@@ -107,7 +108,7 @@ adds-import t s d f w = (
 )
 
 pub adds-export : (t : Tally) (s : Spot) (d : Placed) → Few t → Puts (t .exports) s d
-    → Adds (placedNumber (s .name) (spots (t .exports))) (withExport s (sheetOf t)) t
+    → Adds (placedFault (s .name) (spots (t .exports))) (withExport s (sheetOf t)) t
     (record { number = d .number; tally = record { priced = t .priced; price = t .price; imports = t .imports; exports = d .places } })
 adds-export t s d f w = (
   w .0,

@@ -8,6 +8,7 @@ use lib.Dec.{eqb}
 use lib.IntN.{pos}
 use lib.ListN.{length, drop}
 use borrow.Author.Tests.{eq-eqb, ne-eqb}
+use Rattle.money.specs.Units.{dayHours}
 use Rattle.money.specs.declared.units.Answer.{Answer}
 use Rattle.money.specs.declared.units.Answer.the-variants.{Amount, Refused}
 use Rattle.records.specs.Reading.{Res}
@@ -21,7 +22,8 @@ use Rattle.records.specs.declared.amounts.TotalsAnswer.{TotalsAnswer}
 use Rattle.records.specs.declared.layouts.HourPrices.{HourPrices}
 use Rattle.records.specs.declared.marks.Mark.the-variants.{Pr, Im, Ex}
 use Rattle.book.specs.declared.amounts.places.Spot.{Spot}
-use Rattle.book.specs.Register.{standing, Reply, refused, guarantees, keyed, hourGuarantees, answer}
+use Rattle.book.specs.tables.Places.{maxPlaces}
+use Rattle.book.specs.Register.{maxUsed, standing, Reply, refused, guarantees, keyed, hourGuarantees, answer}
 use Rattle.book.specs.Amounts.{Pick, is, nil, pick, HourPricing, priced, unpriced, hourKey, priceFrom, priceOf, totalsOf, guaranteesAt, guaranteesOf}
 use Rattle.book.specs.ByName.{byName}
 use Rattle.book.specs.laws.FilingLaws.{none-named}
@@ -41,7 +43,7 @@ entries-read s p f h e a = entries-at s p (each-with read e a)
     read x r w b = ap (λ (y : EntryAnswer). y .entry)
         (read-entry r (drop (x .start) s) (w .rest) (w .front) (sym (hour-parts (hourKey Im h) (r .key) (b .1) .0)) p f)
 
-totals-read : (s : List ℕ) (h : ℕ) {xs : List Spot} {rs : List Rec} → Each (Stood s) xs rs → All (InHour (hourKey Ex h)) rs → length rs ≤ 16
+totals-read : (s : List ℕ) (h : ℕ) {xs : List Spot} {rs : List Rec} → Each (Stood s) xs rs → All (InHour (hourKey Ex h)) rs → length rs ≤ maxPlaces
     → totalsIn s xs ≡ totalsOf rs
 totals-read s h e a few = totals-at s (each-with read e a) few
   where
@@ -111,10 +113,10 @@ module _ (s : List ℕ) (o : ℕ) (l : List Change) (h : Sheet) (b : Booked s o 
       go zero e = none-said e (pick (hourKey Pr o) (standing l))
       go (suc n) e = some-said (λ z. omega arith) (pick (hourKey Pr o) (standing l)) refl (b .price)
 
-  known-end : 1 ≤ o → o ≤ 24 → endOf s h ≡ answerOf (atEnd o (record { list = l; closed = false }))
+  known-end : 1 ≤ o → o ≤ dayHours → endOf s h ≡ answerOf (atEnd o (record { list = l; closed = false }))
   known-end lo hi =
       hour-said
-      ∙ sym (ap (λ (t : Bool). answerOf (cond t (ticks (pos 0)) (offsetIn (answer (hourGuarantees o) 65535 (record { list = l; closed = false })))))
+      ∙ sym (ap (λ (t : Bool). answerOf (cond t (ticks (pos 0)) (offsetIn (answer (hourGuarantees o) maxUsed (record { list = l; closed = false })))))
       (ne-eqb o 0 (λ z. omega arith))
       ∙ ap (λ (a : Res Key). answerOf (offsetIn (keyed a (λ (k : Key). guaranteesOf (standing l) (priceOf (standing l)) (k .hour))))) (hour-key Im o lo hi))
 

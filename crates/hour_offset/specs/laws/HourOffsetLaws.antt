@@ -11,10 +11,10 @@ use Rattle.records.specs.Reading.{Res, bad, got}
 use Rattle.records.specs.Changes.{Change, keyOf}
 use Rattle.records.specs.HourRecord.{hourRecord}
 use Rattle.records.specs.laws.BookLaws.{hour-record-got, hour-record-fault}
-use Rattle.book.specs.Register.{Reg, fresh, hourGuarantees, answer, file, Reply, refused, accepted, place, number, guarantees, unitDay, charge, Step, answered, becomes, called}
+use Rattle.book.specs.Register.{maxUsed, Reg, fresh, hourGuarantees, answer, file, Reply, refused, accepted, place, number, guarantees, unitDay, charge, Step, answered, becomes, called}
 use Rattle.book.specs.Replies.{replied}
 use Rattle.book.specs.laws.CallLaws.{Decided, decided-file, guarantees-fault}
-use Rattle.hour_offset.specs.HourOffset.{Result, ticks, no, offsetIn, atEnd, recordOn, recorded, offsetFrom, offsetAfter, hourOffset, eight, numberIn, bytesIn, callNumber, callBytes}
+use Rattle.hour_offset.specs.HourOffset.{Result, ticks, no, offsetIn, atEnd, recordOn, recorded, offsetFrom, offsetAfter, hourOffset, eight, resultFault, bytesIn, callFault, callBytes}
 
 pub at-none : (n o : ℕ) (g : Reg) → offsetFrom n o g [] ≡ atEnd o g
 unfolding offsetFrom
@@ -38,7 +38,7 @@ enough (suc n) (suc m) o g (b ∷ s) h k = go (λ p x t l. enough n m p x t (ome
 
     go : Later → (r : Res Change) → hourRecord o (b ∷ s) ≡ r → recorded g (b ∷ s) (offsetFrom n) r ≡ recorded g (b ∷ s) (offsetFrom m) r
     go ih (bad j) e = refl
-    go ih (got c t) e = then ih (keyOf c .hour) t (hour-record-got o (b ∷ s) c t e .takes) (called (file (take (length (b ∷ s) - length t) (b ∷ s))) 65535 g)
+    go ih (got c t) e = then ih (keyOf c .hour) t (hour-record-got o (b ∷ s) c t e .takes) (called (file (take (length (b ∷ s) - length t) (b ∷ s))) maxUsed g)
 
 -- a record, and then the others
 pub first-then : (o : ℕ) (g : Reg) (s : List ℕ) → 0 < length s → offsetAfter o g s ≡ recorded g s offsetAfter (hourRecord o s)
@@ -52,7 +52,7 @@ first-then o g (b ∷ s) h = go (hourRecord o (b ∷ s)) refl
 
     go : (r : Res Change) → hourRecord o (b ∷ s) ≡ r → recorded g (b ∷ s) (offsetFrom (length s)) r ≡ recorded g (b ∷ s) offsetAfter r
     go (bad j) e = refl
-    go (got c t) e = then (keyOf c .hour) t (hour-record-got o (b ∷ s) c t e .takes) (called (file (take (length (b ∷ s) - length t) (b ∷ s))) 65535 g)
+    go (got c t) e = then (keyOf c .hour) t (hour-record-got o (b ∷ s) c t e .takes) (called (file (take (length (b ∷ s) - length t) (b ∷ s))) maxUsed g)
 
 -- ---- no refusal is numbered 0
 
@@ -60,12 +60,12 @@ abbrev pub Above : Result → Type 0
 Above (ticks z) = Unit {0}
 Above (no n) = 0 < n
 
-asked-above : (o : ℕ) (g : Reg) → Above (offsetIn (answer (hourGuarantees o) 65535 g))
-asked-above o g = go (answer (hourGuarantees o) 65535 g) refl
+asked-above : (o : ℕ) (g : Reg) → Above (offsetIn (answer (hourGuarantees o) maxUsed g))
+asked-above o g = go (answer (hourGuarantees o) maxUsed g) refl
   where
-    go : (r : Reply) → answer (hourGuarantees o) 65535 g ≡ r → Above (offsetIn r)
+    go : (r : Reply) → answer (hourGuarantees o) maxUsed g ≡ r → Above (offsetIn r)
     go (guarantees cs z) e = tt
-    go (refused n) e = guarantees-fault o 65535 g n e
+    go (refused n) e = guarantees-fault o maxUsed g n e
     go accepted e = omega arith
     go (place start len) e = omega arith
     go (number n) e = omega arith
@@ -75,7 +75,7 @@ asked-above o g = go (answer (hourGuarantees o) 65535 g) refl
 end-above : (o : ℕ) (g : Reg) → Above (atEnd o g)
 end-above o g = go (eqb o 0)
   where
-    go : (b : Bool) → Above (cond b (ticks (pos 0)) (offsetIn (answer (hourGuarantees o) 65535 g)))
+    go : (b : Bool) → Above (cond b (ticks (pos 0)) (offsetIn (answer (hourGuarantees o) maxUsed g)))
     go true = tt
     go false = asked-above o g
 
@@ -96,18 +96,18 @@ all-above (suc n) o g (b ∷ s) = go (λ p x t. all-above n p x t) (hourRecord o
     go ih (bad j) e = hour-record-fault o (b ∷ s) j e
     go ih (got c t) e =
         let p : List ℕ = take (length (b ∷ s) - length t) (b ∷ s) in
-        then ih (keyOf c .hour) t (called (file p) 65535 g) (decided-file p 65535 g)
+        then ih (keyOf c .hour) t (called (file p) maxUsed g) (decided-file p maxUsed g)
 
 -- "It returns 0 and puts the offset into eight lent bytes (i64 ticks, little-endian), or returns a number and leaves them."
 pub record Settled (before : List ℕ) (number : ℕ) (after : List ℕ) (x : Result) : Type 0 where
   pub puts : number ≡ 0 → (z : ℤ) × (x ≡ ticks z) × (after ≡ eight z)
   pub leaves : (number ≡ 0 → ⊥) → after ≡ before
 
-pub one-or-other : (result s : List ℕ) → Settled result (callNumber result s) (callBytes result s) (hourOffset s)
-unfolding callNumber callBytes hourOffset
+pub one-or-other : (result s : List ℕ) → Settled result (callFault result s) (callBytes result s) (hourOffset s)
+unfolding callFault callBytes hourOffset
 one-or-other result s = go (eqb (length result) 8) (offsetAfter 0 fresh s) (all-above (length s) 0 fresh s)
   where
-    go : (b : Bool) (x : Result) → Above x → Settled result (cond b (numberIn x) 5) (cond b (bytesIn x result) result) x
+    go : (b : Bool) (x : Result) → Above x → Settled result (cond b (resultFault x) 5) (cond b (bytesIn x result) result) x
     go true (ticks z) a = record { puts = λ e. (z, refl, refl); leaves = λ h. absurd (h refl) }
     go true (no n) a = record { puts = λ e. absurd (omega arith); leaves = λ h. refl }
     go false x a = record { puts = λ e. absurd (omega arith); leaves = λ h. refl }

@@ -7,6 +7,8 @@ use native.Mathlib.Omega.{arith}
 use lib.Dec.{eqb, ltb, leb}
 use lib.ListN.{length, drop}
 use borrow.Author.Tests.{eq-eqb, ne-eqb, eqb-true, ltb-true, lt-ltb, le-leb, le-ltb}
+use Rattle.money.specs.Units.{dayHours}
+use Rattle.money.specs.Refusals.{keyStands, hourFull, noSpace}
 use Rattle.money.specs.declared.names.Name.{Name}
 use Rattle.records.specs.Amounts.{sameName}
 use Rattle.records.specs.Reading.{got}
@@ -23,8 +25,8 @@ use Rattle.records.specs.declared.marks.Mark.the-variants.{Pr, Im, Ex, Gh, Fi, 
 use Rattle.records.specs.declared.marks.Kind.the-variants.{File}
 use Rattle.records.specs.declared.marks.Wanted.the-variants.{Only}
 use Rattle.book.specs.declared.amounts.places.Spot.{Spot}
-use Rattle.book.specs.tables.Places.{putSpot}
-use Rattle.book.specs.Register.{writeAll, standing, stands, count, spaceFault, refusal}
+use Rattle.book.specs.tables.Places.{maxPlaces, putSpot}
+use Rattle.book.specs.Register.{maxChanges, maxUsed, writeAll, standing, stands, count, spaceFault, refusal}
 use Rattle.book.specs.Amounts.{Pick, is, nil, pick, hourKey, absent}
 use Rattle.book.specs.ByName.{byName}
 use Rattle.book.specs.Meaning.{Valid}
@@ -32,7 +34,7 @@ use Rattle.book.specs.laws.RegisterLaws.{by-test, true≠false}
 use Rattle.book.specs.laws.LoadLaws.{fresh-valid}
 use Rattle.book.specs.laws.FilingLaws.{named, stands-named, count-named, price-key, no-prices, stands-pick, none-used, none-named, none-picked, filing-refused, filing-valid, filing-length, filing-named, filing-picked}
 use Rattle.book.specs.laws.OffsetLaws.{All, standing-good, Each, none, more, each-length, each-put, put-length}
-use Rattle.hour_offset.specs.tables.Tally.{Sheet, noSheet, among, placedNumber, addNumber, adding}
+use Rattle.hour_offset.specs.tables.Tally.{Sheet, noSheet, among, placedFault, addFault, adding}
 
 -- ---- the invariant
 
@@ -51,7 +53,7 @@ Priced s b at (is r) = (b ≡ true) × Stood s (record { name = emptyName; start
 -- an hour is one of the day's, or there is no record yet
 pub data Hour : ℕ → List Change → Type 0 where
   unknown : Hour 0 []
-  known : (o : ℕ) (l : List Change) → 1 ≤ o → o ≤ 24 → Hour o l
+  known : (o : ℕ) (l : List Change) → 1 ≤ o → o ≤ dayHours → Hour o l
 
 -- the register's list l, of records of the hour o in the bytes s, is what the sheet says
 pub record Booked (s : List ℕ) (o : ℕ) (l : List Change) (h : Sheet) : Type 0 where
@@ -63,8 +65,8 @@ pub record Booked (s : List ℕ) (o : ℕ) (l : List Change) (h : Sheet) : Type 
   pub price : Priced s (h .priced) (h .price) (pick (hourKey Pr o) (standing l))
   pub imports : Each (Stood s) (h .imports) (byName (hourKey Im o) (standing l))
   pub exports : Each (Stood s) (h .exports) (byName (hourKey Ex o) (standing l))
-  pub few-imports : length (h .imports) ≤ 16
-  pub few-exports : length (h .exports) ≤ 16
+  pub few-imports : length (h .imports) ≤ maxPlaces
+  pub few-exports : length (h .exports) ≤ maxPlaces
 
 pub booked-none : (s : List ℕ) → Booked s 0 [] noSheet
 booked-none s = record {
@@ -93,10 +95,10 @@ priced-found s b at (is r) e = e .0
 
 -- ---- room for every record: at most 1 + 16 + 16 of at most 297 bytes
 
-roomy : (n used len : ℕ) → n ≤ 33 → used ≤ 297 * n → len ≤ 297 → spaceFault n used len 65535 ≡ 0
+roomy : (n used len : ℕ) → n ≤ 33 → used ≤ 297 * n → len ≤ 297 → spaceFault n used len maxUsed ≡ 0
 roomy n used len a b c =
-    ap₂ (λ (x y : Bool). cond x (cond y 0 13) 13) (lt-ltb n 512 (omega arith))
-    (ap (λ (t : Bool). leb (used + len) (cond t 65535 65535)) (le-ltb 65535 65535 (omega arith)) ∙ le-leb (used + len) 65535 (omega arith))
+    ap₂ (λ (x y : Bool). cond x (cond y 0 noSpace) noSpace) (lt-ltb n maxChanges (omega arith))
+    (ap (λ (t : Bool). leb (used + len) (cond t maxUsed maxUsed)) (le-ltb maxUsed maxUsed (omega arith)) ∙ le-leb (used + len) maxUsed (omega arith))
 
 one-or-none : (b : Bool) → cond b 1 0 ≤ 1
 one-or-none true = omega arith
@@ -117,7 +119,7 @@ module _ (s : List ℕ) (l : List Change) (h : Sheet) (r : Rec) (g : Good (filed
   all-good : All (λ (x : Rec). Good (filed x)) rs
   all-good = standing-good l (b .valid)
 
-  room-is : spaceFault (length l) (length (writeAll l)) (length (write (filed r))) 65535 ≡ 0
+  room-is : spaceFault (length l) (length (writeAll l)) (length (write (filed r))) maxUsed ≡ 0
   room-is = roomy (length l) (length (writeAll l)) (length (write (filed r))) (booked-few b) (b .short) (hour-written r g o)
 
   mine : (m : Mark) → k .mark ≡ m → sameHour (hourKey m (k .hour)) k ≡ true
@@ -134,27 +136,27 @@ module _ (s : List ℕ) (l : List Change) (h : Sheet) (r : Rec) (g : Good (filed
 
   -- an import or an export
   placed-is : (m : Mark) → k .mark ≡ m → (xs : List Spot) → Each (Stood s) xs (byName (hourKey m (k .hour)) rs)
-      → refusal l 65535 (filed r) ≡ placedNumber (k .name) xs
+      → refusal l maxUsed (filed r) ≡ placedFault (k .name) xs
   placed-is m e xs w =
-      filing-refused l r room-is (among (k .name) xs) (ltb (length xs) 16)
+      filing-refused l r room-is (among (k .name) xs) (ltb (length xs) maxPlaces)
       (stands-named k (hourKey m (k .hour)) (mine m e) rs ∙ sym (among-named (k .name) w))
       (ap₂ ltb (count-named k (hourKey m (k .hour)) (parts-hour k (hourKey m (k .hour)) (ap order e) refl) rs ∙ sym (each-length w)) (hour-limit k o))
 
-  priced-is : k .mark ≡ Pr → refusal l 65535 (filed r) ≡ cond (h .priced) 10 0
+  priced-is : k .mark ≡ Pr → refusal l maxUsed (filed r) ≡ cond (h .priced) keyStands 0
   priced-is e =
       let q = price-key (k .hour) r g (mine Pr e) in
       let st : stands k rs ≡ h .priced = ap (λ (x : Key). stands x rs) (sym q) ∙ stands-pick (hourKey Pr (k .hour)) rs ∙ sym
       (priced-found s (h .priced) (h .price) (pick (hourKey Pr (k .hour)) rs) (b .price)) in
       by-test (h .priced)
-      (λ t. filing-refused l r room-is true (ltb (count k rs) (limitOf k)) (st ∙ t) refl ∙ sym (ap (λ (x : Bool). cond x 10 0) t))
+      (λ t. filing-refused l r room-is true (ltb (count k rs) (limitOf k)) (st ∙ t) refl ∙ sym (ap (λ (x : Bool). cond x keyStands 0) t))
       (λ t.
       let none-yet : count k rs ≡ 0 = ap (λ (x : Key). count x rs) (sym q) ∙ no-prices (k .hour) all-good (ap (λ (x : Key). stands x rs) q ∙ st ∙ t) in
-      filing-refused l r room-is false true (st ∙ t) (ap₂ ltb none-yet (hour-limit k o) ∙ lt-ltb 0 16 (omega arith)) ∙ sym (ap (λ (x : Bool). cond x 10 0) t))
+      filing-refused l r room-is false true (st ∙ t) (ap₂ ltb none-yet (hour-limit k o) ∙ lt-ltb 0 maxPlaces (omega arith)) ∙ sym (ap (λ (x : Bool). cond x keyStands 0) t))
 
-  pub added-is : refusal l 65535 (filed r) ≡ addNumber (k .mark) (k .name) h
+  pub added-is : refusal l maxUsed (filed r) ≡ addFault (k .mark) (k .name) h
   added-is = go (k .mark) refl o
     where
-      go : (m : Mark) → k .mark ≡ m → ofHour m ≡ true → refusal l 65535 (filed r) ≡ addNumber m (k .name) h
+      go : (m : Mark) → k .mark ≡ m → ofHour m ≡ true → refusal l maxUsed (filed r) ≡ addFault m (k .name) h
       go Pr e o = priced-is e
       go Im e o = placed-is Im e (h .imports) (b .imports)
       go Ex e o = placed-is Ex e (h .exports) (b .exports)
@@ -164,7 +166,7 @@ module _ (s : List ℕ) (l : List Change) (h : Sheet) (r : Rec) (g : Good (filed
 
   -- ---- and the register after it
 
-  module _ (z : refusal l 65535 (filed r) ≡ 0) (at : ℕ) (stood : Stood s (record { name = k .name; start = at }) r) where
+  module _ (z : refusal l maxUsed (filed r) ≡ 0) (at : ℕ) (stood : Stood s (record { name = k .name; start = at }) r) where
     abbrev spot : Spot
     spot = record { name = k .name; start = at }
 
@@ -195,22 +197,22 @@ module _ (s : List ℕ) (l : List Change) (h : Sheet) (r : Rec) (g : Good (filed
         (ap (same (hourKey Pr (k .hour))) (sym (price-key (k .hour) r g (mine Pr e))) ∙ same-refl (hourKey Pr (k .hour)))))
         (refl, record { inside = stood .inside; name = sym (price-name r g e); rest = stood .rest; front = stood .front })
 
-    has-room : (xs : List Spot) → placedNumber (k .name) xs ≡ 0 → length xs < 16
-    has-room xs e = ltb-true (length xs) 16 (free (among (k .name) xs) (ltb (length xs) 16) e)
+    has-room : (xs : List Spot) → placedFault (k .name) xs ≡ 0 → length xs < maxPlaces
+    has-room xs e = ltb-true (length xs) maxPlaces (free (among (k .name) xs) (ltb (length xs) maxPlaces) e)
       where
-        free : (a w : Bool) → _≡_ {A = ℕ} (cond a 10 (cond w 0 12)) 0 → w ≡ true
+        free : (a w : Bool) → _≡_ {A = ℕ} (cond a keyStands (cond w 0 hourFull)) 0 → w ≡ true
         free true w e = absurd (omega arith)
         free false true e = refl
         free false false e = absurd (omega arith)
 
-    unpriced : (t : Bool) → _≡_ {A = ℕ} (cond t 10 0) 0 → _≡_ {A = ℕ} (cond t 1 0) 0
+    unpriced : (t : Bool) → _≡_ {A = ℕ} (cond t keyStands 0) 0 → _≡_ {A = ℕ} (cond t 1 0) 0
     unpriced true e = absurd (omega arith)
     unpriced false e = refl
 
     pub stepped : Booked s (k .hour) (filed r ∷ l) (adding (k .mark) (record { name = k .name; start = at }) h)
     stepped = go (k .mark) refl o (sym added-is ∙ z)
       where
-        go : (m : Mark) → k .mark ≡ m → ofHour m ≡ true → addNumber m (k .name) h ≡ 0
+        go : (m : Mark) → k .mark ≡ m → ofHour m ≡ true → addFault m (k .name) h ≡ 0
             → Booked s (k .hour) (filed r ∷ l) (adding m (record { name = k .name; start = at }) h)
         go Pr e o q = record {
           valid = filing-valid l r g z (b .valid);
@@ -258,7 +260,7 @@ either-is : (a b : Bool) → a ≡ false → (a || b) ≡ true → b ≡ true
 either-is true b e h = true≠false refl e
 either-is false b e h = h
 
-pub rebased : (s : List ℕ) (h : Sheet) (p : ℕ) → 1 ≤ p → p ≤ 24 → {o : ℕ} {l : List Change} → Hour o l → Booked s o l h → sameAs o p ≡ true → Booked s p l h
+pub rebased : (s : List ℕ) (h : Sheet) (p : ℕ) → 1 ≤ p → p ≤ dayHours → {o : ℕ} {l : List Change} → Hour o l → Booked s o l h → sameAs o p ≡ true → Booked s p l h
 rebased s h p lo hi unknown b f = record {
   valid = b .valid;
   hour = known p [] lo hi;

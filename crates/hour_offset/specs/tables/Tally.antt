@@ -46,17 +46,17 @@ among n [] = false
 among n (x ∷ xs) = cond (sameName n (x .name)) true (among n xs)
 
 -- of an import or export: 10, then 12
-abbrev pub placedNumber : Name → List Spot → ℕ
-placedNumber n xs = cond (among n xs) keyStands (cond (ltb (length xs) maxPlaces) 0 hourFull)
+abbrev pub placedFault : Name → List Spot → ℕ
+placedFault n xs = cond (among n xs) keyStands (cond (ltb (length xs) maxPlaces) 0 hourFull)
 
 -- the number with which a record of a mark and name is refused, 0 where it is not
-abbrev pub addNumber : Mark → Name → Sheet → ℕ
-addNumber Pr n h = cond (h .priced) keyStands 0
-addNumber Im n h = placedNumber n (h .imports)
-addNumber Ex n h = placedNumber n (h .exports)
-addNumber Gh n h = markUnknown
-addNumber Fi n h = markUnknown
-addNumber Fe n h = markUnknown
+abbrev pub addFault : Mark → Name → Sheet → ℕ
+addFault Pr n h = cond (h .priced) keyStands 0
+addFault Im n h = placedFault n (h .imports)
+addFault Ex n h = placedFault n (h .exports)
+addFault Gh n h = markUnknown
+addFault Fi n h = markUnknown
+addFault Fe n h = markUnknown
 
 abbrev pub withPrice : ℕ → Sheet → Sheet
 withPrice at h = record { priced = true; price = at; imports = h .imports; exports = h .exports }
