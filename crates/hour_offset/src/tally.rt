@@ -131,6 +131,21 @@ fn with_price(t: Tally, at: usize) -> Tallied
     }
 }
 
+// With these imports and exports, and a number.
+fn with_lists(t: Tally, number: u8, imports: Places, exports: Places) -> Tallied
+    ensures { λ r. ⌜ r ≡ record { number = number; tally = record { priced = t .priced; price = t .price; imports = imports; exports = exports } } ⌝ }
+{
+    Tallied {
+        number,
+        tally: Tally {
+            priced: t.priced,
+            price: t.price,
+            imports,
+            exports,
+        },
+    }
+}
+
 // With an import's name and place.
 fn with_import(t: Tally, s: Spot) -> Tallied
     requires { ⌜ Few t ⌝ }
@@ -139,17 +154,7 @@ fn with_import(t: Tally, s: Spot) -> Tallied
 {
     let old = t.imports;
     let d = with_place(old, s);
-    let imports = d.places;
-    let exports = t.exports;
-    Tallied {
-        number: d.number,
-        tally: Tally {
-            priced: t.priced,
-            price: t.price,
-            imports,
-            exports,
-        },
-    }
+    with_lists(t, d.number, d.places, t.exports)
 }
 
 // With an export's name and place.
@@ -160,17 +165,7 @@ fn with_export(t: Tally, s: Spot) -> Tallied
 {
     let old = t.exports;
     let d = with_place(old, s);
-    let imports = t.imports;
-    let exports = d.places;
-    Tallied {
-        number: d.number,
-        tally: Tally {
-            priced: t.priced,
-            price: t.price,
-            imports,
-            exports,
-        },
-    }
+    with_lists(t, d.number, t.imports, d.places)
 }
 
 // With the record of a key that begins at a place, or the number of its refusal.
