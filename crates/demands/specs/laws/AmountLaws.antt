@@ -8,6 +8,7 @@ use lib.IntN.{ℤ}
 use lib.ListN.{length, take, drop}
 use lib.Seq.{take-append-seam}
 use Rattle.laws.specs.Sums.{Σℤ, every}
+use Rattle.money.specs.Units.{dayHours}
 use Rattle.money.specs.Offset.{offset}
 use Rattle.records.specs.Amounts.{chargeTicks}
 use Rattle.records.specs.laws.BookLaws.{parse-fine, spelled-back, decoded-valid}
@@ -43,8 +44,8 @@ module _ (b : Book) (s : List ℕ) (l : List Change) (e : load b s ≡ belongs l
 
   day-is : (k : Key) → first (dayChecks (standing l) k) ≡ 0 → unitDayOf k (standing l) (priceOf (standing l)) ≡ unitDay (total k) (reversal (total k))
   unfolding unitDayOf
-  day-is k = go (every 24 (λ (j : ℕ). absent (unitAt k (standing l) j)))
-      (every 24 (λ (j : ℕ). payable (unitAt k (standing l) j) (priceOf (standing l) (1 + j))))
+  day-is k = go (every dayHours (λ (j : ℕ). absent (unitAt k (standing l) j)))
+      (every dayHours (λ (j : ℕ). payable (unitAt k (standing l) j) (priceOf (standing l) (1 + j))))
     where
       go : (x y : Bool) → first ((x gives 11) ∷ (not y gives 15) ∷ []) ≡ 0
           → cond x (refused 11) (cond y (unitDay (total k) (reversal (total k))) (refused 15)) ≡ unitDay (total k) (reversal (total k))

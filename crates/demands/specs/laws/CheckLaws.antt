@@ -7,6 +7,7 @@ use native.Mathlib.Omega.{arith}
 use lib.ListN.{length, take}
 use lib.Dec.{ltb, leb}
 use Rattle.laws.specs.Sums.{every}
+use Rattle.money.specs.Units.{dayHours}
 use Rattle.book.specs.Layer.{Key, Rec, Im, Ex, Change, filed, corrected, withdrawn, write, Input, fine, fault, parse, begins, takeBackBytes, closeBytes, limitOf, reversal, File, Correct, Withdraw, Wanted, Any, Only}
 use Rattle.book.specs.laws.LayerLaws.{parse-fault}
 use Rattle.book.specs.Layer.{Asked, got, bad, keyAsked, askHour, askHourOf, askUnit, askFailure}
@@ -14,7 +15,7 @@ use Rattle.book.specs.laws.LayerLaws.{ask-fault, askHour-fault, askHourOf-fault
 use Rattle.book.specs.declared.book.Book.{Book}
 use Rattle.book.specs.ByName.{byName}
 use Rattle.book.specs.Amounts.{Pick, is, nil, pick, HourPricing, priced, unpriced, absent, payable, unitAt, priceOf, hourKey, guaranteesAt, guaranteesOf, unitDayOf, dayTotal, chargeAt, chargeOf}
-use Rattle.book.specs.Register.{Reg, standing, stands, count, capped, writeAll, refusal, Call, file, correct, withdraw, takeBack, close, change, ask, bareTakeBack, bareClose}
+use Rattle.book.specs.Register.{maxChanges, Reg, standing, stands, count, capped, writeAll, refusal, Call, file, correct, withdraw, takeBack, close, change, ask, bareTakeBack, bareClose}
 use Rattle.book.specs.Register.{placeOf, keyed, Question, recordOf, countOf, freeBytes, hourGuarantees, dayOf, failureCharge, answer, Reply, refused}
 use Rattle.book.specs.Register.{unitDay, Step, answered, becomes, stepOf, listed, judged, takenBack, closing, shorter, unless-closed, after}
 use Rattle.book.specs.Meaning.{Load, belongs, mismatched, load, Valid, leaving, stepped, outcome, Meets}
@@ -41,7 +42,7 @@ Told (suc n) r = r ≡ refused (suc n)
 record-judged : (g : Reg) (lent : ℕ) (c : Change) → Judged (first (recordChecks g lent c)) (listed (fine c) lent g)
 unfolding refusal
 record-judged g lent (filed r) =
-    go (g .closed) (stands (r .key) (standing (g .list))) (ltb (count (r .key) (standing (g .list))) (limitOf (r .key))) (ltb (length (g .list)) 512)
+    go (g .closed) (stands (r .key) (standing (g .list))) (ltb (count (r .key) (standing (g .list))) (limitOf (r .key))) (ltb (length (g .list)) maxChanges)
     (leb (length (writeAll (g .list)) + length (write (filed r))) (capped lent))
   where
     go : (a b c d e : Bool) → Judged (first ((a gives 9) ∷ (b gives 10) ∷ (not c gives 12) ∷ (not d gives 13) ∷ (not e gives 13) ∷ []))
@@ -53,7 +54,7 @@ record-judged g lent (filed r) =
     go false false true true false = refl
     go false false true true true = tt
 record-judged g lent (corrected r) =
-    go (g .closed) (stands (r .key) (standing (g .list))) (ltb (length (g .list)) 512)
+    go (g .closed) (stands (r .key) (standing (g .list))) (ltb (length (g .list)) maxChanges)
     (leb (length (writeAll (g .list)) + length (write (corrected r))) (capped lent))
   where
     go : (a b d e : Bool) → Judged (first ((a gives 9) ∷ (not b gives 11) ∷ (not d gives 13) ∷ (not e gives 13) ∷ []))
@@ -64,7 +65,7 @@ record-judged g lent (corrected r) =
     go false true true false = refl
     go false true true true = tt
 record-judged g lent (withdrawn k) =
-    go (g .closed) (stands k (standing (g .list))) (ltb (length (g .list)) 512) (leb (length (writeAll (g .list)) + length (write (withdrawn k))) (capped lent))
+    go (g .closed) (stands k (standing (g .list))) (ltb (length (g .list)) maxChanges) (leb (length (writeAll (g .list)) + length (write (withdrawn k))) (capped lent))
   where
     go : (a b d e : Bool) → Judged (first ((a gives 9) ∷ (not b gives 11) ∷ (not d gives 13) ∷ (not e gives 13) ∷ []))
         (cond a (answered (refused 9)) (judged (withdrawn k) g (cond b (cond d (cond e 0 13) 13) 11)))
@@ -141,7 +142,7 @@ module _ (lent : ℕ) (g : Reg) where
 
   day-told : (k : Key) → Told (first (dayChecks rs k)) (unitDayOf k rs (priceOf rs))
   unfolding unitDayOf
-  day-told k = go (every 24 (λ (j : ℕ). absent (unitAt k rs j))) (every 24 (λ (j : ℕ). payable (unitAt k rs j) (priceOf rs (1 + j))))
+  day-told k = go (every dayHours (λ (j : ℕ). absent (unitAt k rs j))) (every dayHours (λ (j : ℕ). payable (unitAt k rs j) (priceOf rs (1 + j))))
     where
       go : (a b : Bool) → Told (first ((a gives 11) ∷ (not b gives 15) ∷ []))
           (cond a (refused 11) (cond b (unitDay (dayTotal k rs (priceOf rs)) (reversal (dayTotal k rs (priceOf rs)))) (refused 15)))

@@ -10,7 +10,7 @@ use lib.Dec.{ltb, leb}
 use borrow.Author.Tests.{ltb-true, ltb-false, leb-true}
 use Rattle.book.specs.Layer.{Change, filed, corrected, withdrawn, write, Input, fine, fault, parse, begins, takeBackBytes, closeBytes, limitOf, File, Correct, Withdraw, Any, Only}
 use Rattle.book.specs.declared.book.Book.{Book}
-use Rattle.book.specs.Register.{Reg, Call, file, correct, withdraw, takeBack, close, change, ask, Reply, refused, reply, Step, answered, becomes, stepOf, called, listed}
+use Rattle.book.specs.Register.{maxChanges, maxUsed, Reg, Call, file, correct, withdraw, takeBack, close, change, ask, Reply, refused, reply, Step, answered, becomes, stepOf, called, listed}
 use Rattle.book.specs.Register.{judged, takenBack, closing, shorter, unless-closed, bareTakeBack, bareClose, after, writeAll, refusal, spaceFault, roomFor, capped, stands, count, standing, Turn, run, repliesOf}
 use Rattle.book.specs.Meaning.{bookOf, After, leaving, outcome, Meets, Valid}
 use Rattle.book.specs.laws.ReplayLaws.{called-valid, outcome-is}
@@ -25,14 +25,14 @@ Fits lent (answered r) = Unit {0}
 Fits lent (becomes k) = length (writeAll (k .list)) ≤ lent
 
 cap-least : (n : ℕ) → capped n ≤ n
-cap-least n = go (ltb 65535 n) refl
+cap-least n = go (ltb maxUsed n) refl
   where
-    go : (b : Bool) → ltb 65535 n ≡ b → cond b 65535 n ≤ n
-    go true e = omega (arith, ltb-true 65535 n e)
+    go : (b : Bool) → ltb maxUsed n ≡ b → cond b maxUsed n ≤ n
+    go true e = omega (arith, ltb-true maxUsed n e)
     go false e = omega arith
 
 room-fits : (n u len lent : ℕ) → spaceFault n u len lent ≡ 0 → u + len ≤ lent
-room-fits n u len lent = go (ltb n 512) (leb (u + len) (capped lent)) refl
+room-fits n u len lent = go (ltb n maxChanges) (leb (u + len) (capped lent)) refl
   where
     go : (a b : Bool) → leb (u + len) (capped lent) ≡ b → _≡_ {A = ℕ} (cond a (cond b 0 13) 13) 0 → u + len ≤ lent
     go true true e z = omega (arith, leb-true (u + len) (capped lent) e, cap-least lent)
