@@ -1,5 +1,5 @@
 -- The book's calls beside those of 01's register, in terms of these: `feed`, which takes the records of an input, and `charges`, which the statement asks for. (`units` answers the names under
--- which a `GH` stands, `book/specs/Units.antt`.) Proved in `BesideLaws.antt`.
+-- which a `GH` stands, `book/specs/UnitNames.antt`.) Proved in `BesideLaws.antt`.
 use Prim.Native.Nat.{ℕ, zero, suc}
 use mathlib.Core.Path.{_≡_}
 use mathlib.Core.List.{List, [], _∷_, _++_, map}
