@@ -21,7 +21,7 @@ use Rattle.records.specs.declared.keys.NameAnswer.{NameAnswer}
 use Rattle.book.specs.declared.book.Book.{Book}
 use Rattle.book.specs.declared.answers.NamedAmount.{NamedAmount}
 use Rattle.statement.specs.laws.LineLaws.{spells}
-use Rattle.bridge.specs.Bridge.{stored, told, orderOf, creditSizes, creditsSizes, creditsAmounts, answerNumber, ticksTold}
+use Rattle.bridge.specs.Bridge.{stored, told, orderOf, creditSizes, creditsSizes, creditsAmounts, answerFault, ticksTold}
 
 -- a refusal: the row stays
 pub told-no : (n x : ℕ) (row : List ℕ) → (n ≡ 0 → ⊥) → row ≡ told n x row
@@ -112,7 +112,7 @@ fits n s e = go (nameOk n) refl
 
 -- ---- an amount
 
-pub ticks-if : (a : Answer) (row : List ℤ) {n : ℕ} → n ≡ answerNumber a → ticksTold a row ≡ cond (eqb n 0) (ticksTold a row) row
+pub ticks-if : (a : Answer) (row : List ℤ) {n : ℕ} → n ≡ answerFault a → ticksTold a row ≡ cond (eqb n 0) (ticksTold a row) row
 ticks-if (Amount t) row e = if-yes _ _ refl e
 ticks-if (Refused k) row {n} e = go (eqb n 0)
   where

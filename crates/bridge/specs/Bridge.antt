@@ -44,15 +44,15 @@ told n x row = cond (eqb n 0) (stored row 0 x) row
 
 -- ---- records
 
-abbrev pub nameNumber : List ℕ → ℕ
-nameNumber s = nameAnswer (storedName (decodeName s)) .number
+abbrev pub nameFault : List ℕ → ℕ
+nameFault s = nameAnswer (storedName (decodeName s)) .number
 
 abbrev pub nameIn : List ℕ → Name
 nameIn s = nameAnswer (storedName (decodeName s)) .name
 
 -- two spelled names: 4, of the first or of the second
-abbrev pub compareNumber : List ℕ → List ℕ → ℕ
-compareNumber a b = orElse (nameNumber a) (nameNumber b)
+abbrev pub compareFault : List ℕ → List ℕ → ℕ
+compareFault a b = orElse (nameFault a) (nameFault b)
 
 -- by their decoded bytes: 0 before, 1 the same, 2 after
 abbrev pub orderOf : List ℕ → List ℕ → ℕ
@@ -63,8 +63,8 @@ abbrev pub alone : List ℕ → Bool
 alone s = not (isRecord (entryOf (parseAny s) .view .act))
 
 -- a change of any mark, written at the start of d: its number, what is then in d, and the length told
-abbrev pub anyNumber : List ℕ → List ℕ → ℕ
-anyNumber s d = orElse (entryOf (parseAny s) .number) (cond (alone s) 0 (putNumber (parse Any s) 0 d))
+abbrev pub anyFault : List ℕ → List ℕ → ℕ
+anyFault s d = orElse (entryOf (parseAny s) .number) (cond (alone s) 0 (putNumber (parse Any s) 0 d))
 
 abbrev pub anyBytes : List ℕ → List ℕ → List ℕ
 anyBytes s d = cond (eqb (entryOf (parseAny s) .number) 0) (cond (alone s) d (putBytes (parse Any s) 0 d)) d
@@ -77,8 +77,8 @@ unfoldable pub wantedBy : ℕ → Wanted
 wantedBy m = cond (eqb (m % 4) 1) (Only File) (cond (eqb (m % 4) 2) (Only Correct) (cond (eqb (m % 4) 3) (Only Withdraw) Any))
 
 -- a change for a method
-abbrev pub writeNumber : ℕ → List ℕ → List ℕ → ℕ
-writeNumber m s d = cond (eqb m 0) (anyNumber s d)
+abbrev pub writeFault : ℕ → List ℕ → List ℕ → ℕ
+writeFault m s d = cond (eqb m 0) (anyFault s d)
     (cond (eqb m 4) (bare takeBackBytes s) (cond (eqb m 5) (bare closeBytes s) (putNumber (parse (wantedBy m) s) 0 d)))
 
 abbrev pub writeBytes : ℕ → List ℕ → List ℕ → List ℕ
@@ -200,8 +200,8 @@ hourAmounts (charge t) row = row
 -- ---- amounts of single records
 
 -- bytes that must be a record, of a mark that has been tested
-abbrev pub filingNumber : List ℕ → Bool → ℕ
-filingNumber s marked = cond (ltb (length s) 2) endsEarly (cond marked (parsedOf (parse (Only File) s) .number) markUnknown)
+abbrev pub filingFault : List ℕ → Bool → ℕ
+filingFault s marked = cond (ltb (length s) 2) endsEarly (cond marked (parsedOf (parse (Only File) s) .number) markUnknown)
 
 abbrev pub hasAmount : List ℕ → Bool
 hasAmount s = begins (73 ∷ 77 ∷ []) s || (begins (71 ∷ 72 ∷ []) s || (begins (70 ∷ 73 ∷ []) s || begins (70 ∷ 69 ∷ []) s))
@@ -211,12 +211,12 @@ amountIn p s =
     cond (begins (73 ∷ 77 ∷ []) s) (creditIn s (pricesIn p)) (cond (begins (71 ∷ 72 ∷ []) s) (unitAmountIn s (pricesIn p))
     (cond (begins (70 ∷ 73 ∷ []) s) (chargeIn Fi s (pricesIn p)) (chargeIn Fe s (pricesIn p))))
 
-abbrev pub answerNumber : Answer → ℕ
-answerNumber (Amount t) = 0
-answerNumber (Refused n) = n
+abbrev pub answerFault : Answer → ℕ
+answerFault (Amount t) = 0
+answerFault (Refused n) = n
 
-unfoldable pub amountNumber : List ℕ → List ℕ → ℕ
-amountNumber p s = orElse (filingNumber p (begins (80 ∷ 82 ∷ []) p)) (orElse (filingNumber s (hasAmount s)) (answerNumber (amountIn p s)))
+unfoldable pub amountFault : List ℕ → List ℕ → ℕ
+amountFault p s = orElse (filingFault p (begins (80 ∷ 82 ∷ []) p)) (orElse (filingFault s (hasAmount s)) (answerFault (amountIn p s)))
 
 -- the amount is told; at a refusal the row stays
 abbrev pub ticksTold : Answer → List ℤ → List ℤ
@@ -224,7 +224,7 @@ ticksTold (Amount t) row = stored row 0 (t .0)
 ticksTold (Refused n) row = row
 
 abbrev pub amountTold : List ℕ → List ℕ → List ℤ → List ℤ
-amountTold p s row = cond (eqb (amountNumber p s) 0) (ticksTold (amountIn p s) row) row
+amountTold p s row = cond (eqb (amountFault p s) 0) (ticksTold (amountIn p s) row) row
 
 -- ---- records back to back, and the statement
 

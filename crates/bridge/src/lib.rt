@@ -46,8 +46,8 @@ ghost use Rattle.book.specs.Meaning.{replyOf, guaranteesReply, dayReply};
 ghost use Rattle.book.specs.Replies.{replied};
 ghost use Rattle.book.specs.Handed.{maxCredits};
 ghost use Rattle.demands.specs.Script.{changeOf};
-ghost use Rattle.bridge.specs.Bridge.{stored, told, compareNumber, orderOf, anyNumber, anySize, anyBytes, writeNumber, writeSize, writeBytes, wantedBy};
-ghost use Rattle.bridge.specs.Bridge.{filingNumber, hasAmount, amountIn, answerNumber, amountNumber, ticksTold, amountTold};
+ghost use Rattle.bridge.specs.Bridge.{stored, told, compareFault, orderOf, anyFault, anySize, anyBytes, writeFault, writeSize, writeBytes, wantedBy};
+ghost use Rattle.bridge.specs.Bridge.{filingFault, hasAmount, amountIn, answerFault, amountFault, ticksTold, amountTold};
 ghost use Rattle.bridge.specs.Bridge.{noBook, bookFrom, bookIn, flagOf, handedBack, methodIn, hourIn, Changed};
 ghost use Rattle.bridge.specs.Bridge.{asked, sizesTold, amountsTold, importPlace, placeTold, creditSizes, creditsSizes, creditsAmounts, hourSizes, hourAmounts};
 ghost use Rattle.bridge.specs.Bridge.{feedIn, feedState, feedSizes, FeedBytes, statementIn};
@@ -114,7 +114,7 @@ fn mark_alone(number: u8, sizes: &mut [u64]) -> u32
 }
 
 fn write_any(bytes: &[u8], out: &mut [u8], sizes: &mut [u64]) -> u32
-    ensures { λ r. ⌜ r ≡ anyNumber (now (bytes .entry)) (now (out .entry)) ⌝ }
+    ensures { λ r. ⌜ r ≡ anyFault (now (bytes .entry)) (now (out .entry)) ⌝ }
     ensures { λ r. ⌜ now (out .exit) ≡ anyBytes (now (bytes .entry)) (now (out .entry)) ⌝ }
     ensures { λ r. ⌜ now (sizes .exit) ≡ told r (anySize (now (bytes .entry))) (now (sizes .entry)) ⌝ }
 {
@@ -155,7 +155,7 @@ pub extern "C" fn pewatuno_write(
     out: &mut [u8],
     sizes: &mut [u64],
 ) -> u32
-    ensures { λ r. ⌜ r ≡ writeNumber method (now (bytes .entry)) (now (out .entry)) ⌝ }
+    ensures { λ r. ⌜ r ≡ writeFault method (now (bytes .entry)) (now (out .entry)) ⌝ }
     ensures { λ r. ⌜ now (out .exit) ≡ writeBytes method (now (bytes .entry)) (now (out .entry)) ⌝ }
     ensures { λ r. ⌜ now (sizes .exit) ≡ told r (writeSize method (now (bytes .entry))) (now (sizes .entry)) ⌝ }
 {
@@ -205,7 +205,7 @@ fn order_of(a: &[u8], b: &[u8]) -> u64
 // Two spelled names, by their decoded bytes.
 #[no_mangle]
 pub extern "C" fn pewatuno_compare(a: &[u8], b: &[u8], sizes: &mut [u64]) -> u32
-    ensures { λ r. ⌜ r ≡ compareNumber (now (a .entry)) (now (b .entry)) ⌝ }
+    ensures { λ r. ⌜ r ≡ compareFault (now (a .entry)) (now (b .entry)) ⌝ }
     ensures { λ r. ⌜ now (sizes .exit) ≡ told r (orderOf (now (a .entry)) (now (b .entry))) (now (sizes .entry)) ⌝ }
 {
     let m = ask_name(a).number;
@@ -224,7 +224,7 @@ pub extern "C" fn pewatuno_compare(a: &[u8], b: &[u8], sizes: &mut [u64]) -> u32
 
 // The fault of bytes that must be a record, of a mark that has been tested.
 fn filing_fault(bytes: &[u8], marked: bool) -> u32
-    ensures { λ r. ⌜ r ≡ filingNumber (now (bytes .entry)) marked ⌝ }
+    ensures { λ r. ⌜ r ≡ filingFault (now (bytes .entry)) marked ⌝ }
 {
     if bytes.len() < 2 {
         return ENDS_EARLY as u32;
@@ -268,7 +268,7 @@ fn amount_of(prices: &[u8], bytes: &[u8]) -> Answer
 }
 
 fn tell_amount(amounts: &mut [i64], a: Answer) -> u32
-    ensures { λ r. ⌜ r ≡ answerNumber a ⌝ }
+    ensures { λ r. ⌜ r ≡ answerFault a ⌝ }
     ensures { λ r. ⌜ now (amounts .exit) ≡ ticksTold a (now (amounts .entry)) ⌝ }
 {
     match a {
@@ -283,7 +283,7 @@ fn tell_amount(amounts: &mut [i64], a: Answer) -> u32
 // The credit of an IM, the amount of a GH without its start-up, the charge of an FI or FE, at the prices of a PR.
 #[no_mangle]
 pub extern "C" fn pewatuno_amount(prices: &[u8], bytes: &[u8], amounts: &mut [i64]) -> u32
-    ensures { λ r. ⌜ r ≡ amountNumber (now (prices .entry)) (now (bytes .entry)) ⌝ }
+    ensures { λ r. ⌜ r ≡ amountFault (now (prices .entry)) (now (bytes .entry)) ⌝ }
     ensures { λ r. ⌜ now (amounts .exit) ≡ amountTold (now (prices .entry)) (now (bytes .entry)) (now (amounts .entry)) ⌝ }
 {
     let f = filing_fault(prices, begins_with(prices, b'P', b'R'));
