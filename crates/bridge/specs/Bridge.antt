@@ -14,7 +14,7 @@ use Rattle.money.specs.declared.units.Answer.{Answer}
 use Rattle.money.specs.declared.units.Answer.the-variants.{Amount, Refused}
 use Rattle.records.specs.Names.{decodeName, storedName, spellingOf}
 use Rattle.records.specs.Keys.{nameAnswer}
-use Rattle.records.specs.declared.marks.Mark.the-variants.{Im, Fi, Fe}
+use Rattle.records.specs.declared.marks.Mark.the-variants.{Pr, Im, Gh, Fi, Fe}
 use Rattle.records.specs.Marks.{markBytes}
 use Rattle.records.specs.Views.{pricesIn}
 use Rattle.records.specs.Amounts.{creditIn, unitAmountIn, chargeIn}
@@ -93,9 +93,21 @@ writeSize m s = cond (eqb m 0) (anySize s) (cond (eqb m 4) 0 (cond (eqb m 5) 0 (
 abbrev pub noBook : Book
 noBook = record { changes = 0; used = 1; closed = false }
 
+-- the greatest number of 8 bits: an hour's
+abbrev pub maxU8 : ℕ
+maxU8 = 255
+
+-- of 16 bits: that of a book's changes
+abbrev pub maxU16 : ℕ
+maxU16 = 65535
+
+-- of 32 bits: that of its used bytes
+abbrev pub maxU32 : ℕ
+maxU32 = 4294967295
+
 -- the book that three numbers carry: changes, used bytes, and 0 where it is open; none where they can't be a book's
 abbrev pub bookFrom : ℕ → ℕ → ℕ → Book
-bookFrom c u k = cond (ltb 65535 c) noBook (cond (ltb 4294967295 u) noBook (record { changes = c; used = u; closed = not (eqb k 0) }))
+bookFrom c u k = cond (ltb maxU16 c) noBook (cond (ltb maxU32 u) noBook (record { changes = c; used = u; closed = not (eqb k 0) }))
 
 unfoldable pub bookIn : List ℕ → Book
 bookIn s = cond (ltb (length s) 3) noBook (bookFrom (getD s 0 0) (getD s 1 0) (getD s 2 0))
@@ -108,7 +120,7 @@ abbrev pub handedBack : Book → List ℕ → List ℕ
 handedBack b state = stored (stored (stored state 0 (b .changes)) 1 (b .used)) 2 (flagOf (b .closed))
 
 abbrev pub hourIn : ℕ → ℕ
-hourIn h = cond (ltb 255 h) 255 h
+hourIn h = cond (ltb maxU8 h) maxU8 h
 
 -- 1 to 5, or any change
 abbrev pub methodIn : ℕ → ℕ
@@ -204,19 +216,19 @@ abbrev pub filingFault : List ℕ → Bool → ℕ
 filingFault s marked = cond (ltb (length s) 2) endsEarly (cond marked (parsedOf (parse (Only File) s) .number) markUnknown)
 
 abbrev pub hasAmount : List ℕ → Bool
-hasAmount s = begins (73 ∷ 77 ∷ []) s || (begins (71 ∷ 72 ∷ []) s || (begins (70 ∷ 73 ∷ []) s || begins (70 ∷ 69 ∷ []) s))
+hasAmount s = begins (markBytes Im) s || (begins (markBytes Gh) s || (begins (markBytes Fi) s || begins (markBytes Fe) s))
 
 abbrev pub amountIn : List ℕ → List ℕ → Answer
 amountIn p s =
-    cond (begins (73 ∷ 77 ∷ []) s) (creditIn s (pricesIn p)) (cond (begins (71 ∷ 72 ∷ []) s) (unitAmountIn s (pricesIn p))
-    (cond (begins (70 ∷ 73 ∷ []) s) (chargeIn Fi s (pricesIn p)) (chargeIn Fe s (pricesIn p))))
+    cond (begins (markBytes Im) s) (creditIn s (pricesIn p)) (cond (begins (markBytes Gh) s) (unitAmountIn s (pricesIn p))
+    (cond (begins (markBytes Fi) s) (chargeIn Fi s (pricesIn p)) (chargeIn Fe s (pricesIn p))))
 
 abbrev pub answerFault : Answer → ℕ
 answerFault (Amount t) = 0
 answerFault (Refused n) = n
 
 unfoldable pub amountFault : List ℕ → List ℕ → ℕ
-amountFault p s = orElse (filingFault p (begins (80 ∷ 82 ∷ []) p)) (orElse (filingFault s (hasAmount s)) (answerFault (amountIn p s)))
+amountFault p s = orElse (filingFault p (begins (markBytes Pr) p)) (orElse (filingFault s (hasAmount s)) (answerFault (amountIn p s)))
 
 -- the amount is told; at a refusal the row stays
 abbrev pub ticksTold : Answer → List ℤ → List ℤ

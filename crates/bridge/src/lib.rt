@@ -52,6 +52,13 @@ ghost use Rattle.bridge.specs.Bridge.{noBook, bookFrom, bookIn, flagOf, 
 ghost use Rattle.bridge.specs.Bridge.{asked, sizesTold, amountsTold, importPlace, placeTold, creditSizes, creditsSizes, creditsAmounts, hourSizes, hourAmounts};
 ghost use Rattle.bridge.specs.Bridge.{feedIn, feedState, feedSizes, FeedBytes, statementIn};
 
+// The greatest numbers of 8 bits, an hour's, of 16, a book's changes, and of 32, its used bytes.
+const U8_MAX: u32 = 255;
+
+const U16_MAX: u64 = 65535;
+
+const U32_MAX: u64 = 4294967295;
+
 #[no_mangle]
 pub extern "C" fn pewatuno_interface() -> u32
     ensures { λ r. ⌜ r ≡ 2 ⌝ }
@@ -313,10 +320,10 @@ fn no_book() -> Book
 fn book_of(changes: u64, used: u64, closed: u64) -> Book
     ensures { λ r. ⌜ r ≡ bookFrom changes used closed ⌝ }
 {
-    if 65535 < changes {
+    if U16_MAX < changes {
         return no_book();
     }
-    if 4294967295 < used {
+    if U32_MAX < used {
         return no_book();
     }
     Book {
@@ -386,8 +393,8 @@ pub extern "C" fn pewatuno_change(
 fn hour_of(hour: u32) -> u8
     ensures { λ r. ⌜ r ≡ hourIn hour ⌝ }
 {
-    if 255 < hour {
-        return 255;
+    if U8_MAX < hour {
+        return U8_MAX as u8;
     }
     hour as u8
 }
