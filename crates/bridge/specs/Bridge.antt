@@ -44,9 +44,11 @@ told n x row = cond (eqb n 0) (stored row 0 x) row
 
 -- ---- records
 
+-- a spelled name: 4 where it has a fault
 abbrev pub nameFault : List ℕ → ℕ
 nameFault s = nameAnswer (storedName (decodeName s)) .number
 
+-- and the name that it spells
 abbrev pub nameIn : List ℕ → Name
 nameIn s = nameAnswer (storedName (decodeName s)) .name
 
@@ -62,13 +64,15 @@ orderOf a b = cond (nameBefore (decodedBytes (nameIn a)) (decodedBytes (nameIn b
 abbrev pub alone : List ℕ → Bool
 alone s = not (isRecord (entryOf (parseAny s) .view .act))
 
--- a change of any mark, written at the start of d: its number, what is then in d, and the length told
+-- a change of any mark, written at the start of d: its number
 abbrev pub anyFault : List ℕ → List ℕ → ℕ
 anyFault s d = orElse (entryOf (parseAny s) .number) (cond (alone s) 0 (putNumber (parse Any s) 0 d))
 
+-- what is then in d
 abbrev pub anyBytes : List ℕ → List ℕ → List ℕ
 anyBytes s d = cond (eqb (entryOf (parseAny s) .number) 0) (cond (alone s) d (putBytes (parse Any s) 0 d)) d
 
+-- and the length told: of `TB` and `CL` 0
 abbrev pub anySize : List ℕ → ℕ
 anySize s = cond (alone s) 0 (parsedOf (parse Any s) .view .len)
 
@@ -76,14 +80,16 @@ anySize s = cond (alone s) 0 (parsedOf (parse Any s) .view .len)
 unfoldable pub wantedBy : ℕ → Wanted
 wantedBy m = cond (eqb (m % 4) 1) (Only File) (cond (eqb (m % 4) 2) (Only Correct) (cond (eqb (m % 4) 3) (Only Withdraw) Any))
 
--- a change for a method
+-- a change for a method: its number
 abbrev pub writeFault : ℕ → List ℕ → List ℕ → ℕ
 writeFault m s d = cond (eqb m 0) (anyFault s d)
     (cond (eqb m 4) (bare takeBackBytes s) (cond (eqb m 5) (bare closeBytes s) (putNumber (parse (wantedBy m) s) 0 d)))
 
+-- what is then in d
 abbrev pub writeBytes : ℕ → List ℕ → List ℕ → List ℕ
 writeBytes m s d = cond (eqb m 0) (anyBytes s d) (cond (eqb m 4) d (cond (eqb m 5) d (putBytes (parse (wantedBy m) s) 0 d)))
 
+-- and the length told
 abbrev pub writeSize : ℕ → List ℕ → ℕ
 writeSize m s = cond (eqb m 0) (anySize s) (cond (eqb m 4) 0 (cond (eqb m 5) 0 (parsedOf (parse (wantedBy m) s) .view .len)))
 
@@ -109,9 +115,11 @@ maxU32 = 4294967295
 abbrev pub bookFrom : ℕ → ℕ → ℕ → Book
 bookFrom c u k = cond (ltb maxU16 c) noBook (cond (ltb maxU32 u) noBook (record { changes = c; used = u; closed = not (eqb k 0) }))
 
+-- in three lent places; none where there are fewer
 unfoldable pub bookIn : List ℕ → Book
 bookIn s = cond (ltb (length s) 3) noBook (bookFrom (getD s 0 0) (getD s 1 0) (getD s 2 0))
 
+-- open or closed, as a number
 abbrev pub flagOf : Bool → ℕ
 flagOf b = cond b 1 0
 
@@ -119,6 +127,7 @@ flagOf b = cond b 1 0
 abbrev pub handedBack : Book → List ℕ → List ℕ
 handedBack b state = stored (stored (stored state 0 (b .changes)) 1 (b .used)) 2 (flagOf (b .closed))
 
+-- an hour of 32 bits: what is above 8 bits is outside as their greatest number is
 abbrev pub hourIn : ℕ → ℕ
 hourIn h = cond (ltb maxU8 h) maxU8 h
 
@@ -182,6 +191,7 @@ placeTold i (charge t) row = row
 abbrev pub creditSizes : Book → List ℕ → ℕ → ℕ → NamedAmount → List ℕ → List ℕ
 creditSizes b lent h i c row = placeTold i (importPlace b lent h (c .name)) row
 
+-- of each import in turn, from the i-th on
 unfoldable pub creditsSizes : Book → List ℕ → ℕ → ℕ → List NamedAmount → List ℕ → List ℕ
 creditsSizes b lent h i [] row = row
 creditsSizes b lent h i (c ∷ cs) row = creditsSizes b lent h (i + 1) cs (creditSizes b lent h i c row)
@@ -191,6 +201,7 @@ unfoldable pub creditsAmounts : ℕ → List NamedAmount → List ℤ → List �
 creditsAmounts i [] row = row
 creditsAmounts i (c ∷ cs) row = creditsAmounts (i + 1) cs (stored row (i + 1) (c .ticks .0))
 
+-- what is told of the reply for an hour, in sizes
 abbrev pub hourSizes : Book → List ℕ → ℕ → Reply → List ℕ → List ℕ
 hourSizes b lent h (refused n) row = row
 hourSizes b lent h accepted row = row
@@ -200,6 +211,7 @@ hourSizes b lent h (guarantees cs o) row = creditsSizes b lent h 0 cs (stored ro
 hourSizes b lent h (unitDay t v) row = row
 hourSizes b lent h (charge t) row = row
 
+-- and in amounts
 abbrev pub hourAmounts : Reply → List ℤ → List ℤ
 hourAmounts (refused n) row = row
 hourAmounts accepted row = row
@@ -211,22 +223,26 @@ hourAmounts (charge t) row = row
 
 -- ---- amounts of single records
 
--- bytes that must be a record, of a mark that has been tested
+-- bytes that must be a record, of a mark that has been tested: the number of what is wrong with them
 abbrev pub filingFault : List ℕ → Bool → ℕ
 filingFault s marked = cond (ltb (length s) 2) endsEarly (cond marked (parsedOf (parse (Only File) s) .number) markUnknown)
 
+-- an `IM`, `GH`, `FI` or `FE`
 abbrev pub hasAmount : List ℕ → Bool
 hasAmount s = begins (markBytes Im) s || (begins (markBytes Gh) s || (begins (markBytes Fi) s || begins (markBytes Fe) s))
 
+-- its amount at the prices of a `PR`, by its mark
 abbrev pub amountIn : List ℕ → List ℕ → Answer
 amountIn p s =
     cond (begins (markBytes Im) s) (creditIn s (pricesIn p)) (cond (begins (markBytes Gh) s) (unitAmountIn s (pricesIn p))
     (cond (begins (markBytes Fi) s) (chargeIn Fi s (pricesIn p)) (chargeIn Fe s (pricesIn p))))
 
+-- an amount is no refusal
 abbrev pub answerFault : Answer → ℕ
 answerFault (Amount t) = 0
 answerFault (Refused n) = n
 
+-- of the `PR`, then of the record, then of its amount
 unfoldable pub amountFault : List ℕ → List ℕ → ℕ
 amountFault p s = orElse (filingFault p (begins (markBytes Pr) p)) (orElse (filingFault s (hasAmount s)) (answerFault (amountIn p s)))
 
@@ -235,6 +251,7 @@ abbrev pub ticksTold : Answer → List ℤ → List ℤ
 ticksTold (Amount t) row = stored row 0 (t .0)
 ticksTold (Refused n) row = row
 
+-- where none of the three is refused
 abbrev pub amountTold : List ℕ → List ℕ → List ℤ → List ℤ
 amountTold p s row = cond (eqb (amountFault p s) 0) (ticksTold (amountIn p s) row) row
 
@@ -247,6 +264,7 @@ feedOf (belongs l) b n input =
     let f = feeds.feeding n (record { list = l; closed = b .closed }) input in
     record { book = bookOf (f .reg); count = f .count; taken = f .taken; number = f .number }
 
+-- for the book that three numbers carry
 unfoldable pub feedIn : List ℕ → List ℕ → List ℕ → Fed
 feedIn state lent input = feedOf (load (bookIn state) lent) (bookIn state) (length lent) input
 
@@ -258,6 +276,7 @@ feedState f state = cond (eqb (f .count) 0) state (handedBack (f .book) state)
 abbrev pub feedSizes : Fed → List ℕ → List ℕ
 feedSizes f row = stored (stored row 0 (f .count)) 1 (f .taken)
 
+-- s begins with w
 abbrev pub StartsWith : List ℕ → List ℕ → Type 0
 StartsWith w s = take (length w) s ≡ w
 

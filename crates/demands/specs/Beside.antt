@@ -44,6 +44,7 @@ ending (suc n) rs = refused (suc n) ∷ rs
 abbrev pub afterInput : List Turn → ℕ → List ℕ → List Turn
 afterInput ts lent input = recordTurns (length input) lent (run ts) input ++ ts
 
+-- what an input leaves is what the calls of its records leave: the book, its log, and the replies, behind those of the calls before
 pub record CallsMade (ts : List Turn) (rs : List Reply) (s input : List ℕ) (r : Fed) (s′ : List ℕ) : Type 0 where
   pub book : r .book ≡ bookOf (run (afterInput ts (length s) input))
   pub used : take (length (writeAll (run (afterInput ts (length s) input) .list))) s′ ≡ writeAll (run (afterInput ts (length s) input) .list)

@@ -56,6 +56,7 @@ pub record Answered (q : Question) (b : Book) (s : List ℕ) (b′ : Book) (r : 
   pub book : b′ ≡ b
   pub bytes : s′ ≡ s
 
+-- a call that is allowed: a change is taken, and a question is answered
 abbrev pub Done : Call → Book → List ℕ → Book → Reply → List ℕ → Type 0
 Done (file c) = Taken (file c)
 Done (correct c) = Taken (correct c)
@@ -101,6 +102,7 @@ pub record Amounts (b : Book) (s : List ℕ) (l : List Change) : Type 0 where
       → (x : Rec) → pick k (standing l) ≡ is x → (p : HourPrices) → priceOf (standing l) (k .hour) ≡ priced p
       → (b′ : Book) (r : Reply) (s′ : List ℕ) → Meets (ask (failureCharge m h n)) b s b′ r s′ → r ≡ charge (chargeTicksFor (x .key .mark) (failureOf x) p)
 
+-- what every amount is, and in which bytes every record is written
 pub record Demand2 : Type 0 where
   -- "Every amount equals the formulas of the market rules as 01 sets them out, exact (1/120 of a cent) and signed;": amounts are integers, in ticks
   pub formulas : Formulas
@@ -156,10 +158,12 @@ pub record Again (ts us : List Turn) (n : ℕ) : Type 0 where
   pub moment : Moment ts n
   pub stand : standing (run us .list) ≡ standing (run (moment .before) .list)
 
+-- by how many changes are taken back: none, or n + 1
 abbrev pub StandAgain : List Turn → List Turn → ℕ → Type 0
 StandAgain ts us zero = standing (run us .list) ≡ standing (run ts .list)
 StandAgain ts us (suc n) = Again ts us n
 
+-- of a list of calls with their replies, and of the book and its log as they are left
 pub record Demand3 {ts : List Turn} {rs : List Reply} {b : Book} {log : List ℕ} (σ : Session ts rs b log) : Type 0 where
   -- "For every list of calls from a fresh book, each call in it gets the answer or the number that 01's plain register gives.": a `Session` is such a list
   pub answers : rs ≡ repliesOf ts
@@ -172,6 +176,7 @@ pub record Demand3 {ts : List Turn} {rs : List Reply} {b : Book} {log : List ℕ
 
 -- ---- what a method of the book owes to every call
 
+-- its own promise, and the demands that speak of one call
 pub record Demanded (call : Call) (b : Book) (s : List ℕ) (b′ : Book) (r : Reply) (s′ : List ℕ) : Type 0 where
   pub meets : Meets call b s b′ r s′
   -- demand 1, for each book and each buffer length

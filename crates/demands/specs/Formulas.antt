@@ -51,6 +51,7 @@ net s k q = priceAt (s .prices) k *ℤ pos q -ℤ cost (s .offer) q
 
 -- ---- the formulas
 
+-- "the formulas of the market rules as 01 sets them out"
 pub record Formulas : Type 0 where
   -- "Cost C(Q) is the sum of P_i × (Q_i - Q_(i-1)) over the pairs with Q_i <= Q, with Q_0 = 0, plus (Q - Q_s) × P_(s+1) for the part pair, s being the last full pair"
   pub costs : (o : Offer) (q : ℕ)

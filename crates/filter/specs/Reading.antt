@@ -26,6 +26,7 @@ counted n = min n maxCount
 
 -- ---- reading
 
+-- before the first read: a fresh book, and nothing is held
 abbrev pub begun : Reading
 begun = record { book = record { changes = 0; used = 0; closed = false }; count = 0; held = 0; number = 0 }
 

@@ -19,6 +19,7 @@ pub record Nothing (lent left : List ℕ) (w : Written) : Type 0 where
 
 -- ---- of one input, as it was read
 
+-- by whether it was not read to its end: nothing, or the output of what the reading holds
 abbrev pub Writes : Bool → Input → List ℕ → List ℕ → List ℕ → Written → Type 0
 Writes true i log lent left w = Nothing lent left w
 Writes false i log lent left w = Prints statementOf longestStatement (i .reading) (load (i .reading .book) log) lent left w
@@ -30,6 +31,7 @@ pub record Shows (i : Input) (log lent left : List ℕ) (r : Settled) : Type 0 w
 
 -- ---- of standard input
 
+-- by whether it was not read to its end: nothing, or the output of all that the reads brought
 abbrev pub Outputs : Bool → List ℕ → List ℕ → List ℕ → Written → Type 0
 Outputs true s lent left w = Nothing lent left w
 Outputs false s lent left w = Settles statementOf longestStatement s lent left w

@@ -5,9 +5,11 @@ use Prim.Native.Nat.{ℕ, zero, suc, _+_, _/_, _%_}
 use lib.Dec.{ltb}
 use Rattle.laws.specs.Text.{char}
 
+-- the character of a digit
 abbrev pub digit : ℕ → ℕ
 digit n = char "0" + n
 
+-- "`05`", "with two decimals": a number below 100 in two digits
 unfoldable pub twoDigits : ℕ → List ℕ
 twoDigits n = digit (n / 10) ∷ digit (n % 10) ∷ []
 

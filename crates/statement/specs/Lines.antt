@@ -54,12 +54,15 @@ isNumber Pcg = false
 isNumber Rev = false
 isNumber Err = true
 
+-- the last field: the number of an `ERR`, the dollars of any other kind
 unfoldable pub figure : Kind → ℤ → List ℕ
 figure k z = cond (isNumber k) (number z) (dollars z)
 
+-- what stands between two fields
 abbrev pub space : List ℕ
 space = bytes " "
 
+-- what stands behind the last field
 abbrev pub newline : List ℕ
 newline = bytes "\n"
 

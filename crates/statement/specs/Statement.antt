@@ -31,6 +31,7 @@ use Rattle.statement.specs.declared.day.Written.{Written}
 abbrev pub amountLine : ℕ → Kind → Name → ℤ → Line
 amountLine h k n t = record { hour = h; kind = k; name = n; cents = record { 0 = centsOf t } }
 
+-- the line of an amount that the book hands over with its name
 abbrev pub lineOf : ℕ → Kind → NamedAmount → Line
 lineOf h k a = amountLine h k (a .name) (a .ticks .0)
 
@@ -64,6 +65,7 @@ hourLines h (guarantees cs o) fs es = chargedLines h cs o fs es
 hourLines h (unitDay t v) fs es = hourError h
 hourLines h (charge t) fs es = hourError h
 
+-- the lines of hour h, from what the book's questions for it answer
 unfoldable pub hourOf : List Rec → (ℕ → HourPricing) → ℕ → List Line
 hourOf rs price h = hourLines h (guaranteesOf rs price h) (chargesOf (hourKey Fi h) rs price) (chargesOf (hourKey Fe h) rs price)
 
@@ -83,6 +85,7 @@ unitLines n (guarantees cs o) = unitError n
 unitLines n (unitDay t v) = amountLine 0 Pcg n t ∷ amountLine 0 Rev n v ∷ []
 unitLines n (charge t) = unitError n
 
+-- the lines of the unit of that name, from what the question for its day answers
 unfoldable pub unitOf : List Rec → (ℕ → HourPricing) → Name → List Line
 unitOf rs price n = unitLines n (unitDayOf (unitKey n) rs price)
 
@@ -140,6 +143,7 @@ pub record AnswersBy (t : List Change → List ℕ) (longest : ℕ) (x : Load) (
 
 -- ---- a call for the statement
 
+-- what a call for the statement of a book leaves in the bytes that are lent to it
 abbrev pub outcomeOf : Load → List ℕ → Outcome
 outcomeOf x out = outcomeBy statementOf x out
 
@@ -151,17 +155,19 @@ maxHourLines = maxCredits + 1 + 2 * maxCharges
 abbrev pub maxUnitLines : ℕ
 maxUnitLines = 2
 
--- the most bytes of an hour, and of a unit
+-- the most bytes of an hour
 abbrev pub maxHour : ℕ
 maxHour = maxHourLines * maxLine
 
+-- the most bytes of a unit
 abbrev pub maxUnit : ℕ
 maxUnit = maxUnitLines * maxLine
 
--- the most bytes of all hours, and of all units: there is one for each change at most
+-- the most bytes of all hours
 abbrev pub maxHours : ℕ
 maxHours = dayHours * maxHour
 
+-- the most bytes of all units: there are no more of them than changes
 abbrev pub maxUnits : ℕ
 maxUnits = maxChanges * maxUnit
 
@@ -169,5 +175,6 @@ maxUnits = maxChanges * maxUnit
 abbrev pub longestStatement : ℕ
 longestStatement = maxHours + maxUnits
 
+-- what a call for the statement promises, from the bytes lent to the bytes left
 abbrev pub Answers : Load → List ℕ → List ℕ → Written → Type 0
 Answers x lent left w = AnswersBy statementOf longestStatement x lent left w

@@ -27,9 +27,11 @@ pub record Sheet : Type 0 where
   pub imports : List Spot
   pub exports : List Spot
 
+-- before the first record
 abbrev pub noSheet : Sheet
 noSheet = record { priced = false; price = 0; imports = []; exports = [] }
 
+-- the places that a tally uses
 abbrev pub sheetOf : Tally → Sheet
 sheetOf t = record { priced = t .priced; price = t .price; imports = spots (t .imports); exports = spots (t .exports) }
 
@@ -58,12 +60,15 @@ addFault Gh n h = markUnknown
 addFault Fi n h = markUnknown
 addFault Fe n h = markUnknown
 
+-- with the prices at a place
 abbrev pub withPrice : ℕ → Sheet → Sheet
 withPrice at h = record { priced = true; price = at; imports = h .imports; exports = h .exports }
 
+-- with an import at a place, by name
 abbrev pub withImport : Spot → Sheet → Sheet
 withImport s h = record { priced = h .priced; price = h .price; imports = putSpot s (h .imports); exports = h .exports }
 
+-- with an export at a place, by name
 abbrev pub withExport : Spot → Sheet → Sheet
 withExport s h = record { priced = h .priced; price = h .price; imports = h .imports; exports = putSpot s (h .exports) }
 

@@ -31,6 +31,7 @@ pub record WritesLines (d : List ℕ) (c : Cursor) (ls : List Line) (e : List �
 
 -- ---- the lines of a day's amounts, as the book hands them over
 
+-- an hour's
 abbrev pub linesOfHour : ℕ → HourAmounts → List Line
 linesOfHour h a = hourLines h (guaranteesReply (a .guarantees)) (chargesReply (a .imports)) (chargesReply (a .exports))
 
@@ -38,13 +39,16 @@ linesOfHour h a = hourLines h (guaranteesReply (a .guarantees)) (chargesReply (a
 abbrev pub linesOfHours : ℕ → List HourAmounts → List Line
 linesOfHours n hs = hoursTo n (λ (h : ℕ). linesOfHour h (getD hs (h - 1) noHour))
 
+-- a unit's
 abbrev pub linesOfUnit : UnitAmounts → List Line
 linesOfUnit u = unitLines (u .name) (dayReply (u .day))
 
+-- those of each unit, one after the other
 unfoldable pub linesOfUnits : List UnitAmounts → List Line
 linesOfUnits [] = []
 linesOfUnits (u ∷ us) = linesOfUnit u ++ linesOfUnits us
 
+-- all of them
 abbrev pub linesOfDay : DayAmounts → List Line
 linesOfDay d = linesOfHours dayHours (d .hours) ++ linesOfUnits (take (d .n) (d .units))
 
@@ -54,5 +58,6 @@ pub record FewLines (a : HourAmounts) : Type 0 where
   pub imports : a .imports .charges .n ≤ maxCharges
   pub exports : a .exports .charges .n ≤ maxCharges
 
+-- so in each hour of the day
 pub record FewInAll (hs : List HourAmounts) : Type 0 where
   pub hour : (j : ℕ) → j < dayHours → (d : HourAmounts) → FewLines (getD hs j d)
