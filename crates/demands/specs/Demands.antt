@@ -21,7 +21,7 @@ use Rattle.book.specs.Register.{Reg, standing, capped, writeAll, Call, file, co
 use Rattle.book.specs.Register.{Question, recordOf, freeBytes, hourGuarantees, dayOf, failureCharge, answer, Reply, refused, accepted, place, number, guarantees, unitDay, charge}
 use Rattle.book.specs.Meaning.{belongs, load, bookOf, outcome, Meets}
 use Rattle.book.specs.Session.{Session, next, Undo, Shows}
-use Rattle.demands.specs.Checks.{first, checks}
+use Rattle.demands.specs.Checks.{firstFault, checks}
 use Rattle.demands.specs.Formulas.{Formulas}
 
 -- ---- demand 1
@@ -66,17 +66,17 @@ Done (close c) = Taken (close c)
 Done (change c) = Taken (change c)
 Done (ask q) = Answered q
 
--- For each call, each book and each buffer of any length, and whatever the method leaves: `checks` is 01's order of checks (`Checks.antt`), and `first` the number of the first that fails, 0
+-- For each call, each book and each buffer of any length, and whatever the method leaves: `checks` is 01's order of checks (`Checks.antt`), and `firstFault` the number of the first that fails, 0
 -- where none does. "Each moment before closing" is every book whose `closed` is false: closed is a check like the others, with number 9.
 pub record Demand1 (call : Call) (b : Book) (s : List ℕ) (b′ : Book) (r : Reply) (s′ : List ℕ) : Type 0 where
   -- "Every record that document 01 allows is taken, for each book, each buffer length and each moment before closing, and every question it allows is answered."
-  pub allowed : first (checks call b s) ≡ 0 → Done call b s b′ r s′
+  pub allowed : firstFault (checks call b s) ≡ 0 → Done call b s b′ r s′
   -- "Every other call is refused with the number that 01's order of checks gives,"
-  pub refuses : (n : ℕ) → first (checks call b s) ≡ suc n → r ≡ refused (suc n)
+  pub refuses : (n : ℕ) → firstFault (checks call b s) ≡ suc n → r ≡ refused (suc n)
   -- "and the book with its standing records, amounts and free bytes remains as it was."
-  pub remains : (n : ℕ) → first (checks call b s) ≡ suc n → (b′ ≡ b) × (s′ ≡ s)
+  pub remains : (n : ℕ) → firstFault (checks call b s) ≡ suc n → (b′ ≡ b) × (s′ ≡ s)
   -- so no question tells the two apart, whatever it asks for
-  pub asked-again : (n : ℕ) → first (checks call b s) ≡ suc n → (q : Question) → outcome (stepOf (ask q)) b′ s′ ≡ outcome (stepOf (ask q)) b s
+  pub asked-again : (n : ℕ) → firstFault (checks call b s) ≡ suc n → (q : Question) → outcome (stepOf (ask q)) b′ s′ ≡ outcome (stepOf (ask q)) b s
 
 -- ---- demand 2
 
@@ -93,7 +93,7 @@ pub record Amounts (b : Book) (s : List ℕ) (l : List Change) : Type 0 where
   pub no-imports : (h : ℕ) (k : Key) (t : List ℕ) → askHourOf Im h ≡ got k t → byName (hourKey Im (k .hour)) (standing l) ≡ []
       → (b′ : Book) (r : Reply) (s′ : List ℕ) → Meets (ask (hourGuarantees h)) b s b′ r s′ → r ≡ guarantees [] (pos 0)
   -- "Day total of a unit = .. over all its intervals, plus its start-up amounts (120 ticks a cent). The reversal is max(0, -total)."
-  pub day : (n : List ℕ) (k : Key) (t : List ℕ) → askUnit n ≡ got k t → first (checks (ask (dayOf n)) b s) ≡ 0
+  pub day : (n : List ℕ) (k : Key) (t : List ℕ) → askUnit n ≡ got k t → firstFault (checks (ask (dayOf n)) b s) ≡ 0
       → (b′ : Book) (r : Reply) (s′ : List ℕ) → Meets (ask (dayOf n)) b s b′ r s′
       → r ≡ unitDay (Σℤ dayHours (λ (j : ℕ). hourTicks (unitAt k (standing l) j) (priceOf (standing l) (1 + j))))
       (maxℤ (pos 0) (negℤ (Σℤ dayHours (λ (j : ℕ). hourTicks (unitAt k (standing l) j) (priceOf (standing l) (1 + j))))))

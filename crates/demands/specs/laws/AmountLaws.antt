@@ -21,7 +21,7 @@ use Rattle.book.specs.Amounts.{Pick, is, HourPricing, priced, priceOf, hourKey,
 use Rattle.book.specs.Register.{Reg, standing, writeAll, keyed, asking, ask, Question, hourGuarantees, dayOf, failureCharge, answer, Reply, refused, guarantees, unitDay}
 use Rattle.book.specs.Meaning.{Load, belongs, load, leaving, stepped, outcome, Meets}
 use Rattle.book.specs.laws.LoadLaws.{loaded-from}
-use Rattle.demands.specs.Checks.{first, checksOver, keyFirst, dayChecks, _gives_}
+use Rattle.demands.specs.Checks.{firstFault, checksOver, keyFirst, dayChecks, _gives_}
 use Rattle.demands.specs.Demands.{Amounts, Demand2}
 use Rattle.demands.specs.laws.FormulaLaws.{formulas}
 
@@ -42,12 +42,12 @@ module _ (b : Book) (s : List ℕ) (l : List Change) (e : load b s ≡ belongs l
   abbrev total : Key → ℤ
   total k = dayTotal k (standing l) (priceOf (standing l))
 
-  day-is : (k : Key) → first (dayChecks (standing l) k) ≡ 0 → unitDayOf k (standing l) (priceOf (standing l)) ≡ unitDay (total k) (reversal (total k))
+  day-is : (k : Key) → firstFault (dayChecks (standing l) k) ≡ 0 → unitDayOf k (standing l) (priceOf (standing l)) ≡ unitDay (total k) (reversal (total k))
   unfolding unitDayOf
   day-is k = go (every dayHours (λ (j : ℕ). absent (unitAt k (standing l) j)))
       (every dayHours (λ (j : ℕ). payable (unitAt k (standing l) j) (priceOf (standing l) (1 + j))))
     where
-      go : (x y : Bool) → first ((x gives 11) ∷ (not y gives 15) ∷ []) ≡ 0
+      go : (x y : Bool) → firstFault ((x gives 11) ∷ (not y gives 15) ∷ []) ≡ 0
           → cond x (refused 11) (cond y (unitDay (total k) (reversal (total k))) (refused 15)) ≡ unitDay (total k) (reversal (total k))
       go true y z = absurd (omega arith)
       go false true z = refl
@@ -68,8 +68,8 @@ module _ (b : Book) (s : List ℕ) (l : List Change) (e : load b s ≡ belongs l
     day = λ n k t f z b′ r s′ m.
         told-is (dayOf n) b′ r s′ m
         ∙ ap (λ (x : Asked). keyed x (λ (j : Key). unitDayOf j (standing l) (priceOf (standing l)))) f
-        ∙ day-is k (sym (ap (λ (x : Load). first (checksOver (ask (dayOf n)) (length s) (b .closed) x)) e ∙ ap
-        (λ (x : Asked). first (keyFirst x (dayChecks (standing l)))) f) ∙ z);
+        ∙ day-is k (sym (ap (λ (x : Load). firstFault (checksOver (ask (dayOf n)) (length s) (b .closed) x)) e ∙ ap
+        (λ (x : Asked). firstFault (keyFirst x (dayChecks (standing l)))) f) ∙ z);
     failure = λ m h n k t f x u p q b′ r s′ w.
         told-is (failureCharge m h n) b′ r s′ w
         ∙ ap (λ (y : Asked). keyed y (λ (j : Key). chargeOf j (standing l) (priceOf (standing l)))) f

@@ -24,7 +24,7 @@ use Rattle.book.specs.laws.PlaceLaws.{place-shows}
 use Rattle.book.specs.laws.CallLaws.{unmoved, called-long}
 use Rattle.book.specs.laws.LoadLaws.{loaded-from, loaded-valid, load-whole}
 use Rattle.book.specs.laws.ReplayLaws.{called-valid}
-use Rattle.demands.specs.Checks.{Check, _gives_, first, read, recordChecks, none, backChecks, closeChecks, keyFirst}
+use Rattle.demands.specs.Checks.{Check, _gives_, firstFault, read, recordChecks, none, backChecks, closeChecks, keyFirst}
 use Rattle.demands.specs.Checks.{missing, hourChecks, dayChecks, chargeChecks, questionChecks, callChecks, checksOver, checks}
 use Rattle.demands.specs.Demands.{Taken, IsAnswer, Done, Demand1}
 
@@ -39,13 +39,13 @@ abbrev Told : ℕ → Reply → Type 0
 Told zero r = IsAnswer r
 Told (suc n) r = r ≡ refused (suc n)
 
-record-judged : (g : Reg) (lent : ℕ) (c : Change) → Judged (first (recordChecks g lent c)) (listed (fine c) lent g)
+record-judged : (g : Reg) (lent : ℕ) (c : Change) → Judged (firstFault (recordChecks g lent c)) (listed (fine c) lent g)
 unfolding refusal
 record-judged g lent (filed r) =
     go (g .closed) (stands (r .key) (standing (g .list))) (ltb (count (r .key) (standing (g .list))) (limitOf (r .key))) (ltb (length (g .list)) maxChanges)
     (leb (length (writeAll (g .list)) + length (write (filed r))) (capped lent))
   where
-    go : (a b c d e : Bool) → Judged (first ((a gives 9) ∷ (b gives 10) ∷ (not c gives 12) ∷ (not d gives 13) ∷ (not e gives 13) ∷ []))
+    go : (a b c d e : Bool) → Judged (firstFault ((a gives 9) ∷ (b gives 10) ∷ (not c gives 12) ∷ (not d gives 13) ∷ (not e gives 13) ∷ []))
         (cond a (answered (refused 9)) (judged (filed r) g (cond b 10 (cond c (cond d (cond e 0 13) 13) 12))))
     go true b c d e = refl
     go false true c d e = refl
@@ -57,7 +57,7 @@ record-judged g lent (corrected r) =
     go (g .closed) (stands (r .key) (standing (g .list))) (ltb (length (g .list)) maxChanges)
     (leb (length (writeAll (g .list)) + length (write (corrected r))) (capped lent))
   where
-    go : (a b d e : Bool) → Judged (first ((a gives 9) ∷ (not b gives 11) ∷ (not d gives 13) ∷ (not e gives 13) ∷ []))
+    go : (a b d e : Bool) → Judged (firstFault ((a gives 9) ∷ (not b gives 11) ∷ (not d gives 13) ∷ (not e gives 13) ∷ []))
         (cond a (answered (refused 9)) (judged (corrected r) g (cond b (cond d (cond e 0 13) 13) 11)))
     go true b d e = refl
     go false false d e = refl
@@ -67,7 +67,7 @@ record-judged g lent (corrected r) =
 record-judged g lent (withdrawn k) =
     go (g .closed) (stands k (standing (g .list))) (ltb (length (g .list)) maxChanges) (leb (length (writeAll (g .list)) + length (write (withdrawn k))) (capped lent))
   where
-    go : (a b d e : Bool) → Judged (first ((a gives 9) ∷ (not b gives 11) ∷ (not d gives 13) ∷ (not e gives 13) ∷ []))
+    go : (a b d e : Bool) → Judged (firstFault ((a gives 9) ∷ (not b gives 11) ∷ (not d gives 13) ∷ (not e gives 13) ∷ []))
         (cond a (answered (refused 9)) (judged (withdrawn k) g (cond b (cond d (cond e 0 13) 13) 11)))
     go true b d e = refl
     go false false d e = refl
@@ -75,38 +75,38 @@ record-judged g lent (withdrawn k) =
     go false true true false = refl
     go false true true true = tt
 
-listed-judged : (want : Wanted) (s : List ℕ) (lent : ℕ) (g : Reg) → Judged (first (read (parse want s) (recordChecks g lent))) (listed (parse want s) lent g)
+listed-judged : (want : Wanted) (s : List ℕ) (lent : ℕ) (g : Reg) → Judged (firstFault (read (parse want s) (recordChecks g lent))) (listed (parse want s) lent g)
 listed-judged want s lent g = go (parse want s) refl
   where
-    go : (i : Input Change) → parse want s ≡ i → Judged (first (read i (recordChecks g lent))) (listed i lent g)
+    go : (i : Input Change) → parse want s ≡ i → Judged (firstFault (read i (recordChecks g lent))) (listed i lent g)
     go (fault zero) e = absurd (parse-fault want s zero e refl)
     go (fault (suc n)) e = refl
     go (fine c) e = record-judged g lent c
 
-back-judged : (m lent : ℕ) (g : Reg) → Judged (first (backChecks g m)) (takenBack m lent g)
+back-judged : (m lent : ℕ) (g : Reg) → Judged (firstFault (backChecks g m)) (takenBack m lent g)
 back-judged m lent g = go m (g .closed) (g .list)
   where
     go : (n : ℕ) (b : Bool) (l : List Change)
-        → Judged (first (backChecks (record { list = l; closed = b }) n)) (unless-closed n (record { list = l; closed = b }) (shorter b l))
+        → Judged (firstFault (backChecks (record { list = l; closed = b }) n)) (unless-closed n (record { list = l; closed = b }) (shorter b l))
     go zero true l = refl
     go zero false [] = refl
     go zero false (c ∷ l) = tt
     go (suc n) b l = refl
 
-close-judged : (m lent : ℕ) (g : Reg) → Judged (first (closeChecks g m)) (closing m lent g)
+close-judged : (m lent : ℕ) (g : Reg) → Judged (firstFault (closeChecks g m)) (closing m lent g)
 close-judged m lent g = go m (g .closed)
   where
-    go : (n : ℕ) (b : Bool) → Judged (first (closeChecks (record { list = g .list; closed = b }) n))
+    go : (n : ℕ) (b : Bool) → Judged (firstFault (closeChecks (record { list = g .list; closed = b }) n))
         (unless-closed n (record { list = g .list; closed = b }) (becomes (record { list = g .list; closed = true })))
     go zero true = refl
     go zero false = tt
     go (suc n) b = refl
 
-any-judged : (s : List ℕ) (lent : ℕ) (g : Reg) → Judged (first (callChecks (change s) lent g)) (stepOf (change s) lent g)
+any-judged : (s : List ℕ) (lent : ℕ) (g : Reg) → Judged (firstFault (callChecks (change s) lent g)) (stepOf (change s) lent g)
 any-judged s lent g = go (begins takeBackBytes s) (begins closeBytes s)
   where
     go : (a b : Bool) → Judged
-        (first (cond a (backChecks g (bareTakeBack s)) (cond b (closeChecks g (bareClose s)) (read (parse Any s) (recordChecks g lent)))))
+        (firstFault (cond a (backChecks g (bareTakeBack s)) (cond b (closeChecks g (bareClose s)) (read (parse Any s) (recordChecks g lent)))))
         (cond a (takenBack (bareTakeBack s)) (cond b (closing (bareClose s)) (listed (parse Any s))) lent g)
     go true b = back-judged (bareTakeBack s) lent g
     go false true = close-judged (bareClose s) lent g
@@ -114,8 +114,8 @@ any-judged s lent g = go (begins takeBackBytes s) (begins closeBytes s)
 
 -- ---- questions
 
-keyed-told : (x : Asked) → ((n : ℕ) → x ≡ bad n → 0 < n) → (f : Key → Reply) (cs : Key → List Check) → ((k : Key) → Told (first (cs k)) (f k))
-    → Told (first (keyFirst x cs)) (keyed x f)
+keyed-told : (x : Asked) → ((n : ℕ) → x ≡ bad n → 0 < n) → (f : Key → Reply) (cs : Key → List Check) → ((k : Key) → Told (firstFault (cs k)) (f k))
+    → Told (firstFault (keyFirst x cs)) (keyed x f)
 keyed-told (bad zero) h f cs t = absurd (omega (arith, h zero refl))
 keyed-told (bad (suc n)) h f cs t = refl
 keyed-told (got k rest) h f cs t = t k
@@ -124,42 +124,42 @@ module _ (lent : ℕ) (g : Reg) where
   abbrev rs : List Rec
   rs = standing (g .list)
 
-  place-told : (k : Key) → Told (first ((absent (pick k rs) gives 11) ∷ [])) (placeOf k (g .list))
+  place-told : (k : Key) → Told (firstFault ((absent (pick k rs) gives 11) ∷ [])) (placeOf k (g .list))
   place-told k = go (pick k (standing (g .list))) (place-shows k (g .list))
     where
-      go : (p : Pick) → Shows p (writeAll (g .list)) (placeOf k (g .list)) → Told (first ((absent p gives 11) ∷ [])) (placeOf k (g .list))
+      go : (p : Pick) → Shows p (writeAll (g .list)) (placeOf k (g .list)) → Told (firstFault ((absent p gives 11) ∷ [])) (placeOf k (g .list))
       go (is x) w = subst⁻¹ IsAnswer (w .answer) tt
       go nil w = w
 
-  hour-told : (k : Key) → Told (first (hourChecks rs k)) (guaranteesOf rs (priceOf rs) (k .hour))
+  hour-told : (k : Key) → Told (firstFault (hourChecks rs k)) (guaranteesOf rs (priceOf rs) (k .hour))
   unfolding guaranteesOf
   hour-told k = go (priceOf rs (k .hour)) (byName (hourKey Im (k .hour)) rs) (byName (hourKey Ex (k .hour)) rs)
     where
-      go : (p : HourPricing) (im es : List Rec) → Told (first (((not (none im) && missing p) gives 15) ∷ [])) (guaranteesAt p im es)
+      go : (p : HourPricing) (im es : List Rec) → Told (firstFault (((not (none im) && missing p) gives 15) ∷ [])) (guaranteesAt p im es)
       go p [] es = tt
       go unpriced (i ∷ im) es = refl
       go (priced p) (i ∷ im) es = tt
 
-  day-told : (k : Key) → Told (first (dayChecks rs k)) (unitDayOf k rs (priceOf rs))
+  day-told : (k : Key) → Told (firstFault (dayChecks rs k)) (unitDayOf k rs (priceOf rs))
   unfolding unitDayOf
   day-told k = go (every dayHours (λ (j : ℕ). absent (unitAt k rs j))) (every dayHours (λ (j : ℕ). payable (unitAt k rs j) (priceOf rs (1 + j))))
     where
-      go : (a b : Bool) → Told (first ((a gives 11) ∷ (not b gives 15) ∷ []))
+      go : (a b : Bool) → Told (firstFault ((a gives 11) ∷ (not b gives 15) ∷ []))
           (cond a (refused 11) (cond b (unitDay (dayTotal k rs (priceOf rs)) (reversal (dayTotal k rs (priceOf rs)))) (refused 15)))
       go true b = refl
       go false true = tt
       go false false = refl
 
-  charge-told : (k : Key) → Told (first (chargeChecks rs k)) (chargeOf k rs (priceOf rs))
+  charge-told : (k : Key) → Told (firstFault (chargeChecks rs k)) (chargeOf k rs (priceOf rs))
   unfolding chargeOf
   charge-told k = go (pick k rs) (priceOf rs (k .hour))
     where
-      go : (x : Pick) (p : HourPricing) → Told (first ((absent x gives 11) ∷ (missing p gives 15) ∷ [])) (chargeAt x p)
+      go : (x : Pick) (p : HourPricing) → Told (firstFault ((absent x gives 11) ∷ (missing p gives 15) ∷ [])) (chargeAt x p)
       go nil p = refl
       go (is r) unpriced = refl
       go (is r) (priced p) = tt
 
-  question-told : (q : Question) → Told (first (questionChecks q rs)) (answer q lent g)
+  question-told : (q : Question) → Told (firstFault (questionChecks q rs)) (answer q lent g)
   question-told (recordOf m h n) = keyed-told (keyAsked m h n) (ask-fault m h n) _ _ place-told
   question-told (countOf m h) = keyed-told (askHour m h) (askHour-fault m h) _ _ (λ k. tt)
   question-told freeBytes = tt
@@ -195,7 +195,7 @@ module _ (call : Call) (b : Book) (s : List ℕ) (b′ : Book) (r : Reply) (s′
   same : b′ ≡ b → s′ ≡ s → (q : Question) → outcome (stepOf (ask q)) b′ s′ ≡ outcome (stepOf (ask q)) b s
   same e f q = ap₂ (λ (x : Book) (y : List ℕ). outcome (stepOf (ask q)) x y) e f
 
-  demanded : Verdict (first (checks call b s)) → Demand1 call b s b′ r s′
+  demanded : Verdict (firstFault (checks call b s)) → Demand1 call b s b′ r s′
   demanded v = record {
     allowed = λ e. subst Verdict e v;
     refuses = λ n e. subst Verdict e v .0;
@@ -231,9 +231,9 @@ module _ (call : Call) (b : Book) (s : List ℕ) (b′ : Book) (r : Reply) (s′
           holds = ap (λ (x : Book). load x s′) (w .0) ∙ load-whole h s′ (next-valid h f) (w .2);
         }
 
-    changed : (Taken call b s b′ r s′ → Done call b s b′ r s′) → Judged (first (callChecks call (length s) g)) (stepOf call (length s) g)
-        → Verdict (first (callChecks call (length s) g))
-    changed d = go (first (callChecks call (length s) g)) (stepOf call (length s) g) refl
+    changed : (Taken call b s b′ r s′ → Done call b s b′ r s′) → Judged (firstFault (callChecks call (length s) g)) (stepOf call (length s) g)
+        → Verdict (firstFault (callChecks call (length s) g))
+    changed d = go (firstFault (callChecks call (length s) g)) (stepOf call (length s) g) refl
       where
         go : (n : ℕ) (st : Step) → stepOf call (length s) g ≡ st → Judged n st → Verdict n
         go zero (becomes h) f j = d (taken h f)
@@ -252,7 +252,7 @@ module _ (b : Book) (s : List ℕ) (b′ : Book) (r : Reply) (s′ : List ℕ) w
       go (suc n) t w = (w .0 ∙ t, w .1, w .2)
 
   list-verdict : (call : Call) (m : Meets call b s b′ r s′) (l : List Change) (e : load b s ≡ belongs l)
-      → Verdict call b s b′ r s′ m (first (callChecks call (length s) (record { list = l; closed = b .closed })))
+      → Verdict call b s b′ r s′ m (firstFault (callChecks call (length s) (record { list = l; closed = b .closed })))
   list-verdict (file c) m l e = changed (file c) b s b′ r s′ m l e (λ x. x) (listed-judged (Only File) c (length s) (record { list = l; closed = b .closed }))
   list-verdict (correct c) m l e = changed (correct c) b s b′ r s′ m l e (λ x. x)
       (listed-judged (Only Correct) c (length s) (record { list = l; closed = b .closed }))
@@ -262,13 +262,13 @@ module _ (b : Book) (s : List ℕ) (b′ : Book) (r : Reply) (s′ : List ℕ) w
       (back-judged (bareTakeBack c) (length s) (record { list = l; closed = b .closed }))
   list-verdict (close c) m l e = changed (close c) b s b′ r s′ m l e (λ x. x) (close-judged (bareClose c) (length s) (record { list = l; closed = b .closed }))
   list-verdict (change c) m l e = changed (change c) b s b′ r s′ m l e (λ x. x) (any-judged c (length s) (record { list = l; closed = b .closed }))
-  list-verdict (ask q) m l e = question-verdict q m l e (first (questionChecks q (standing l)))
+  list-verdict (ask q) m l e = question-verdict q m l e (firstFault (questionChecks q (standing l)))
       (question-told (length s) (record { list = l; closed = b .closed }) q)
 
   -- the theorem: for every call, book and bytes
   pub demand1 : (call : Call) → Meets call b s b′ r s′ → Demand1 call b s b′ r s′
   demand1 call m = demanded call b s b′ r s′ m (go (load b s) refl)
     where
-      go : (x : Load) → load b s ≡ x → Verdict call b s b′ r s′ m (first (checksOver call (length s) (b .closed) x))
+      go : (x : Load) → load b s ≡ x → Verdict call b s b′ r s′ m (firstFault (checksOver call (length s) (b .closed) x))
       go mismatched e = kept call b s b′ r s′ m (refused 16) (ap (stepped (stepOf call) b s) e)
       go (belongs l) e = list-verdict call m l e
