@@ -161,7 +161,7 @@ mod tests {
         let path = concat!(env!("CARGO_MANIFEST_DIR"), "/../crates/book/src/log/index.rt");
         let source = fs::read_to_string(path).expect("the source of the index");
         let steps = [
-            "wide(order(mark)) * 32 + wide(key.hour)",
+            "wide(key_order(mark)) * 32 + wide(key.hour)",
             "let mut weight: usize = 449;",
             "sum = sum + wide(bytes[i]) * weight;",
             "weight = weight * 31 % 8192;",

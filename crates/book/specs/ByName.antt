@@ -1,8 +1,7 @@
 -- 01, "The statement and its examples": "per import by name", "for each unit by name". What stands, by decoded name.
 use mathlib.Core.List.{List, [], _∷_}
-use mathlib.Core.Bool.{Bool, cond}
-use lib.Dec.{eqb}
-use Rattle.book.specs.Layer.{Key, Name, Rec, sameHour, order, decodedBytes, nameBefore}
+use mathlib.Core.Bool.{cond}
+use Rattle.book.specs.Layer.{Key, Name, Rec, sameHour, sameKeyMark, decodedBytes, nameBefore}
 
 -- ---- the records of a mark and hour
 
@@ -24,10 +23,7 @@ addName n [] = n ∷ []
 addName n (x ∷ xs) = cond (nameBefore (decodedBytes n) (decodedBytes x)) (n ∷ x ∷ xs)
     (cond (nameBefore (decodedBytes x) (decodedBytes n)) (x ∷ addName n xs) (x ∷ xs))
 
-abbrev pub sameMark : Key → Key → Bool
-sameMark a b = eqb (order (a .mark)) (order (b .mark))
-
 -- the names under which records of the key's mark stand, in any hour
 unfoldable pub namesOf : Key → List Rec → List Name
 namesOf k [] = []
-namesOf k (r ∷ rs) = cond (sameMark k (r .key)) (addName (r .key .name) (namesOf k rs)) (namesOf k rs)
+namesOf k (r ∷ rs) = cond (sameKeyMark k (r .key)) (addName (r .key .name) (namesOf k rs)) (namesOf k rs)

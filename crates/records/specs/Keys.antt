@@ -11,7 +11,7 @@ use Rattle.money.specs.Units.{dayHours}
 use Rattle.records.specs.Reading.{Res, bad, got, _>>=_, check}
 use Rattle.records.specs.Numbers.{between}
 use Rattle.records.specs.Names.{decodeName, emptyName, storedName, spell, bytesOf}
-use Rattle.records.specs.Marks.{mark, hasName, isFailure, order}
+use Rattle.records.specs.Marks.{mark, hasName, isFailure, sameMark, keyMark}
 use Rattle.records.specs.Changes.{noKey}
 use Rattle.records.specs.declared.marks.Mark.{Mark}
 use Rattle.records.specs.declared.marks.Mark.the-variants.{Gh}
@@ -19,9 +19,13 @@ use Rattle.records.specs.declared.keys.Key.{Key}
 use Rattle.records.specs.declared.keys.KeyAnswer.{KeyAnswer}
 use Rattle.records.specs.declared.keys.NameAnswer.{NameAnswer}
 
+-- marks whose records stand under one key
+abbrev pub sameKeyMark : Key → Key → Bool
+sameKeyMark a b = sameMark (keyMark (a .mark)) (keyMark (b .mark))
+
 -- the same mark and hour
 unfoldable pub sameHour : Key → Key → Bool
-sameHour a b = eqb (order (a .mark)) (order (b .mark)) && eqb (a .hour) (b .hour)
+sameHour a b = sameKeyMark a b && eqb (a .hour) (b .hour)
 
 -- "Key: mark, hour, decoded name"
 unfoldable pub same : Key → Key → Bool

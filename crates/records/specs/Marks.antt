@@ -1,11 +1,12 @@
 -- 01, "Records": the marks. Assumes nothing.
 --
 -- A mark that joins costs a line in each of these tables; what is proved of all marks (`MarkLaws.antt`, and `markAmong` by induction) goes along the listing and stays as it is.
--- Definitions: here `markBytes`, `listing`, `hasName`, `isFailure`, `order`, `limit`; `layout` (Layouts), `chargeFor` and `chargeTicksFor` (Amounts), `ofHour` (HourRecord), `bodyMost` (LengthLaws).
+-- Definitions: here `markBytes`, `listing`, `hasName`, `isFailure`, `order`, `keyMark`, `limit`; `layout` (Layouts), `chargeFor` and `chargeTicksFor` (Amounts),
+-- `ofHour` (HourRecord), `bodyMost` (LengthLaws).
 -- Laws: `order-back` (MarkLaws), `head-again` for each kind (ChangeLaws), `head-file` and, for a new layout, a `Layout` (ViewLaws), `askMark-bytes` (KeyLaws), `lawful-layout` (ReaderLaws),
 -- `firm-layout` (FirmLaws), `brief-layout` (LengthLaws).
--- Code: `Mark`, `MARKS`, `bytes_of`, `listed`, `has_name`, `is_failure`, `order`, `limit` (marks.rt), `of_hour` (hour_records.rt); with an arm in their proofs `layout_then` (layouts.rt) and
--- `charge_for` (amounts.rt).
+-- Code: `Mark`, `MARKS`, `bytes_of`, `listed`, `has_name`, `is_failure`, `order`, `key_mark`, `limit` (marks.rt), `of_hour` (hour_records.rt); with an arm in their proofs
+-- `layout_then` (layouts.rt) and `charge_for` (amounts.rt).
 -- In the crate hour_offset: `addNumber` and `adding` (Tally), the two `go` of TallyLaws, and with an arm in its proof `with_record` (tally.rt).
 use mathlib.Core.List.{List, [], _∷_}
 use mathlib.Core.Bool.{Bool, true, false, cond, _&&_}
@@ -76,6 +77,18 @@ order Fe = 5
 
 abbrev pub sameMark : Mark → Mark → Bool
 sameMark a b = eqb (order a) (order b)
+
+-- the mark under whose key a record stands: its own
+abbrev pub keyMark : Mark → Mark
+keyMark Pr = Pr
+keyMark Im = Im
+keyMark Ex = Ex
+keyMark Gh = Gh
+keyMark Fi = Fi
+keyMark Fe = Fe
+
+abbrev pub keyOrder : Mark → ℕ
+keyOrder m = order (keyMark m)
 
 -- "hour holds 16 of that mark (8 for `GH`)"
 abbrev pub hourLimit : ℕ

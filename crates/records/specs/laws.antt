@@ -16,7 +16,6 @@ pub mod FitLaws
 pub mod AmountLaws
 pub mod HeadLaws
 pub mod SpelledLaws
-pub mod NameHeadLaws
 pub mod BookLaws
 pub mod Examples
 pub mod PriceExample

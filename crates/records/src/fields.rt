@@ -2,13 +2,15 @@
 use money::refusals::ENDS_EARLY;
 use money::refusals::HOUR_OUTSIDE;
 use money::refusals::NUMBER_OUTSIDE;
+use money::units::HOURS;
 use money::units::Price;
 use money::units::PriceRead;
 use money::units::Quantity;
 use money::units::QuantityRead;
 ghost use mathlib.Core.Path.{_≡_};
+ghost use Rattle.money.specs.Units.{dayHours};
 ghost use Rattle.records.specs.Reading.{from, byte};
-ghost use Rattle.records.specs.Numbers.{le32, word, signed, price, quantity, amount, hour};
+ghost use Rattle.records.specs.Numbers.{between, le32, word, signed, price, quantity, amount, hour};
 ghost use Rattle.records.specs.tables.Inner.{num, NumIn, priceAt, PriceIn, quantityAt, QuantityIn, shown, EndIn, then, guarded, placeOf};
 
 // Where a reader stopped: at a place of the bytes, or with the number of the first fault.
@@ -220,6 +222,15 @@ fn hour_no(k: u8) -> HourField
     }
 }
 
+pub(crate) fn hour_ok(hour: u8) -> bool
+    ensures { λ r. ⌜ r ≡ between 1 dayHours hour ⌝ }
+{
+    if hour < 1 {
+        return false;
+    }
+    hour as usize <= HOURS
+}
+
 pub(crate) fn hour_then(s: &[u8], e: End) -> HourField
     ensures { λ r. ⌜ (shown (now (s .entry)) (r .end) (r .hour) ≡ then (now (s .entry)) e hour) × EndIn (now (s .entry)) (r .end) ⌝ }
 {
@@ -229,16 +240,13 @@ pub(crate) fn hour_then(s: &[u8], e: End) -> HourField
                 return hour_no(ENDS_EARLY);
             }
             let hour = s[at];
-            if hour < 1 {
-                return hour_no(HOUR_OUTSIDE);
+            if hour_ok(hour) {
+                return HourField {
+                    end: End::At(at + 1),
+                    hour,
+                };
             }
-            if 24 < hour {
-                return hour_no(HOUR_OUTSIDE);
-            }
-            HourField {
-                end: End::At(at + 1),
-                hour,
-            }
+            hour_no(HOUR_OUTSIDE)
         }
         End::No(k) => hour_no(k),
     }

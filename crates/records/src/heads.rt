@@ -1,23 +1,20 @@
-// The head of a change, which is its mark, hour and name: read by itself, and the bytes by which the records of a key are found.
+// The head of a change, which is its mark, hour and name: read by itself, and the bytes by which the records of a name are found.
 use crate::changes::name_then;
 use crate::fields::End;
 use crate::fields::hour_then;
 use crate::keys::Key;
 use crate::keys::KeyAnswer;
-use crate::keys::hour_ok;
 use crate::keys::key_no;
 use crate::marks::Kind;
 use crate::marks::Wanted;
 use crate::marks::has_name;
 use crate::marks::head_at;
-use crate::writing::HeadOut;
-use crate::writing::head_of;
+use crate::writing::NAME_HEAD_MAX;
+use crate::writing::write_key_name;
 use money::names::name_ok;
 ghost use mathlib.Core.Path.{_≡_};
-ghost use Prim.Native.Nat.{_≤_};
-ghost use lib.ListN.{take};
 ghost use Rattle.records.specs.Keys.{keyAnswer};
-ghost use Rattle.records.specs.tables.Heads.{headKey, keyOk, recordHead};
+ghost use Rattle.records.specs.tables.Heads.{headKey, nameable, NameHeadIs};
 
 // The key of the change that bytes begin with, or the number of the first fault in its head. Its fields are not read.
 pub fn head_key(s: &[u8]) -> KeyAnswer
@@ -42,30 +39,42 @@ pub fn head_key(s: &[u8]) -> KeyAnswer
     }
 }
 
-// Whether a record can have the key.
-fn key_ok(key: Key) -> bool
-    ensures { λ r. ⌜ r ≡ keyOk key ⌝ }
+// The bytes by which the records of a mark and name are told from others of the mark: those behind the hour. Not known of a name that none can have.
+pub struct NameHead {
+    pub known: bool,
+    pub len: usize,
+    pub bytes: [u8; NAME_HEAD_MAX],
+}
+
+// Whether a record of the key's mark can have its name.
+fn nameable(key: Key) -> bool
+    ensures { λ r. ⌜ r ≡ nameable key ⌝ }
 {
     let mark = key.mark;
     let name = key.name;
-    if hour_ok(key.hour) {
-        if has_name(mark) {
-            return name_ok(name);
-        }
-        return name.len == 0;
+    if has_name(mark) {
+        return name_ok(name);
     }
-    false
+    name.len == 0
 }
 
-// What every record of the key begins with, and no other record; of a key that no record can have, a byte that none begins with.
-pub fn record_head(key: Key) -> HeadOut
-    ensures { λ r. ⌜ (take (r .len) (r .bytes) ≡ recordHead key) × (r .len ≤ 44) ⌝ }
+pub fn name_head(key: Key) -> NameHead
+    ensures { λ r. ⌜ NameHeadIs key r ⌝ }
 {
-    if key_ok(key) {
-        return head_of(Kind::File, key);
+    let mut bytes = [0u8; NAME_HEAD_MAX];
+    if nameable(key) {
+        let mark = key.mark;
+        let name = key.name;
+        let len = write_key_name(Kind::File, mark, name, &mut bytes, 0);
+        return NameHead {
+            known: true,
+            len,
+            bytes,
+        };
     }
-    HeadOut {
-        len: 1,
-        bytes: [0u8; 44],
+    NameHead {
+        known: false,
+        len: 0,
+        bytes,
     }
 }

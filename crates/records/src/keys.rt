@@ -1,13 +1,15 @@
 // Keys, and the key that a question asks for.
 use crate::fields::End;
 use crate::fields::guard_end;
+use crate::fields::hour_ok;
 use crate::marks::Mark;
 use crate::marks::MarkRead;
 use crate::marks::has_name;
 use crate::marks::is_failure;
+use crate::marks::key_mark;
 use crate::marks::mark_at;
 use crate::marks::mark_no;
-use crate::marks::order;
+use crate::marks::same_mark;
 use crate::names::NameRead;
 use crate::names::decode;
 use crate::names::no_name;
@@ -22,7 +24,6 @@ ghost use mathlib.Core.Path.{_≡_};
 ghost use mathlib.Core.List.{List};
 ghost use Prim.Native.Nat.{ℕ};
 ghost use mathlib.Core.Bool.{false};
-ghost use Rattle.records.specs.Numbers.{between};
 ghost use Rattle.records.specs.Names.{decodeName, emptyName, storedName};
 ghost use Rattle.records.specs.Changes.{noKey};
 ghost use Rattle.records.specs.Keys.{sameHour, same, askMark, askName, askFailureMark, askFrom, ask, askFailure, askHourOf, askHour, askUnit, keyAnswer, nameAnswer};
@@ -51,10 +52,10 @@ pub fn same_hour(a: Key, b: Key) -> bool
 {
     let x = a.mark;
     let y = b.mark;
-    if order(x) != order(y) {
-        return false;
+    if same_mark(key_mark(x), key_mark(y)) {
+        return a.hour == b.hour;
     }
-    a.hour == b.hour
+    false
 }
 
 // The same mark, hour and decoded name.
@@ -90,15 +91,6 @@ fn asked_name(name: &[u8], mark: Mark) -> NameRead
         return unnamed(End::At(0));
     }
     unnamed(End::No(NAME_FAULT))
-}
-
-pub(crate) fn hour_ok(hour: u8) -> bool
-    ensures { λ r. ⌜ r ≡ between 1 24 hour ⌝ }
-{
-    if hour < 1 {
-        return false;
-    }
-    hour <= 24
 }
 
 // A mark and an hour, as a key without a name.

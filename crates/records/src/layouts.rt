@@ -22,8 +22,9 @@ use money::units::Quantity;
 use money::units::within_ok;
 ghost use mathlib.Core.Path.{_≡_};
 ghost use Prim.Native.Nat.{_≤_};
+ghost use Rattle.money.specs.Offers.{maxPairs};
 ghost use Rattle.records.specs.Layouts.{hourPrices, import, export, failure, schedules, reserveSeries, fewest, lists, within, allWithin, unitOf, unit, layout};
-ghost use Rattle.records.specs.tables.Inner.{shown, EndIn, ListsIs, then};
+ghost use Rattle.records.specs.tables.Inner.{shown, EndIn, Few, ListsIs, then};
 
 // The hour's energy prices, and its pre-dispatch price.
 pub struct HourPrices {
@@ -277,7 +278,7 @@ fn lists_then(
 }
 
 fn inside_list(o: Offer, values: [Quantity; INTERVALS]) -> bool
-    requires { ⌜ o .count ≤ 20 ⌝ }
+    requires { ⌜ o .count ≤ maxPairs ⌝ }
     ensures { λ r. ⌜ r ≡ within o values ⌝ }
 {
     let q = last_quantity(o);
@@ -292,7 +293,7 @@ fn all_inside(
     s2: [Quantity; INTERVALS],
     s3: [Quantity; INTERVALS],
 ) -> bool
-    requires { ⌜ (l .ahead .count ≤ 20) × (l .real .count ≤ 20) × (l .spinning .count ≤ 20) × (l .nonspinning .count ≤ 20) × (l .thirty .count ≤ 20) ⌝ }
+    requires { ⌜ Few l ⌝ }
     ensures { λ r. ⌜ r ≡ allWithin l d s1 s2 s3 ⌝ }
 {
     let da = l.ahead;

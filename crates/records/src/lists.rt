@@ -15,7 +15,7 @@ use money::units::Quantity;
 ghost use mathlib.Core.Path.{_≡_};
 ghost use Prim.Native.Nat.{_≤_};
 ghost use lib.ListN.{length};
-ghost use Rattle.money.specs.Offers.{lastQ};
+ghost use Rattle.money.specs.Offers.{lastQ, maxPairs};
 ghost use Rattle.records.specs.Reading.{from};
 ghost use Rattle.records.specs.Numbers.{pair, pairs, listOk, listFrom};
 ghost use Rattle.records.specs.tables.Inner.{pairAt, PairIn, OfferIs, then};
@@ -63,7 +63,7 @@ fn offer_no(k: u8) -> OfferRead
 
 // A number of pairs, 0 too: then the place that came is handed on. The places of the arrays behind them stay 0.
 fn read_pairs(s: &[u8], at: usize, n: usize) -> OfferRead
-    requires { ⌜ (n ≤ 20) × (at ≤ length (now s)) ⌝ }
+    requires { ⌜ (n ≤ maxPairs) × (at ≤ length (now s)) ⌝ }
     ensures { λ r. ⌜ OfferIs (now (s .entry)) (pairs n (from (now (s .entry)) at)) r ⌝ }
 {
     let mut prices = [Price(0); PAIRS_MAX];
@@ -113,10 +113,11 @@ fn read_list(s: &[u8], at: usize, lo: u32) -> OfferRead
             if n < lo {
                 return offer_no(LIST_FAULT);
             }
-            if 20 < n {
+            let count = n as usize;
+            if PAIRS_MAX < count {
                 return offer_no(LIST_FAULT);
             }
-            let r = read_pairs(s, first, n as usize);
+            let r = read_pairs(s, first, count);
             let e = r.end;
             match e {
                 End::At(_next) => {
@@ -140,7 +141,7 @@ pub(crate) fn list_then(s: &[u8], e: End, lo: u32) -> OfferRead
 }
 
 pub(crate) fn last_quantity(o: Offer) -> u32
-    requires { ⌜ o .count ≤ 20 ⌝ }
+    requires { ⌜ o .count ≤ maxPairs ⌝ }
     ensures { λ r. ⌜ r ≡ lastQ o ⌝ }
 {
     let n = o.count as usize;

@@ -7,7 +7,7 @@ ghost use mathlib.Core.List.{[], _∷_};
 ghost use Prim.Native.Nat.{_<_};
 ghost use lib.ListN.{length, getD};
 ghost use Rattle.records.specs.Reading.{from};
-ghost use Rattle.records.specs.Marks.{markBytes, is, listing, mark, hasName, isFailure, order, sameMark, limit};
+ghost use Rattle.records.specs.Marks.{markBytes, is, listing, mark, hasName, isFailure, order, sameMark, keyMark, keyOrder, limit};
 ghost use Rattle.records.specs.Changes.{allowed, inside, head, isFiling, isCorrection, isWithdrawal, sameKind};
 ghost use Rattle.records.specs.tables.Inner.{shown, EndIn, headed};
 
@@ -265,6 +265,27 @@ pub fn same_mark(a: Mark, b: Mark) -> bool
     ensures { λ r. ⌜ r ≡ sameMark a b ⌝ }
 {
     order(a) == order(b)
+}
+
+// The mark under whose key a record of a mark stands.
+pub fn key_mark(m: Mark) -> Mark
+    ensures { λ r. ⌜ r ≡ keyMark m ⌝ }
+{
+    match m {
+        Mark::Pr => Mark::Pr,
+        Mark::Im => Mark::Im,
+        Mark::Ex => Mark::Ex,
+        Mark::Gh => Mark::Gh,
+        Mark::Fi => Mark::Fi,
+        Mark::Fe => Mark::Fe,
+    }
+}
+
+// The place of that mark in the listing.
+pub fn key_order(m: Mark) -> u8
+    ensures { λ r. ⌜ r ≡ keyOrder m ⌝ }
+{
+    order(key_mark(m))
 }
 
 // How many records of a mark an hour may hold.

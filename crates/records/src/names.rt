@@ -11,9 +11,9 @@ use money::refusals::NAME_FAULT;
 ghost use mathlib.Core.Path.{_≡_};
 ghost use Prim.Native.Nat.{_+_, _≤_, _<_};
 ghost use lib.ListN.{length};
-ghost use Rattle.money.specs.Names.{decodedBytes, nameBefore};
+ghost use Rattle.money.specs.Names.{maxName, decodedBytes, nameBefore};
 ghost use Rattle.records.specs.Reading.{from};
-ghost use Rattle.records.specs.Names.{visible, hexVal, escaped, one, decodeName, unreserved, digit, spellByte, spell, nameField, emptyName, bytesOf, storedName, spellingOf};
+ghost use Rattle.records.specs.Names.{maxSpelling, visible, hexVal, escaped, one, decodeName, unreserved, digit, spellByte, spell, nameField, emptyName, bytesOf, storedName, spellingOf};
 ghost use Rattle.records.specs.tables.Inner.{then, Named, chr, ChrIn, Wrote};
 
 pub struct NameRead {
@@ -137,14 +137,14 @@ pub(crate) fn decode(spelled: &[u8]) -> NameRead
     if spelled.len() < 1 {
         return name_no(NAME_FAULT);
     }
-    if 36 < spelled.len() {
+    if SPELLING_MAX < spelled.len() {
         return name_no(NAME_FAULT);
     }
     let mut bytes = [0u8; NAME_MAX];
     let mut n: usize = 0;
     let mut at: usize = 0;
     while at < spelled.len() {
-        if 12 <= n {
+        if NAME_MAX <= n {
             return name_no(NAME_FAULT);
         }
         let b = one_at(spelled, at);
@@ -220,7 +220,7 @@ fn write_byte(x: u8, out: &mut [u8], at: usize) -> usize
 }
 
 pub(crate) fn write_name(name: Name, out: &mut [u8], at: usize) -> usize
-    requires { ⌜ (name .len ≤ 12) × (at + 36 ≤ length (now out)) ⌝ }
+    requires { ⌜ (name .len ≤ maxName) × (at + maxSpelling ≤ length (now out)) ⌝ }
     ensures { λ r. ⌜ Wrote (now (out .entry)) (now (out .exit)) at r (spell (bytesOf name)) ⌝ }
 {
     let n = name.len as usize;
@@ -261,8 +261,8 @@ fn byte_len(x: u8) -> usize
 }
 
 pub(crate) fn spelled_len(name: Name) -> usize
-    requires { ⌜ name .len ≤ 12 ⌝ }
-    ensures { λ r. ⌜ (r ≡ length (spell (bytesOf name))) × (r ≤ 36) ⌝ }
+    requires { ⌜ name .len ≤ maxName ⌝ }
+    ensures { λ r. ⌜ (r ≡ length (spell (bytesOf name))) × (r ≤ maxSpelling) ⌝ }
 {
     let n = name.len as usize;
     let mut sum: usize = 0;
@@ -284,10 +284,10 @@ fn read_name(s: &[u8], at: usize) -> NameRead
             if n < 1 {
                 return name_no(NAME_FAULT);
             }
-            if 36 < n {
+            let k = n as usize;
+            if SPELLING_MAX < k {
                 return name_no(NAME_FAULT);
             }
-            let k = n as usize;
             if s.len() - first < k {
                 return name_no(ENDS_EARLY);
             }

@@ -8,6 +8,7 @@ use money::units::INTERVALS;
 use money::units::Price;
 use money::units::Quantity;
 ghost use mathlib.Core.Path.{_≡_};
+ghost use Rattle.money.specs.Units.{intervals};
 ghost use Rattle.records.specs.Reading.{from, many};
 ghost use Rattle.records.specs.Numbers.{price, quantity};
 ghost use Rattle.records.specs.tables.Inner.{shown, EndIn, then};
@@ -23,7 +24,7 @@ pub struct QuantitySeries {
 }
 
 fn read_prices(s: &[u8], at: usize) -> PriceSeries
-    ensures { λ r. ⌜ (shown (now (s .entry)) (r .end) (r .values) ≡ many 12 price (from (now (s .entry)) at)) × EndIn (now (s .entry)) (r .end) ⌝ }
+    ensures { λ r. ⌜ (shown (now (s .entry)) (r .end) (r .values) ≡ many intervals price (from (now (s .entry)) at)) × EndIn (now (s .entry)) (r .end) ⌝ }
 {
     let mut values = [Price(0); INTERVALS];
     let mut next = at;
@@ -51,7 +52,7 @@ fn read_prices(s: &[u8], at: usize) -> PriceSeries
 }
 
 fn read_quantities(s: &[u8], at: usize) -> QuantitySeries
-    ensures { λ r. ⌜ (shown (now (s .entry)) (r .end) (r .values) ≡ many 12 quantity (from (now (s .entry)) at)) × EndIn (now (s .entry)) (r .end) ⌝ }
+    ensures { λ r. ⌜ (shown (now (s .entry)) (r .end) (r .values) ≡ many intervals quantity (from (now (s .entry)) at)) × EndIn (now (s .entry)) (r .end) ⌝ }
 {
     let mut values = [Quantity(0); INTERVALS];
     let mut next = at;
@@ -79,7 +80,7 @@ fn read_quantities(s: &[u8], at: usize) -> QuantitySeries
 }
 
 pub(crate) fn prices_then(s: &[u8], e: End) -> PriceSeries
-    ensures { λ r. ⌜ (shown (now (s .entry)) (r .end) (r .values) ≡ then (now (s .entry)) e (many 12 price)) × EndIn (now (s .entry)) (r .end) ⌝ }
+    ensures { λ r. ⌜ (shown (now (s .entry)) (r .end) (r .values) ≡ then (now (s .entry)) e (many intervals price)) × EndIn (now (s .entry)) (r .end) ⌝ }
 {
     match e {
         End::At(at) => read_prices(s, at),
@@ -94,7 +95,7 @@ pub(crate) fn prices_then(s: &[u8], e: End) -> PriceSeries
 }
 
 pub(crate) fn quantities_then(s: &[u8], e: End) -> QuantitySeries
-    ensures { λ r. ⌜ (shown (now (s .entry)) (r .end) (r .values) ≡ then (now (s .entry)) e (many 12 quantity)) × EndIn (now (s .entry)) (r .end) ⌝ }
+    ensures { λ r. ⌜ (shown (now (s .entry)) (r .end) (r .values) ≡ then (now (s .entry)) e (many intervals quantity)) × EndIn (now (s .entry)) (r .end) ⌝ }
 {
     match e {
         End::At(at) => read_quantities(s, at),

@@ -12,6 +12,7 @@ use crate::names::write_name;
 use crate::scan::View;
 use crate::scan::is_record;
 use crate::scan::kind_of;
+use money::names::NAME_MAX;
 use money::names::Name;
 use money::refusals::BYTES_LEFT_OVER;
 use money::refusals::MARK_UNKNOWN;
@@ -19,15 +20,21 @@ use money::refusals::NO_SPACE;
 ghost use mathlib.Core.Path.{_≡_};
 ghost use Prim.Native.Nat.{_+_, _≤_};
 ghost use lib.ListN.{length};
+ghost use Rattle.money.specs.Names.{maxName};
 ghost use Rattle.records.specs.Marks.{markBytes};
 ghost use Rattle.records.specs.Changes.{leadBytes, noName, nameBytes, headBytes, parse, putNumber, putBytes};
 ghost use Rattle.records.specs.tables.Viewed.{isView, viewedNumber, viewedBytes};
-ghost use Rattle.records.specs.tables.Inner.{Wrote, HeadIs};
+ghost use Rattle.records.specs.tables.Inner.{Wrote, maxNameHead, maxHead, HeadIs};
+
+// The most bytes of a name with its length byte, and of a head: two marks and the hour before it.
+pub const NAME_HEAD_MAX: usize = 37;
+
+const HEAD_MAX: usize = 42;
 
 // The bytes of a change before its fields.
 pub struct HeadOut {
     pub len: usize,
-    pub bytes: [u8; 44],
+    pub bytes: [u8; HEAD_MAX],
 }
 
 fn write_lead(kind: Kind, out: &mut [u8], at: usize) -> usize
@@ -73,8 +80,8 @@ fn write_none(kind: Kind, out: &mut [u8], at: usize) -> usize
     }
 }
 
-fn write_key_name(kind: Kind, mark: Mark, name: Name, out: &mut [u8], at: usize) -> usize
-    requires { ⌜ (name .len ≤ 12) × (at + 37 ≤ length (now out)) ⌝ }
+pub(crate) fn write_key_name(kind: Kind, mark: Mark, name: Name, out: &mut [u8], at: usize) -> usize
+    requires { ⌜ (name .len ≤ maxName) × (at + maxNameHead ≤ length (now out)) ⌝ }
     ensures { λ r. ⌜ Wrote (now (out .entry)) (now (out .exit)) at r (nameBytes kind mark name) ⌝ }
 {
     if has_name(mark) {
@@ -85,7 +92,7 @@ fn write_key_name(kind: Kind, mark: Mark, name: Name, out: &mut [u8], at: usize)
 }
 
 fn write_head(kind: Kind, key: Key, out: &mut [u8]) -> usize
-    requires { ⌜ (key .name .len ≤ 12) × (44 ≤ length (now out)) ⌝ }
+    requires { ⌜ (key .name .len ≤ maxName) × (maxHead ≤ length (now out)) ⌝ }
     ensures { λ r. ⌜ Wrote (now (out .entry)) (now (out .exit)) 0 r (headBytes kind key) ⌝ }
 {
     let mark = key.mark;
@@ -97,10 +104,10 @@ fn write_head(kind: Kind, key: Key, out: &mut [u8]) -> usize
 }
 
 pub(crate) fn head_of(kind: Kind, key: Key) -> HeadOut
-    requires { ⌜ key .name .len ≤ 12 ⌝ }
+    requires { ⌜ key .name .len ≤ maxName ⌝ }
     ensures { λ r. ⌜ HeadIs kind key r ⌝ }
 {
-    let mut bytes = [0u8; 44];
+    let mut bytes = [0u8; HEAD_MAX];
     let len = write_head(kind, key, &mut bytes);
     HeadOut { len, bytes }
 }
@@ -158,7 +165,7 @@ fn is_view(view: View, lent: usize) -> bool
     }
     let key = view.key;
     let name = key.name;
-    if 12 < name.len {
+    if NAME_MAX < name.len as usize {
         return false;
     }
     let kind = kind_of(view);

@@ -2,14 +2,14 @@
 use Prim.Native.Nat.{ℕ, zero, suc, _<_}
 use mathlib.Core.Path.{_≡_, refl, sym, ap, ap₂, _∙_}
 use mathlib.Core.List.{List, [], _∷_, map}
-use mathlib.Core.Bool.{true, false}
+use mathlib.Core.Bool.{Bool, true, false, cond}
 use native.Mathlib.Omega.{arith}
 use native.Mathlib.Nat.{not-suc-le-zero, le-of-suc-le-suc}
 use lib.ListN.{length, drop, getD}
 use Rattle.laws.specs.Lists.{All, also}
 use Rattle.money.specs.Refusals.{noSuchKey, priceMissing}
 use Rattle.book.specs.Layer.{Key, Rec, Change, Mark, HourPrices, Ticks, isFailure, chargeIn, chargeTicks, Amount}
-use Rattle.book.specs.laws.LayerLaws.{PricesFit, hour-parts, charge-written}
+use Rattle.book.specs.laws.LayerLaws.{PricesFit, every-mark, sole, hour-mark, charge-written}
 use Rattle.book.specs.declared.answers.NamedAmount.{NamedAmount}
 use Rattle.book.specs.Register.{standing, refused}
 use Rattle.book.specs.Amounts.{Pick, HourPricing, priced, unpriced, hourKey, chargeAt, chargeOf, charged, no, chargeLine, chargesAt, chargesOf}
@@ -17,7 +17,7 @@ use Rattle.book.specs.ByName.{byName}
 use Rattle.book.specs.tables.Tables.{survey}
 use Rattle.book.specs.tables.Places.{spotOf}
 use Rattle.book.specs.tables.Worked.{Begun, ticksOf, chargeReply, chargesIn, namedOf}
-use Rattle.book.specs.laws.StandLaws.{At, found-at, none-at}
+use Rattle.book.specs.laws.StandLaws.{At, found-at, found-mark, none-at}
 use Rattle.book.specs.laws.WorkedLaws.{Here, here}
 
 -- an element is the same by any default
@@ -33,6 +33,10 @@ ticksAt p r = record { 0 = chargeTicks r p }
 charge-at : {s : List ℕ} (p : HourPrices) → PricesFit p → (m : Mark) → isFailure m ≡ true → (x : ℕ) (r : Rec) → At s x r → m ≡ r .key .mark
     → chargeIn m (drop x s) p ≡ Amount (ticksAt p r)
 charge-at p f m b x r w e = ap₂ (λ (a : Mark) (u : List ℕ). chargeIn a u p) e (w .bytes) ∙ charge-written r p (w .rest) (w .good) (sym (ap isFailure e) ∙ b) f
+
+-- a failure's mark shares its keys with no other
+failure-sole : (m : Mark) → isFailure m ≡ true → sole m ≡ true
+failure-sole m e = sym (ap (λ (b : Bool). cond b (sole m) true) e) ∙ every-mark (λ (m : Mark). cond (isFailure m) (sole m) true) refl m
 
 -- ---- a list of failures: no price is needed for none
 
@@ -65,7 +69,7 @@ module _ {s : List ℕ} {l : List Change} (o : Begun s l) where
     unfolding chargeOf
     charge-found b e p f g =
         let w = found-at o k e in
-        ap chargeReply (charge-at p f (k .mark) b (survey k l .start) (w .what) (w .at) (w .mark)) ∙ sym (ap₂ chargeAt (w .picked) g)
+        ap chargeReply (charge-at p f (k .mark) b (survey k l .start) (w .what) (w .at) (sym (found-mark w (failure-sole (k .mark) b)))) ∙ sym (ap₂ chargeAt (w .picked) g)
 
   -- ---- of a mark and hour
 
@@ -74,7 +78,7 @@ module _ {s : List ℕ} {l : List Change} (o : Begun s l) where
   unfolding chargesIn
   charges-are p f k b [] a = refl
   charges-are p f k b (r ∷ rs) (also c a) =
-      ap₂ _∷_ (ap ticksOf (charge-at p f (k .mark) b (survey (r .key) l .start) r (c .0 .at) (hour-parts k (r .key) (c .1) .0))) (charges-are p f k b rs a)
+      ap₂ _∷_ (ap ticksOf (charge-at p f (k .mark) b (survey (r .key) l .start) r (c .0 .at) (sym (hour-mark k (r .key) (failure-sole (k .mark) b) (c .1))))) (charges-are p f k b rs a)
 
   named-are : (p : HourPrices) (rs : List Rec) → namedOf (map (spotOf l) rs) (map (ticksAt p) rs) ≡ map (chargeLine p) rs
   unfolding namedOf

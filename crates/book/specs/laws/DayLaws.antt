@@ -9,7 +9,7 @@ use lib.IntN.{ℤ, pos, _+ℤ_}
 use Rattle.laws.specs.Sums.{every}
 use Rattle.laws.specs.SumLaws.{Σℤ-ext, every-at, every-ext}
 use Rattle.book.specs.Layer.{Key, Rec, Change, Gh, Ticks, CentsPerStart, UnitPart, PartAnswer, noPart, atHour, unitPartIn, unitTicks, startCents, unitHourOf, dayAnswer, amountOk, noTicks, noStart, hourPart, daySum, reversal}
-use Rattle.book.specs.laws.LayerLaws.{at-hour, unit-written, unit-ready, day-amount, amount-ok, day-sum}
+use Rattle.book.specs.laws.LayerLaws.{at-hour, sole, unit-written, unit-ready, day-amount, amount-ok, day-sum}
 use Rattle.book.specs.declared.amounts.hours.HourPlace.{HourPlace}
 use Rattle.book.specs.declared.amounts.hours.Day.{Day}
 use Rattle.book.specs.declared.amounts.prices.PriceTable.{PriceTable}
@@ -21,7 +21,7 @@ use Rattle.book.specs.tables.Prices.{PriceIs, TableOf}
 use Rattle.book.specs.laws.PriceLaws.{known-priced, unknown-unpriced}
 use Rattle.book.specs.tables.Worked.{Begun, noPlace, noPrice, placeIn, priceFor, paid, partOf, Parts, totalReply}
 use Rattle.book.specs.laws.RegisterLaws.{by-test, true≠false}
-use Rattle.book.specs.laws.StandLaws.{Found, found-at, none-at}
+use Rattle.book.specs.laws.StandLaws.{Found, found-at, found-mark, none-at}
 
 module _ {s : List ℕ} {l : List Change} (o : Begun s l) where
   -- what a place says of its key
@@ -104,7 +104,8 @@ module _ {s : List ℕ} {l : List Change} (o : Begun s l) where
         let f = w .found z in
         let ps = priceFor t j .prices in
         let fr : f .what ≡ r = cc (sym (f .picked) ∙ e) in
-        let mk : f .what .key .mark ≡ Gh = sym (f .mark) ∙ ap (λ (a : Key). a .mark) (at-hour k (1 + j)) ∙ marked in
+        let e-mark : atHour k (1 + j) .mark ≡ Gh = ap (λ (a : Key). a .mark) (at-hour k (1 + j)) ∙ marked in
+        let mk : f .what .key .mark ≡ Gh = found-mark f (ap sole e-mark) ∙ e-mark in
         let q : part-at j ≡ record { ticks = record { 0 = unitTicks (f .what) ps }; start = unitHourOf (f .what) .startup } =
         ap (λ (b : Bool). cond b (worked-at j) noPart) z
         ∙ ap (λ (a : ℕ). unitPartIn (drop a s) ps .part) (w .at z)

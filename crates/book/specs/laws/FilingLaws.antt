@@ -9,7 +9,7 @@ use lib.ListN.{length, length-append}
 use Rattle.laws.specs.Lists.{All, done, also}
 use Rattle.records.specs.Amounts.{sameName}
 use Rattle.book.specs.Layer.{Key, Name, Rec, Change, filed, write, Good, Pr, same, sameHour, limitOf, decodedBytes, nameBefore}
-use Rattle.book.specs.laws.LayerLaws.{same-refl, sameHour-same, hour-parts, same-by, price-name}
+use Rattle.book.specs.laws.LayerLaws.{same-refl, sameHour-same, hour-parts, hour-mark, same-by, price-name}
 use Rattle.book.specs.Register.{writeAll, standing, stands, count, roomFor, refusal}
 use Rattle.book.specs.Amounts.{is, nil, pick, hourKey, absent}
 use Rattle.book.specs.ByName.{inOrder, byName}
@@ -77,9 +77,9 @@ count-named k j e (x ∷ xs) = ap (λ (b : Bool). cond b (count k xs + 1) (count
 -- a `PR` has no name: its key is its hour's
 pub price-key : (h : ℕ) (r : Rec) → Good (filed r) → sameHour (hourKey Pr h) (r .key) ≡ true → hourKey Pr h ≡ r .key
 price-key h r g e =
-    let w = hour-parts (hourKey Pr h) (r .key) e in
-    let n = price-name r g (sym (w .0)) in
-    (λ i. record { mark = w .0 i; hour = w .1 i; name = sym n i })
+    let m = hour-mark (hourKey Pr h) (r .key) refl e in
+    let n = price-name r g m in
+    (λ i. record { mark = sym m i; hour = hour-parts (hourKey Pr h) (r .key) e .1 i; name = sym n i })
 
 pub no-prices : (h : ℕ) {rs : List Rec} → All (λ (x : Rec). Good (filed x)) rs → stands (hourKey Pr h) rs ≡ false → count (hourKey Pr h) rs ≡ 0
 unfolding stands count

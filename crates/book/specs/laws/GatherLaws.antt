@@ -7,11 +7,11 @@ use native.Mathlib.Omega.{arith}
 use lib.ListN.{length, length-append}
 use lib.Dec.{eqb}
 use borrow.Author.Tests.{eq-eqb, ne-eqb}
-use Rattle.book.specs.Layer.{Key, Name, Rec, Change, filed, corrected, withdrawn, keyOf, kindOf, write, same, sameHour, decodedBytes, nameBefore, isCorrection, isWithdrawal}
+use Rattle.book.specs.Layer.{Key, sameKeyMark, Name, Rec, Change, filed, corrected, withdrawn, keyOf, kindOf, write, same, sameHour, decodedBytes, nameBefore, isCorrection, isWithdrawal}
 use Rattle.book.specs.laws.LayerLaws.{same-refl, same-sym, write-pos, write-co}
 use Rattle.book.specs.Register.{writeAll, without, standing}
 use Rattle.book.specs.declared.amounts.places.Spot.{Spot}
-use Rattle.book.specs.ByName.{inOrder, byName, addName, sameMark, namesOf}
+use Rattle.book.specs.ByName.{inOrder, byName, addName, namesOf}
 use Rattle.book.specs.tables.Tables.{survey}
 use Rattle.book.specs.tables.Places.{leadLength, liveAt, spotOf, putSpot}
 use Rattle.book.specs.laws.RegisterLaws.{by-test, true≠false, same-turned, New, new-without}
@@ -237,12 +237,12 @@ hour-standing k l w = gather-standing (hourPass k) l w ∙ collect-by-name k l (
 
 -- ---- the names of a mark
 abbrev pub markPass : Key → Pass (List Name)
-markPass k = record { pick = sameMark k; put = λ (j : Key) (x : ℕ) (xs : List Name). addName (j .name) xs; none = [] }
+markPass k = record { pick = sameKeyMark k; put = λ (j : Key) (x : ℕ) (xs : List Name). addName (j .name) xs; none = [] }
 
 collect-names : (k : Key) (all : List Change) (rs : List Rec) → collect (markPass k) all rs ≡ namesOf k rs
 unfolding collect namesOf
 collect-names k all [] = refl
-collect-names k all (r ∷ rs) = ap (λ (xs : List Name). cond (sameMark k (r .key)) (addName (r .key .name) xs) xs) (collect-names k all rs)
+collect-names k all (r ∷ rs) = ap (λ (xs : List Name). cond (sameKeyMark k (r .key)) (addName (r .key .name) xs) xs) (collect-names k all rs)
 
 pub mark-standing : (k : Key) (l : List Change) → New l → gather (markPass k) l l ≡ namesOf k (standing l)
 mark-standing k l w = gather-standing (markPass k) l w ∙ collect-names k l (standing l)

@@ -8,7 +8,7 @@ use native.Mathlib.Nat.{not-suc-le-zero, le-of-suc-le-suc}
 use lib.ListN.{length, drop, getD}
 use Rattle.records.specs.Amounts.{sameName}
 use Rattle.book.specs.Layer.{Key, Name, Rec, Change, filed, Good, HourPrices, Quantity, Import, Amount, Pr, Im, Ex, decodedBytes, nameBefore, quantityAt, seriesOf, totalsWith, totalsWithIn, entry, entryFault, offset, offsetAnswer, offsetEntry, exportOf, sameHour}
-use Rattle.book.specs.laws.LayerLaws.{PricesFit, series-none, series-at, series-same, totals-more, quantity-most, rates-ok, offset-amount, standing-export, entry-sound, same-names, hour-parts}
+use Rattle.book.specs.laws.LayerLaws.{PricesFit, series-none, series-at, series-same, totals-more, quantity-most, rates-ok, offset-amount, standing-export, entry-sound, same-names, hour-mark}
 use Rattle.book.specs.declared.amounts.places.Spot.{Spot}
 use Rattle.book.specs.Register.{standing, guarantees}
 use Rattle.book.specs.Amounts.{priced, priceOf, priceFrom, pick, hourKey, creditAt, exported, totalsOf, guaranteesAt, guaranteesOf}
@@ -121,7 +121,7 @@ totals-small : (h : ℕ) (rs : List Rec) → All (InHour (hourKey Ex h)) rs → 
 unfolding exported
 totals-small h [] a k i = omega arith
 totals-small h (r ∷ rs) (also c a) k i =
-    let most = quantity-most (exportOf r .mqsw) (standing-export r (c .0) (sym (hour-parts (hourKey Ex h) (r .key) (c .1) .0))) k i in
+    let most = quantity-most (exportOf r .mqsw) (standing-export r (c .0) (hour-mark (hourKey Ex h) (r .key) refl (c .1))) k i in
     omega (arith, most, totals-small h rs a k i)
 
 pub offset-given : (l : List Change) → Valid l → (h : ℕ) (p : HourPrices) → PricesFit p
@@ -149,7 +149,7 @@ offset-given l v h p f fi fe =
     sound : (i : ℕ) → i < length is → entryFault (p .emp) (entry (map (offsetEntry p) is) i) ≡ 0
     sound i lt =
         let w = all-at (in-hour (hourKey Im h) l v) no-one i lt in
-        ap (entryFault (p .emp)) (at i lt) ∙ entry-sound (getD is i no-one) p (w .0) (sym (hour-parts (hourKey Im h) (getD is i no-one .key) (w .1) .0)) f
+        ap (entryFault (p .emp)) (at i lt) ∙ entry-sound (getD is i no-one) p (w .0) (hour-mark (hourKey Im h) (getD is i no-one .key) refl (w .1)) f
 
     apart : (i j : ℕ) → i < length is → j < i → sameName (entry (map (offsetEntry p) is) i .name) (entry (map (offsetEntry p) is) j .name) ≡ false
     apart i j lt lj =

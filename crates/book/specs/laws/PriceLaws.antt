@@ -1,6 +1,6 @@
 -- The price of an hour is that of the `PR` which is written where the survey of its key says.
 use Prim.Native.Nat.{ℕ}
-use mathlib.Core.Path.{_≡_, sym, ap, _∙_, subst, subst⁻¹}
+use mathlib.Core.Path.{_≡_, refl, sym, ap, _∙_, subst, subst⁻¹}
 use mathlib.Core.List.{List}
 use mathlib.Core.Bool.{Bool, true, false, cond}
 use Rattle.book.specs.Layer.{Rec, Change, Pr, pricesOf, pricesIn}
@@ -12,7 +12,7 @@ use Rattle.book.specs.tables.Tables.{survey}
 use Rattle.book.specs.tables.Prices.{PriceIs, priceAt}
 use Rattle.book.specs.tables.Worked.{Begun}
 use Rattle.book.specs.laws.RegisterLaws.{true≠false}
-use Rattle.book.specs.laws.StandLaws.{At, found-at, none-at}
+use Rattle.book.specs.laws.StandLaws.{At, found-at, found-mark, none-at}
 
 -- of a `PR` that is written at a place
 pub price-written : {s : List ℕ} {x : ℕ} {r : Rec} → At s x r → r .key .mark ≡ Pr → PriceIs (priced (pricesOf r)) (priceAt s x)
@@ -36,7 +36,7 @@ module _ {s : List ℕ} {l : List Change} (o : Begun s l) (h : ℕ) where
   unfolding priceOf
   price-found t =
       let f = found-at o (hourKey Pr h) t in
-      subst⁻¹ (λ (q : HourPricing). PriceIs q (priceAt s (survey (hourKey Pr h) l .start))) (ap priceFrom (f .picked)) (price-written (f .at) (sym (f .mark)))
+      subst⁻¹ (λ (q : HourPricing). PriceIs q (priceAt s (survey (hourKey Pr h) l .start))) (ap priceFrom (f .picked)) (price-written (f .at) (found-mark f refl))
 
   pub price-gone : survey (hourKey Pr h) l .found ≡ false → {p : HourPrice} → p .known ≡ false → PriceIs (priceOf (standing l) h) p
   unfolding priceOf

@@ -8,12 +8,12 @@ use native.Mathlib.Nat.{not-suc-le-zero, le-of-suc-le-suc}
 use lib.ListN.{length, drop, getD, take-append-drop}
 use lib.Seq.{drop-append-le}
 use Rattle.laws.specs.Lists.{All, done, also}
-use Rattle.book.specs.Layer.{Key, Name, Rec, Change, filed, corrected, withdrawn, write, Good, same, sameHour, decodedBytes, nameBefore, keyAsked, got, markBytes}
-use Rattle.book.specs.laws.LayerLaws.{good-co, same-refl, same-alike, names-apart, sameHour-same, asked}
+use Rattle.book.specs.Layer.{Key, sameKeyMark, Name, Rec, Change, filed, corrected, withdrawn, write, Good, same, sameHour, decodedBytes, nameBefore, keyAsked, got, markBytes}
+use Rattle.book.specs.laws.LayerLaws.{good-co, same-refl, same-alike, names-apart, sameHour-same, asked, sole, sole-is}
 use Rattle.book.specs.Layer.{askBytes}
 use Rattle.book.specs.Register.{writeAll, without, standing, stands}
 use Rattle.book.specs.Amounts.{is, nil, pick}
-use Rattle.book.specs.ByName.{inOrder, byName, addName, sameMark, namesOf}
+use Rattle.book.specs.ByName.{inOrder, byName, addName, namesOf}
 use Rattle.book.specs.Meaning.{Valid}
 use Rattle.book.specs.tables.Tables.{survey}
 use Rattle.book.specs.tables.Worked.{Begun}
@@ -105,8 +105,12 @@ pub record At (s : List ℕ) (x : ℕ) (r : Rec) : Type 0 where
 pub record Found (s : List ℕ) (l : List Change) (k : Key) : Type 0 where
   pub what : Rec
   pub picked : pick k (standing l) ≡ is what
-  pub mark : k .mark ≡ what .key .mark
+  pub same : same k (what .key) ≡ true
   pub at : At s (survey k l .start) what
+
+-- it has the key's mark, if that shares its keys with no other
+pub found-mark : {s : List ℕ} {l : List Change} {k : Key} (f : Found s l k) → sole (k .mark) ≡ true → f .what .key .mark ≡ k .mark
+found-mark {k = k} f o = sym (sole-is (k .mark) o (f .what .key .mark) (same-alike k (f .what .key) (f .same) .mark))
 
 module _ {s : List ℕ} {l : List Change} (o : Begun s l) where
   whole : s ≡ writeAll l ++ drop (length (writeAll l)) s
@@ -123,7 +127,7 @@ module _ {s : List ℕ} {l : List Change} (o : Begun s l) where
       record {
         what = w .what;
         picked = w .stands-so;
-        mark = same-alike k (w .what .key) (pick-key k (standing l) (w .what) (w .stands-so)) .mark;
+        same = pick-key k (standing l) (w .what) (w .stands-so);
         at = record {
           inside = omega (arith, w .inside, o .within);
           rest = tail ++ v;
@@ -231,11 +235,11 @@ all-add {P} n p (also {r = x} {rs = xs} q a) = go (all-add n p a) (nameBefore (d
     go w false true = also q w
     go w false false = also q a
 
-pub all-names : {P : Name → Type 0} (k : Key) {rs : List Rec} → All (λ (r : Rec). sameMark k (r .key) ≡ true → P (r .key .name)) rs → All P (namesOf k rs)
+pub all-names : {P : Name → Type 0} (k : Key) {rs : List Rec} → All (λ (r : Rec). sameKeyMark k (r .key) ≡ true → P (r .key .name)) rs → All P (namesOf k rs)
 unfolding namesOf
 all-names k done = done
-all-names {P} k (also {r = r} {rs = rs} p a) = go (all-names k a) (sameMark k (r .key)) refl
+all-names {P} k (also {r = r} {rs = rs} p a) = go (all-names k a) (sameKeyMark k (r .key)) refl
   where
-    go : All P (namesOf k rs) → (b : Bool) → sameMark k (r .key) ≡ b → All P (cond b (addName (r .key .name) (namesOf k rs)) (namesOf k rs))
+    go : All P (namesOf k rs) → (b : Bool) → sameKeyMark k (r .key) ≡ b → All P (cond b (addName (r .key .name) (namesOf k rs)) (namesOf k rs))
     go w true e = all-add (r .key .name) (p e) w
     go w false e = w

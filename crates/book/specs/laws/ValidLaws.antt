@@ -7,10 +7,10 @@ use native.Mathlib.Omega.{arith}
 use lib.ListN.{length, length-append}
 use lib.Dec.{leb, ltb}
 use borrow.Author.Tests.{leb-true, ltb-true, ltb-false}
-use Rattle.book.specs.Layer.{Key, Name, Rec, Change, filed, corrected, withdrawn, keyOf, kindOf, write, same, sameHour, decodedBytes, nameBefore, limitOf, isFiling}
+use Rattle.book.specs.Layer.{Key, sameKeyMark, Name, Rec, Change, filed, corrected, withdrawn, keyOf, kindOf, write, same, sameHour, decodedBytes, nameBefore, limitOf, isFiling}
 use Rattle.book.specs.laws.LayerLaws.{limit-most}
 use Rattle.book.specs.Register.{writeAll, spaceFault, without, standing, stands, count}
-use Rattle.book.specs.ByName.{inOrder, byName, addName, sameMark, namesOf}
+use Rattle.book.specs.ByName.{inOrder, byName, addName, namesOf}
 use Rattle.book.specs.Meaning.{Valid}
 use Rattle.book.specs.tables.Tables.{changeFault}
 use Rattle.book.specs.laws.RegisterLaws.{refusal-judge, hour-few}
@@ -98,7 +98,7 @@ add-length n (x ∷ ns) = go (nameBefore (decodedBytes n) (decodedBytes x)) (nam
 names-length : (k : Key) (rs : List Rec) → length (namesOf k rs) ≤ length rs
 unfolding namesOf
 names-length k [] = omega arith
-names-length k (r ∷ rs) = go (sameMark k (r .key)) (names-length k rs)
+names-length k (r ∷ rs) = go (sameKeyMark k (r .key)) (names-length k rs)
   where
     go : (b : Bool) → length (namesOf k rs) ≤ length rs → length (cond b (addName (r .key .name) (namesOf k rs)) (namesOf k rs)) ≤ suc (length rs)
     go true h = omega (arith, add-length (r .key .name) (namesOf k rs))

@@ -8,7 +8,7 @@ use lib.ListN.{length, getD, length-map}
 use lib.Seq.{getD-take, length-take-le}
 use Rattle.laws.specs.Lists.{All}
 use Rattle.book.specs.Layer.{Key, Rec, Change, HourPrices, Im, Ex, totalsWithIn, entry, offsetEntry, offsetEntryIn, EntryAnswer, TotalsAnswer, sameHour}
-use Rattle.book.specs.laws.LayerLaws.{PricesFit, totals-written, entry-view, hour-parts}
+use Rattle.book.specs.laws.LayerLaws.{PricesFit, totals-written, entry-view, hour-mark}
 use Rattle.book.specs.declared.answers.NamedAmount.{NamedAmount}
 use Rattle.book.specs.declared.amounts.places.Spot.{Spot}
 use Rattle.book.specs.declared.amounts.places.Places.{Places}
@@ -68,7 +68,7 @@ module _ {s : List ℕ} {l : List Change} (o : Begun s l) where
       at r b =
           let w = b .0 .at in
           ap (λ (x : List ℕ). offsetEntryIn x p .entry) (w .bytes)
-          ∙ ap (λ (a : EntryAnswer). a .entry) (entry-view r p (w .rest) (w .good) (sym (hour-parts (hourKey Im h) (r .key) (b .1) .0)) f)
+          ∙ ap (λ (a : EntryAnswer). a .entry) (entry-view r p (w .rest) (w .good) (hour-mark (hourKey Im h) (r .key) refl (b .1)) f)
 
   -- ---- export totals
 
@@ -78,7 +78,7 @@ module _ {s : List ℕ} {l : List Change} (o : Begun s l) where
       at : (r : Rec) → Here (hourKey Ex h) r → Adds s (spotOf l r) r
       at r c =
           let w = c .0 .at in
-          let mk = sym (hour-parts (hourKey Ex h) (r .key) (c .1) .0) in
+          let mk = hour-mark (hourKey Ex h) (r .key) refl (c .1) in
           record {
             good = w .good;
             mark = mk;

@@ -5,7 +5,7 @@ use mathlib.Core.List.{List, _∷_}
 use mathlib.Core.Bool.{true}
 use lib.ListN.{length, drop}
 use Rattle.book.specs.Layer.{Key, View, Change, Entry, keyOf, fine, parse, parseAny, entryView, same, Wanted, kindOf}
-use Rattle.book.specs.tables.LayerTables.{recordHead}
+use Rattle.book.specs.tables.LayerTables.{nameable, nameHead}
 use Rattle.book.specs.declared.book.Book.{Book}
 use Rattle.book.specs.declared.answers.Done.{Done}
 use Rattle.book.specs.Register.{Reg, Step, writeAll}
@@ -57,11 +57,12 @@ pub record IsEntry (rec : List ℕ) (v : View) : Type 0 where
 abbrev pub rowStands : ℕ → ℕ
 rowStands row = row % 134217728 + 134217728
 
--- the last of n changes replaced or removed a record of its key: the key's mark and hour, and what its records begin with
-pub record Undoing (s rows : List ℕ) (n hs : ℕ) (head : List ℕ) (c : Change) (l : List Change) : Type 0 where
+-- the last of n changes replaced or removed a record of its key: the key's mark and hour, and the bytes of its name
+pub record Undoing (s rows : List ℕ) (n hs : ℕ) (name : List ℕ) (c : Change) (l : List Change) : Type 0 where
   pub logged : Logged s rows n (c ∷ l)
   pub slot-is : hs ≡ hourSlot (keyOf c)
-  pub head-is : head ≡ recordHead (keyOf c)
+  pub able : nameable (keyOf c) ≡ true
+  pub name-is : name ≡ nameHead (keyOf c)
   pub stood : survey (keyOf c) l .found ≡ true
 
 -- which of n changes wrote the record that stands under a key

@@ -5,7 +5,7 @@ use mathlib.Core.List.{List, _++_}
 use mathlib.Core.Bool.{true, cond, _&&_}
 use lib.ListN.{length, drop, getD}
 use lib.Dec.{eqb}
-use Rattle.book.specs.Layer.{Key, Rec, Change, filed, write, begins, Good, order, atHour, sameName}
+use Rattle.book.specs.Layer.{Key, Rec, Change, filed, write, begins, Good, keyOrder, sameKeyMark, atHour, sameName}
 use Rattle.book.specs.declared.amounts.hours.HourPlace.{HourPlace}
 use Rattle.book.specs.declared.amounts.hours.Day.{Day}
 use Rattle.book.specs.tables.Tables.{survey}
@@ -30,5 +30,5 @@ nameHour m name s row = cond ((rowLive row && eqb (rowSlot row / 32) m) && begin
 
 -- bytes by which the records of a key's mark and name are told from others of the mark
 pub record Written (k : Key) (m : ℕ) (name : List ℕ) : Type 0 where
-  pub mark : m ≡ order (k .mark)
-  pub told : (r : Rec) → Good (filed r) → r .key .mark ≡ k .mark → (t : List ℕ) → begins name (drop 3 (write (filed r) ++ t)) ≡ sameName k (r .key)
+  pub mark : m ≡ keyOrder (k .mark)
+  pub told : (r : Rec) → Good (filed r) → sameKeyMark k (r .key) ≡ true → (t : List ℕ) → begins name (drop 3 (write (filed r) ++ t)) ≡ sameName k (r .key)

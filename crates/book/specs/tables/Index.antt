@@ -4,10 +4,10 @@ use mathlib.Core.List.{List, [], _∷_}
 use mathlib.Core.Bool.{cond}
 use lib.ListN.{length}
 use lib.Dec.{eqb}
-use Rattle.book.specs.Layer.{Key, Change, keyOf, order}
+use Rattle.book.specs.Layer.{Key, Change, keyOf, keyOrder}
 
 abbrev pub hourSlot : Key → ℕ
-hourSlot k = order (k .mark) * 32 + k .hour
+hourSlot k = keyOrder (k .mark) * 32 + k .hour
 
 -- the bytes of a name, each with its weight
 unfoldable pub weighed : ℕ → ℕ → List ℕ → ℕ

@@ -5,8 +5,8 @@ use mathlib.Core.List.{List, [], _∷_}
 use mathlib.Core.Bool.{Bool, true, cond}
 use lib.ListN.{length, take, drop, getD, set}
 use lib.Dec.{leb, eqb}
-use Rattle.book.specs.Layer.{Kind, File, Correct, Withdraw, Key, Change, keyOf, kindOf, keyAnswer}
-use Rattle.book.specs.tables.LayerTables.{headKey, recordHead}
+use Rattle.book.specs.Layer.{Kind, File, Correct, Withdraw, Key, Change, keyOf, kindOf, keyAnswer, same}
+use Rattle.book.specs.tables.LayerTables.{headKey, nameable, nameHead}
 use Rattle.book.specs.laws.LayerLaws.{Padded}
 use Rattle.book.specs.Register.{writeAll}
 use Rattle.book.specs.Meaning.{Load, belongs, Valid}
@@ -92,13 +92,14 @@ pub record Sought (rows : List ℕ) (n : ℕ) (k : Key) (r : Seek) (l : List Cha
   pub start : r .found ≡ true → r .start ≡ survey k l .start
   pub inside : r .found ≡ true → r .at < n
   pub place : r .found ≡ true → rowPlace (getD rows (r .at) 0) ≡ r .start
-  pub wrote : r .found ≡ true → (c : Change) (m : List Change) → drop (n - (r .at + 1)) l ≡ c ∷ m → keyOf c ≡ k
+  pub wrote : r .found ≡ true → (c : Change) (m : List Change) → drop (n - (r .at + 1)) l ≡ c ∷ m → same (keyOf c) k ≡ true
 
--- a search for the head of the records of a key among the first changes: no later one has the number of the key
-pub record Search (s rows : List ℕ) (n from hs : ℕ) (head : List ℕ) (k : Key) (l : List Change) : Type 0 where
+-- a search for the records of a key among the first changes, by mark and hour and by the bytes of the name: no later one has the number of the key
+pub record Search (s rows : List ℕ) (n from hs : ℕ) (name : List ℕ) (k : Key) (l : List Change) : Type 0 where
   pub logged : Logged s rows n l
   pub slot-is : hs ≡ hourSlot k
-  pub head-is : head ≡ recordHead k
+  pub able : nameable k ≡ true
+  pub name-is : name ≡ nameHead k
   pub low : k .hour < 32
   pub padded : Padded (k .name)
   pub few : latestOf (bucket k) l ≤ from

@@ -1,10 +1,11 @@
 // Where the records of a mark and name are written, in each hour of the day.
 use crate::book::CHANGES_MAX;
+use crate::log::rows::NAME_AT;
 use crate::log::rows::place_in;
 use money::units::HOURS;
-use records::heads::record_head;
+use records::heads::name_head;
 use records::keys::Key;
-use records::marks::order;
+use records::marks::key_order;
 use records::scan::starts;
 ghost use mathlib.Core.Path.{_≡_};
 ghost use mathlib.Core.Bool.{true, _&&_};
@@ -51,7 +52,7 @@ fn hour_for(log: &[u8], row: u32, mark: u32, name: &[u8]) -> usize
     if hour == 0 {
         return 0;
     }
-    let at = place_in(row) + 3;
+    let at = place_in(row) + NAME_AT;
     if starts(&log[at..], name) {
         return hour;
     }
@@ -87,23 +88,18 @@ pub(crate) fn day_in(log: &[u8], rows: &[u32; CHANGES_MAX], n: usize, key: Key) 
     requires { ⌜ Log (now log) (now rows) n ⌝ ∗ ⌜ Wellformed key ⌝ }
     ensures { λ r. ⌜ ((l : List Change) → Logged (now (log .entry)) (now (rows .entry)) n l → DayIs key l r) ⌝ }
 {
-    let mark = key.mark;
-    let name = key.name;
-    let h = record_head(Key {
-        mark,
-        hour: 1,
-        name,
-    });
-    let len = h.len;
-    let bytes = h.bytes;
-    if len < 3 {
-        let none = HourPlace {
-            known: false,
-            start: 0,
-        };
-        return Day {
-            hours: [none; HOURS],
-        };
+    let h = name_head(key);
+    if h.known {
+        let mark = key.mark;
+        let len = h.len;
+        let bytes = h.bytes;
+        return day_named(log, rows, n, key_order(mark) as u32, &bytes[..len]);
     }
-    day_named(log, rows, n, order(mark) as u32, &bytes[3..len])
+    let none = HourPlace {
+        known: false,
+        start: 0,
+    };
+    Day {
+        hours: [none; HOURS],
+    }
 }

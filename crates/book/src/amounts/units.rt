@@ -8,7 +8,7 @@ use money::refusals::NOT_TOGETHER;
 use records::keys::Key;
 use records::keys::key_of;
 use records::marks::Mark;
-use records::marks::order;
+use records::marks::key_order;
 use records::names::comes_before;
 use records::names::no_name;
 ghost use mathlib.Core.Path.{_≡_};
@@ -120,7 +120,7 @@ pub(crate) fn names_in(log: &[u8], rows: &[u32; CHANGES_MAX], n: usize, key: Key
         × (r ≡ unitsOf (namesIn r)) ⌝ }
 {
     let wanted = key.mark;
-    let mark = order(wanted) as usize;
+    let mark = key_order(wanted) as usize;
     let mut u = no_names();
     let mut i: usize = 0;
     while i < n {

@@ -5,6 +5,7 @@ use crate::book::Book;
 use crate::book::CHANGES_MAX;
 use crate::log::index::hour_slot;
 use crate::log::refusal::change_fault;
+use crate::log::rows::NAME_AT;
 use crate::log::rows::clear_row;
 use crate::log::rows::count_in;
 use crate::log::rows::find_in;
@@ -15,7 +16,7 @@ use crate::log::rows::start_in;
 use money::refusals::CLOSED;
 use money::refusals::NOTHING_TO_TAKE_BACK;
 use records::heads::head_key;
-use records::heads::record_head;
+use records::heads::name_head;
 use records::hours::limit_of;
 use records::marks::Act;
 use records::marks::Wanted;
@@ -45,16 +46,16 @@ fn wrote_in(row: u32, slot: usize) -> bool
     (row / 65536 % 512) as usize == slot
 }
 
-// The newest change before the last one that wrote a record of the mark and hour which begins with the head.
+// The newest change before the last one that wrote a record of the mark and hour which has the name behind them.
 fn written_before(
     log: &[u8],
     rows: &[u32; CHANGES_MAX],
     n: usize,
     slot: usize,
-    head: &[u8],
+    name: &[u8],
 ) -> usize
     requires { ⌜ Log (now log) (now rows) n ⌝ ∗ ⌜ 0 < n ⌝ }
-    ensures { λ r. ⌜ ((c : Change) (l : List Change) → Undoing (now (log .entry)) (now (rows .entry)) n slot (now (head .entry)) c l
+    ensures { λ r. ⌜ ((c : Change) (l : List Change) → Undoing (now (log .entry)) (now (rows .entry)) n slot (now (name .entry)) c l
         → Wrote (length l) (keyOf c) r l) ⌝ }
 {
     let mut i: usize = n - 1;
@@ -62,8 +63,8 @@ fn written_before(
         let j = i - 1;
         let row = rows[j];
         if wrote_in(row, slot) {
-            let start = place_in(row);
-            if starts(&log[start..], head) {
+            let at = place_in(row) + NAME_AT;
+            if starts(&log[at..], name) {
                 return j;
             }
         }
@@ -86,7 +87,7 @@ fn restore(log: &[u8], rows: &mut [u32; CHANGES_MAX], n: usize)
     let a = head_key(&log[start..]);
     let key = a.key;
     let slot = hour_slot(key);
-    let h = record_head(key);
+    let h = name_head(key);
     let len = h.len;
     let bytes = h.bytes;
     let at = written_before(log, rows, n, slot, &bytes[..len]);

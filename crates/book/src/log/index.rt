@@ -1,7 +1,7 @@
 // Where a replay looks for a key: by a number of the key, and by mark and hour.
 use money::names::NAME_MAX;
 use records::keys::Key;
-use records::marks::order;
+use records::marks::key_order;
 ghost use mathlib.Core.Path.{_≡_};
 ghost use Prim.Native.Nat.{_<_};
 ghost use Rattle.book.specs.tables.Index.{hourSlot, bucket};
@@ -16,7 +16,7 @@ pub(crate) fn hour_slot(key: Key) -> usize
     ensures { λ r. ⌜ (r ≡ hourSlot key) × (r < 512) ⌝ }
 {
     let mark = key.mark;
-    wide(order(mark)) * 32 + wide(key.hour)
+    wide(key_order(mark)) * 32 + wide(key.hour)
 }
 
 pub(crate) fn bucket_of(key: Key) -> usize

@@ -1,7 +1,7 @@
 // The rows of a checked book: one number for each change, lent and never copied.
 use crate::book::CHANGES_MAX;
 use crate::log::index::hour_slot;
-use records::heads::record_head;
+use records::heads::name_head;
 use records::keys::Key;
 use records::marks::Kind;
 use records::marks::is_correction;
@@ -21,6 +21,9 @@ ghost use Rattle.book.specs.laws.LayerLaws.{Padded};
 ghost use Rattle.book.specs.Register.{standing, count};
 ghost use Rattle.book.specs.tables.Index.{bucket, latestOf};
 ghost use Rattle.book.specs.tables.Rows.{rowSlot, rowLive, rowPlace, rowStart, rowKind, kindCode, packed, Ruled, Rules, Logged, Log, Search, Sought, cleared};
+
+// Where a record has its name: behind mark and hour.
+pub(crate) const NAME_AT: usize = 3;
 
 pub(crate) fn start_in(row: u32) -> usize
     ensures { λ r. ⌜ (r ≡ rowStart row) × (r < 65536) ⌝ }
@@ -123,17 +126,17 @@ fn not_found() -> Seek
     }
 }
 
-// The newest of the first `from` changes whose record stands, is of the mark and hour, and begins with the head.
-fn find_head(
+// The newest of the first `from` changes whose record stands, is of the mark and hour, and has the name behind them.
+fn find_named(
     log: &[u8],
     rows: &[u32; CHANGES_MAX],
     n: usize,
     from: usize,
     slot: usize,
-    head: &[u8],
+    name: &[u8],
 ) -> Seek
     requires { ⌜ Log (now log) (now rows) n ⌝ ∗ ⌜ from ≤ n ⌝ }
-    ensures { λ r. ⌜ ((k : Key) (l : List Change) → Search (now (log .entry)) (now (rows .entry)) n from slot (now (head .entry)) k l
+    ensures { λ r. ⌜ ((k : Key) (l : List Change) → Search (now (log .entry)) (now (rows .entry)) n from slot (now (name .entry)) k l
         → Sought (now (rows .entry)) n k r l) ⌝ }
 {
     let mut i: usize = from;
@@ -142,7 +145,8 @@ fn find_head(
         let row = rows[j];
         if stands_in(row, slot) {
             let start = place_in(row);
-            if starts(&log[start..], head) {
+            let at = start + NAME_AT;
+            if starts(&log[at..], name) {
                 return Seek {
                     found: true,
                     at: j,
@@ -170,11 +174,14 @@ pub(crate) fn find_in(
     if from == 0 {
         return not_found();
     }
-    let slot = hour_slot(key);
-    let h = record_head(key);
-    let len = h.len;
-    let bytes = h.bytes;
-    find_head(log, rows, n, from, slot, &bytes[..len])
+    let h = name_head(key);
+    if h.known {
+        let slot = hour_slot(key);
+        let len = h.len;
+        let bytes = h.bytes;
+        return find_named(log, rows, n, from, slot, &bytes[..len]);
+    }
+    not_found()
 }
 
 // A change at q whose record stands, unless it is a withdrawal.

@@ -15,7 +15,7 @@ use Rattle.records.specs.Reading.{Res}
 use Rattle.records.specs.Amounts.{offsetAnswer, offsetEntry}
 use Rattle.records.specs.Views.{pricesOf, pricesIn}
 use Rattle.records.specs.Changes.{Rec, Change, filed, Good}
-use Rattle.records.specs.laws.BookLaws.{PricesFit, standing-prices, read-prices, read-entry, read-totals, same-alike, hour-parts, hour-key}
+use Rattle.records.specs.laws.BookLaws.{PricesFit, standing-prices, read-prices, read-entry, read-totals, same-alike, hour-mark, hour-key}
 use Rattle.records.specs.declared.keys.Key.{Key}
 use Rattle.records.specs.declared.amounts.EntryAnswer.{EntryAnswer}
 use Rattle.records.specs.declared.amounts.TotalsAnswer.{TotalsAnswer}
@@ -41,7 +41,7 @@ entries-read s p f h e a = entries-at s p (each-with read e a)
   where
     read : (x : Spot) (r : Rec) → Stood s x r → InHour (hourKey Im h) r → entryAt s p x ≡ offsetEntry p r
     read x r w b = ap (λ (y : EntryAnswer). y .entry)
-        (read-entry r (drop (x .start) s) (w .rest) (w .front) (sym (hour-parts (hourKey Im h) (r .key) (b .1) .0)) p f)
+        (read-entry r (drop (x .start) s) (w .rest) (w .front) (hour-mark (hourKey Im h) (r .key) refl (b .1)) p f)
 
 totals-read : (s : List ℕ) (h : ℕ) {xs : List Spot} {rs : List Rec} → Each (Stood s) xs rs → All (InHour (hourKey Ex h)) rs → length rs ≤ maxPlaces
     → totalsIn s xs ≡ totalsOf rs
@@ -49,7 +49,7 @@ totals-read s h e a few = totals-at s (each-with read e a) few
   where
     read : (x : Spot) (r : Rec) → Stood s x r → InHour (hourKey Ex h) r → Adds s x r
     read x r w b =
-        let m = sym (hour-parts (hourKey Ex h) (r .key) (b .1) .0) in
+        let m = hour-mark (hourKey Ex h) (r .key) refl (b .1) in
         record { good = b .0; mark = m; added = λ ts. ap (λ (y : TotalsAnswer). y .totals) (read-totals r (drop (x .start) s) (w .rest) (w .front) m ts) }
 
 -- ---- the end

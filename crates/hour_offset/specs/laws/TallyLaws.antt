@@ -13,7 +13,7 @@ use Rattle.money.specs.declared.names.Name.{Name}
 use Rattle.records.specs.Amounts.{sameName}
 use Rattle.records.specs.Reading.{got}
 use Rattle.records.specs.Names.{emptyName}
-use Rattle.records.specs.Marks.{order}
+use Rattle.records.specs.Marks.{order, keyMark, keyOrder}
 use Rattle.records.specs.Keys.{same, sameHour}
 use Rattle.records.specs.Hours.{limitOf}
 use Rattle.records.specs.Changes.{Rec, Change, filed, change, write, Good}
@@ -123,16 +123,16 @@ module _ (s : List ℕ) (l : List Change) (h : Sheet) (r : Rec) (g : Good (filed
   room-is = roomy (length l) (length (writeAll l)) (length (write (filed r))) (booked-few b) (b .short) (hour-written r g o)
 
   mine : (m : Mark) → k .mark ≡ m → sameHour (hourKey m (k .hour)) k ≡ true
-  mine m e = parts-hour (hourKey m (k .hour)) k (ap order (sym e)) refl
+  mine m e = parts-hour (hourKey m (k .hour)) k (ap keyMark (sym e)) refl
 
-  not-mine : (m n : Mark) → k .mark ≡ m → eqb (order n) (order m) ≡ false → sameHour (hourKey n (k .hour)) k ≡ false
+  not-mine : (m n : Mark) → k .mark ≡ m → eqb (keyOrder n) (keyOrder m) ≡ false → sameHour (hourKey n (k .hour)) k ≡ false
   not-mine m n e q =
       by-test (sameHour (hourKey n (k .hour)) k)
-      (λ t. true≠false (eq-orders (ap order (hour-parts (hourKey n (k .hour)) k t .0 ∙ e))) q)
+      (λ t. true≠false (eq-orders (ap order (hour-parts (hourKey n (k .hour)) k t .0 ∙ ap keyMark e))) q)
       (λ t. t)
     where
-      eq-orders : order n ≡ order m → eqb (order n) (order m) ≡ true
-      eq-orders w = eq-eqb (order n) (order m) w
+      eq-orders : keyOrder n ≡ keyOrder m → eqb (keyOrder n) (keyOrder m) ≡ true
+      eq-orders w = eq-eqb (keyOrder n) (keyOrder m) w
 
   -- an import or an export
   placed-is : (m : Mark) → k .mark ≡ m → (xs : List Spot) → Each (Stood s) xs (byName (hourKey m (k .hour)) rs)
@@ -140,7 +140,7 @@ module _ (s : List ℕ) (l : List Change) (h : Sheet) (r : Rec) (g : Good (filed
   placed-is m e xs w =
       filing-refused l r room-is (among (k .name) xs) (ltb (length xs) maxPlaces)
       (stands-named k (hourKey m (k .hour)) (mine m e) rs ∙ sym (among-named (k .name) w))
-      (ap₂ ltb (count-named k (hourKey m (k .hour)) (parts-hour k (hourKey m (k .hour)) (ap order e) refl) rs ∙ sym (each-length w)) (hour-limit k o))
+      (ap₂ ltb (count-named k (hourKey m (k .hour)) (parts-hour k (hourKey m (k .hour)) (ap keyMark e) refl) rs ∙ sym (each-length w)) (hour-limit k o))
 
   priced-is : k .mark ≡ Pr → refusal l maxUsed (filed r) ≡ cond (h .priced) keyStands 0
   priced-is e =
@@ -176,7 +176,7 @@ module _ (s : List ℕ) (l : List Change) (h : Sheet) (r : Rec) (g : Good (filed
     hour-then : Hour (k .hour) (filed r ∷ l)
     hour-then = let w = good-hour (filed r) g in known (k .hour) (filed r ∷ l) (w .0) (w .1)
 
-    others : (m n : Mark) → k .mark ≡ m → eqb (order n) (order m) ≡ false → (xs : List Spot) → Each (Stood s) xs (byName (hourKey n (k .hour)) rs)
+    others : (m n : Mark) → k .mark ≡ m → eqb (keyOrder n) (keyOrder m) ≡ false → (xs : List Spot) → Each (Stood s) xs (byName (hourKey n (k .hour)) rs)
         → Each (Stood s) xs (byName (hourKey n (k .hour)) (standing (filed r ∷ l)))
     others m n e q xs = subst (Each (Stood s) xs) (sym (filing-named l r (hourKey n (k .hour)) false (not-mine m n e q)))
 
@@ -185,7 +185,7 @@ module _ (s : List ℕ) (l : List Change) (h : Sheet) (r : Rec) (g : Good (filed
     one-more m e xs w = subst (Each (Stood s) (putSpot spot xs)) (sym (filing-named l r (hourKey m (k .hour)) true (mine m e)))
         (each-put (λ x r p. p .name) spot r stood w)
 
-    same-price : (m : Mark) → k .mark ≡ m → eqb (order Pr) (order m) ≡ false
+    same-price : (m : Mark) → k .mark ≡ m → eqb (keyOrder Pr) (keyOrder m) ≡ false
         → Priced s (h .priced) (h .price) (pick (hourKey Pr (k .hour)) (standing (filed r ∷ l)))
     same-price m e q =
         subst (Priced s (h .priced) (h .price))

@@ -1,4 +1,4 @@
--- The key of a question, by the tests that the code makes.
+-- Equality of keys, and the key of a question, by the tests that the code makes.
 use mathlib.Core.Path.{_≡_, refl, sym, ap, _∙_}
 use mathlib.Core.List.{List, [], _∷_}
 use mathlib.Core.Bool.{true, false, cond}
@@ -7,14 +7,33 @@ use native.Mathlib.Omega.{arith}
 use lib.Dec.{eqb}
 use lib.ListN.{length}
 use borrow.Author.Tests.{eq-eqb, ne-eqb}
+use Rattle.money.specs.Names.{sameName}
 use Rattle.money.specs.declared.names.Name.{Name}
 use Rattle.records.specs.Reading.{bad, got, check, from}
 use Rattle.records.specs.Numbers.{between}
 use Rattle.records.specs.Names.{decodeName, emptyName, storedName}
 use Rattle.records.specs.Marks.{mark, hasName}
-use Rattle.records.specs.Keys.{askMark, askName, askFrom, askHourOf, askHour, askUnit}
+use Rattle.records.specs.Keys.{sameKeyMark, sameHour, same, askMark, askName, askFrom, askHourOf, askHour, askUnit}
 use Rattle.records.specs.declared.marks.Mark.{Mark}
 use Rattle.records.specs.declared.marks.Mark.the-variants.{Gh}
+use Rattle.records.specs.declared.keys.Key.{Key}
+
+module _ (a b : Key) where
+  pub other-mark : sameKeyMark a b ≡ false → false ≡ sameHour a b
+  unfolding sameHour
+  other-mark e = simp e
+
+  pub by-hour : sameKeyMark a b ≡ true → eqb (a .hour) (b .hour) ≡ sameHour a b
+  unfolding sameHour
+  by-hour e = simp e
+
+  pub other-hour : sameHour a b ≡ false → false ≡ same a b
+  unfolding same
+  other-hour e = simp e
+
+  pub by-name : sameHour a b ≡ true → sameName (a .name) (b .name) ≡ same a b
+  unfolding same
+  by-name e = simp e
 
 pub mark-two : (s : List ℕ) → length s ≡ 2 → mark (from s 0) ≡ askMark s
 unfolding askMark from

@@ -8,9 +8,11 @@ use native.Mathlib.Numerals.{add-one}
 use lib.Dec.{eqb}
 use lib.ListN.{length, drop, getD, drop-of-length-le}
 use lib.Seq.{drop-cons}
-use borrow.Author.Tests.{le-leb, lt-leb, ne-eqb, eq-eqb, eqb-true, eqb-false}
+use borrow.Author.Tests.{ne-eqb, eq-eqb, eqb-true, eqb-false}
+use Rattle.money.specs.Refusals.{hourOutside}
+use Rattle.money.specs.Units.{dayHours}
 use Rattle.records.specs.Reading.{Res, bad, got, _>>=_, check, byte, from}
-use Rattle.records.specs.Numbers.{hour}
+use Rattle.records.specs.Numbers.{between, hour}
 use Rattle.records.specs.Names.{storedName, nameField, emptyName}
 use Rattle.records.specs.Marks.{markBytes, is, listing, markAmong, mark, hasName}
 use Rattle.records.specs.Changes.{Head, allowed, inside, head, nameless, nameFor, bare}
@@ -69,17 +71,13 @@ module _ (s : List ℕ) (at : ℕ) where
   unfolding hour byte
   hour-past h = rw (at-end s at h)
 
-  pub hour-low : at < length s → getD s at 0 < 1 → bad 3 ≡ hour (from s at)
+  pub hour-outside : at < length s → between 1 dayHours (getD s at 0) ≡ false → bad hourOutside ≡ hour (from s at)
   unfolding hour byte
-  hour-low h k = rw (at-next s at h, lt-leb 1 (getD s at 0) k)
+  hour-outside h k = rw (at-next s at h, k)
 
-  pub hour-high : at < length s → 1 ≤ getD s at 0 → 24 < getD s at 0 → bad 3 ≡ hour (from s at)
+  pub hour-here : at < length s → between 1 dayHours (getD s at 0) ≡ true → got (getD s at 0) (from s (at + 1)) ≡ hour (from s at)
   unfolding hour byte
-  hour-high h k l = rw (at-next s at h, le-leb 1 (getD s at 0) k, lt-leb (getD s at 0) 24 l)
-
-  pub hour-here : at < length s → 1 ≤ getD s at 0 → getD s at 0 ≤ 24 → got (getD s at 0) (from s (at + 1)) ≡ hour (from s at)
-  unfolding hour byte
-  hour-here h k l = rw (at-next s at h, le-leb 1 (getD s at 0) k, le-leb (getD s at 0) 24 l)
+  hour-here h k = rw (at-next s at h, k)
 
   pub zero-past : length s ≤ at → bad 1 ≡ nameless Withdraw (from s at)
   unfolding byte

@@ -10,15 +10,13 @@ use lib.Dec.{eqb}
 use lib.ListN.{length, take, drop, getD, set, length-append, length-take, drop-of-length-le}
 use lib.Seq.{take-suc, drop-cons, take-all, length-take-le, take-at}
 use borrow.Author.Tests.{le-leb, lt-leb, ne-eqb, eq-eqb}
-use Rattle.money.specs.Names.{sameName}
 use Rattle.money.specs.declared.names.Name.{Name}
 use Rattle.records.specs.Reading.{bad, got, _>>=_, from}
 use Rattle.records.specs.Names.{spell, bytesOf}
-use Rattle.records.specs.Marks.{hasName, order}
+use Rattle.records.specs.Marks.{hasName}
 use Rattle.records.specs.laws.MarkLaws.{mark-two}
 use Rattle.records.specs.Changes.{changeView, put, putNumber, putBytes, Change, kind, keyOf, bodyOf, made, leadBytes, noName, nameBytes, headBytes, bodyFor, change, write, Input, fine, fault, whole, parse, seen, unseen, begins, written, scan, viewOf, parsedOf}
-use Rattle.records.specs.Keys.{same, sameHour}
-use Rattle.records.specs.tables.Inner.{Wrote, HeadIs, changeShown, Placed, Stands, ReadIs}
+use Rattle.records.specs.tables.Inner.{Wrote, maxHead, HeadIs, changeShown, Placed, Stands, ReadIs}
 use Rattle.records.specs.declared.fields.End.the-variants.{At, No}
 use Rattle.records.proofs.writing.Putting.{wrote-one, wrote-then, wrote-length}
 use Rattle.records.specs.laws.PutLaws.{put-whole}
@@ -70,26 +68,9 @@ module _ {xs s : List ℕ} {i : ℕ} (h : Started xs s i) where
   pub started-all : length xs ≤ i → true ≡ begins xs s
   started-all a = sym (h .so-far ∙ rw (drop-of-length-le xs {i = i} a))
 
-module _ (a b : Key) where
-  pub other-mark : (order (a .mark) ≡ order (b .mark) → ⊥) → false ≡ sameHour a b
-  unfolding sameHour
-  other-mark h = simp (ne-eqb (order (a .mark)) (order (b .mark)) h)
-
-  pub by-hour : order (a .mark) ≡ order (b .mark) → eqb (a .hour) (b .hour) ≡ sameHour a b
-  unfolding sameHour
-  by-hour e = simp (eq-eqb (order (a .mark)) (order (b .mark)) e)
-
-  pub other-hour : sameHour a b ≡ false → false ≡ same a b
-  unfolding same
-  other-hour e = simp e
-
-  pub by-name : sameHour a b ≡ true → sameName (a .name) (b .name) ≡ same a b
-  unfolding same
-  by-name e = simp e
-
 -- ---- the head
 
-name-length : (k : Kind) (m : Mark) (n : Name) → n .len ≤ 12 → length (nameBytes k m n) ≤ 37
+pub name-length : (k : Kind) (m : Mark) (n : Name) → n .len ≤ 12 → length (nameBytes k m n) ≤ 37
 unfolding nameBytes
 name-length k m n h = go (hasName m)
   where
@@ -107,7 +88,7 @@ lead-length File = omega arith
 lead-length Correct = omega arith
 lead-length Withdraw = omega arith
 
-pub head-length : (k : Kind) (x : Key) → x .name .len ≤ 12 → length (headBytes k x) ≤ 44
+pub head-length : (k : Kind) (x : Key) → x .name .len ≤ 12 → length (headBytes k x) ≤ maxHead
 unfolding headBytes
 head-length k x h = simp length-append (omega (arith, lead-length k, mark-two (x .mark), name-length k (x .mark) (x .name) h))
 

@@ -26,7 +26,7 @@ use Rattle.records.specs.Marks.{hasName, isFailure}
 use Rattle.records.specs.laws.MarkLaws.{failure-mark}
 use Rattle.records.specs.Reading.{Res, got, _>>=_}
 use Rattle.records.specs.Layouts.{import}
-use Rattle.records.specs.Changes.{Rec, filed, write, Good}
+use Rattle.records.specs.Changes.{Rec, Change, filed, keyOf, write, Good}
 use Rattle.records.specs.Views.{importOf, exportOf, unitHourOf, failureOf, noImport}
 use Rattle.records.specs.Amounts.{creditFor, creditOf, unitAmountOf, chargeFor, chargeOf, creditTicks, unitTicks, chargeTicksFor, chargeTicks, given, entryFrom, entryAnswer, partAnswer, totalsAnswer, totalsWith, offsetEntry, offsetEntryIn, unitPartIn, totalsWithIn, chargeIn}
 use Rattle.records.specs.laws.NameLaws.{Visible}
@@ -49,9 +49,9 @@ bytes-fine (suc k) (x ∷ v) h s zero l = s .0
 bytes-fine (suc k) (x ∷ v) h s (suc i) l = bytes-fine k v (le-of-suc-le-suc h) (s .1) i (le-of-suc-le-suc l)
 
 -- a name that stands keeps the money rules' rule
-pub name-sound : (r : Rec) → Good (filed r) → hasName (r .key .mark) ≡ true → nameOk (r .key .name) ≡ true
-name-sound r g h =
-    let d = name-decoded r g h in
+pub name-sound : (c : Change) → Good c → hasName (keyOf c .mark) ≡ true → nameOk (keyOf c .name) ≡ true
+name-sound c g h =
+    let d = name-decoded c g h in
     let v = d .valid in
     subst (λ (n : Name). nameOk n ≡ true) (d .is) (name-fine (nameFrom (d .bytes)) (v .some) (v .few) (bytes-fine 12 (d .bytes) (v .few) (v .seen)))
 
@@ -68,7 +68,7 @@ module _ (r : Rec) (p : HourPrices) (g : Good (filed r)) (e : r .key .mark ≡ I
   unfolding creditTicks
   entry-sound =
       let i = standing-import r g e in
-      entry-fine (p .emp) (offsetEntry p r) (name-sound r g (ap hasName e)) (i .mqsi) (i .offer) (i .inside) refl
+      entry-fine (p .emp) (offsetEntry p r) (name-sound (filed r) g (ap hasName e)) (i .mqsi) (i .offer) (i .inside) refl
 
 -- bytes that begin with a filed import, whatever follows, give its entry
 pub entry-view : (r : Rec) (p : HourPrices) (u : List ℕ) → Good (filed r) → r .key .mark ≡ Im → PricesFit p

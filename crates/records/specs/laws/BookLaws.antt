@@ -22,8 +22,11 @@ pub use Rattle.records.specs.laws.LengthLaws.{entry-early, unread-early,
 pub use Rattle.records.specs.laws.HourRecordLaws.{OfHour, hour-record-got, hour-record-fault, price-name, hour-limit, hour-written}
 -- keys that are the same: mark, hour and decoded name; one stands for the other in every test
 pub use Rattle.records.specs.laws.KeyLaws.{same-by, same-alike, same-refl, same-sym, same-left, same-right, hour-right}
--- keys whose names have zeros behind their bytes, as those of changes that may stand, are equal then
-pub use Rattle.records.specs.laws.KeyLaws.{Padded, good-padded, same-true}
+-- they have one name then, if zeros stand behind their names' bytes, as behind those of changes that may stand
+pub use Rattle.records.specs.laws.KeyLaws.{Padded, good-padded, same-name}
+-- marks whose records stand under one key, and a mark that shares its keys with no other
+pub use Rattle.records.specs.laws.KeyLaws.{one-mark, mark-one, hour-mark}
+pub use Rattle.records.specs.laws.MarkLaws.{sole, sole-is}
 -- keys of one mark and hour, and the key of a question
 pub use Rattle.records.specs.laws.KeyLaws.{sameHour-same, hour-parts, parts-hour, asked, ask-fault, askFailure-fault, askHour-fault, name-fault}
 -- the key of a mark and hour, and of a unit: no fault is 0
@@ -34,10 +37,8 @@ pub use Rattle.records.specs.laws.KeyLaws.{hour-key, hour-asked, unit-ma
 pub use Rattle.records.specs.laws.KeyLaws.{Wellformed, key-formed, failure-formed, hour-formed, mark-hour-formed, unit-formed}
 -- the name of a record that stands was decoded from its written spelling
 pub use Rattle.records.specs.laws.KeyLaws.{Decoded, name-decoded, own-unnamed}
--- the key of a change is read back from what is written; a record begins with the head of a key exactly when it has the key
-pub use Rattle.records.specs.laws.HeadLaws.{head-written, head-same}
--- and has its name, in whatever hour, exactly when the bytes behind mark and hour begin with the head's
-pub use Rattle.records.specs.laws.NameHeadLaws.{name-same, name-none, write-long}
+-- the key of a change is read back from what is written; a record of a key's mark has its name exactly when its bytes behind the hour begin with the name's
+pub use Rattle.records.specs.laws.HeadLaws.{head-written, good-able, name-told, name-untold, write-long}
 -- two keys of one mark and hour have names of other bytes, unless they are the same
 pub use Rattle.records.specs.laws.KeyLaws.{names-apart}
 -- bytes written at a place

@@ -1,28 +1,29 @@
--- The head of a change is read back from what is written; a record begins with the head of a key exactly when it has the key.
-use mathlib.Core.Path.{_≡_, refl, sym, ap, _∙_, subst}
+-- The head of a change is read back from what is written; a record of a mark has a name exactly when its bytes behind the hour begin with those of the name.
+use mathlib.Core.Path.{_≡_, refl, sym, ap, _∙_}
 use mathlib.Core.List.{List, [], _∷_, _++_, append-assoc}
 use mathlib.Core.Bool.{Bool, true, false, cond, true≢false, _&&_}
-use Prim.Native.Nat.{ℕ, suc, _<_}
+use Prim.Native.Nat.{ℕ, suc, _≤_, _<_}
 use native.Mathlib.Omega.{arith}
 use lib.Dec.{eqb, leb}
-use lib.ListN.{length, take, drop, getD}
+use lib.ListN.{length, take, drop, getD, length-append}
 use lib.Seq.{getD-take}
-use borrow.Author.Tests.{leb-true, eqb-true, ne-eqb}
+use borrow.Author.Tests.{leb-true, eqb-true}
 use Rattle.laws.specs.Sums.{every}
-use Rattle.laws.specs.SumLaws.{every-at}
-use Rattle.money.specs.Names.{nameByteOk, nameOk}
+use Rattle.laws.specs.SumLaws.{every-at, on}
+use Rattle.money.specs.Names.{nameByteOk, nameOk, sameName}
+use Rattle.money.specs.laws.NameLaws.{same-of, same-names}
 use Rattle.money.specs.declared.names.Name.{Name}
-use Rattle.records.specs.Reading.{Res, got, _>>=_, byte}
-use Rattle.records.specs.Numbers.{between, hour}
-use Rattle.records.specs.Names.{visible, spell, nameField, nameFrom, emptyName, bytesOf}
+use Rattle.records.specs.Reading.{Res, got, _>>=_}
+use Rattle.records.specs.Numbers.{hour}
+use Rattle.records.specs.Names.{visible, spell, nameField, nameFrom, emptyName, bytesOf, storedName}
 use Rattle.records.specs.Marks.{markBytes, hasName}
-use Rattle.records.specs.laws.MarkLaws.{two-bytes, mark-first}
 use Rattle.records.specs.Changes.{Rec, Change, filed, keyOf, kind, bodyOf, nameFor, nameBytes, headBytes, write, begins, Good}
-use Rattle.records.specs.Keys.{same}
-use Rattle.records.specs.tables.Heads.{headKey, keyOk, recordHead}
+use Rattle.records.specs.Keys.{sameKeyMark}
+use Rattle.records.specs.tables.Heads.{headKey, nameable, nameHead}
+use Rattle.records.specs.laws.MarkLaws.{two-bytes, key-named}
 use Rattle.records.specs.laws.NameLaws.{Visible, Valid, spelled-back, field-again}
-use Rattle.records.specs.laws.ChangeLaws.{and-left, and-right, head-again, hour-range, good-kept, begins-append, begins-true}
-use Rattle.records.specs.laws.KeyLaws.{Padded, good-padded, same-refl, same-true, own-unnamed, both, got-value}
+use Rattle.records.specs.laws.ChangeLaws.{and-left, and-right, head-again, good-kept, begins-append, begins-true}
+use Rattle.records.specs.laws.KeyLaws.{Padded, good-padded, one-mark, own-unnamed, both, got-value}
 use Rattle.records.specs.laws.AmountLaws.{name-sound}
 use Rattle.records.specs.declared.marks.Mark.{Mark}
 use Rattle.records.specs.declared.marks.Kind.{Kind}
@@ -44,7 +45,7 @@ head-written c g t =
     let w = good-kept c g in
     ap headKey (append-assoc (headBytes (kind c) (keyOf c)) (bodyOf c) t) ∙ key-read (kind c) (keyOf c) (w .hour-back) (w .name-back) (bodyOf c ++ t)
 
--- ---- a key that a record can have
+-- ---- a name that a record can have
 
 fine-visible : (xs : List ℕ) → ((i : ℕ) → i < length xs → nameByteOk (getD xs i 0) ≡ true) → Visible xs
 unfolding visible
@@ -80,60 +81,72 @@ name-read m n p h u = go (hasName m) h
         (λ (x : Name). got x u) p
     go false e = ap (λ (x : Name). got x u) (unnamed n p (eqb-true (n .len) 0 e))
 
-hour-read : (h : ℕ) → between 1 24 h ≡ true → (u : List ℕ) → hour (h ∷ u) ≡ got h u
-unfolding hour byte
-hour-read h e u = rw e
+able-read : (k : Key) → Padded (k .name) → nameable k ≡ true → (u : List ℕ) → nameFor File (k .mark) (nameHead k ++ u) ≡ got (k .name) u
+unfolding nameable
+able-read k p e u = name-read (k .mark) (k .name) p e u
 
-ok-read : (k : Key) → Padded (k .name) → keyOk k ≡ true → (t : List ℕ) → headKey (headBytes File k ++ t) ≡ got k t
-unfolding keyOk
-ok-read k p e t =
-    let b = cond (hasName (k .mark)) (nameOk (k .name)) (eqb (k .name .len) 0) in
-    key-read File k (hour-read (k .hour) (and-left (between 1 24 (k .hour)) b e)) (name-read (k .mark) (k .name) p (and-right (between 1 24 (k .hour)) b e)) t
-
--- that of a record which may stand is one
-good-ok : (r : Rec) → Good (filed r) → keyOk (r .key) ≡ true
-unfolding keyOk
-good-ok r g = simp (hour-range (r .key .hour) [] (good-kept (filed r) g .hour-back []), go (hasName (r .key .mark)) refl)
+-- that of a change which may stand is one
+pub good-able : (c : Change) → Good c → nameable (keyOf c) ≡ true
+unfolding nameable
+good-able c g = go (hasName (keyOf c .mark)) refl
   where
-    go : (b : Bool) → hasName (r .key .mark) ≡ b → cond b (nameOk (r .key .name)) (eqb (r .key .name .len) 0) ≡ true
-    go true h = name-sound r g h
-    go false h = ap (λ (n : Name). eqb (n .len) 0) (own-unnamed r g h)
+    go : (b : Bool) → hasName (keyOf c .mark) ≡ b → cond b (nameOk (keyOf c .name)) (eqb (keyOf c .name .len) 0) ≡ true
+    go true h = name-sound c g h
+    go false h = ap (λ (n : Name). eqb (n .len) 0) (own-unnamed c g h)
 
--- ---- the head of a key
+-- ---- the name behind mark and hour
 
-pub none-begins : (r : Rec) (t : List ℕ) → begins (0 ∷ []) (write (filed r) ++ t) ≡ false
+marked-long : (m : Mark) (t : List ℕ) → length (markBytes m ++ t) ≡ suc (suc (length t))
+marked-long m t = ap (λ (l : List ℕ). length (l ++ t)) (two-bytes m)
+
+-- mark and hour take three bytes
+head-long : (k : Key) → 3 ≤ length (headBytes File k)
+unfolding headBytes
+head-long k = omega (arith, marked-long (k .mark) (k .hour ∷ nameHead k))
+
+pub write-long : (r : Rec) → 3 ≤ length (write (filed r))
+unfolding write
+write-long r = omega (arith, head-long (r .key), length-append (headBytes File (r .key)) (r .body))
+
+behind-hour : (r : Rec) (t : List ℕ) → drop 3 (write (filed r) ++ t) ≡ nameHead (r .key) ++ (r .body ++ t)
 unfolding write headBytes
-none-begins r t = go (r .key .mark)
-  where
-    rest : List ℕ
-    rest = r .key .hour ∷ nameBytes File (r .key .mark) (r .key .name)
+behind-hour r t =
+    ap (λ (l : List ℕ). drop 3 (((l ++ (r .key .hour ∷ nameHead (r .key))) ++ r .body) ++ t)) (two-bytes (r .key .mark))
+    ∙ append-assoc (nameHead (r .key)) (r .body) t
 
-    go : (m : Mark) → begins (0 ∷ []) (((markBytes m ++ rest) ++ r .body) ++ t) ≡ false
-    go m =
-        ap (λ (l : List ℕ). begins (0 ∷ []) (((l ++ rest) ++ r .body) ++ t)) (two-bytes m)
-        ∙ ap (λ (b : Bool). b && true) (ne-eqb 0 (getD (markBytes m) 0 0) (λ e. omega (arith, mark-first m)))
+-- of a record under the key's mark, in whatever hour
+module _ (k : Key) (p : Padded (k .name)) (r : Rec) (g : Good (filed r)) (f : sameKeyMark k (r .key) ≡ true) where
+  named-alike : hasName (k .mark) ≡ hasName (r .key .mark)
+  named-alike = sym (key-named (k .mark)) ∙ ap hasName (one-mark k (r .key) f) ∙ key-named (r .key .mark)
 
-module _ (k : Key) (p : Padded (k .name)) (r : Rec) (g : Good (filed r)) (t : List ℕ) where
-  headed-same : begins (recordHead k) (write (filed r) ++ t) ≡ true → same k (r .key) ≡ true
-  unfolding recordHead
-  headed-same h = go (keyOk k) refl h
+  name-is : sameName (k .name) (r .key .name) ≡ true → k .name ≡ r .key .name
+  name-is h = sym p ∙ ap nameFrom (same-names (k .name) (r .key .name) h) ∙ good-padded (filed r) g
+
+  -- it has the key's name exactly when its bytes behind the hour begin with those of the name
+  pub name-told : nameable k ≡ true → (t : List ℕ) → begins (nameHead k) (drop 3 (write (filed r) ++ t)) ≡ sameName (k .name) (r .key .name)
+  unfolding nameFor nameBytes
+  name-told e t = both (begins (nameHead k) (drop 3 (write (filed r) ++ t))) (sameName (k .name) (r .key .name)) there back
     where
-      go : (b : Bool) → keyOk k ≡ b → begins (cond b (headBytes File k) (0 ∷ [])) (write (filed r) ++ t) ≡ true → same k (r .key) ≡ true
-      go false e f = absurd (true≢false (sym f ∙ none-begins r t))
-      go true e f =
-          let u = drop (length (headBytes File k)) (write (filed r) ++ t) in
-          let one : got k u ≡ got (r .key) (r .body ++ t) = sym (ok-read k p e u) ∙ sym (ap headKey (begins-true (headBytes File k) (write (filed r) ++ t) f)) ∙
-          head-written (filed r) g t in
-          subst (λ (x : Key). same k x ≡ true) (got-value one) (same-refl k)
+      there : begins (nameHead k) (drop 3 (write (filed r) ++ t)) ≡ true → sameName (k .name) (r .key .name) ≡ true
+      there h =
+          let s = drop 3 (write (filed r) ++ t) in
+          let u = drop (length (nameHead k)) s in
+          let one : got (k .name) u ≡ got (r .key .name) (r .body ++ t) = sym (able-read k p e u) ∙ sym
+          (ap (nameFor File (k .mark)) (begins-true (nameHead k) s h))
+          ∙ (λ i. cond (named-alike i) (storedName (nameField (behind-hour r t i))) (got emptyName (behind-hour r t i)))
+          ∙ good-kept (filed r) g .name-back (r .body ++ t) in
+          same-of (k .name) (r .key .name) (ap bytesOf (got-value one))
 
-  same-headed : same k (r .key) ≡ true → begins (recordHead k) (write (filed r) ++ t) ≡ true
-  unfolding recordHead write
-  same-headed h =
-      let one : k ≡ r .key = same-true k (r .key) p (good-padded (filed r) g) h in
-      ap (λ (x : Key). begins (recordHead x) (write (filed r) ++ t)) one
-      ∙ ap (λ (b : Bool). begins (cond b (headBytes File (r .key)) (0 ∷ [])) (write (filed r) ++ t)) (good-ok r g)
-      ∙ ap (begins (headBytes File (r .key))) (append-assoc (headBytes File (r .key)) (r .body) t) ∙ begins-append (headBytes File (r .key)) (r .body ++ t)
+      back : sameName (k .name) (r .key .name) ≡ true → begins (nameHead k) (drop 3 (write (filed r) ++ t)) ≡ true
+      back h =
+          ap (begins (nameHead k)) (behind-hour r t)
+          ∙ (λ i. begins (cond (named-alike i) (length (spell (bytesOf (name-is h i))) ∷ spell (bytesOf (name-is h i))) []) (nameHead (r .key) ++ (r .body ++ t)))
+          ∙ begins-append (nameHead (r .key)) (r .body ++ t)
 
-  -- a record begins with the head of a key exactly when it has the key
-  pub head-same : begins (recordHead k) (write (filed r) ++ t) ≡ same k (r .key)
-  head-same = both (begins (recordHead k) (write (filed r) ++ t)) (same k (r .key)) headed-same same-headed
+  -- a name that no record can have is not its name
+  pub name-untold : nameable k ≡ false → sameName (k .name) (r .key .name) ≡ false
+  unfolding nameable
+  name-untold e = on (sameName (k .name) (r .key .name))
+      (λ h. absurd (true≢false (sym (good-able (filed r) g) ∙ sym
+      (λ i. cond (named-alike i) (nameOk (name-is h i)) (eqb (name-is h i .len) 0)) ∙ e)))
+      (λ h. h)

@@ -9,10 +9,10 @@ use borrow.Author.Tests.{eq-eqb, leb-true}
 use Rattle.money.specs.Names as names
 use Rattle.records.specs.Reading.{got, _>>=_}
 use Rattle.records.specs.Names.{spell, bytesOf}
-use Rattle.records.specs.Marks.{hasName, order, hourLimit, limit}
-use Rattle.records.specs.laws.MarkLaws.{every-mark}
+use Rattle.records.specs.Marks.{hasName, hourLimit, limit}
+use Rattle.records.specs.laws.MarkLaws.{every-mark, key-limit}
 use Rattle.records.specs.Changes.{Rec, Change, filed, keyOf, Good}
-use Rattle.records.specs.Keys.{sameHour, same, askUnit}
+use Rattle.records.specs.Keys.{sameKeyMark, sameHour, same, askUnit}
 use Rattle.records.specs.Hours.{limitOf, atHour, sameName}
 use Rattle.records.specs.laws.ChangeLaws.{and-left, and-right, good-kept, hour-range}
 use Rattle.records.specs.laws.KeyLaws.{hour-parts, own-name}
@@ -26,7 +26,7 @@ limit-most k = leb-true (limit (k .mark)) hourLimit (every-mark (λ (m : Mark). 
 
 pub limit-same : (a b : Key) → sameHour a b ≡ true → limitOf a ≡ limitOf b
 unfolding limitOf
-limit-same a b h = ap limit (hour-parts a b h .0)
+limit-same a b h = sym (key-limit (a .mark)) ∙ ap limit (hour-parts a b h .0) ∙ key-limit (b .mark)
 
 -- a change's hour is one of the day's
 pub good-hour : (c : Change) → Good c → (1 ≤ keyOf c .hour) × (keyOf c .hour ≤ 24)
@@ -38,7 +38,7 @@ good-hour c g =
 pub same-at : (k j : Key) (h : ℕ) → same (atHour k h) j ≡ (sameName k j && eqb h (j .hour))
 unfolding same sameHour sameName atHour
 same-at k j h =
-    go (eqb (order (k .mark)) (order (j .mark))) (eqb h (j .hour)) (names.sameName (k .name) (j .name)) (eqb (k .hour) (k .hour))
+    go (sameKeyMark k j) (eqb h (j .hour)) (names.sameName (k .name) (j .name)) (eqb (k .hour) (k .hour))
     (eq-eqb (k .hour) (k .hour) refl)
   where
     go : (a b c d : Bool) → d ≡ true → ((a && b) && c) ≡ (((a && d) && c) && b)
@@ -57,5 +57,5 @@ at-hour k h = refl
 pub unit-asked : (r : Rec) → Good (filed r) → r .key .mark ≡ Gh → askUnit (spell (bytesOf (r .key .name))) ≡ got (atHour (r .key) 1) []
 unfolding askUnit atHour
 unit-asked r g e =
-    (λ i. own-name r g (ap hasName e) i >>= λ n u. got (record { mark = Gh; hour = 1; name = n }) [])
+    (λ i. own-name (filed r) g (ap hasName e) i >>= λ n u. got (record { mark = Gh; hour = 1; name = n }) [])
     ∙ ap (λ (m : Mark). got (record { mark = m; hour = 1; name = r .key .name }) []) (sym e)

@@ -1,5 +1,5 @@
 -- Keys: equality as a test, and the key of a question.
-use mathlib.Core.Path.{_≡_, refl, sym, ap, ap₂, _∙_, subst}
+use mathlib.Core.Path.{_≡_, refl, sym, ap, _∙_, subst}
 use mathlib.Core.List.{List, [], _∷_, _++_}
 use mathlib.Core.Bool.{Bool, true, false, cond, true≢false, _&&_}
 use Prim.Native.Nat.{ℕ, _≤_, _<_}
@@ -13,10 +13,10 @@ use Rattle.money.specs.laws.NameLaws.{same-of, same-names}
 use Rattle.records.specs.Reading.{Res, bad, got, _>>=_, check, byte}
 use Rattle.records.specs.Numbers.{between, hour}
 use Rattle.records.specs.Names.{decodeName, nameField, spell, nameFrom, emptyName, bytesOf, storedName}
-use Rattle.records.specs.Marks.{markBytes, markAmong, mark, hasName, isFailure, order}
-use Rattle.records.specs.laws.MarkLaws.{order-same}
-use Rattle.records.specs.Changes.{Rec, Change, filed, keyOf, kind, Good, nameless, nameFor, noName, nameBytes}
-use Rattle.records.specs.Keys.{sameHour, same, askMark, askName, askFailureMark, askFrom, ask, askFailure, askHourOf, askHour, askUnit, keyAnswer, askBytes}
+use Rattle.records.specs.Marks.{markBytes, markAmong, mark, hasName, isFailure, order, sameMark, keyMark}
+use Rattle.records.specs.laws.MarkLaws.{order-same, sole, sole-is}
+use Rattle.records.specs.Changes.{Change, keyOf, kind, Good, nameless, nameFor, noName, nameBytes}
+use Rattle.records.specs.Keys.{sameKeyMark, sameHour, same, askMark, askName, askFailureMark, askFrom, ask, askFailure, askHourOf, askHour, askUnit, keyAnswer, askBytes}
 use Rattle.records.specs.laws.ReaderLaws.{bad-got, check-got, bind-got}
 use Rattle.records.specs.laws.NameLaws.{take-pad, field-spelled, Valid, decoded-valid}
 use Rattle.records.specs.laws.ChangeLaws.{and-left, and-right, good-kept, hour-range, counted-mark, counted-decode}
@@ -27,26 +27,32 @@ use Rattle.records.specs.declared.marks.Kind.the-variants.{File, Correct
 use Rattle.records.specs.declared.keys.Key.{Key}
 use Rattle.records.specs.declared.keys.KeyAnswer.{KeyAnswer}
 
-pub hour-parts : (a b : Key) → sameHour a b ≡ true → (a .mark ≡ b .mark) × (a .hour ≡ b .hour)
-unfolding sameHour
-hour-parts a b h = (
-  order-same (a .mark) (b .mark) (eqb-true (order (a .mark)) (order (b .mark)) (and-left _ _ h)),
-  eqb-true (a .hour) (b .hour) (and-right (eqb (order (a .mark)) (order (b .mark))) _ h),
-)
+-- marks whose records stand under one key
+pub one-mark : (a b : Key) → sameKeyMark a b ≡ true → keyMark (a .mark) ≡ keyMark (b .mark)
+one-mark a b h = order-same (keyMark (a .mark)) (keyMark (b .mark)) (eqb-true (order (keyMark (a .mark))) (order (keyMark (b .mark))) h)
 
-pub parts-hour : (a b : Key) → order (a .mark) ≡ order (b .mark) → a .hour ≡ b .hour → sameHour a b ≡ true
+pub mark-one : (a b : Key) → keyMark (a .mark) ≡ keyMark (b .mark) → sameKeyMark a b ≡ true
+mark-one a b e = eq-eqb (order (keyMark (a .mark))) (order (keyMark (b .mark))) (ap order e)
+
+pub hour-parts : (a b : Key) → sameHour a b ≡ true → (keyMark (a .mark) ≡ keyMark (b .mark)) × (a .hour ≡ b .hour)
 unfolding sameHour
-parts-hour a b m h = simp (eq-eqb (order (a .mark)) (order (b .mark)) m, eq-eqb (a .hour) (b .hour) h)
+hour-parts a b h = (one-mark a b (and-left (sameKeyMark a b) _ h), eqb-true (a .hour) (b .hour) (and-right (sameKeyMark a b) _ h))
+
+pub parts-hour : (a b : Key) → keyMark (a .mark) ≡ keyMark (b .mark) → a .hour ≡ b .hour → sameHour a b ≡ true
+unfolding sameHour
+parts-hour a b m h = simp (mark-one a b m, eq-eqb (a .hour) (b .hour) h)
+
+-- of a mark that shares its keys with no other
+pub hour-mark : (a b : Key) → sole (a .mark) ≡ true → sameHour a b ≡ true → b .mark ≡ a .mark
+hour-mark a b o h = sym (sole-is (a .mark) o (b .mark) (hour-parts a b h .0))
 
 pub sameHour-same : (a b : Key) → sameHour a b ≡ true → (x : Key) → sameHour a x ≡ sameHour b x
 unfolding sameHour
-sameHour-same a b h x =
-    ap₂ (λ (m n : ℕ). eqb m (order (x .mark)) && eqb n (x .hour)) (eqb-true (order (a .mark)) (order (b .mark)) (and-left _ _ h))
-    (eqb-true (a .hour) (b .hour) (and-right (eqb (order (a .mark)) (order (b .mark))) _ h))
+sameHour-same a b h x = let p = hour-parts a b h in λ i. sameMark (p .0 i) (keyMark (x .mark)) && eqb (p .1 i) (x .hour)
 
 -- ---- keys are the same exactly when mark, hour and decoded name are: whatever stands behind the name's bytes
 pub record Alike (a b : Key) : Type 0 where
-  pub mark : a .mark ≡ b .mark
+  pub mark : keyMark (a .mark) ≡ keyMark (b .mark)
   pub hour : a .hour ≡ b .hour
   pub name : bytesOf (a .name) ≡ bytesOf (b .name)
 
@@ -66,7 +72,7 @@ same-alike a b h =
 
 pub alike-same : (a b : Key) → Alike a b → same a b ≡ true
 unfolding same
-alike-same a b w = simp (parts-hour a b (ap order (w .mark)) (w .hour), same-of (a .name) (b .name) (w .name))
+alike-same a b w = simp (parts-hour a b (w .mark) (w .hour), same-of (a .name) (b .name) (w .name))
 
 pub same-refl : (a : Key) → same a a ≡ true
 same-refl a = alike-same a a (record { mark = refl; hour = refl; name = refl })
@@ -98,7 +104,7 @@ same-right a b h x = same-sym x a ∙ same-left a b h x ∙ same-sym b x
 
 pub hour-right : (a b : Key) → same a b ≡ true → (x : Key) → sameHour x a ≡ sameHour x b
 unfolding sameHour
-hour-right a b h x = let w = same-alike a b h in λ i. eqb (order (x .mark)) (order (w .mark i)) && eqb (x .hour) (w .hour i)
+hour-right a b h x = let w = same-alike a b h in λ i. sameMark (keyMark (x .mark)) (w .mark i) && eqb (x .hour) (w .hour i)
 
 -- ---- the key of a question
 
@@ -231,24 +237,24 @@ askUnit-fault ns k = go (storedName (decodeName ns)) refl
 pub got-value : {A : Type 0} {a b : A} {s t : List ℕ} → _≡_ {A = Res A} (got a s) (got b t) → a ≡ b
 got-value e = cc
 
--- ---- the names of records that stand
+-- ---- the names of changes that may stand
 
-name-own : (r : Rec) → Good (filed r) → askName (r .key .mark) (askBytes (r .key)) ≡ got (r .key .name) []
-name-own r g = name-asked File (r .key .mark) (r .key .name) (good-kept (filed r) g .name-back [])
+name-own : (c : Change) → Good c → askName (keyOf c .mark) (askBytes (keyOf c)) ≡ got (keyOf c .name) []
+name-own c g = name-asked (kind c) (keyOf c .mark) (keyOf c .name) (good-kept c g .name-back [])
 
--- a record of a mark without names stands under none
-pub own-unnamed : (r : Rec) → Good (filed r) → hasName (r .key .mark) ≡ false → r .key .name ≡ emptyName
+-- one of a mark without names has none
+pub own-unnamed : (c : Change) → Good c → hasName (keyOf c .mark) ≡ false → keyOf c .name ≡ emptyName
 unfolding askName
-own-unnamed r g h =
+own-unnamed c g h =
     sym (got-value
-    (sym (λ i. cond (h i) (storedName (decodeName (cond (h i) (spell (bytesOf (r .key .name))) [])))
-    (check (eqb (length (cond (h i) (spell (bytesOf (r .key .name))) [])) 0) 4 (got emptyName []))) ∙ name-own r g))
+    (sym (λ i. cond (h i) (storedName (decodeName (cond (h i) (spell (bytesOf (keyOf c .name))) [])))
+    (check (eqb (length (cond (h i) (spell (bytesOf (keyOf c .name))) [])) 0) 4 (got emptyName []))) ∙ name-own c g))
 
 -- a name that stands is the one that its written spelling decodes to
-pub own-name : (r : Rec) → Good (filed r) → hasName (r .key .mark) ≡ true → storedName (decodeName (spell (bytesOf (r .key .name)))) ≡ got (r .key .name) []
+pub own-name : (c : Change) → Good c → hasName (keyOf c .mark) ≡ true → storedName (decodeName (spell (bytesOf (keyOf c .name)))) ≡ got (keyOf c .name) []
 unfolding askName
-own-name r g h = sym (λ i. cond (h i) (storedName (decodeName (cond (h i) (spell (bytesOf (r .key .name))) [])))
-    (check (eqb (length (cond (h i) (spell (bytesOf (r .key .name))) [])) 0) 4 (got emptyName []))) ∙ name-own r g
+own-name c g h = sym (λ i. cond (h i) (storedName (decodeName (cond (h i) (spell (bytesOf (keyOf c .name))) [])))
+    (check (eqb (length (cond (h i) (spell (bytesOf (keyOf c .name))) [])) 0) 4 (got emptyName []))) ∙ name-own c g
 
 -- and it may stand
 pub record Decoded (n : Name) : Type 0 where
@@ -256,10 +262,10 @@ pub record Decoded (n : Name) : Type 0 where
   pub valid : Valid bytes
   pub is : nameFrom bytes ≡ n
 
-pub name-decoded : (r : Rec) → Good (filed r) → hasName (r .key .mark) ≡ true → Decoded (r .key .name)
-name-decoded r g h =
-    let s = spell (bytesOf (r .key .name)) in
-    let x = bind-got (decodeName s) (λ v t. got (nameFrom v) t) (r .key .name) [] (own-name r g h) in
+pub name-decoded : (c : Change) → Good c → hasName (keyOf c .mark) ≡ true → Decoded (keyOf c .name)
+name-decoded c g h =
+    let s = spell (bytesOf (keyOf c .name)) in
+    let x = bind-got (decodeName s) (λ v t. got (nameFrom v) t) (keyOf c .name) [] (own-name c g h) in
     record { bytes = x .0; valid = decoded-valid s (x .0) (x .1) (x .2); is = cc (x .3) }
 
 -- ---- names as reading makes them have zeros behind their bytes: of these, names of the same bytes are one name
@@ -298,11 +304,9 @@ good-padded c g = short-padded (keyOf c .name) (good-short c g)
 pub good-few : (c : Change) → Good c → keyOf c .name .len ≤ 12
 good-few c g = let x = good-short c g in subst (λ (n : Name). n .len ≤ 12) (x .is) (x .few)
 
-pub same-true : (a b : Key) → Padded (a .name) → Padded (b .name) → same a b ≡ true → a ≡ b
-same-true a b p q h =
-    let w = same-alike a b h in
-    let n : a .name ≡ b .name = sym p ∙ ap nameFrom (w .name) ∙ q in
-    λ i. record { mark = w .mark i; hour = w .hour i; name = n i }
+-- keys that are the same have one name
+pub same-name : (a b : Key) → Padded (a .name) → Padded (b .name) → same a b ≡ true → a .name ≡ b .name
+same-name a b p q h = sym p ∙ ap nameFrom (same-alike a b h .name) ∙ q
 
 -- two keys of one mark and hour have names of other bytes, unless they are the same
 pub names-apart : (a b : Key) → sameHour a b ≡ true → same a b ≡ false → bytesOf (a .name) ≡ bytesOf (b .name) → ⊥

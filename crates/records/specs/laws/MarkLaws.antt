@@ -1,16 +1,16 @@
 -- Laws of the marks, whatever marks the listing has: a test that holds all along the listing holds of each mark. Assumes nothing.
 use mathlib.Core.Path.{_≡_, refl, sym, ap, _∙_, subst}
 use mathlib.Core.List.{List, [], _∷_}
-use mathlib.Core.Bool.{Bool, true, false, cond, _&&_, _||_}
+use mathlib.Core.Bool.{Bool, true, false, cond, not, _&&_, _||_}
 use mathlib.Core.Logic.{_⊎_, inl, inr}
 use Prim.Native.Nat.{ℕ, zero, suc, _≤_, _<_}
 use native.Mathlib.Nat.{not-suc-le-zero, le-of-suc-le-suc}
 use native.Mathlib.Omega.{arith}
 use lib.Dec.{ltb, eqb, leb}
 use lib.ListN.{length, getD, List·getD-eq-default}
-use borrow.Author.Tests.{ltb-true, ltb-false, eqb-true, leb-true}
+use borrow.Author.Tests.{ltb-true, ltb-false, eq-eqb, eqb-true, leb-true}
 use Rattle.laws.specs.SumLaws.{on}
-use Rattle.records.specs.Marks.{markBytes, listing, order, isFailure, sameMark}
+use Rattle.records.specs.Marks.{markBytes, listing, order, hasName, isFailure, sameMark, keyMark, limit}
 use Rattle.records.specs.declared.marks.Mark.{Mark}
 use Rattle.records.specs.declared.marks.Mark.the-variants.{Pr, Im, Ex, Gh, Fi, Fe}
 
@@ -80,10 +80,6 @@ two-bytes m = two-of (markBytes m) (mark-two m)
 pub bytes-are : (m : Mark) (x y : ℕ) → (x ≡ getD (markBytes m) 0 0) × (y ≡ getD (markBytes m) 1 0) → markBytes m ≡ x ∷ y ∷ []
 bytes-are m x y e = two-bytes m ∙ sym (λ i. e .0 i ∷ e .1 i ∷ [])
 
--- none begins with the byte 0
-pub mark-first : (m : Mark) → 0 < getD (markBytes m) 0 0
-mark-first m = ltb-true 0 (getD (markBytes m) 0 0) (every-mark (λ (m : Mark). ltb 0 (getD (markBytes m) 0 0)) refl m)
-
 -- a place fits into four bits
 pub order-few : (m : Mark) → order m ≤ 15
 order-few m = leb-true (order m) 15 (every-mark (λ (m : Mark). leb (order m) 15) refl m)
@@ -96,3 +92,26 @@ failure-mark m h = either (sameMark m Fi) (sameMark m Fe) refl refl (every-such 
     either true b p q e = inl (order-same m Fi (eqb-true (order m) (order Fi) p))
     either false true p q e = inr (order-same m Fe (eqb-true (order m) (order Fe) q))
     either false false p q e = absurd (let z : _≡_ {A = ℕ} 0 1 = cc in omega arith)
+
+-- ---- the mark under whose key a record stands
+
+pub key-limit : (m : Mark) → limit (keyMark m) ≡ limit m
+key-limit m = eqb-true (limit (keyMark m)) (limit m) (every-mark (λ (m : Mark). eqb (limit (keyMark m)) (limit m)) refl m)
+
+pub key-named : (m : Mark) → hasName (keyMark m) ≡ hasName m
+key-named m = agree (hasName (keyMark m)) (hasName m) (every-mark (λ (m : Mark). cond (hasName (keyMark m)) (hasName m) (not (hasName m))) refl m)
+  where
+    agree : (a b : Bool) → cond a b (not b) ≡ true → a ≡ b
+    agree true b e = sym e
+    agree false true e = e
+    agree false false e = refl
+
+-- a mark that shares its keys with no other
+abbrev pub sole : Mark → Bool
+sole m = all (λ (x : Mark). cond (sameMark (keyMark m) (keyMark x)) (sameMark m x) true) listing
+
+pub sole-is : (m : Mark) → sole m ≡ true → (x : Mark) → keyMark m ≡ keyMark x → m ≡ x
+sole-is m a x e =
+    let one = eq-eqb (order (keyMark m)) (order (keyMark x)) (ap order e) in
+    order-same m x (eqb-true (order m) (order x) (sym (ap (λ (b : Bool). cond b (sameMark m x) true) one)
+    ∙ every-mark (λ (x : Mark). cond (sameMark (keyMark m) (keyMark x)) (sameMark m x) true) a x))

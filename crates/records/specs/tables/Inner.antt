@@ -4,6 +4,8 @@ use mathlib.Core.List.{List}
 use mathlib.Core.Bool.{Bool, true, false}
 use Prim.Native.Nat.{ℕ, _+_, _-_, _≤_}
 use lib.ListN.{length, take}
+use Rattle.money.specs.Offers.{maxPairs}
+use Rattle.money.specs.Names.{maxName}
 use Rattle.money.specs.declared.units.Price.{Price}
 use Rattle.money.specs.declared.units.Quantity.{Quantity}
 use Rattle.money.specs.declared.offers.Offer.{Offer}
@@ -111,11 +113,11 @@ ChrIn s (NoChr k) = Unit
 pub record OfferIs (s : List ℕ) (x : Res Offer) (r : OfferRead) : Type 0 where
   pub value : shown s (r .end) (r .offer) ≡ x
   pub placed : EndIn s (r .end)
-  pub few : r .offer .count ≤ 20
+  pub few : r .offer .count ≤ maxPairs
 
 -- the lists of a unit's hour; of at most 20 pairs each in any case
 abbrev pub Few : Lists → Type 0
-Few l = (l .ahead .count ≤ 20) × (l .real .count ≤ 20) × (l .spinning .count ≤ 20) × (l .nonspinning .count ≤ 20) × (l .thirty .count ≤ 20)
+Few l = (l .ahead .count ≤ maxPairs) × (l .real .count ≤ maxPairs) × (l .spinning .count ≤ maxPairs) × (l .nonspinning .count ≤ maxPairs) × (l .thirty .count ≤ maxPairs)
 
 pub record ListsIs (s : List ℕ) (x : Res Lists) (r : ListsRead) : Type 0 where
   pub value : shown s (r .end) (r .lists) ≡ x
@@ -126,7 +128,7 @@ pub record ListsIs (s : List ℕ) (x : Res Lists) (r : ListsRead) : Type 0 where
 pub record Named (s : List ℕ) (x : Res Name) (r : NameRead) : Type 0 where
   pub value : shown s (r .end) (r .name) ≡ x
   pub placed : EndIn s (r .end)
-  pub few : r .name .len ≤ 12
+  pub few : r .name .len ≤ maxName
 
 -- ---- changes
 
@@ -156,7 +158,7 @@ Placed s (No j) k x b = Unit
 pub record ReadIs (s : List ℕ) (want : Wanted) (r : Read) : Type 0 where
   pub value : changeShown s (r .end) (r .kind) (r .key) (r .body) ≡ change want s
   pub placed : Placed s (r .end) (r .kind) (r .key) (r .body)
-  pub few : r .key .name .len ≤ 12
+  pub few : r .key .name .len ≤ maxName
 
 -- a change at the front of the bytes
 pub record ViewIs (s : List ℕ) (x : Res View) (r : ViewRead) : Type 0 where
@@ -170,8 +172,15 @@ pub record Wrote (d e : List ℕ) (at next : ℕ) (xs : List ℕ) : Type 0 where
   pub bytes : e ≡ put d at xs
   pub after : next ≡ at + length xs
 
+-- the most bytes of a name with its length byte, and of a head: a change's mark, a record's and the hour before that
+abbrev pub maxNameHead : ℕ
+maxNameHead = 37
+
+abbrev pub maxHead : ℕ
+maxHead = 42
+
 -- the head of a change as it is written
 pub record HeadIs (k : Kind) (x : Key) (h : HeadOut) : Type 0 where
   pub bytes : take (h .len) (h .bytes) ≡ headBytes k x
   pub len : h .len ≡ length (headBytes k x)
-  pub few : h .len ≤ 44
+  pub few : h .len ≤ maxHead

@@ -4,6 +4,7 @@ use mathlib.Core.Bool.{Bool, cond, _&&_}
 use Prim.Native.Nat.{ℕ, _+_, _-_}
 use lib.Dec.{leb}
 use lib.ListN.{length, drop}
+use Rattle.money.specs.Names.{maxName}
 use Rattle.money.specs.Refusals.{markUnknown, noSpace}
 use Rattle.records.specs.Changes.{isRecord, kindIn, headBytes, put}
 use Rattle.records.specs.declared.scan.View.{View}
@@ -17,7 +18,7 @@ viewRest v = v .len - length (viewHead v)
 
 -- a view of a filed, corrected or withdrawn record whose body n bytes have room for
 unfoldable pub isView : View → ℕ → Bool
-isView v n = isRecord (v .act) && (leb (v .key .name .len) 12 && (leb (length (viewHead v)) (v .len) && leb (viewRest v) n))
+isView v n = isRecord (v .act) && (leb (v .key .name .len) maxName && (leb (length (viewHead v)) (v .len) && leb (viewRest v) n))
 
 unfoldable pub viewWritten : View → List ℕ → List ℕ
 viewWritten v s = viewHead v ++ drop (length s - viewRest v) s

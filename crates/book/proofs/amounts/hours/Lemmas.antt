@@ -5,17 +5,17 @@ use mathlib.Core.List.{List, [], _∷_, _++_}
 use mathlib.Core.Bool.{Bool, true, false, cond, _&&_}
 use native.Mathlib.Omega.{arith}
 use native.Mathlib.Nat.{not-suc-le-zero, le-of-suc-le-suc}
-use lib.ListN.{length, take, drop, getD, set, replicate, length-set, length-append, length-drop, drop-of-length-le}
-use lib.Seq.{drop-drop, take-nil, length-take-le, getD-set-same, getD-set-other}
+use lib.ListN.{length, take, drop, getD, set, replicate, length-set, drop-of-length-le}
+use lib.Seq.{drop-drop, getD-set-same, getD-set-other}
 use lib.Dec.{eqb}
 use borrow.Author.Tests.{eq-eqb, ne-eqb, eqb-true, eqb-false, le-leb, lt-leb}
-use Rattle.records.specs.declared.writing.HeadOut.{HeadOut}
-use Rattle.book.specs.Layer.{Key, Change, filed, keyOf, kindOf, write, begins, order, same, sameName, atHour}
-use Rattle.book.specs.tables.LayerTables.{recordHead}
-use Rattle.book.specs.laws.LayerLaws.{Padded, good-hour, same-at, at-hour, same-alike, hour-parts, parts-hour, name-same, name-none, write-long}
+use Rattle.money.specs.Names as names
+use Rattle.records.specs.declared.heads.NameHead.{NameHead}
+use Rattle.book.specs.Layer.{Key, Change, filed, keyOf, kindOf, write, begins, keyMark, keyOrder, sameKeyMark, same, sameName, atHour}
+use Rattle.book.specs.tables.LayerTables.{NameHeadIs}
+use Rattle.book.specs.laws.LayerLaws.{Padded, good-hour, same-at, at-hour, same-by, same-alike, one-mark, mark-one, parts-hour, name-told as told-name, name-untold}
 use Rattle.book.specs.declared.amounts.hours.HourPlace.{HourPlace}
 use Rattle.book.specs.Register.{writeAll, standing}
-use Rattle.book.specs.ByName.{sameMark}
 use Rattle.book.specs.Meaning.{Valid}
 use Rattle.book.specs.tables.Tables.{survey}
 use Rattle.book.specs.tables.Places.{leadLength, liveAt}
@@ -25,7 +25,7 @@ use Rattle.book.specs.tables.Worked.{begun, noPlace}
 use Rattle.book.specs.laws.RegisterLaws.{by-test, true≠false}
 use Rattle.book.specs.laws.StandLaws.{found-at, pick-key}
 use Rattle.book.specs.laws.GatherLaws.{Pass, gather}
-use Rattle.book.proofs.log.rows.Lemmas.{ruled-at, ruled-few, ruled-good, ruled-seen, and-left, and-turned, written-at, Hit, findPass, hit-or, find-is}
+use Rattle.book.proofs.log.rows.Lemmas.{ruled-at, ruled-few, ruled-good, ruled-seen, and-left, and-turned, written-at, name-within, Hit, findPass, hit-or, find-is}
 
 eqb-turned : (a b : ℕ) → eqb a b ≡ eqb b a
 eqb-turned a b = by-test (eqb b a)
@@ -119,29 +119,17 @@ module _ {s rows : List ℕ} {n i : ℕ} (lt : i < n) {l : List Change} (g : Log
   slot-hour : rowSlot there % 32 ≡ own .hour
   slot-hour = let sn = ruled-seen (g .ruled) lt in omega (arith, sn .slot, sn .low)
 
-  slot-mark : rowSlot there / 32 ≡ order (own .mark)
+  slot-mark : rowSlot there / 32 ≡ keyOrder (own .mark)
   slot-mark = let sn = ruled-seen (g .ruled) lt in omega (arith, sn .slot, sn .low)
 
-  mark-is : (k : Key) {m : ℕ} → m ≡ order (k .mark) → eqb (rowSlot there / 32) m ≡ sameMark k own
-  mark-is k em = (λ j. eqb (slot-mark j) (em j)) ∙ eqb-turned (order (own .mark)) (order (k .mark))
+  mark-is : (k : Key) {m : ℕ} → m ≡ keyOrder (k .mark) → eqb (rowSlot there / 32) m ≡ sameKeyMark k own
+  mark-is k em = (λ j. eqb (slot-mark j) (em j)) ∙ eqb-turned (keyOrder (own .mark)) (keyOrder (k .mark))
 
   -- what stands there is written, and longer than mark and hour
   mark-within : (m : ℕ) → (rowLive there && eqb (rowSlot there / 32) m) ≡ true → rowPlace there + 3 ≤ length s
   mark-within m t =
       let sn = ruled-seen (g .ruled) lt in
-      let w = written-at g (turned lt g) (ruled-good (g .ruled) lt) (begun-at lt g)
-      (sym (sn .live) ∙ and-left (rowLive there) (eqb (rowSlot there / 32) m) t) in
-      let at = w .at in
-      omega (
-        arith,
-        sn .place,
-        at .inside,
-        ap length (at .bytes),
-        length-drop (begun-at lt g + leadLength (kindOf (turned lt g))) s,
-        length-append
-            (write (filed (w .what))) (at .rest),
-        write-long (w .what),
-      )
+      omega (arith, sn .place, name-within (written-at g lt (sym (sn .live) ∙ and-left (rowLive there) (eqb (rowSlot there / 32) m) t)))
 
   pub name-fits : (m : ℕ) (name : List ℕ) {hr : ℕ} → hr ≡ nameHour m name s there → (hr ≡ 0 → ⊥) → hr - 1 < 24
   name-fits m name {hr} e z =
@@ -152,33 +140,28 @@ module _ {s rows : List ℕ} {n i : ℕ} (lt : i < n) {l : List Change} (g : Log
 
   -- its record stands and is of the key's mark and name
   module _ {k : Key} {m : ℕ} {name : List ℕ} (w : Written k m name) where
-    marks : sameMark k own ≡ true → own .mark ≡ k .mark
-    marks t =
-        let j : Key = record { mark = k .mark; hour = own .hour; name = k .name } in
-        sym (hour-parts j own (parts-hour j own (eqb-true (order (k .mark)) (order (own .mark)) t) refl) .0)
-
-    other-mark : sameMark k own ≡ false → sameName k own ≡ false
+    other-mark : sameKeyMark k own ≡ false → sameName k own ≡ false
     other-mark t = by-test (sameName k own)
         (λ y. let both : same (atHour k (own .hour)) own ≡ true = same-at k own (own .hour) ∙ ap₂ _&&_ y (eq-eqb (own .hour) (own .hour) refl) in
-        let e : k .mark ≡ own .mark = sym (ap (λ (x : Key). x .mark) (at-hour k (own .hour))) ∙ same-alike (atHour k (own .hour)) own both .mark in
-        true≠false (eq-eqb (order (k .mark)) (order (own .mark)) (ap order e)) t)
+        let e = sym (ap (λ (x : Key). keyMark (x .mark)) (at-hour k (own .hour))) ∙ same-alike (atHour k (own .hour)) own both .mark in
+        true≠false (mark-one k own e) t)
         (λ y. y)
 
     -- the name is told where it is written
-    name-there : lives lt g ≡ true → own .mark ≡ k .mark → begins name (drop (rowPlace there + 3) s) ≡ sameName k own
+    name-there : lives lt g ≡ true → sameKeyMark k own ≡ true → begins name (drop (rowPlace there + 3) s) ≡ sameName k own
     name-there live mk =
         let sn = ruled-seen (g .ruled) lt in
-        let b = written-at g (turned lt g) (ruled-good (g .ruled) lt) (begun-at lt g) live in
+        let b = written-at g lt live in
         ap (begins name) (sym (drop-drop 3 (rowPlace there) s) ∙ ap (λ (x : ℕ). drop 3 (drop x s)) (sn .place) ∙ ap (drop 3) (b .at .bytes))
-        ∙ w .told (b .what) (b .at .good) (ap (λ (x : Key). x .mark) (b .key) ∙ mk) (b .at .rest)
+        ∙ w .told (b .what) (b .at .good) (ap (sameKeyMark k) (b .key) ∙ mk) (b .at .rest)
         ∙ ap (sameName k) (b .key)
 
     pub name-told : nameHour m name s there ≡ hourOf lt g (sameName k)
     name-told =
         let row-live = ruled-seen (g .ruled) lt .live in
         by-test (lives lt g)
-        (λ live. by-test (sameMark k own)
-        (λ t. (λ j. cond (((row-live ∙ live) j && (mark-is k (w .mark) ∙ t) j) && name-there live (marks t) j) (slot-hour j) 0) ∙ sym
+        (λ live. by-test (sameKeyMark k own)
+        (λ t. (λ j. cond (((row-live ∙ live) j && (mark-is k (w .mark) ∙ t) j) && name-there live t j) (slot-hour j) 0) ∙ sym
         (ap (λ (b : Bool). cond b (own .hour) 0) (ap (λ (b : Bool). sameName k own && b) live ∙ and-turned (sameName k own) true)))
         (λ t. (λ j. cond (((row-live ∙ live) j && (mark-is k (w .mark) ∙ t) j) && begins name (drop (rowPlace there + 3) s)) (slot-hour j) 0)
         ∙ sym (ap (λ (a : Bool). cond (a && lives lt g) (own .hour) 0) (other-mark t))))
@@ -305,36 +288,30 @@ dayed-end {hours = hours} h le k w l g = record {
       (find-is (atHour k (1 + j)) l (g .ruled .valid)));
 }
 
--- ---- the key's mark and name, by the head of its first hour
+-- ---- the key's mark and name, by the bytes of the name
 
-module _ (k : Key) (p : Padded (k .name)) {m : ℕ} (em : m ≡ order (k .mark)) where
-  pub head-written-so : 3 ≤ length (recordHead (atHour k 1)) → {name : List ℕ} → name ≡ drop 3 (recordHead (atHour k 1)) → Written k m name
-  head-written-so le {name} en = record
-      { mark = em; told = λ r g mk t. ap (λ (y : List ℕ). begins y (drop 3 (write (filed r) ++ t))) en ∙ name-same k p r g t mk le }
+same-name-is : (k j : Key) → sameKeyMark k j ≡ true → sameName k j ≡ names.sameName (k .name) (j .name)
+same-name-is k j f = sym (keep (same-at k j (j .hour))) ∙ same-by (atHour k (j .hour)) j true (parts-hour (atHour k (j .hour)) j
+    (ap (λ (x : Key). keyMark (x .mark)) (at-hour k (j .hour)) ∙ one-mark k j f) (ap (λ (x : Key). x .hour) (at-hour k (j .hour))))
+    ∙ ap (λ (x : Key). names.sameName (x .name) (j .name)) (at-hour k (j .hour))
+  where
+    keep : {b : Bool} → b ≡ (sameName k j && eqb (j .hour) (j .hour)) → b ≡ sameName k j
+    keep e = e ∙ ap (λ (y : Bool). sameName k j && y) (eq-eqb (j .hour) (j .hour) refl) ∙ and-turned (sameName k j) true
 
--- a part of the front is the front of a part
-front-part : {A : Type 0} (n m : ℕ) (xs : List A) → take m (drop n xs) ≡ drop n (take (n + m) xs)
-front-part zero m xs = let e : m ≡ 0 + m = omega arith in ap (λ (i : ℕ). take i xs) e
-front-part (suc n) m [] = take-nil m ∙ sym (ap (drop (suc n)) (take-nil (suc n + m)))
-front-part (suc n) m (x ∷ xs) = let e : suc (n + m) ≡ suc n + m = omega arith in front-part n m xs ∙ ap (λ (i : ℕ). drop (suc n) (take i (x ∷ xs))) e
+pub named-so : (k : Key) → Padded (k .name) → {m : ℕ} → m ≡ keyOrder (k .mark) → {h : NameHead} → NameHeadIs k h → h .known ≡ true
+    → Written k m (take (h .len) (h .bytes))
+named-so k p em w t = record {
+  mark = em;
+  told = λ r g mk u.
+      ap (λ (y : List ℕ). begins y (drop 3 (write (filed r) ++ u))) (w .bytes t) ∙ told-name k p r g mk (sym (w .known) ∙ t) u
+      ∙ sym (same-name-is k (r .key) mk);
+}
 
--- as it is made of the key
-module _ (k : Key) (h : HeadOut) (e : (take (h .len) (h .bytes) ≡ recordHead (record { mark = k .mark; hour = 1; name = k .name })) × (h .len ≤ 44)) where
-  head-is : take (h .len) (h .bytes) ≡ recordHead (atHour k 1)
-  head-is = e .0 ∙ ap recordHead (sym (at-hour k 1))
-
-  pub head-size : length (h .bytes) ≡ 44 → length (recordHead (atHour k 1)) ≡ h .len
-  head-size long = ap length (sym head-is) ∙ length-take-le (h .len) (h .bytes) (omega (arith, e .1))
-
-  pub head-of : 3 ≤ h .len → take (h .len - 3) (drop 3 (h .bytes)) ≡ drop 3 (recordHead (atHour k 1))
-  head-of le =
-      let m : 3 + (h .len - 3) ≡ h .len = omega arith in
-      front-part 3 (h .len - 3) (h .bytes) ∙ ap (λ (i : ℕ). drop 3 (take i (h .bytes))) m ∙ ap (drop 3) head-is
-
--- no record can have the key
-pub day-none : (k : Key) → Padded (k .name) → length (recordHead (atHour k 1)) < 3 → {s rows : List ℕ} {n : ℕ} (l : List Change) → Logged s rows n l
+-- no record can have the name
+pub day-none : (k : Key) → Padded (k .name) → {h : NameHead} → NameHeadIs k h → h .known ≡ false → {s rows : List ℕ} {n : ℕ} (l : List Change)
+    → Logged s rows n l
     → DayIs k l (record { hours = replicate 24 noPlace })
-day-none k p short {s} l g = record {
+day-none k p w z {s} l g = record {
   size = refl;
   each = λ j lt d. subst⁻¹ (PlaceIs (atHour k (1 + j)) l) (blank-at 24 j lt d) (record { known = sym (absent-at (1 + j)); start = λ h. true≠false h refl });
 }
@@ -343,9 +320,11 @@ day-none k p short {s} l g = record {
     absent-at h = by-test (survey (atHour k h) l .found)
         (λ t. let f = found-at (begun g) (atHour k h) t in
         let one : same (atHour k h) (f .what .key) ≡ true = pick-key (atHour k h) (standing l) (f .what) (f .picked) in
-        let mk : f .what .key .mark ≡ k .mark = sym (f .mark) ∙ ap (λ (x : Key). x .mark) (at-hour k h) in
-        true≠false (and-left (sameName k (f .what .key)) (eqb h (f .what .key .hour)) (sym (same-at k (f .what .key) h) ∙ one))
-        (name-none k p (f .what) (f .at .good) (f .at .rest) mk short))
+        let mk = mark-one k (f .what .key)
+        (sym (ap (λ (x : Key). keyMark (x .mark)) (at-hour k h)) ∙ same-alike (atHour k h) (f .what .key) one .mark) in
+        true≠false (sym (same-name-is k (f .what .key) mk) ∙ and-left (sameName k (f .what .key)) (eqb h (f .what .key .hour))
+        (sym (same-at k (f .what .key) h) ∙ one))
+        (name-untold k p (f .what) (f .at .good) mk (sym (w .known) ∙ z)))
         (λ t. t)
 
 -- ---- the hour of a row

@@ -18,7 +18,7 @@ use Rattle.book.specs.tables.Rows.{rowSlot, rowLive, rowPlace, Logged, L
 use Rattle.book.specs.laws.RegisterLaws.{by-test, true≠false, valid-new}
 use Rattle.book.specs.laws.GatherLaws.{gather, hourPass, hour-standing}
 use Rattle.book.proofs.amounts.places.Lemmas.{put-length, gather-few}
-use Rattle.book.proofs.log.rows.Lemmas.{ruled-at, ruled-few, ruled-good, ruled-seen, picked, written-at, key-at}
+use Rattle.book.proofs.log.rows.Lemmas.{ruled-at, ruled-few, ruled-seen, picked, written-at, key-at}
 
 abbrev pub standsIn : ℕ → ℕ → Bool
 standsIn row slot = rowLive row && eqb (rowSlot row) slot
@@ -69,7 +69,7 @@ module _ {s rows : List ℕ} {n slot i : ℕ} {p : Places} (h : Gathered s rows 
         (λ t. let live : liveAt (survey (keyOf c) l) (kindOf c) q ≡ true = sym (sn .live) ∙ left-of (rowLive row) (eqb (rowSlot row) slot) t in
         let e : spotIn s row ≡ record { name = keyOf c .name; start = q + leadLength (kindOf c) } =
         (λ j. record { name = keyAt s (sn .place j) .name; start = sn .place j }) ∙ ap
-        (λ (y : Key). record { name = y .name; start = q + leadLength (kindOf c) }) (key-at (written-at g c (ruled-good (g .ruled) lt) q live)) in
+        (λ (y : Key). record { name = y .name; start = q + leadLength (kindOf c) }) (key-at (written-at g lt live)) in
         ap (λ (y : Bool). cond y (putSpot (spotIn s row) (spots p)) (spots p)) t ∙ ap₂ putSpot e (h .is l g k ek hk)
         ∙ sym (ap (λ (y : Bool). cond y (putSpot (record { name = keyOf c .name; start = q + leadLength (kindOf c) }) old) old) (sym eb ∙ t)))
         (λ t. ap (λ (y : Bool). cond y (putSpot (spotIn s row) (spots p)) (spots p)) t ∙ h .is l g k ek hk
@@ -102,8 +102,7 @@ module _ {s rows : List ℕ} {n slot i : ℕ} {p : Places} (h : Gathered s rows 
           omega (
             arith,
             sn .place,
-            written-at g (w .what) (ruled-good (g .ruled) lt) (length (writeAll (drop (n - i) l)))
-                (sym (sn .live) ∙ left-of (rowLive row) (eqb (rowSlot row) slot) t) .at .inside,
+            written-at g lt (sym (sn .live) ∙ left-of (rowLive row) (eqb (rowSlot row) slot) t) .at .inside,
           ),
         )
 

@@ -13,8 +13,8 @@ use Rattle.laws.specs.Lists.{All, also}
 use Rattle.money.specs.Names.{sameName}
 use Rattle.records.specs.Marks.{hasName}
 use Rattle.records.specs.Keys.{same, sameHour}
-use Rattle.book.specs.Layer.{Key, Rec, Change, filed, keyOf, kindOf, Good, Pr, order, emptyName, pricesOf}
-use Rattle.book.specs.laws.LayerLaws.{same-refl, hour-parts, good-hour, own-unnamed, Padded, Wellformed}
+use Rattle.book.specs.Layer.{Key, Rec, Change, filed, keyOf, kindOf, Good, Pr, keyOrder, emptyName, pricesOf}
+use Rattle.book.specs.laws.LayerLaws.{same-refl, hour-parts, hour-mark, good-hour, own-unnamed, Padded, Wellformed}
 use Rattle.book.specs.declared.amounts.prices.HourPrice.{HourPrice}
 use Rattle.book.specs.declared.log.rows.Seek.{Seek}
 use Rattle.book.specs.Register.{writeAll, standing}
@@ -67,7 +67,7 @@ module _ {s rows : List ℕ} {n h : ℕ} {k : Key} (e : k ≡ hourKey Pr h) (low
 -- ---- of each hour: what a pass over the changes collects, each price put to its hour's place
 
 abbrev isPrice : Key → Bool
-isPrice k = eqb (order Pr) (order (k .mark))
+isPrice k = eqb (keyOrder Pr) (keyOrder (k .mark))
 
 abbrev pub tablePass : List ℕ → List HourPrice → Pass (List HourPrice)
 tablePass s none = record { pick = isPrice; put = λ (k : Key) (x : ℕ) (t : List HourPrice). set t (k .hour - 1) (priceAt s x); none = none }
@@ -76,9 +76,9 @@ tablePass s none = record { pick = isPrice; put = λ (k : Key) (x : ℕ) (t : Li
 price-same : (r : Rec) → Good (filed r) → (h : ℕ) → same (hourKey Pr h) (r .key) ≡ sameHour (hourKey Pr h) (r .key)
 unfolding same
 price-same r g h = by-test (sameHour (hourKey Pr h) (r .key))
-    (λ t. let p = hour-parts (hourKey Pr h) (r .key) t in
-    let nm : r .key .name ≡ emptyName = own-unnamed r g (ap hasName (sym (p .0))) in
-    let e : r .key ≡ hourKey Pr h = λ i. record { mark = sym (p .0) i; hour = sym (p .1) i; name = nm i } in
+    (λ t. let m = hour-mark (hourKey Pr h) (r .key) refl t in
+    let nm : r .key .name ≡ emptyName = own-unnamed (filed r) g (ap hasName m) in
+    let e : r .key ≡ hourKey Pr h = λ i. record { mark = m i; hour = sym (hour-parts (hourKey Pr h) (r .key) t .1) i; name = nm i } in
     ap (same (hourKey Pr h)) e ∙ same-refl (hourKey Pr h) ∙ sym t)
     (λ t. ap (λ (b : Bool). b && sameName emptyName (r .key .name)) t ∙ sym t)
 
@@ -129,11 +129,11 @@ module _ {s : List ℕ} {l : List Change} (o : Begun s l) (none : List HourPrice
           (getD (cond (isPrice (r .key)) (set t m v) t) j d)
       go true eb true ee ih =
           let p : j ≡ m = omega (arith, eqb-true (1 + j) (r .key .hour) ee) in
-          let mk = hour-parts (hourKey Pr (1 + j)) (r .key) (ap₂ _&&_ eb ee) .0 in
+          let mk = hour-mark (hourKey Pr (1 + j)) (r .key) refl (ap₂ _&&_ eb ee) in
           by-parts true true eb ee
           (subst⁻¹ (PriceIs (priced (pricesOf r)))
           (ap (λ (y : ℕ). getD (set t m v) y d) p ∙ getD-set-same t m v d (omega (arith, collected-size s none l rs, long, p)))
-          (price-written (w .at) (sym mk)))
+          (price-written (w .at) mk))
       go true eb false ee ih =
           let low = good-hour (filed r) (w .at .good) .0 in
           let p : (j ≡ m) → ⊥ = λ y. eqb-false (1 + j) (r .key .hour) ee (omega arith) in
@@ -184,10 +184,10 @@ price-row {row} {all} {q} {c} sn = ap₂ (λ (b : Bool) (x : ℕ). cond (b && lt
 
     go : (b p : Bool) → isPrice k ≡ p → cond (b && ltb (hourSlot k) 32) (hourSlot k) 0 ≡ cond (p && b) (k .hour) 0
     go true true e =
-        let z = eqb-true (order Pr) (order (k .mark)) e in
+        let z = eqb-true (keyOrder Pr) (keyOrder (k .mark)) e in
         ap (λ (y : Bool). cond y (hourSlot k) 0) (lt-ltb (hourSlot k) 32 (omega (arith, z, sn .low))) ∙ omega (arith, z)
     go true false e =
-        ap (λ (y : Bool). cond y (hourSlot k) 0) (le-ltb (hourSlot k) 32 (omega (arith, above (order (k .mark)) (eqb-false (order Pr) (order (k .mark)) e))))
+        ap (λ (y : Bool). cond y (hourSlot k) 0) (le-ltb (hourSlot k) 32 (omega (arith, above (keyOrder (k .mark)) (eqb-false (keyOrder Pr) (keyOrder (k .mark)) e))))
     go false true e = refl
     go false false e = refl
 

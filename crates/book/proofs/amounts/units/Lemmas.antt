@@ -8,10 +8,10 @@ use lib.ListN.{length, take, drop, getD, set, length-set, drop-of-length-le}
 use lib.Dec.{eqb}
 use borrow.Author.Tests.{eq-eqb, ne-eqb, eqb-true, le-leb, lt-leb}
 use lib.Seq.{length-take-le}
-use Rattle.book.specs.Layer.{Key, Name, Change, keyOf, order, decodedBytes, nameBefore, emptyName, pad, kindOf}
+use Rattle.book.specs.Layer.{Key, Name, Change, keyOf, keyOrder, sameKeyMark, decodedBytes, nameBefore, emptyName, pad, kindOf}
 use Rattle.book.specs.declared.amounts.units.Units.{Units}
 use Rattle.book.specs.Register.{writeAll, standing}
-use Rattle.book.specs.ByName.{addName, sameMark, namesOf}
+use Rattle.book.specs.ByName.{addName, namesOf}
 use Rattle.book.specs.Meaning.{Load, belongs}
 use Rattle.book.specs.tables.Tables.{survey}
 use Rattle.book.specs.tables.Places.{liveAt}
@@ -22,7 +22,7 @@ use Rattle.book.specs.tables.Rows.{rowSlot, rowLive, rowPlace, Logged, L
 use Rattle.book.specs.laws.RegisterLaws.{by-test, true≠false, valid-new}
 use Rattle.book.specs.laws.GatherLaws.{gather, markPass, mark-standing}
 use Rattle.book.proofs.log.Survey.{valid-size}
-use Rattle.book.proofs.log.rows.Lemmas.{Seen, ruled-at, ruled-few, ruled-good, ruled-seen, and-turned, written-at, key-at}
+use Rattle.book.proofs.log.rows.Lemmas.{Seen, ruled-at, ruled-few, ruled-seen, and-turned, written-at, key-at}
 use Rattle.book.proofs.amounts.places.Gathering.{left-of}
 use Rattle.book.proofs.Inserting.{Sought, sought-here, sought-there, sought-on, sought-end, Opened, opened-behind}
 
@@ -84,12 +84,12 @@ turned : (a b : ℕ) → eqb a b ≡ eqb b a
 turned a b = by-test (eqb a b) (λ t. t ∙ sym (eq-eqb b a (sym (eqb-true a b t)))) (λ t. t ∙ sym (ne-eqb b a (λ e. true≠false (eq-eqb a b (sym e)) t)))
 
 -- a row that stands, of the mark
-picked-mark : {row : ℕ} {all : List Change} {q : ℕ} {c : Change} → Seen row all q c → (k : Key) (mark : ℕ) → mark ≡ order (k .mark)
-    → ofMark row mark ≡ (sameMark k (keyOf c) && liveAt (survey (keyOf c) all) (kindOf c) q)
+picked-mark : {row : ℕ} {all : List Change} {q : ℕ} {c : Change} → Seen row all q c → (k : Key) (mark : ℕ) → mark ≡ keyOrder (k .mark)
+    → ofMark row mark ≡ (sameKeyMark k (keyOf c) && liveAt (survey (keyOf c) all) (kindOf c) q)
 picked-mark {row} {all} {q} {c} s k mark e =
-    let m : rowSlot row / 32 ≡ order (keyOf c .mark) = omega (arith, s .slot, s .low) in
-    ap₂ _&&_ (s .live) (ap₂ eqb m e ∙ turned (order (keyOf c .mark)) (order (k .mark))) ∙ and-turned (liveAt (survey (keyOf c) all) (kindOf c) q)
-    (sameMark k (keyOf c))
+    let m : rowSlot row / 32 ≡ keyOrder (keyOf c .mark) = omega (arith, s .slot, s .low) in
+    ap₂ _&&_ (s .live) (ap₂ eqb m e ∙ turned (keyOrder (keyOf c .mark)) (keyOrder (k .mark))) ∙ and-turned (liveAt (survey (keyOf c) all) (kindOf c) q)
+    (sameKeyMark k (keyOf c))
 
 pub mark-gone : (row mark : ℕ) → row < 134217728 → false ≡ ofMark row mark
 mark-gone row mark h = sym (ap (λ (b : Bool). b && eqb (rowSlot row / 32) mark) (lt-leb 134217728 row h))
@@ -103,7 +103,7 @@ pub record Listed (s rows : List ℕ) (n mark i : ℕ) (u : Units) : Type 0 wher
   pub few : u .n ≤ i
   pub whole : u ≡ unitsOf (namesIn u)
   pub inside : i ≤ n
-  pub is : (l : List Change) → Logged s rows n l → (k : Key) → mark ≡ order (k .mark) → namesIn u ≡ gather (markPass k) l (drop (n - i) l)
+  pub is : (l : List Change) → Logged s rows n l → (k : Key) → mark ≡ keyOrder (k .mark) → namesIn u ≡ gather (markPass k) l (drop (n - i) l)
 
 pub listed-start : (s rows : List ℕ) (n mark : ℕ) (u : Units) → length (u .names) ≡ 512 → u ≡ unitsOf [] → Listed s rows n mark 0 u
 unfolding unitsOf gather
@@ -119,7 +119,7 @@ listed-start s rows n mark u e w =
     }
 
 module _ {s rows : List ℕ} {n mark i : ℕ} {u : Units} (h : Listed s rows n mark i u) where
-  pub listed-end : n ≤ i → (k : Key) → mark ≡ order (k .mark) → (l : List Change) → Logged s rows n l → namesIn u ≡ namesOf k (standing l)
+  pub listed-end : n ≤ i → (k : Key) → mark ≡ keyOrder (k .mark) → (l : List Change) → Logged s rows n l → namesIn u ≡ namesOf k (standing l)
   listed-end le k ek l g =
       let w : n - i ≡ 0 = omega arith in h .is l g k ek ∙ ap (λ (m : ℕ). gather (markPass k) l (drop m l)) w ∙ mark-standing k l (valid-new l (g .ruled .valid))
 
@@ -128,7 +128,7 @@ module _ {s rows : List ℕ} {n mark i : ℕ} {u : Units} (h : Listed s rows n m
 
   module _ (lt : i < n) where
     -- the pass at the row's change
-    step : (l : List Change) → Logged s rows n l → (k : Key) → mark ≡ order (k .mark) → (b : Bool) → ofMark (getD rows i 0) mark ≡ b → (name : Name)
+    step : (l : List Change) → Logged s rows n l → (k : Key) → mark ≡ keyOrder (k .mark) → (b : Bool) → ofMark (getD rows i 0) mark ≡ b → (name : Name)
         → (b ≡ true → name ≡ keyAt s (rowPlace (getD rows i 0)) .name) → cond b (addName name (namesIn u)) (namesIn u) ≡ gather (markPass k) l
         (drop (n - (i + 1)) l)
     unfolding gather
@@ -138,11 +138,10 @@ module _ {s rows : List ℕ} {n mark i : ℕ} {u : Units} (h : Listed s rows n m
         let q = length (writeAll (drop (n - i) l)) in
         let sn = ruled-seen (g .ruled) lt in
         let old = gather (markPass k) l (drop (n - i) l) in
-        let live = sameMark k (keyOf c) && liveAt (survey (keyOf c) l) (kindOf c) q in
+        let live = sameKeyMark k (keyOf c) && liveAt (survey (keyOf c) l) (kindOf c) q in
         let e : live ≡ b = sym (picked-mark sn k mark ek) ∙ eb in
         go b e (h .is l g k ek) (λ t. en t ∙ ap (λ (x : ℕ). keyAt s x .name) (sn .place)
-        ∙ ap (λ (y : Key). y .name) (key-at (written-at g c (ruled-good (g .ruled) lt) q
-        (sym (sn .live) ∙ left-of (rowLive (getD rows i 0)) (eqb (rowSlot (getD rows i 0) / 32) mark) (eb ∙ t)))))
+        ∙ ap (λ (y : Key). y .name) (key-at (written-at g lt (sym (sn .live) ∙ left-of (rowLive (getD rows i 0)) (eqb (rowSlot (getD rows i 0) / 32) mark) (eb ∙ t)))))
         ∙ ap (gather (markPass k) l) (sym (w .rest))
       where
         go : {name own : Name} {old xs : List Name} {live : Bool} (b : Bool) → live ≡ b → xs ≡ old → (b ≡ true → name ≡ own)
@@ -162,8 +161,7 @@ module _ {s rows : List ℕ} {n mark i : ℕ} {u : Units} (h : Listed s rows n m
         omega (
           arith,
           sn .place,
-          written-at g (ruled-at (g .ruled) lt .what) (ruled-good (g .ruled) lt) (length (writeAll (drop (n - i) (o .list))))
-              (sym (sn .live) ∙ left-of (rowLive row) (eqb (rowSlot row / 32) mark) t) .at .inside,
+          written-at g lt (sym (sn .live) ∙ left-of (rowLive row) (eqb (rowSlot row / 32) mark) t) .at .inside,
         )
 
     pub listed-skip : ofMark (getD rows i 0) mark ≡ false → Listed s rows n mark (i + 1) u

@@ -1,16 +1,17 @@
 -- A correction or withdrawal taken back: the record that it replaced or removed stands again.
-use Prim.Native.Nat.{ℕ, zero, suc, _+_, _*_, _-_, _≤_, _<_}
+use Prim.Native.Nat.{ℕ, suc, _+_, _*_, _-_, _≤_, _<_}
 use mathlib.Core.Path.{_≡_, refl, sym, ap, ap₂, _∙_, subst}
-use mathlib.Core.List.{List, [], _∷_, _++_, append-assoc, append-nil}
+use mathlib.Core.List.{List, [], _∷_, _++_}
 use mathlib.Core.Bool.{Bool, true, false, cond, not, _&&_}
 use native.Mathlib.Omega.{arith}
-use lib.ListN.{length, take, drop, getD, set, length-append, length-set, take-append-drop, drop-of-length-le}
-use lib.Seq.{getD-set-same, getD-set-other, drop-at, drop-drop, drop-append-le}
+use lib.ListN.{length, take, drop, getD, set, length-set, drop-of-length-le}
+use lib.Seq.{getD-set-same, getD-set-other}
 use lib.Dec.{eqb}
 use borrow.Author.Tests.{eq-eqb, eqb-true, eqb-false}
-use Rattle.book.specs.Layer.{Change, filed, corrected, withdrawn, keyOf, kindOf, write, Good, begins, same, order, KeyAnswer, keyAnswer, Kind, isFiling, isCorrection, isWithdrawal}
-use Rattle.book.specs.tables.LayerTables.{headKey, recordHead}
-use Rattle.book.specs.laws.LayerLaws.{write-co, good-co, good-hour, good-padded, same-sym, same-alike, head-written}
+use Rattle.records.specs.declared.heads.NameHead.{NameHead}
+use Rattle.book.specs.Layer.{Change, filed, corrected, withdrawn, keyOf, kindOf, write, Good, begins, same, sameHour, order, KeyAnswer, keyAnswer, Kind, isFiling, isCorrection, isWithdrawal}
+use Rattle.book.specs.tables.LayerTables.{headKey, nameable, nameHead, NameHeadIs}
+use Rattle.book.specs.laws.LayerLaws.{good-hour, good-padded, good-able, same-sym, same-alike, head-written}
 use Rattle.book.specs.Register.{writeAll}
 use Rattle.book.specs.Meaning.{Valid}
 use Rattle.book.specs.tables.Tables.{Survey, survey}
@@ -18,10 +19,10 @@ use Rattle.book.specs.tables.Index.{hourSlot}
 use Rattle.book.specs.tables.Places.{leadLength, liveAt}
 use Rattle.book.specs.tables.Rows.{packed, rowStart, rowSlot, rowKind, rowPlace, rowOf, Rows, Logged, Log}
 use Rattle.book.specs.tables.Checked.{rowStands, Undoing, Wrote}
-use Rattle.book.specs.laws.StandLaws.{At}
 use Rattle.book.specs.laws.RegisterLaws.{by-test, true≠false, survey-found, refusal-found}
 use Rattle.book.proofs.log.Survey.{to-end, valid-size, valid-drop}
-use Rattle.book.proofs.log.rows.Lemmas.{Seen, row-seen, rows-at, ruled-at, ruled-few, ruled-seen, ruled-good, code-few, slot-few, live-true, survey-same, Bears, head-at, and-left}
+use Rattle.book.proofs.log.rows.Lemmas.{Seen, row-seen, rows-at, ruled-at, ruled-few, ruled-seen, ruled-good, code-few, slot-few, live-true, survey-same, WrittenAt, name-within, told-at, ChangeAt, change-at, record-at, and-left, and-right}
+use Rattle.book.proofs.log.index.Lemmas.{slot-hour}
 use Rattle.book.proofs.log.replay.Lemmas.{place-one, live-passed, live-over, rows-build, rows-back, under}
 
 not-not : (b : Bool) → not b ≡ true → b ≡ false
@@ -114,76 +115,14 @@ pub restored : {s rows : List ℕ} {n : ℕ} → length rows ≡ 512 → (r : �
     (length (set rows r (rowStands (getD rows r 0))) ≡ 512)
 restored {rows = rows} size r f = ((λ c l g. rows-restored g size r (f c l g)), length-set rows r (rowStands (getD rows r 0)) ∙ size)
 
--- ---- what is written where a change begins
-
-record Split (l : List Change) (d : Change) (r : List Change) : Type 0 where
-  rest : List ℕ
-  is : writeAll l ≡ writeAll r ++ (write d ++ rest)
-
-split-at : (m : ℕ) (l : List Change) (d : Change) (r : List Change) → drop m l ≡ d ∷ r → Split l d r
-unfolding writeAll
-split-at zero l d r e = record { rest = []; is = ap writeAll e ∙ ap (λ (y : List ℕ). writeAll r ++ y) (sym (append-nil (write d))) }
-split-at (suc m) [] d r e = absurd (let z : _≡_ {A = ℕ} 0 1 = cc in omega arith)
-split-at (suc m) (c ∷ l) d r e =
-    let w = split-at m l d r e in
-    record {
-      rest = w .rest ++ write c;
-      is = ap (λ (y : List ℕ). y ++ write c) (w .is) ∙ append-assoc (writeAll r) (write d ++ w .rest) (write c)
-          ∙ ap (λ (y : List ℕ). writeAll r ++ y) (append-assoc (write d) (w .rest) (write c));
-    }
-
-record Stands-at (s : List ℕ) (q : ℕ) (d : Change) : Type 0 where
-  inside : q + length (write d) ≤ length s
-  rest : List ℕ
-  bytes : drop q s ≡ write d ++ rest
-
-stands-at : {s rows : List ℕ} {n : ℕ} {l : List Change} (g : Logged s rows n l) (m : ℕ) (d : Change) (r : List Change) → drop m l ≡ d ∷ r
-    → Stands-at s (length (writeAll r)) d
-stands-at {s} {l = l} g m d r e =
-    let w = split-at m l d r e in
-    let v = drop (length (writeAll l)) s in
-    let q = length (writeAll r) in
-    let whole : s ≡ writeAll r ++ (write d ++ (w .rest ++ v)) =
-    sym (take-append-drop (length (writeAll l)) s) ∙ ap (λ (y : List ℕ). y ++ v) (g .bytes ∙ w .is) ∙ append-assoc (writeAll r) (write d ++ w .rest) v
-    ∙ ap (λ (y : List ℕ). writeAll r ++ y) (append-assoc (write d) (w .rest) v) in
-    record {
-      inside = omega (arith, ap length whole, length-append (writeAll r) (write d ++ (w .rest ++ v)), length-append (write d) (w .rest ++ v));
-      rest = w .rest ++ v;
-      bytes = ap (drop q) whole ∙ drop-at (writeAll r) (write d ++ (w .rest ++ v)) q refl;
-    }
-
--- a record, behind the mark of a correction
-bears-at : {s : List ℕ} {q : ℕ} (d : Change) → Stands-at s q d → Good d → isWithdrawal (kindOf d) ≡ false → Bears s (q + leadLength (kindOf d)) (keyOf d)
-bears-at {s} {q} (filed r) w g z = record {
-  what = r;
-  at = subst (λ (x : ℕ). At s x r) (sym (zero-more q))
-      (record { inside = omega (arith, w .inside); rest = w .rest; bytes = w .bytes; good = g });
-  key = refl;
-}
-  where
-    zero-more : (q : ℕ) → q + 0 ≡ q
-    zero-more q = omega arith
-bears-at {s} {q} (corrected r) w g z = record {
-  what = r;
-  at = record {
-    inside = omega (arith, w .inside, write-co r .0);
-    rest = w .rest;
-    bytes = sym (drop-drop 2 q s) ∙ ap (drop 2) (w .bytes) ∙ drop-append-le 2 (write (corrected r)) (w .rest) (omega (arith, write-co r .0)) ∙ ap
-        (λ (y : List ℕ). y ++ w .rest) (write-co r .1);
-    good = good-co r g;
-  };
-  key = refl;
-}
-bears-at (withdrawn k) w g z = true≠false refl z
-
 -- ---- the search for the change that wrote the record which stands again, the newest first
 
-pub record Backward (s rows : List ℕ) (n hs : ℕ) (head : List ℕ) (i : ℕ) : Type 0 where
+pub record Backward (s rows : List ℕ) (n hs : ℕ) (name : List ℕ) (i : ℕ) : Type 0 where
   pub inside : i < n
-  pub is : (c : Change) (l : List Change) → Undoing s rows n hs head c l
+  pub is : (c : Change) (l : List Change) → Undoing s rows n hs name c l
       → (survey (keyOf c) (drop (n - i) (c ∷ l)) .found ≡ true) × (survey (keyOf c) (drop (n - i) (c ∷ l)) .start ≡ survey (keyOf c) l .start)
 
-pub backward-start : {s rows : List ℕ} {n hs : ℕ} {head : List ℕ} → 0 < n → Backward s rows n hs head (n - 1)
+pub backward-start : {s rows : List ℕ} {n hs : ℕ} {name : List ℕ} → 0 < n → Backward s rows n hs name (n - 1)
 backward-start {n = n} h = record {
   inside = omega arith;
   is = λ c l u.
@@ -193,15 +132,15 @@ backward-start {n = n} h = record {
 }
 
 -- one of the changes has the key
-pub backward-end : {s rows : List ℕ} {n hs : ℕ} {head : List ℕ} {i : ℕ} → Backward s rows n hs head i → i ≤ 0 → (r : ℕ) (c : Change) (l : List Change)
-    → Undoing s rows n hs head c l → Wrote (length l) (keyOf c) r l
+pub backward-end : {s rows : List ℕ} {n hs : ℕ} {name : List ℕ} {i : ℕ} → Backward s rows n hs name i → i ≤ 0 → (r : ℕ) (c : Change) (l : List Change)
+    → Undoing s rows n hs name c l → Wrote (length l) (keyOf c) r l
 unfolding survey
 backward-end {n = n} {i = i} h z r c l u =
     let e : drop (n - i) (c ∷ l) ≡ [] = drop-of-length-le (c ∷ l) {i = n - i} (omega (arith, u .logged .ruled .count)) in
     true≠false (ap (λ (y : List Change). survey (keyOf c) y .found) (sym e) ∙ h .is c l u .0) refl
 
 -- a turn: the change before i
-module _ {s rows : List ℕ} {n hs : ℕ} {head : List ℕ} {i : ℕ} (h : Backward s rows n hs head i) (above : 0 < i) (j : ℕ) (ej : j ≡ i - 1) where
+module _ {s rows : List ℕ} {n hs : ℕ} {name : List ℕ} {i : ℕ} (h : Backward s rows n hs name i) (above : 0 < i) (j : ℕ) (ej : j ≡ i - 1) where
   pub back-inside : j < n
   back-inside = omega (arith, h .inside)
 
@@ -224,7 +163,7 @@ module _ {s rows : List ℕ} {n hs : ℕ} {head : List ℕ} {i : ℕ} (h : Backw
     unfolding what
     good-there = ruled-good (g .ruled) back-inside
 
-  module _ {c : Change} {l : List Change} (u : Undoing s rows n hs head c l) where
+  module _ {c : Change} {l : List Change} (u : Undoing s rows n hs name c l) where
     turn : (survey (keyOf c) (what (u .logged) ∷ older (u .logged)) .found ≡ true) ×
         (survey (keyOf c) (what (u .logged) ∷ older (u .logged)) .start ≡ survey (keyOf c) l .start)
     turn =
@@ -237,7 +176,7 @@ module _ {s rows : List ℕ} {n hs : ℕ} {head : List ℕ} {i : ℕ} (h : Backw
     unfolding survey
     turn-wrote t = sym (ap (λ (b : Bool). cond b (not (isWithdrawal (kindOf (what (u .logged))))) (survey (keyOf c) (older (u .logged)) .found)) t) ∙ turn .0
 
-  skip : ((c : Change) (l : List Change) (u : Undoing s rows n hs head c l) → same (keyOf c) (keyOf (what (u .logged))) ≡ false) → Backward s rows n hs head j
+  skip : ((c : Change) (l : List Change) (u : Undoing s rows n hs name c l) → same (keyOf c) (keyOf (what (u .logged))) ≡ false) → Backward s rows n hs name j
   unfolding survey older
   skip f = record {
     inside = back-inside;
@@ -257,7 +196,7 @@ module _ {s rows : List ℕ} {n hs : ℕ} {head : List ℕ} {i : ℕ} (h : Backw
   row = getD rows j 0
 
   -- a withdrawal, or of another mark or hour
-  pub back-skip : (not (isWithdrawal (rowKind row)) && eqb (rowSlot row) hs) ≡ false → Backward s rows n hs head j
+  pub back-skip : (not (isWithdrawal (rowKind row)) && eqb (rowSlot row) hs) ≡ false → Backward s rows n hs name j
   back-skip e = skip (λ c l u.
       let x = what (u .logged) in
       by-test (same (keyOf c) (keyOf x))
@@ -269,26 +208,35 @@ module _ {s rows : List ℕ} {n hs : ℕ} {head : List ℕ} {i : ℕ} (h : Backw
 
   -- it filed or corrected a record of the mark and hour
   module _ (e : (not (isWithdrawal (rowKind row)) && eqb (rowSlot row) hs) ≡ true) (x : ℕ) (ex : x ≡ rowPlace row) where
-    there : {l : List Change} (g : Logged s rows n l) → Bears s x (keyOf (what g))
+    there : {l : List Change} (g : Logged s rows n l) → WrittenAt s x (keyOf (what g))
     there g =
-        subst (λ (y : ℕ). Bears s y (keyOf (what g))) (sym (ex ∙ seen-at g .place))
-        (bears-at (what g) (stands-at g (n - (j + 1)) (what g) (older g) (older-is g)) (good-there g)
+        subst (λ (y : ℕ). WrittenAt s y (keyOf (what g))) (sym (ex ∙ seen-at g .place))
+        (record-at (what g) (change-at g (n - (j + 1)) (what g) (older g) (older-is g)) (good-there g)
         (ap isWithdrawal (sym (seen-at g .kind)) ∙ not-not (isWithdrawal (rowKind row)) (and-left (not (isWithdrawal (rowKind row))) (eqb (rowSlot row) hs) e)))
 
-    pub back-within : Log s rows n → x ≤ length s
-    back-within o = there (o .logged) .at .inside
+    pub back-within : Log s rows n → x + 3 ≤ length s
+    back-within o = name-within (there (o .logged))
 
-    same-there : {c : Change} {l : List Change} (u : Undoing s rows n hs head c l) → begins head (drop x s) ≡ same (keyOf c) (keyOf (what (u .logged)))
+    -- it is of the mark and hour
+    hour-there : {c : Change} {l : List Change} (u : Undoing s rows n hs name c l) → sameHour (keyOf c) (keyOf (what (u .logged))) ≡ true
     unfolding Valid
-    same-there {c} u = ap (λ (y : List ℕ). begins y (drop x s)) (u .head-is) ∙ head-at (there (u .logged)) (keyOf c)
-        (good-padded c (u .logged .ruled .valid .0))
+    hour-there {c} u =
+        slot-hour (keyOf c) (keyOf (what (u .logged))) (omega (arith, good-hour c (u .logged .ruled .valid .0) .1)) (seen-at (u .logged) .low)
+        (sym (u .slot-is) ∙ sym (eqb-true (rowSlot row) hs (and-right (not (isWithdrawal (rowKind row))) (eqb (rowSlot row) hs) e)) ∙ seen-at (u .logged) .slot)
+
+    same-there : {c : Change} {l : List Change} (u : Undoing s rows n hs name c l)
+        → begins name (drop (x + 3) s) ≡ same (keyOf c) (keyOf (what (u .logged)))
+    unfolding Valid
+    same-there {c} u =
+        ap (λ (y : List ℕ). begins y (drop (x + 3) s)) (u .name-is)
+        ∙ told-at (there (u .logged)) (keyOf c) (good-padded c (u .logged .ruled .valid .0)) (u .able) (hour-there u)
 
     -- of another name
-    pub back-other : begins head (drop x s) ≡ false → Backward s rows n hs head j
+    pub back-other : begins name (drop (x + 3) s) ≡ false → Backward s rows n hs name j
     back-other t = skip (λ c l u. sym (same-there u) ∙ t)
 
     -- of the key
-    pub back-hit : begins head (drop x s) ≡ true → (c : Change) (l : List Change) → Undoing s rows n hs head c l → Wrote (length l) (keyOf c) j l
+    pub back-hit : begins name (drop (x + 3) s) ≡ true → (c : Change) (l : List Change) → Undoing s rows n hs name c l → Wrote (length l) (keyOf c) j l
     unfolding survey liveAt
     back-hit t c l u = record {
       inside = before;
@@ -357,26 +305,27 @@ module _ {s rows : List ℕ} {n : ℕ} {c : Change} {l : List Change} (g : Logge
       row-seen _ (c ∷ l) (length (writeAll l)) c (ap (λ (m : ℕ). getD rows m 0) e ∙ g .ruled .kept .0) (omega (arith, good-hour c (g .ruled .valid .0) .1))
       (omega (arith, valid-size l (g .ruled .valid .2) .1))
 
-  last-at : Stands-at s (length (writeAll l)) c
-  last-at = stands-at g 0 c l refl
+  last-at : ChangeAt s (length (writeAll l)) c
+  last-at = change-at g 0 c l refl
 
   last-within : {x : ℕ} → x ≡ rowStart (getD rows (n - 1) 0) → x ≤ length s
   last-within ex = omega (arith, ex, last-seen .start, last-at .inside)
 
   pub undoing : {kind : Kind} → kind ≡ rowKind (getD rows (n - 1) 0) → isFiling kind ≡ false → {x : ℕ} → x ≡ rowStart (getD rows (n - 1) 0)
-      → {a : KeyAnswer} → a ≡ keyAnswer (headKey (take (length s - x) (drop x s))) → {hs : ℕ} → hs ≡ hourSlot (a .key) → {head : List ℕ} → head ≡ recordHead
-      (a .key)
-      → Undoing s rows n hs head c l
+      → {a : KeyAnswer} → a ≡ keyAnswer (headKey (take (length s - x) (drop x s))) → {hs : ℕ} → hs ≡ hourSlot (a .key) → {h : NameHead} → NameHeadIs (a .key) h
+      → Undoing s rows n hs (take (h .len) (h .bytes)) c l
   unfolding Valid
-  undoing {kind} ek z {x} ex {a} ea {hs} es {head} eh =
+  undoing {kind} ek z {x} ex {a} ea {hs} es {h} eh =
       let start : drop x s ≡ write c ++ last-at .rest = ap (λ (m : ℕ). drop m s) (ex ∙ last-seen .start) ∙ last-at .bytes in
       let key : a .key ≡ keyOf c =
       ap (λ (y : KeyAnswer). y .key) (ea ∙ ap (λ (y : List ℕ). keyAnswer (headKey y)) (to-end x s ∙ start)
       ∙ ap keyAnswer (head-written c (g .ruled .valid .0) (last-at .rest))) in
+      let able = good-able c (g .ruled .valid .0) in
       record {
         logged = g;
         slot-is = es ∙ ap hourSlot key;
-        head-is = eh ∙ ap recordHead key;
+        able = able;
+        name-is = eh .bytes (eh .known ∙ ap nameable key ∙ able) ∙ ap nameHead key;
         stood = survey-found (keyOf c) l ∙ refusal-found l 65535 c (g .ruled .valid .1) ∙ ap not (ap isFiling (sym (ek ∙ last-seen .kind)) ∙ z);
       }
 

@@ -10,8 +10,8 @@ use lib.ListN.{length, drop, getD, set, drop-of-length-le}
 use lib.Seq.{drop-cons, getD-set-same, getD-set-other}
 use lib.Dec.{leb, eqb}
 use borrow.Author.Tests.{eq-eqb, eqb-true, leb-true}
-use Rattle.book.specs.Layer.{Key, Change, Good, keyOf, kindOf, same, sameHour, Mark, order, isFiling, isWithdrawal}
-use Rattle.book.specs.laws.LayerLaws.{every-mark, Padded, good-padded, same-true, hour-parts, parts-hour}
+use Rattle.book.specs.Layer.{Key, Change, Good, keyOf, kindOf, same, sameHour, Mark, order, keyOrder, isFiling, isWithdrawal}
+use Rattle.book.specs.laws.LayerLaws.{every-mark, Padded, good-padded, same-alike, same-name, one-mark, hour-parts, parts-hour}
 use Rattle.book.specs.tables.Tables.{survey}
 use Rattle.book.specs.tables.Index.{hourSlot, weighed, bucket, latestOf}
 use Rattle.book.specs.laws.RegisterLaws.{by-test, true≠false}
@@ -19,8 +19,8 @@ use Rattle.book.specs.laws.RegisterLaws.{by-test, true≠false}
 -- ---- the numbers
 
 -- so many marks leave room for any hour byte
-pub order-low : (m : Mark) → order m ≤ 8
-order-low m = leb-true (order m) 8 (every-mark (λ (m : Mark). leb (order m) 8) refl m)
+pub order-low : (m : Mark) → keyOrder m ≤ 8
+order-low m = leb-true (keyOrder m) 8 (every-mark (λ (m : Mark). leb (keyOrder m) 8) refl m)
 
 -- the loop over a name's bytes, of which i are weighed
 pub record Weighing (start : ℕ) (bytes : List ℕ) (sum weight i : ℕ) : Type 0 where
@@ -66,11 +66,17 @@ latest-few h (c ∷ l) = go (eqb (bucket (keyOf c)) h) (latest-few h l)
     go true ih = omega arith
     go false ih = omega arith
 
--- another number is another key: the number is made of all places of a name, which are as reading makes them
+-- another number is another key: the number is made of mark, hour and all places of a name, which are as reading makes them
+bucket-same : (a b : Key) → Padded (a .name) → Padded (b .name) → same a b ≡ true → bucket a ≡ bucket b
+unfolding bucket
+bucket-same a b p q h =
+    let w = same-alike a b h in
+    let n = same-name a b p q h in
+    λ i. weighed (order (w .mark i) * 32 + w .hour i) 449 (n i .bytes) % 8192
+
 pub other-slot : (k : Key) → Padded (k .name) → (c : Change) → Good c → eqb (bucket (keyOf c)) (bucket k) ≡ false → same k (keyOf c) ≡ false
 other-slot k p c g h =
-    by-test (same k (keyOf c)) (λ t. true≠false (eq-eqb (bucket (keyOf c)) (bucket k) (ap bucket (sym (same-true k (keyOf c) p (good-padded c g) t)))) h)
-    (λ t. t)
+    by-test (same k (keyOf c)) (λ t. true≠false (eq-eqb (bucket (keyOf c)) (bucket k) (sym (bucket-same k (keyOf c) p (good-padded c g) t))) h) (λ t. t)
 
 -- ---- one change more
 
@@ -85,8 +91,10 @@ latest-next latest c l h fits is =
     (ap (λ (b : Bool). cond b (length l + 1) (latestOf h l)) t))
 
 -- two keys of different mark or hour are counted at different places
-apart : (a b : Key) → a .hour < 32 → b .hour < 32 → sameHour a b ≡ false → hourSlot a ≡ hourSlot b → ⊥
-apart a b h k n e = true≠false (parts-hour a b (omega arith) (omega arith)) n
+pub slot-hour : (a b : Key) → a .hour < 32 → b .hour < 32 → hourSlot a ≡ hourSlot b → sameHour a b ≡ true
+slot-hour a b h k e =
+    let m : keyOrder (a .mark) ≡ keyOrder (b .mark) = omega arith in
+    parts-hour a b (one-mark a b (eq-eqb (keyOrder (a .mark)) (keyOrder (b .mark)) m)) (omega arith)
 
 pub counts-next : (counts : List ℕ) (c : Change) (l : List Change) (k : Key) (n : ℕ) → hourSlot (keyOf c) < length counts → keyOf c .hour < 32 → k .hour < 32
     → getD counts (hourSlot k) 0 ≡ survey k l .count → n ≡ cond (isFiling (kindOf c)) (getD counts (hourSlot (keyOf c)) 0 + 1)
@@ -109,5 +117,5 @@ counts-next counts c l k n fits h j is e = by-test (sameHour k (keyOf c)) with-i
     beside : sameHour k (keyOf c) ≡ false
         → getD (set counts (hourSlot (keyOf c)) n) (hourSlot k) 0 ≡ cond (sameHour k (keyOf c)) (after (survey k l .count)) (survey k l .count)
     beside t =
-        getD-set-other counts (hourSlot (keyOf c)) (hourSlot k) n 0 (λ w. apart k (keyOf c) j h t w) ∙ is
+        getD-set-other counts (hourSlot (keyOf c)) (hourSlot k) n 0 (λ w. true≠false (slot-hour k (keyOf c) j h w) t) ∙ is
         ∙ sym (ap (λ (b : Bool). cond b (after (survey k l .count)) (survey k l .count)) t)

@@ -193,8 +193,8 @@ module _ {s rows : List ℕ} {n : ℕ} {l : List Change} (g : Logged s rows n l)
         by-test (x .found && eqb j (x .at))
         (λ h. let fd = and-left (x .found) (eqb j (x .at)) h in
         let a = eqb-true j (x .at) (and-right (x .found) (eqb j (x .at)) h) in
-        let kd : keyOf d ≡ keyOf c = f .wrote fd d m (ap (λ (y : ℕ). drop (n - (y + 1)) l) (sym a) ∙ e) in
-        let nf : new ≡ false = live-over c l (keyOf d) (kindOf d) q (ap (same (keyOf d)) (sym kd) ∙ same-refl (keyOf d)) below in
+        let kd : same (keyOf d) (keyOf c) ≡ true = f .wrote fd d m (ap (λ (y : ℕ). drop (n - (y + 1)) l) (sym a) ∙ e) in
+        let nf : new ≡ false = live-over c l (keyOf d) (kindOf d) q kd below in
         ap (λ (b : Bool). cond b (rowGone (getD rows j 0)) (getD rows j 0)) h ∙ ap rowGone row-is
         ∙ gone-packed old k sl q (slot-few (keyOf d) low) q-few ∙ ap (λ (b : Bool). packed b k sl q) (sym nf))
         (λ h. ap (λ (b : Bool). cond b (rowGone (getD rows j 0)) (getD rows j 0)) h ∙ row-is

@@ -1,15 +1,17 @@
 -- The rows of a checked book: what a row says of its change, and the loops over the rows.
-use Prim.Native.Nat.{ℕ, suc, _+_, _*_, _-_, _/_, _%_, _≤_, _<_}
+use Prim.Native.Nat.{ℕ, zero, suc, _+_, _*_, _-_, _/_, _%_, _≤_, _<_}
 use mathlib.Core.Path.{_≡_, refl, sym, ap, ap₂, _∙_, subst}
-use mathlib.Core.List.{List, [], _∷_}
+use mathlib.Core.List.{List, [], _∷_, _++_, append-assoc, append-nil}
 use mathlib.Core.Bool.{Bool, true, false, cond, not, _&&_}
 use native.Mathlib.Omega.{arith}
-use lib.ListN.{length, take, drop, getD, drop-of-length-le}
+use lib.ListN.{length, take, drop, getD, drop-of-length-le, length-drop, length-append, take-append-drop}
+use lib.Seq.{drop-at, drop-drop, drop-append-le}
 use lib.Dec.{eqb, leb}
 use borrow.Author.Tests.{eq-eqb, ne-eqb, eqb-true, le-leb, lt-leb, leb-true, leb-false}
-use Rattle.book.specs.Layer.{Key, Rec, Change, filed, kindOf, keyOf, write, begins, Good, keyAnswer, Res, same, sameHour, order, Kind, File, Correct, Withdraw, isFiling, isCorrection, isWithdrawal}
-use Rattle.book.specs.tables.LayerTables.{headKey, recordHead}
-use Rattle.book.specs.laws.LayerLaws.{head-written, head-same, same-left, same-alike, same-true, Padded, good-padded, sameHour-same, good-hour, hour-parts, parts-hour, order-few}
+use Rattle.book.specs.Layer.{Key, Rec, Change, filed, corrected, withdrawn, kindOf, keyOf, keyMark, write, begins, Good, keyAnswer, Res, same, sameHour, sameKeyMark, order, Kind, File, Correct, Withdraw, isFiling, isCorrection, isWithdrawal}
+use Rattle.money.specs.Names.{sameName}
+use Rattle.book.specs.tables.LayerTables.{headKey, nameable, nameHead}
+use Rattle.book.specs.laws.LayerLaws.{head-written, name-told, name-untold, write-long, write-co, good-co, same-by, same-sym, same-left, same-alike, Padded, sameHour-same, mark-one, good-hour, hour-parts, parts-hour, order-few}
 use Rattle.book.specs.Register.{writeAll, standing, stands, count}
 use Rattle.book.specs.Meaning.{Valid}
 use Rattle.book.specs.tables.Tables.{Survey, survey}
@@ -21,7 +23,7 @@ use Rattle.book.specs.laws.RegisterLaws.{by-test, true≠false, valid-ne
 use Rattle.book.specs.laws.GatherLaws.{Pass, gather, collect, gather-standing}
 use Rattle.book.specs.tables.Rows.{kindCode, kindAt, packed, rowStart, rowSlot, rowKind, rowLive, rowPlace, rowOf, Rows, Ruled, Rules, Logged, Log, keyAt, Search, Sought}
 use Rattle.book.proofs.log.Survey.{to-end, valid-size, valid-drop}
-use Rattle.book.proofs.log.index.Lemmas.{other-slot}
+use Rattle.book.proofs.log.index.Lemmas.{other-slot, slot-hour}
 
 -- ---- a number taken apart
 
@@ -78,7 +80,7 @@ pub record Seen (row : ℕ) (all : List Change) (q : ℕ) (c : Change) : Type 0 
   pub low : keyOf c .hour < 32
 
 pub slot-few : (k : Key) → k .hour < 32 → hourSlot k < 512
-slot-few k h = omega (arith, order-few (k .mark))
+slot-few k h = omega (arith, order-few (keyMark (k .mark)))
 
 pub row-seen : (row : ℕ) (all : List Change) (q : ℕ) (c : Change) → row ≡ rowOf all q c → keyOf c .hour < 32 → q < 65536 → Seen row all q c
 row-seen row all q c e low hq =
@@ -164,7 +166,7 @@ pub slot-same : (a b : Key) → a .hour < 32 → b .hour < 32 → eqb (hourSlot 
 slot-same a b ha hb =
     by-test (sameHour b a)
     (λ t. let p = hour-parts b a t in eq-eqb (hourSlot a) (hourSlot b) (λ i. order (sym (p .0) i) * 32 + sym (p .1) i) ∙ sym t)
-    (λ t. ne-eqb (hourSlot a) (hourSlot b) (λ e. true≠false (parts-hour b a (omega arith) (omega arith)) t) ∙ sym t)
+    (λ t. ne-eqb (hourSlot a) (hourSlot b) (λ e. true≠false (slot-hour b a hb ha (sym e)) t) ∙ sym t)
 
 -- a row that stands, of the mark and hour
 pub picked : {row : ℕ} {all : List Change} {q : ℕ} {c : Change} → Seen row all q c → (k : Key) (slot : ℕ) → slot ≡ hourSlot k → k .hour < 32
@@ -264,36 +266,121 @@ pub begins-there : {b t : Bool} (head s : List ℕ) (x : ℕ) → b ≡ begins h
 begins-there head s x e h = ap (begins head) (sym (to-end x s)) ∙ sym e ∙ h
 
 -- a record with a key is written at a place
-pub record Bears (s : List ℕ) (x : ℕ) (k : Key) : Type 0 where
+pub record WrittenAt (s : List ℕ) (x : ℕ) (k : Key) : Type 0 where
   pub what : Rec
   pub at : At s x what
   pub key : what .key ≡ k
 
 -- its key is read there
-pub key-at : {s : List ℕ} {x : ℕ} {k : Key} → Bears s x k → keyAt s x ≡ k
+pub key-at : {s : List ℕ} {x : ℕ} {k : Key} → WrittenAt s x k → keyAt s x ≡ k
 key-at w = ap (λ (y : List ℕ). keyAnswer (headKey y) .key) (w .at .bytes) ∙ ap (λ (y : Res Key). keyAnswer y .key)
     (head-written (filed (w .what)) (w .at .good) (w .at .rest)) ∙ w .key
 
--- and found there by the head of its key alone
-pub head-at : {s : List ℕ} {x : ℕ} {j : Key} → Bears s x j → (k : Key) → Padded (k .name) → begins (recordHead k) (drop x s) ≡ same k j
-head-at w k p = ap (begins (recordHead k)) (w .at .bytes) ∙ head-same k p (w .what) (w .at .good) (w .at .rest) ∙ ap (same k) (w .key)
+-- mark and hour come before its name
+pub name-within : {s : List ℕ} {x : ℕ} {k : Key} → WrittenAt s x k → x + 3 ≤ length s
+name-within {s} {x} w = omega (
+  arith,
+  w .at .inside,
+  ap length (w .at .bytes),
+  length-drop x s,
+  length-append (write (filed (w .what))) (w .at .rest),
+  write-long (w .what),
+)
 
-module _ {s rows : List ℕ} {n : ℕ} {l : List Change} (g : Logged s rows n l) where
-  -- the record that stands under a key, where it is written
-  pub logged-at : (k : Key) → survey k l .found ≡ true → Found s l k
-  logged-at k h = found-at (begun g) k h
+-- of a key of the mark and hour it is found there by its name alone
+pub told-at : {s : List ℕ} {x : ℕ} {j : Key} → WrittenAt s x j → (k : Key) → Padded (k .name) → nameable k ≡ true → sameHour k j ≡ true
+    → begins (nameHead k) (drop (x + 3) s) ≡ same k j
+told-at {s} {x} {j} w k p able h =
+    let m : sameKeyMark k (w .what .key) ≡ true = ap (sameKeyMark k) (w .key) ∙ mark-one k j (hour-parts k j h .0) in
+    ap (begins (nameHead k)) (sym (drop-drop 3 x s) ∙ ap (drop 3) (w .at .bytes)) ∙ name-told k p (w .what) (w .at .good) m able (w .at .rest)
+    ∙ ap (λ (y : Key). sameName (k .name) (y .name)) (w .key) ∙ sym (same-by k j true h)
+
+-- ---- what is written where a change begins
+
+record Split (l : List Change) (d : Change) (r : List Change) : Type 0 where
+  rest : List ℕ
+  is : writeAll l ≡ writeAll r ++ (write d ++ rest)
+
+split-at : (m : ℕ) (l : List Change) (d : Change) (r : List Change) → drop m l ≡ d ∷ r → Split l d r
+unfolding writeAll
+split-at zero l d r e = record { rest = []; is = ap writeAll e ∙ ap (λ (y : List ℕ). writeAll r ++ y) (sym (append-nil (write d))) }
+split-at (suc m) [] d r e = absurd (let z : _≡_ {A = ℕ} 0 1 = cc in omega arith)
+split-at (suc m) (c ∷ l) d r e =
+    let w = split-at m l d r e in
+    record {
+      rest = w .rest ++ write c;
+      is = ap (λ (y : List ℕ). y ++ write c) (w .is) ∙ append-assoc (writeAll r) (write d ++ w .rest) (write c)
+          ∙ ap (λ (y : List ℕ). writeAll r ++ y) (append-assoc (write d) (w .rest) (write c));
+    }
+
+pub record ChangeAt (s : List ℕ) (q : ℕ) (d : Change) : Type 0 where
+  pub inside : q + length (write d) ≤ length s
+  pub rest : List ℕ
+  pub bytes : drop q s ≡ write d ++ rest
+
+pub change-at : {s rows : List ℕ} {n : ℕ} {l : List Change} (g : Logged s rows n l) (m : ℕ) (d : Change) (r : List Change) → drop m l ≡ d ∷ r
+    → ChangeAt s (length (writeAll r)) d
+change-at {s} {l = l} g m d r e =
+    let w = split-at m l d r e in
+    let v = drop (length (writeAll l)) s in
+    let q = length (writeAll r) in
+    let whole : s ≡ writeAll r ++ (write d ++ (w .rest ++ v)) =
+    sym (take-append-drop (length (writeAll l)) s) ∙ ap (λ (y : List ℕ). y ++ v) (g .bytes ∙ w .is) ∙ append-assoc (writeAll r) (write d ++ w .rest) v
+    ∙ ap (λ (y : List ℕ). writeAll r ++ y) (append-assoc (write d) (w .rest) v) in
+    record {
+      inside = omega (arith, ap length whole, length-append (writeAll r) (write d ++ (w .rest ++ v)), length-append (write d) (w .rest ++ v));
+      rest = w .rest ++ v;
+      bytes = ap (drop q) whole ∙ drop-at (writeAll r) (write d ++ (w .rest ++ v)) q refl;
+    }
+
+-- its record, behind the mark of a correction
+pub record-at : {s : List ℕ} {q : ℕ} (d : Change) → ChangeAt s q d → Good d → isWithdrawal (kindOf d) ≡ false → WrittenAt s (q + leadLength (kindOf d)) (keyOf d)
+record-at {s} {q} (filed r) w g z = record {
+  what = r;
+  at = subst (λ (x : ℕ). At s x r) (sym (zero-more q))
+      (record { inside = omega (arith, w .inside); rest = w .rest; bytes = w .bytes; good = g });
+  key = refl;
+}
+  where
+    zero-more : (q : ℕ) → q + 0 ≡ q
+    zero-more q = omega arith
+record-at {s} {q} (corrected r) w g z = record {
+  what = r;
+  at = record {
+    inside = omega (arith, w .inside, write-co r .0);
+    rest = w .rest;
+    bytes = sym (drop-drop 2 q s) ∙ ap (drop 2) (w .bytes) ∙ drop-append-le 2 (write (corrected r)) (w .rest) (omega (arith, write-co r .0)) ∙ ap
+        (λ (y : List ℕ). y ++ w .rest) (write-co r .1);
+    good = good-co r g;
+  };
+  key = refl;
+}
+record-at (withdrawn k) w g z = true≠false refl z
+
+-- the record that stands under a key, where it is written
+pub logged-at : {s rows : List ℕ} {n : ℕ} {l : List Change} → Logged s rows n l → (k : Key) → survey k l .found ≡ true → Found s l k
+logged-at g k h = found-at (begun g) k h
+
+live-wrote : (s : Survey) (v : Kind) (q : ℕ) → liveAt s v q ≡ true → isWithdrawal v ≡ false
+unfolding liveAt
+live-wrote s v q = go (isWithdrawal v)
+  where
+    go : (a : Bool) → cond a false (cond (s .found) (eqb (s .start) (q + leadLength v)) false) ≡ true → a ≡ false
+    go true h = true≠false h refl
+    go false h = refl
+
+module _ {s rows : List ℕ} {n : ℕ} {l : List Change} (g : Logged s rows n l) {j : ℕ} (lt : j < n) where
+  abbrev writer : Change
+  writer = ruled-at (g .ruled) lt .what
+
+  abbrev from-at : ℕ
+  from-at = length (writeAll (drop (n - j) l))
 
   -- what is written where a change wrote the record that stands
-  pub written-at : (c : Change) → Good c → (q : ℕ) → liveAt (survey (keyOf c) l) (kindOf c) q ≡ true → Bears s (q + leadLength (kindOf c)) (keyOf c)
-  written-at c gc q h =
-      let e = live-true (survey (keyOf c) l) (kindOf c) q h in
-      let f = logged-at (keyOf c) (e .0) in
-      record {
-        what = f .what;
-        at = subst (λ (x : ℕ). At s x (f .what)) (e .1) (f .at);
-        key = sym (same-true (keyOf c) (f .what .key) (good-padded c gc) (good-padded (filed (f .what)) (f .at .good))
-            (pick-key (keyOf c) (standing l) (f .what) (f .picked)));
-      }
+  pub written-at : liveAt (survey (keyOf writer) l) (kindOf writer) from-at ≡ true → WrittenAt s (from-at + leadLength (kindOf writer)) (keyOf writer)
+  written-at h =
+      record-at writer (change-at g (n - (j + 1)) writer (drop (n - j) l) (ruled-at (g .ruled) lt .rest)) (ruled-good (g .ruled) lt)
+      (live-wrote (survey (keyOf writer) l) (kindOf writer) from-at h)
 
 pub and-right : (a b : Bool) → (a && b) ≡ true → b ≡ true
 and-right true b h = h
@@ -321,7 +408,7 @@ unfolding survey
 survey-same j k h [] = refl
 survey-same j k h (c ∷ l) =
     let w = same-alike j k h in
-    let sh : sameHour j k ≡ true = parts-hour j k (ap order (w .mark)) (w .hour) in
+    let sh : sameHour j k ≡ true = parts-hour j k (w .mark) (w .hour) in
     let q = length (writeAll l) in
     let e = same-left j k h (keyOf c) in
     let ih = survey-same j k h l in
@@ -358,9 +445,18 @@ unfolding hit-or
 hit-none true x e = sym (ap (λ (h : Hit). h .found) e)
 hit-none false x e = refl
 
-pub record Seeking (s rows : List ℕ) (n from hs : ℕ) (head : List ℕ) (i : ℕ) : Type 0 where
+not-sought : {rows : List ℕ} {n : ℕ} (k : Key) (l : List Change) → false ≡ survey k l .found → Sought rows n k (record { found = false; at = 0; start = 0 }) l
+not-sought k l e = record {
+  found = e;
+  start = λ t. true≠false t refl;
+  inside = λ t. true≠false t refl;
+  place = λ t. true≠false t refl;
+  wrote = λ t. true≠false t refl;
+}
+
+pub record Seeking (s rows : List ℕ) (n from hs : ℕ) (name : List ℕ) (i : ℕ) : Type 0 where
   pub inside : i ≤ n
-  pub is : (k : Key) (l : List Change) → Search s rows n from hs head k l → gather (findPass k) l l ≡ gather (findPass k) l (drop (n - i) l)
+  pub is : (k : Key) (l : List Change) → Search s rows n from hs name k l → gather (findPass k) l l ≡ gather (findPass k) l (drop (n - i) l)
 
 -- no change newer than the latest of its number has the key
 skip-newer : (k : Key) → Padded (k .name) → (all l : List Change) → Valid l → (from : ℕ) → latestOf (keyNumber k) l ≤ from → from ≤ length l
@@ -384,37 +480,47 @@ skip-newer k p all (c ∷ l) v from h le = by-test (leb from (length l)) (inside
         ∙ ih (omega (arith, h, ap (λ (b : Bool). cond b (length l + 1) (latestOf (keyNumber k) l)) u)) lt
         ∙ ap (λ (m : ℕ). gather (findPass k) all (drop m (c ∷ l))) (sym e))
 
-pub seeking-start : (s rows : List ℕ) (n from hs : ℕ) (head : List ℕ) → from ≤ n → Seeking s rows n from hs head from
-seeking-start s rows n from hs head le = record {
+pub seeking-start : (s rows : List ℕ) (n from hs : ℕ) (name : List ℕ) → from ≤ n → Seeking s rows n from hs name from
+seeking-start s rows n from hs name le = record {
   inside = le;
   is = λ k l w. skip-newer k (w .padded) l l (w .logged .ruled .valid) from (w .few) (omega (arith, w .logged .ruled .count)) ∙ ap
       (λ (m : ℕ). gather (findPass k) l (drop (m - from) l)) (w .logged .ruled .count);
 }
 
-pub seeking-end : {s rows : List ℕ} {n from hs : ℕ} {head : List ℕ} {i : ℕ} → Seeking s rows n from hs head i → i ≤ 0 → (k : Key) (l : List Change)
-    → Search s rows n from hs head k l
+pub seeking-end : {s rows : List ℕ} {n from hs : ℕ} {name : List ℕ} {i : ℕ} → Seeking s rows n from hs name i → i ≤ 0 → (k : Key) (l : List Change)
+    → Search s rows n from hs name k l
     → Sought rows n k (record { found = false; at = 0; start = 0 }) l
 unfolding gather
 seeking-end {n = n} {i = i} h z k l w =
     let e : drop (n - i) l ≡ [] = drop-of-length-le l {i = n - i} (omega (arith, w .logged .ruled .count)) in
-    record {
-      found = hit-none (survey k l .found) (survey k l .start) (sym (find-is k l (w .logged .ruled .valid)) ∙ h .is k l w ∙ ap (gather (findPass k) l) e);
-      start = λ t. true≠false t refl;
-      inside = λ t. true≠false t refl;
-      place = λ t. true≠false t refl;
-      wrote = λ t. true≠false t refl;
-    }
+    not-sought k l
+    (hit-none (survey k l .found) (survey k l .start) (sym (find-is k l (w .logged .ruled .valid)) ∙ h .is k l w ∙ ap (gather (findPass k) l) e))
 
 -- no change has the number of the key
 pub seeking-none : {s rows : List ℕ} {n from : ℕ} → from ≤ n → from ≡ 0 → (k : Key) (l : List Change) → Logged s rows n l → k .hour < 32 → Padded (k .name)
     → latestOf (keyNumber k) l ≤ from
     → Sought rows n k (record { found = false; at = 0; start = 0 }) l
-seeking-none {s} {rows} {n} {from} le z k l g hk hp few =
-    seeking-end (seeking-start s rows n from (hourSlot k) (recordHead k) le) (omega arith) k l
-    (record { logged = g; slot-is = refl; head-is = refl; low = hk; padded = hp; few = few })
+unfolding gather
+seeking-none {n = n} {from = from} le z k l g hk hp few =
+    let e : drop (n - from) l ≡ [] = drop-of-length-le l {i = n - from} (omega (arith, g .ruled .count)) in
+    let w : length l - from ≡ n - from = omega (arith, g .ruled .count) in
+    not-sought k l (hit-none (survey k l .found) (survey k l .start) (sym (find-is k l (g .ruled .valid))
+    ∙ skip-newer k hp l l (g .ruled .valid) from few (omega (arith, g .ruled .count)) ∙ ap (λ (m : ℕ). gather (findPass k) l (drop m l)) w
+    ∙ ap (gather (findPass k) l) e))
+
+-- no record can have the name
+pub seeking-untold : {s rows : List ℕ} {n : ℕ} (k : Key) (l : List Change) → Logged s rows n l → Padded (k .name) → nameable k ≡ false
+    → Sought rows n k (record { found = false; at = 0; start = 0 }) l
+seeking-untold k l g p e = not-sought k l (sym (by-test (survey k l .found)
+    (λ t. let f = found-at (begun g) k t in
+    let one = pick-key k (standing l) (f .what) (f .picked) in
+    let h = same-alike k (f .what .key) one in
+    true≠false (sym (same-by k (f .what .key) true (parts-hour k (f .what .key) (h .mark) (h .hour))) ∙ one)
+    (name-untold k p (f .what) (f .at .good) (mark-one k (f .what .key) (h .mark)) e))
+    (λ t. t)))
 
 -- a turn: the change before i
-module _ {s rows : List ℕ} {n from hs : ℕ} {head : List ℕ} {i : ℕ} (h : Seeking s rows n from hs head i) (above : 0 < i) (j : ℕ) (ej : j ≡ i - 1) where
+module _ {s rows : List ℕ} {n from hs : ℕ} {name : List ℕ} {i : ℕ} (h : Seeking s rows n from hs name i) (above : 0 < i) (j : ℕ) (ej : j ≡ i - 1) where
   pub turn-inside : j < n
   turn-inside = omega (arith, h .inside)
 
@@ -428,7 +534,7 @@ module _ {s rows : List ℕ} {n from hs : ℕ} {head : List ℕ} {i : ℕ} (h : 
     live : Bool
     live = liveAt (survey (keyOf what) l) (kindOf what) begun-at
 
-  turn-is : (k : Key) (l : List Change) (w : Search s rows n from hs head k l)
+  turn-is : (k : Key) (l : List Change) (w : Search s rows n from hs name k l)
       → gather (findPass k) l l ≡ cond (same k (keyOf (what (w .logged))) && live (w .logged))
       (record { found = true; start = begun-at (w .logged) + leadLength (kindOf (what (w .logged))) }) (gather (findPass k) l (drop (n - j) l))
   unfolding gather what begun-at live
@@ -436,8 +542,8 @@ module _ {s rows : List ℕ} {n from hs : ℕ} {head : List ℕ} {i : ℕ} (h : 
       let e : n - i ≡ n - (j + 1) = omega arith in
       h .is k l w ∙ ap (λ (m : ℕ). gather (findPass k) l (drop m l)) e ∙ ap (gather (findPass k) l) (ruled-at (w .logged .ruled) turn-inside .rest)
 
-  skip : ((k : Key) (l : List Change) (w : Search s rows n from hs head k l) → (same k (keyOf (what (w .logged))) && live (w .logged)) ≡ false)
-      → Seeking s rows n from hs head j
+  skip : ((k : Key) (l : List Change) (w : Search s rows n from hs name k l) → (same k (keyOf (what (w .logged))) && live (w .logged)) ≡ false)
+      → Seeking s rows n from hs name j
   skip f = record {
     inside = omega (arith, turn-inside);
     is = λ k l w.
@@ -446,13 +552,13 @@ module _ {s rows : List ℕ} {n from hs : ℕ} {head : List ℕ} {i : ℕ} (h : 
   }
 
   -- its record does not stand, or is of another mark or hour
-  pub seeking-skip : (rowLive (getD rows j 0) && eqb (rowSlot (getD rows j 0)) hs) ≡ false → Seeking s rows n from hs head j
+  pub seeking-skip : (rowLive (getD rows j 0) && eqb (rowSlot (getD rows j 0)) hs) ≡ false → Seeking s rows n from hs name j
   unfolding what begun-at live
   seeking-skip m = skip (λ k l w.
       let c = what (w .logged) in
       by-test (same k (keyOf c))
       (λ t. let e = same-alike k (keyOf c) t in
-      let sh : sameHour k (keyOf c) ≡ true = parts-hour k (keyOf c) (ap order (e .mark)) (e .hour) in
+      let sh : sameHour k (keyOf c) ≡ true = parts-hour k (keyOf c) (e .mark) (e .hour) in
       ap (λ (x : Bool). x && live (w .logged)) (t ∙ sym sh) ∙ sym (picked (ruled-seen (w .logged .ruled) turn-inside) k hs (w .slot-is) (w .low)) ∙ m)
       (λ t. ap (λ (x : Bool). x && live (w .logged)) t))
 
@@ -462,24 +568,29 @@ module _ {s rows : List ℕ} {n from hs : ℕ} {head : List ℕ} {i : ℕ} (h : 
     live-there g = sym (ruled-seen (g .ruled) turn-inside .live) ∙ and-left (rowLive (getD rows j 0)) (eqb (rowSlot (getD rows j 0)) hs) m
 
     -- its record is written there
-    there : {l : List Change} (g : Logged s rows n l) → Bears s x (keyOf (what g))
+    there : {l : List Change} (g : Logged s rows n l) → WrittenAt s x (keyOf (what g))
     unfolding what begun-at live
     there {l} g =
-        subst (λ (y : ℕ). Bears s y (keyOf (what g))) (sym (ex ∙ ruled-seen (g .ruled) turn-inside .place))
-        (written-at g (what g) (ruled-good (g .ruled) turn-inside) (begun-at g) (live-there g))
+        subst (λ (y : ℕ). WrittenAt s y (keyOf (what g))) (sym (ex ∙ ruled-seen (g .ruled) turn-inside .place)) (written-at g turn-inside (live-there g))
 
-    pub seeking-within : Log s rows n → x ≤ length s
-    seeking-within o = there (o .logged) .at .inside
+    pub seeking-within : Log s rows n → x + 3 ≤ length s
+    seeking-within o = name-within (there (o .logged))
 
-    same-there : (k : Key) (l : List Change) (w : Search s rows n from hs head k l) → begins head (drop x s) ≡ same k (keyOf (what (w .logged)))
-    same-there k l w = ap (λ (y : List ℕ). begins y (drop x s)) (w .head-is) ∙ head-at (there (w .logged)) k (w .padded)
+    -- it is of the mark and hour
+    hour-there : (k : Key) (l : List Change) (w : Search s rows n from hs name k l) → sameHour k (keyOf (what (w .logged))) ≡ true
+    unfolding what begun-at live
+    hour-there k l w = and-left (sameHour k (keyOf (what (w .logged)))) (live (w .logged))
+        (sym (picked (ruled-seen (w .logged .ruled) turn-inside) k hs (w .slot-is) (w .low)) ∙ m)
+
+    same-there : (k : Key) (l : List Change) (w : Search s rows n from hs name k l) → begins name (drop (x + 3) s) ≡ same k (keyOf (what (w .logged)))
+    same-there k l w = ap (λ (y : List ℕ). begins y (drop (x + 3) s)) (w .name-is) ∙ told-at (there (w .logged)) k (w .padded) (w .able) (hour-there k l w)
 
     -- of another name
-    pub seeking-other : begins head (drop x s) ≡ false → Seeking s rows n from hs head j
+    pub seeking-other : begins name (drop (x + 3) s) ≡ false → Seeking s rows n from hs name j
     seeking-other t = skip (λ k l w. ap (λ (y : Bool). y && live (w .logged)) (sym (same-there k l w) ∙ t))
 
     -- of the key
-    pub seeking-hit : begins head (drop x s) ≡ true → (k : Key) (l : List Change) → Search s rows n from hs head k l
+    pub seeking-hit : begins name (drop (x + 3) s) ≡ true → (k : Key) (l : List Change) → Search s rows n from hs name k l
         → Sought rows n k (record { found = true; at = j; start = x }) l
     unfolding what begun-at live
     seeking-hit t k l w =
@@ -500,5 +611,5 @@ module _ {s rows : List ℕ} {n from hs : ℕ} {head : List ℕ} {i : ℕ} (h : 
           wrote = λ z d m r.
               let p : c ∷ drop (n - j) l ≡ d ∷ m = sym (ruled-at (g .ruled) turn-inside .rest) ∙ r in
               let y : c ≡ d = cc in
-              sym (same-true k (keyOf c) (w .padded) (good-padded c (ruled-good (g .ruled) turn-inside)) sc ∙ ap keyOf y);
+              same-sym (keyOf d) k ∙ ap (λ (v : Change). same k (keyOf v)) (sym y) ∙ sc;
         }

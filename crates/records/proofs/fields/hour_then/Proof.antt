@@ -1,5 +1,6 @@
+use mathlib.Core.Path.{sym, _∙_}
 use borrow.Author.Needs.{needs}
-use Rattle.records.proofs.marks.Lemmas.{hour-past, hour-low, hour-high, hour-here}
+use Rattle.records.proofs.marks.Lemmas.{hour-past, hour-outside, hour-here}
 use Rattle.records.proofs.fields.hour_then.Statement.{statement}
 use Rattle.records.proofs.fields.hour_then.Tie as tie
 
@@ -18,52 +19,40 @@ returns c =
 shared-slice-read-hour : tie.Need-shared-slice-read-hour
 shared-slice-read-hour c = search needs
 
-hour-no-requires-2 : tie.Need-hour-no-requires-2
-hour-no-requires-2 c κs = search needs
+hour-ok-requires : tie.Need-hour-ok-requires
+hour-ok-requires c κs = search needs
+
+add-t12 : tie.Need-add-t12
+add-t12 c = search needs
 
 returns-2 : tie.Need-returns-2
 returns-2 c =
     let c3 = c .before .before .before in
     let c5 = c3 .before .before in
-    let c8 = c5 .before .before .before in (
-      rw (c .hour-no2 .ensures, (c5 .e) .given .1) (hour-low (c8 .args .s .now) _ (c3 .if1 .left) (c .before .if2 .taken)),
-      rw (c .hour-no2 .ensures)
-          tt,
-    )
+    let c8 = c5 .before .before .before in
+    (rw (c5 .e .given .1) (hour-here (c8 .args .s .now) _ (c3 .if1 .left) (sym (c .before .hour-ok .ensures) ∙ c .if2 .taken)), search needs)
+
+hour-no-requires-2 : tie.Need-hour-no-requires-2
+hour-no-requires-2 c κs = search needs
+
+enum-known-e-2 : tie.Need-enum-known-e-2
+enum-known-e-2 c = search needs
 
 hour-no-requires-3 : tie.Need-hour-no-requires-3
 hour-no-requires-3 c κs = search needs
 
 returns-3 : tie.Need-returns-3
 returns-3 c =
-    let c2 = c .before .before in
-    let c4 = c2 .before .before in
+    let c4 = c .before .before .before .before in
     let c6 = c4 .before .before in
     let c9 = c6 .before .before .before in (
-      rw (c .hour-no3 .ensures, (c6 .e) .given .1) (hour-high (c9 .args .s .now) _ (c4 .if1 .left) (c2 .if2 .left) (c .before .if3 .taken)),
-      rw
-          (c .hour-no3 .ensures) tt,
+      rw (c .hour-no2 .ensures, c6 .e .given .1)
+          (hour-outside (c9 .args .s .now) _ (c4 .if1 .left) (sym (c .before .before .hour-ok .ensures) ∙ c .before .if2 .left)),
+      rw (c .hour-no2 .ensures) tt,
     )
 
-add-t7 : tie.Need-add-t7
-add-t7 c = search needs
-
-enum-known-e-2 : tie.Need-enum-known-e-2
-enum-known-e-2 c = search needs
-
-hour-no-requires-4 : tie.Need-hour-no-requires-4
-hour-no-requires-4 c κs = search needs
-
 returns-4 : tie.Need-returns-4
-returns-4 c = (
-  rw (c .before .before .before .before .before .e .given .1) (hour-here
-      (c .before .before .before .before .before .before .before .before .args .s .now) _ (c .before .before .before .if1 .left) (c .before .if2 .left)
-      (c .if3 .left)),
-  search needs,
-)
-
-returns-5 : tie.Need-returns-5
-returns-5 c = (rw (c .hour-no4 .ensures, (c .before .before .e2) .given .1), rw (c .hour-no4 .ensures) tt)
+returns-4 c = (rw (c .hour-no3 .ensures, c .before .before .e2 .given .1), rw (c .hour-no3 .ensures) tt)
 
 pub hour-then-spec : {M : Type 1} → statement M
 hour-then-spec =
@@ -73,12 +62,11 @@ hour-then-spec =
     hour-no-requires
     returns
     shared-slice-read-hour
-    hour-no-requires-2
+    hour-ok-requires
+    add-t12
     returns-2
+    hour-no-requires-2
+    enum-known-e-2
     hour-no-requires-3
     returns-3
-    add-t7
-    enum-known-e-2
-    hour-no-requires-4
-    returns-4
-    returns-5)
+    returns-4)

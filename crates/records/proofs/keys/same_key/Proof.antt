@@ -1,6 +1,6 @@
 use mathlib.Core.Path.{sym, _∙_}
 use borrow.Author.Needs.{needs}
-use Rattle.records.proofs.writing.Lemmas.{other-hour, by-name}
+use Rattle.records.proofs.keys.Lemmas.{other-hour, by-name}
 use Rattle.records.proofs.keys.same_key.Statement.{statement}
 use Rattle.records.proofs.keys.same_key.Tie as tie
 

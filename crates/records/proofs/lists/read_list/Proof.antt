@@ -26,6 +26,9 @@ returns c =
       few = omega (arith, (c .offer-no) .ensures .1);
     }
 
+cast-count : tie.Need-cast-count
+cast-count c = search needs
+
 offer-no-requires-2 : tie.Need-offer-no-requires-2
 offer-no-requires-2 c κs = search needs
 
@@ -41,9 +44,6 @@ returns-2 c =
       placed = rw (c .offer-no2 .ensures .0) tt;
       few = omega (arith, (c .offer-no2) .ensures .1);
     }
-
-cast-read-pairs : tie.Need-cast-read-pairs
-cast-read-pairs c = search needs
 
 read-pairs-requires : tie.Need-read-pairs-requires
 read-pairs-requires c κs = let h = (c .before .before .before .before .before .read-byte) .ensures .1 in
@@ -170,9 +170,9 @@ read-list-spec =
     enum-known-c
     offer-no-requires
     returns
+    cast-count
     offer-no-requires-2
     returns-2
-    cast-read-pairs
     read-pairs-requires
     enum-known-e
     list-ok-requires

@@ -33,6 +33,9 @@ returns c =
       few = omega (arith, (c .name-no) .ensures .1);
     }
 
+cast-k : tie.Need-cast-k
+cast-k c = search needs
+
 name-no-requires-2 : tie.Need-name-no-requires-2
 name-no-requires-2 c κs = search needs
 
@@ -48,9 +51,6 @@ returns-2 c =
       placed = rw (c .name-no2 .ensures .0) tt;
       few = omega (arith, (c .name-no2) .ensures .1);
     }
-
-cast-k : tie.Need-cast-k
-cast-k c = search needs
 
 sub-if3 : tie.Need-sub-if3
 sub-if3 c = let h = (c .before .before .before .before .before .read-byte) .ensures .1 in rw (c .before .before .before .c .given .1) at h
@@ -192,9 +192,9 @@ read-name-spec =
     enum-known-c
     name-no-requires
     returns
+    cast-k
     name-no-requires-2
     returns-2
-    cast-k
     sub-if3
     name-no-requires-3
     returns-3

@@ -17,6 +17,9 @@ is-record-requires c κs = search needs
 returns : tie.Need-returns
 returns c = no-record _ _ (sym (c .before .is-record .ensures) ∙ not-true _ (c .if1 .taken))
 
+cast-if2 : tie.Need-cast-if2
+cast-if2 c = search needs
+
 returns-2 : tie.Need-returns-2
 returns-2 c =
     let c4 = c .before .before .before .before in
@@ -57,4 +60,4 @@ returns-4 c =
 pub is-view-spec : {M : Type 1} → statement M
 is-view-spec =
     tie.close
-    (tie.spec is-record-requires returns returns-2 kind-of-requires head-of-requires returns-3 returns-4)
+    (tie.spec is-record-requires returns cast-if2 returns-2 kind-of-requires head-of-requires returns-3 returns-4)

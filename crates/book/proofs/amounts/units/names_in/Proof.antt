@@ -16,8 +16,8 @@ Inv-loop log rows n mark u₀ i₀ u i = Listed log rows n mark i u
 abbrev μ-loop : tie.MeasureT-loop
 μ-loop log rows n mark u₀ i₀ u i = n - i
 
-order-requires : tie.Need-order-requires Inv-loop μ-loop
-order-requires c κs = search needs
+key-order-requires : tie.Need-key-order-requires Inv-loop μ-loop
+key-order-requires c κs = search needs
 
 cast-mark : tie.Need-cast-mark Inv-loop μ-loop
 cast-mark c = search needs
@@ -87,7 +87,7 @@ returns : tie.Need-returns Inv-loop μ-loop
 returns c =
     let c3 = c .before .before .before in
     let c5 = c3 .before .before in (
-      listed-end (c .before .loop .inv) (c .loop-test .left) (c5 .args .key) (c3 .order .ensures),
+      listed-end (c .before .loop .inv) (c .loop-test .left) (c5 .args .key) (c3 .key-order .ensures),
       listed-few (c .before .loop .inv) (c5 .pre),
       (c .before .loop) .inv .whole,
     )
@@ -98,7 +98,7 @@ names-in-spec =
     (tie.spec
     Inv-loop
     μ-loop
-    order-requires
+    key-order-requires
     cast-mark
     no-names-requires
     loop-holds

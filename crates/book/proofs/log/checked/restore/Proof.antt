@@ -1,5 +1,4 @@
-use mathlib.Core.Path.{_≡_, sym, _∙_}
-use lib.ListN.{length}
+use mathlib.Core.Path.{sym, _∙_}
 use lib.Seq.{length-take-le}
 use native.Mathlib.Omega.{arith}
 use borrow.Author.Needs.{needs}
@@ -50,17 +49,16 @@ head-key-requires c κs = search needs
 hour-slot-requires : tie.Need-hour-slot-requires
 hour-slot-requires c κs = search needs
 
-record-head-requires : tie.Need-record-head-requires
-record-head-requires c κs = search needs
+name-head-requires : tie.Need-name-head-requires
+name-head-requires c κs = search needs
 
 array-share-prefix-bytes : tie.Need-array-share-prefix-bytes
-array-share-prefix-bytes c = let z : length (c .before .before .record-head .result .bytes) ≡ 44 = search needs in omega
-    (arith, (c .before .before .record-head) .ensures .1)
+array-share-prefix-bytes c = c .before .before .name-head .ensures .few
 
 slice-aggregate-written-before : tie.Need-slice-aggregate-written-before
-slice-aggregate-written-before c = let z : length (c .before .before .before .record-head .result .bytes) ≡ 44 = search needs in sym (length-take-le
-    (c .before .before .before .record-head .result .len) (c .before .before .before .record-head .result .bytes)
-    (omega (arith, (c .before .before .before .record-head) .ensures .1)))
+slice-aggregate-written-before c =
+    let c3 = c .before .before .before in
+    sym (length-take-le (c3 .name-head .result .len) (c3 .name-head .result .bytes) (c3 .name-head .ensures .few))
 
 written-before-requires : tie.Need-written-before-requires
 written-before-requires c κs = search needs
@@ -79,7 +77,7 @@ mul-was c =
       arith,
       wrote-few (c15 .pre .0) (c15 .pre .1 .0) (λ d l g. (c .written-before) .ensures d l (undoing g (c12 .kind-in .ensures)
           (sym (c11 .is-filing .ensures) ∙ (c10 .if1) .left) (c9 .start-in .ensures .0) (c7 .head-key .ensures) (c5 .hour-slot .ensures .0)
-          (c4 .record-head .ensures .0))),
+          (c4 .name-head .ensures))),
     )
 
 element-copy-out-was : tie.Need-element-copy-out-was
@@ -94,7 +92,7 @@ element-copy-out-was c =
     let c15 = c12 .before .before .before in
     wrote-few (c15 .pre .0) (c15 .pre .1 .0) (λ d l g. (c .written-before) .ensures d l (undoing g (c12 .kind-in .ensures)
     (sym (c11 .is-filing .ensures) ∙ (c10 .if1) .left) (c9 .start-in .ensures .0) (c7 .head-key .ensures) (c5 .hour-slot .ensures .0)
-    (c4 .record-head .ensures .0)))
+    (c4 .name-head .ensures)))
 
 add-rows : tie.Need-add-rows
 add-rows c = search needs
@@ -113,7 +111,7 @@ mul-rows c =
       arith,
       wrote-few (c16 .pre .0) (c16 .pre .1 .0) (λ d l g. (c .before .written-before) .ensures d l (undoing g (c13 .kind-in .ensures)
           (sym (c12 .is-filing .ensures) ∙ (c11 .if1) .left) (c10 .start-in .ensures .0) (c8 .head-key .ensures) (c6 .hour-slot .ensures .0)
-          (c5 .record-head .ensures .0))),
+          (c5 .name-head .ensures))),
     )
 
 element-write-rows : tie.Need-element-write-rows
@@ -128,7 +126,7 @@ element-write-rows c =
     let c16 = c13 .before .before .before in
     wrote-few (c16 .pre .0) (c16 .pre .1 .0) (λ d l g. (c .before .written-before) .ensures d l (undoing g (c13 .kind-in .ensures)
     (sym (c12 .is-filing .ensures) ∙ (c11 .if1) .left) (c10 .start-in .ensures .0) (c8 .head-key .ensures) (c6 .hour-slot .ensures .0)
-    (c5 .record-head .ensures .0)))
+    (c5 .name-head .ensures)))
 
 returns-2 : tie.Need-returns-2
 returns-2 c =
@@ -142,7 +140,7 @@ returns-2 c =
     let c16 = c13 .before .before .before in
     restored (c16 .pre .1 .1) (c .before .written-before .result) (λ d l g. (c .before .written-before) .ensures d l (undoing g (c13 .kind-in .ensures)
     (sym (c12 .is-filing .ensures) ∙ (c11 .if1) .left) (c10 .start-in .ensures .0) (c8 .head-key .ensures) (c6 .hour-slot .ensures .0)
-    (c5 .record-head .ensures .0)))
+    (c5 .name-head .ensures)))
 
 pub restore-spec : {M : Type 1} → statement M
 restore-spec =
@@ -160,7 +158,7 @@ restore-spec =
     part-head-key-end
     head-key-requires
     hour-slot-requires
-    record-head-requires
+    name-head-requires
     array-share-prefix-bytes
     slice-aggregate-written-before
     written-before-requires

@@ -1,3 +1,4 @@
+use Prim.Native.Nat.{_+_}
 use mathlib.Core.Path.{refl, sym, _∙_}
 use native.Mathlib.Omega.{arith}
 use borrow.Author.Needs.{needs}
@@ -7,10 +8,10 @@ use Rattle.book.proofs.log.checked.written_before.Statement.{statement}
 use Rattle.book.proofs.log.checked.written_before.Tie as tie
 
 abbrev Inv-loop : tie.InvT-loop
-Inv-loop log rows n slot head i₀ i = Backward log rows n slot head i
+Inv-loop log rows n slot name i₀ i = Backward log rows n slot name i
 
 abbrev μ-loop : tie.MeasureT-loop
-μ-loop log rows n slot head i₀ i = i
+μ-loop log rows n slot name i₀ i = i
 
 sub-i : tie.Need-sub-i Inv-loop μ-loop
 sub-i c = omega (arith, (c .before .before .pre) .1)
@@ -36,6 +37,9 @@ wrote-in-requires c κs = search needs
 
 place-in-requires : tie.Need-place-in-requires Inv-loop μ-loop
 place-in-requires c κs = search needs
+
+add-at : tie.Need-add-at Inv-loop μ-loop
+add-at c = search needs
 
 sub-starts : tie.Need-sub-starts Inv-loop μ-loop
 sub-starts c =
@@ -73,7 +77,7 @@ returns c =
     let c8 = c7 .before in
     let c11 = c8 .before .before .before in
     back-hit (c8 .loop .inv) (c7 .loop-test .taken) _ refl (sym (c5 .wrote-in .ensures) ∙ (c4 .if1) .taken) _ (c3 .place-in .ensures .0)
-    (begins-there (c11 .args .head .now) (c11 .args .log .now) (c3 .place-in .result) (c .before .starts .ensures) (c .if2 .taken))
+    (begins-there (c11 .args .name .now) (c11 .args .log .now) (c3 .place-in .result + 3) (c .before .starts .ensures) (c .if2 .taken))
 
 loop-less : tie.Need-loop-less Inv-loop μ-loop
 loop-less c = omega (arith, (c .before .before .before .before .before .before .before .loop-test) .taken)
@@ -87,7 +91,7 @@ loop-again c =
     let c8 = c7 .before in
     let c11 = c8 .before .before .before in
     back-other (c8 .loop .inv) (c7 .loop-test .taken) _ refl (sym (c5 .wrote-in .ensures) ∙ (c4 .if1) .taken) _ (c3 .place-in .ensures .0)
-    (begins-there (c11 .args .head .now) (c11 .args .log .now) (c3 .place-in .result) (c .before .starts .ensures) (c .if2 .left))
+    (begins-there (c11 .args .name .now) (c11 .args .log .now) (c3 .place-in .result + 3) (c .before .starts .ensures) (c .if2 .left))
 
 loop-less-2 : tie.Need-loop-less-2 Inv-loop μ-loop
 loop-less-2 c = omega (arith, (c .before .before .before .loop-test) .taken)
@@ -114,6 +118,7 @@ written-before-spec =
     element-copy-out-row
     wrote-in-requires
     place-in-requires
+    add-at
     sub-starts
     part-starts-start
     part-starts-end

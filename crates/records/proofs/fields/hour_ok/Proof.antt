@@ -1,6 +1,6 @@
 use borrow.Author.Tests.{le-leb, lt-leb}
-use Rattle.records.proofs.keys.hour_ok.Statement.{statement}
-use Rattle.records.proofs.keys.hour_ok.Tie as tie
+use Rattle.records.proofs.fields.hour_ok.Statement.{statement}
+use Rattle.records.proofs.fields.hour_ok.Tie as tie
 
 returns : tie.Need-returns
 returns c = simp (lt-leb 1 _ (c .if1 .taken))

@@ -1,17 +1,18 @@
+use Prim.Native.Nat.{_+_}
 use mathlib.Core.Path.{refl, sym, subst⁻¹, _∙_}
 use native.Mathlib.Omega.{arith}
 use borrow.Author.Needs.{needs}
 use Rattle.book.specs.tables.Rows.{Sought}
 use Rattle.book.specs.declared.log.rows.Seek.{Seek}
 use Rattle.book.proofs.log.rows.Lemmas.{Seeking, seeking-start, seeking-end, seeking-skip, seeking-other, seeking-hit, seeking-within, turn-inside, ruled-few, begins-there}
-use Rattle.book.proofs.log.rows.find_head.Statement.{statement}
-use Rattle.book.proofs.log.rows.find_head.Tie as tie
+use Rattle.book.proofs.log.rows.find_named.Statement.{statement}
+use Rattle.book.proofs.log.rows.find_named.Tie as tie
 
 abbrev Inv-loop : tie.InvT-loop
-Inv-loop log rows n from slot head i₀ i = Seeking log rows n from slot head i
+Inv-loop log rows n from slot name i₀ i = Seeking log rows n from slot name i
 
 abbrev μ-loop : tie.MeasureT-loop
-μ-loop log rows n from slot head i₀ i = i
+μ-loop log rows n from slot name i₀ i = i
 
 loop-holds : tie.Need-loop-holds Inv-loop μ-loop
 loop-holds c = seeking-start _ _ _ _ _ _ (c .before .before .pre .1)
@@ -34,6 +35,9 @@ stands-in-requires c κs = search needs
 
 place-in-requires : tie.Need-place-in-requires Inv-loop μ-loop
 place-in-requires c κs = search needs
+
+add-at : tie.Need-add-at Inv-loop μ-loop
+add-at c = search needs
 
 sub-starts : tie.Need-sub-starts Inv-loop μ-loop
 sub-starts c =
@@ -71,7 +75,7 @@ returns c =
     let c8 = c7 .before in
     let c11 = c8 .before .before .before in
     seeking-hit (c8 .loop .inv) (c7 .loop-test .taken) _ refl (sym (c5 .stands-in .ensures) ∙ (c4 .if1) .taken) _ (c3 .place-in .ensures .0)
-    (begins-there (c11 .args .head .now) (c11 .args .log .now) (c3 .place-in .result) (c .before .starts .ensures) (c .if2 .taken))
+    (begins-there (c11 .args .name .now) (c11 .args .log .now) (c3 .place-in .result + 3) (c .before .starts .ensures) (c .if2 .taken))
 
 loop-less : tie.Need-loop-less Inv-loop μ-loop
 loop-less c = omega (arith, (c .before .before .before .before .before .before .before .loop-test) .taken)
@@ -85,7 +89,7 @@ loop-again c =
     let c8 = c7 .before in
     let c11 = c8 .before .before .before in
     seeking-other (c8 .loop .inv) (c7 .loop-test .taken) _ refl (sym (c5 .stands-in .ensures) ∙ (c4 .if1) .taken) _ (c3 .place-in .ensures .0)
-    (begins-there (c11 .args .head .now) (c11 .args .log .now) (c3 .place-in .result) (c .before .starts .ensures) (c .if2 .left))
+    (begins-there (c11 .args .name .now) (c11 .args .log .now) (c3 .place-in .result + 3) (c .before .starts .ensures) (c .if2 .left))
 
 loop-less-2 : tie.Need-loop-less-2 Inv-loop μ-loop
 loop-less-2 c = omega (arith, (c .before .before .before .loop-test) .taken)
@@ -106,8 +110,8 @@ returns-2 c =
     λ k l w. subst⁻¹ (λ (r : Seek). Sought (c5 .args .rows .now) (c5 .args .n) k r l) (c .not-found .ensures)
     (seeking-end (c2 .loop .inv) (c .before .loop-test .left) k l w)
 
-pub find-head-spec : {M : Type 1} → statement M
-find-head-spec =
+pub find-named-spec : {M : Type 1} → statement M
+find-named-spec =
     tie.close
     (tie.spec
     Inv-loop
@@ -118,6 +122,7 @@ find-head-spec =
     element-copy-out-row
     stands-in-requires
     place-in-requires
+    add-at
     sub-starts
     part-starts-start
     part-starts-end
