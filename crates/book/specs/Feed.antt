@@ -53,10 +53,10 @@ pub data Settled : Type 0 where
   statement : Reg → Settled
   ref : ℕ → ℕ → Settled
 
-abbrev pub verdict : Reg → ℕ → ℕ → Settled
-verdict g n zero = statement g
-verdict g n (suc k) = ref (n + 1) (suc k)
+abbrev pub settledAs : Reg → ℕ → ℕ → Settled
+settledAs g n zero = statement g
+settledAs g n (suc k) = ref (n + 1) (suc k)
 
 -- "reads records back to back from standard input into a book over 65,535 bytes"
 unfoldable pub settled : List ℕ → Settled
-settled s = verdict (feeding maxUsed fresh s .reg) (feeding maxUsed fresh s .count) (feeding maxUsed fresh s .number)
+settled s = settledAs (feeding maxUsed fresh s .reg) (feeding maxUsed fresh s .count) (feeding maxUsed fresh s .number)

@@ -4,7 +4,7 @@ use mathlib.Core.List.{List, [], _∷_, _++_}
 use mathlib.Core.Bool.{Bool, true, false, cond}
 use lib.ListN.{length}
 use lib.Dec.{ltb, leb}
-use Rattle.money.specs.Refusals.{dayClosed, keyStands, noSuchKey, hourFull, noSpace, nothingToTakeBack, notTogether}
+use Rattle.money.specs.Refusals.{closed as dayClosed, keyStands, noSuchKey, hourFull, noSpace, nothingToTakeBack, notTogether}
 use Rattle.book.specs.Layer.{Key, Rec, Change, filed, corrected, withdrawn, keyOf, write, Input, fine, fault, parse, bare, same, sameHour, Asked, got, bad, keyAsked, askHour, askHourOf, askUnit, askFailure, Im, limitOf, begins, takeBackBytes, closeBytes, File, Correct, Withdraw, Any, Only}
 pub use Rattle.book.specs.Replies.{Reply, refused, accepted, place, number, guarantees, unitDay, charge}
 use Rattle.book.specs.Amounts.{guaranteesOf, unitDayOf, chargeOf, priceOf}

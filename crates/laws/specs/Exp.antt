@@ -99,19 +99,19 @@ carried (a ⊖ b) k = H.back (H.sub (carried a (k .0)) (carried b (k .1))) (k .2
 carried (a ⊗ b) k = H.back (H.mul (carried a (k .0)) (carried b (k .1))) (k .2)
 carried (neg a) k = H.back (H.neg (carried a k)) (small a k)
 
-pub raw-held : (e : Exp) → Ok e → Carried (raw e) (value e) (bound e)
-raw-held (var z B) k = H.num z (k .0)
-raw-held (i64 z B) k = H.num z (k .0)
-raw-held (i32 z B) k = H.num32 z (k .0) (k .1)
-raw-held (u32 n B) k = H.num (pos n) (k .0)
-raw-held (got m z B h) k = h
-raw-held (a ⊕ b) k = H.add (carried a (k .0)) (carried b (k .1))
-raw-held (a ⊖ b) k = H.sub (carried a (k .0)) (carried b (k .1))
-raw-held (a ⊗ b) k = H.mul (carried a (k .0)) (carried b (k .1))
-raw-held (neg a) k = H.neg (carried a k)
+pub raw-carried : (e : Exp) → Ok e → Carried (raw e) (value e) (bound e)
+raw-carried (var z B) k = H.num z (k .0)
+raw-carried (i64 z B) k = H.num z (k .0)
+raw-carried (i32 z B) k = H.num32 z (k .0) (k .1)
+raw-carried (u32 n B) k = H.num (pos n) (k .0)
+raw-carried (got m z B h) k = h
+raw-carried (a ⊕ b) k = H.add (carried a (k .0)) (carried b (k .1))
+raw-carried (a ⊖ b) k = H.sub (carried a (k .0)) (carried b (k .1))
+raw-carried (a ⊗ b) k = H.mul (carried a (k .0)) (carried b (k .1))
+raw-carried (neg a) k = H.neg (carried a k)
 
 pub fits : (e : Exp) → Ok e → SFits w64 (raw e)
-fits e k = H.fits (raw-held e k) (small e k)
+fits e k = H.fits (raw-carried e k) (small e k)
 
 pub same : (e : Exp) → Ok e → read e ≡ value e
 same e k = carried e k .same

@@ -34,8 +34,8 @@ abbrev pub bytesLeftOver : ℕ
 bytesLeftOver = 8
 
 -- closed
-abbrev pub dayClosed : ℕ
-dayClosed = 9
+abbrev pub closed : ℕ
+closed = 9
 
 -- key stands already
 abbrev pub keyStands : ℕ

@@ -7,7 +7,7 @@
 -- `firm-layout` (FirmLaws), `brief-layout` (LengthLaws).
 -- Code: `Mark`, `MARKS`, `bytes_of`, `listed`, `has_name`, `is_failure`, `order`, `key_mark`, `limit` (marks.rt), `of_hour` (hour_records.rt); with an arm in their proofs
 -- `layout_then` (layouts.rt) and `charge_for` (amounts.rt).
--- In the crate hour_offset: `addNumber` and `adding` (Tally), the two `go` of TallyLaws, and with an arm in its proof `with_record` (tally.rt).
+-- In the crate hour_offset: `addFault` and `adding` (Tally), the two `go` of TallyLaws, and with an arm in its proof `with_record` (tally.rt).
 use mathlib.Core.List.{List, [], _∷_}
 use mathlib.Core.Bool.{Bool, true, false, cond, _&&_}
 use Prim.Native.Nat.{ℕ}

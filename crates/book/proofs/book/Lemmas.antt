@@ -24,8 +24,8 @@ module _ (f : ℕ → Reg → Step) (b : Book) (s : List ℕ) where
   pub step-is : (x : Loaded b s) → stepped f b s (load b s) ≡ f (length s) (regOf b s x)
   step-is x = ap (stepped f b s) (x .is)
 
-  pub step-astray : load b s ≡ mismatched → stepped f b s (load b s) ≡ answered (refused 16)
-  step-astray e = ap (stepped f b s) e
+  pub step-mismatched : load b s ≡ mismatched → stepped f b s (load b s) ≡ answered (refused 16)
+  step-mismatched e = ap (stepped f b s) e
 
   -- the promise of a method, from the step that the register takes
   pub leaves-answered : (r : Reply) → stepped f b s (load b s) ≡ answered r → Leaves f b s b r s
@@ -40,7 +40,7 @@ module _ (f : ℕ → Reg → Step) (b : Book) (s : List ℕ) where
       }
 
   pub leaves-16 : load b s ≡ mismatched → Leaves f b s b (refused 16) s
-  leaves-16 e = leaves-answered (refused 16) (step-astray e)
+  leaves-16 e = leaves-answered (refused 16) (step-mismatched e)
 
   pub leaves-accepted : (g : Reg) (b′ : Book) (s′ : List ℕ) → stepped f b s (load b s) ≡ becomes g
       → b′ ≡ bookOf g → length s′ ≡ length s → take (length (writeAll (g .list))) s′ ≡ writeAll (g .list) → Leaves f b s b′ accepted s′

@@ -70,10 +70,10 @@ pub record Going (b₀ : Book) (s₀ input : List ℕ) (b : Book) (rows latest s
   pub within : at ≤ length input
   pub few : n ≤ at
   pub kept : n ≡ 0 → s ≡ s₀
-  pub held : Checked b s rows
+  pub checked : Checked b s rows
   -- the latest change of each number is no later than is kept for it
   pub places : length latest ≡ 8192
-  pub near : (h : ℕ) → h < 8192 → latestOf h (held .base .list) ≤ getD latest h 0
+  pub near : (h : ℕ) → h < 8192 → latestOf h (checked .base .list) ≤ getD latest h 0
   pub on : (l : List Change) → load b₀ s₀ ≡ belongs l → On (feeding (length s₀) (record { list = l; closed = b₀ .closed }) input) (length s₀) input b s n at
 
 first-of : (b : Book) (s input : List ℕ) (l : List Change) → load b s ≡ belongs l → Loaded b s → On
@@ -95,7 +95,7 @@ started {b} {s} {input} h = record {
   within = omega arith;
   few = omega arith;
   kept = λ z. refl;
-  held = h;
+  checked = h;
   places = length-replicate {A = ℕ} 8192 (b .changes);
   near = λ m lt. omega (arith, latest-few m (h .base .list), h .base .count-is, getD-replicate {A = ℕ} 8192 m (b .changes) 0 lt);
   on = λ l e. first-of b s input l e (loaded-from b s l e);
@@ -181,9 +181,9 @@ module _ {b₀ : Book} {s₀ input : List ℕ} {b : Book} {rows latest s : List 
   since {k} {m} em lt w = record {
     inside = w .0;
     none = λ l p.
-        let e : g .held .base .list ≡ l = cc (g .held .base .is) in
-        let is : latestOf m (g .held .base .list) ≡ latestOf (bucket k) l = λ i. latestOf (em i) (e i) in
-        w .1 (latestOf (bucket k) l) (omega (arith, g .near m lt, is)) (omega (arith, latest-few (bucket k) l, ap length e, g .held .base .count-is));
+        let e : g .checked .base .list ≡ l = cc (g .checked .base .is) in
+        let is : latestOf m (g .checked .base .list) ≡ latestOf (bucket k) l = λ i. latestOf (em i) (e i) in
+        w .1 (latestOf (bucket k) l) (omega (arith, g .near m lt, is)) (omega (arith, latest-few (bucket k) l, ap length e, g .checked .base .count-is));
   }
 
   -- what stands first in the rest of the input
@@ -199,7 +199,7 @@ module _ {b₀ : Book} {s₀ input : List ℕ} {b : Book} {rows latest s : List 
         let q = front-unread (drop at input) f front-is z in
         let m : Meets (change (firstRecord (drop at input))) b s b (refused (f .number)) s = subst⁻¹
         (λ (p : List ℕ). Meets (change p) b s b (refused (f .number)) s) (ap (front (drop at input)) q)
-        (unread-refused (g .held) (drop at input) (f .number) q) in
+        (unread-refused (g .checked) (drop at input) (f .number) q) in
         ends _ s₀ input b s n at (g .on l e) (g .size) (g .kept) some b (refused (f .number)) s m (f .number) refl z
 
     -- a record, which ends there
@@ -235,21 +235,21 @@ module _ {b₀ : Book} {s₀ input : List ℕ} {b : Book} {rows latest s : List 
           within = end-within;
           few = omega (arith, g .few, end-after);
           kept = λ o. absurd (omega arith);
-          held = m .held;
+          checked = m .checked;
           places = length-set latest j (r .book .changes) ∙ g .places;
           near = λ h hl.
               by-test (eqb h j)
               (λ u. let e = eqb-true h j u in
               omega (
                 arith,
-                latest-few h (m .held .base .list),
-                m .held .base .count-is,
+                latest-few h (m .checked .base .list),
+                m .checked .base .count-is,
                 ap (λ (i : ℕ). getD (set latest j (r .book .changes)) i 0) e,
                 getD-set-same latest j (r .book .changes) 0 (omega (arith, g .places)),
               ))
               (λ u. omega (
                 arith,
-                m .older (g .held .base .list) (m .held .base .list) (g .held .base .is) (m .held .base .is) h (λ e. eqb-false h j u (e ∙ sym ej)),
+                m .older (g .checked .base .list) (m .checked .base .list) (g .checked .base .is) (m .checked .base .is) h (λ e. eqb-false h j u (e ∙ sym ej)),
                 g .near h hl,
                 getD-set-other latest j h (r .book .changes) 0 (eqb-false h j u),
               ));
@@ -274,9 +274,9 @@ pub fed-checked : {b : Book} {s input rows : List ℕ} → Checked b s rows → 
 fed-checked h w = record { together = w; apart = λ d. let z : _≡_ {A = ℕ} 0 1 = cc (h .base .is) in absurd (omega arith) }
 
 -- book and bytes do not belong together
-pub fed-astray : (b : Book) (s input : List ℕ) → load b s ≡ mismatched → (length input ≡ 0 → ⊥)
+pub fed-mismatched : (b : Book) (s input : List ℕ) → load b s ≡ mismatched → (length input ≡ 0 → ⊥)
     → Feeds b s input (record { book = b; count = 0; taken = 0; number = 16 }) s
-fed-astray b s input e some = record {
+fed-mismatched b s input e some = record {
   together = λ l d. let z : _≡_ {A = ℕ} 0 1 = cc in absurd (omega arith);
   apart = λ d. record { count = refl; taken = refl; number = ap (λ (t : Bool). cond t 0 16) (sym (ne-eqb (length input) 0 some)); book = refl; bytes = refl };
 }

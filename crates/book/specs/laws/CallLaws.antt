@@ -105,14 +105,14 @@ called-long call lent g h = ap (λ (x : Bool). cond x (answered (refused 16)) (s
 -- ---- one call on a book that is the register's
 
 module _ (g : Reg) (s : List ℕ) (v : Valid (g .list)) (h : take (length (writeAll (g .list))) s ≡ writeAll (g .list)) where
-  held : length (writeAll (g .list)) ≤ length s
-  held = omega (arith, simp length-take at (ap length h))
+  enough : length (writeAll (g .list)) ≤ length s
+  enough = omega (arith, simp length-take at (ap length h))
 
   outcome-called : (call : Call) → outcome (stepOf call) (bookOf g) s ≡ leaving (bookOf g) s (called call (length s) g)
-  outcome-called call = outcome-is call g s v (h ∙ sym (take-all (length s) (writeAll (g .list)) held))
+  outcome-called call = outcome-is call g s v (h ∙ sym (take-all (length s) (writeAll (g .list)) enough))
 
   pub asked : (q : Question) → outcome (stepOf (ask q)) (bookOf g) s .answer ≡ answer q (length s) g
-  asked q = ap (λ (x : After). x .answer) (outcome-called (ask q) ∙ ap (leaving (bookOf g) s) (called-long (ask q) (length s) g held))
+  asked q = ap (λ (x : After). x .answer) (outcome-called (ask q) ∙ ap (leaving (bookOf g) s) (called-long (ask q) (length s) g enough))
 
   module _ (call : Call) (b′ : Book) (r : Reply) (s′ : List ℕ) (m : Meets call (bookOf g) s b′ r s′) (st : Step) (e : called call (length s) g ≡ st) where
     turn : outcome (stepOf call) (bookOf g) s ≡ leaving (bookOf g) s st
@@ -158,16 +158,16 @@ pub unmoved : (s s′ : List ℕ) → length s′ ≡ length s → take (length 
 unmoved s s′ n e = sym (take-all (length s) s′ (omega arith)) ∙ e
 
 module _ (call : Call) (b : Book) (s : List ℕ) (e : load b s ≡ mismatched) where
-  pub outcome-astray : outcome (stepOf call) b s ≡ leaving b s (answered (refused 16))
+  pub outcome-mismatched : outcome (stepOf call) b s ≡ leaving b s (answered (refused 16))
   unfolding outcome
-  outcome-astray = ap (λ (d : Load). leaving b s (stepped (stepOf call) b s d)) e
+  outcome-mismatched = ap (λ (d : Load). leaving b s (stepped (stepOf call) b s d)) e
 
   module _ (b′ : Book) (r : Reply) (s′ : List ℕ) (m : Meets call b s b′ r s′) where
-    pub astray-book : b′ ≡ b
-    astray-book = m .book ∙ ap (λ (x : After). x .book) outcome-astray
+    pub mismatched-book : b′ ≡ b
+    mismatched-book = m .book ∙ ap (λ (x : After). x .book) outcome-mismatched
 
-    pub astray-reply : r ≡ refused 16
-    astray-reply = m .answer ∙ ap (λ (x : After). x .answer) outcome-astray
+    pub mismatched-reply : r ≡ refused 16
+    mismatched-reply = m .answer ∙ ap (λ (x : After). x .answer) outcome-mismatched
 
-    pub astray-bytes : s′ ≡ s
-    astray-bytes = unmoved s s′ (m .size) (subst (λ (x : After). take (length (x .kept)) s′ ≡ x .kept) outcome-astray (m .bytes))
+    pub mismatched-bytes : s′ ≡ s
+    mismatched-bytes = unmoved s s′ (m .size) (subst (λ (x : After). take (length (x .kept)) s′ ≡ x .kept) outcome-mismatched (m .bytes))

@@ -11,7 +11,7 @@ use Rattle.laws.specs.SumLaws.{Σℤ-ext, every-at, every-ext}
 use Rattle.book.specs.Layer.{Key, Rec, Change, Gh, Ticks, CentsPerStart, UnitPart, PartAnswer, noPart, atHour, unitPartIn, unitTicks, startCents, unitHourOf, dayAnswer, amountOk, noTicks, noStart, hourPart, daySum, reversal}
 use Rattle.book.specs.laws.LayerLaws.{at-hour, sole, unit-written, unit-ready, day-amount, amount-ok, day-sum}
 use Rattle.book.specs.declared.amounts.hours.HourPlace.{HourPlace}
-use Rattle.book.specs.declared.amounts.hours.Day.{Day}
+use Rattle.book.specs.declared.amounts.hours.DayPlaces.{DayPlaces}
 use Rattle.book.specs.declared.amounts.prices.PriceTable.{PriceTable}
 use Rattle.book.specs.Register.{standing, unitDay}
 use Rattle.book.specs.Amounts.{Pick, is, nil, pick, HourPricing, hourTicks, absent, payable, unitAt, dayTotal}
@@ -25,21 +25,21 @@ use Rattle.book.specs.laws.StandLaws.{Found, found-at, found-mark, none-
 
 module _ {s : List ℕ} {l : List Change} (o : Begun s l) where
   -- what a place says of its key
-  pub record Slot (k : Key) (p : HourPlace) : Type 0 where
+  pub record PlaceOf (k : Key) (p : HourPlace) : Type 0 where
     pub none : not (p .known) ≡ absent (pick k (standing l))
     pub found : p .known ≡ true → Found s l k
     pub at : p .known ≡ true → p .start ≡ survey k l .start
 
-  slot-is : (k : Key) (p : HourPlace) → PlaceIs k l p → Slot k p
-  slot-is k p w =
+  place-is : (k : Key) (p : HourPlace) → PlaceIs k l p → PlaceOf k p
+  place-is k p w =
       by-test (survey k l .found)
       (λ t. let f = found-at o k t in record { none = ap not (w .known ∙ t) ∙ sym (ap absent (f .picked)); found = λ h. f; at = w .start })
       (λ t. record { none = ap not (w .known ∙ t) ∙ sym (ap absent (none-at o k t)); found = λ h. true≠false h (w .known ∙ t); at = w .start })
 
-  pub slots-in : (k : Key) (d : Day) → DayIs k l d → (j : ℕ) → j < 24 → Slot (atHour k (1 + j)) (placeIn d j)
-  slots-in k d h j lt = slot-is (atHour k (1 + j)) (placeIn d j) (h .each j lt noPlace)
+  pub places-in : (k : Key) (d : DayPlaces) → DayIs k l d → (j : ℕ) → j < 24 → PlaceOf (atHour k (1 + j)) (placeIn d j)
+  places-in k d h j lt = place-is (atHour k (1 + j)) (placeIn d j) (h .each j lt noPlace)
 
-  module _ (k : Key) (marked : k .mark ≡ Gh) (u : Day) (du : DayIs k l u) (price : ℕ → HourPricing) (t : PriceTable) (dt : TableOf price t) where
+  module _ (k : Key) (marked : k .mark ≡ Gh) (u : DayPlaces) (du : DayIs k l u) (price : ℕ → HourPricing) (t : PriceTable) (dt : TableOf price t) where
     price-at : (j : ℕ) → j < 24 → PriceIs (price (1 + j)) (priceFor t j)
     price-at j lt = dt .each j lt noPrice
 
@@ -48,8 +48,8 @@ module _ {s : List ℕ} {l : List Change} (o : Begun s l) where
     hour-paid : (j : ℕ) → j < 24 → paid (placeIn u j) (priceFor t j) ≡ payable (unitAt k (standing l) j) (price (1 + j))
     hour-paid j lt = go (unitAt k (standing l) j) refl
       where
-        w : Slot (atHour k (1 + j)) (placeIn u j)
-        w = slots-in k u du j lt
+        w : PlaceOf (atHour k (1 + j)) (placeIn u j)
+        w = places-in k u du j lt
 
         priced-so : (r : Rec) → priceFor t j .known ≡ payable (is r) (price (1 + j))
         priced-so r = by-test (priceFor t j .known)
@@ -86,7 +86,7 @@ module _ {s : List ℕ} {l : List Change} (o : Begun s l) where
     part-none : (j : ℕ) → j < 24 → unitAt k (standing l) j ≡ nil → Part j
     unfolding partOf
     part-none j lt e =
-        let z = not-known (placeIn u j .known) (slots-in k u du j lt .none ∙ ap absent e) in
+        let z = not-known (placeIn u j .known) (places-in k u du j lt .none ∙ ap absent e) in
         let q : part-at j ≡ noPart = ap (λ (b : Bool). cond b (worked-at j) noPart) z in
         record {
           adds = ap (λ (x : UnitPart). x .ticks .0 +ℤ pos (x .start .0 * 120)) q ∙ sym (ap (λ (x : Pick). hourTicks x (price (1 + j))) e);
@@ -96,7 +96,7 @@ module _ {s : List ℕ} {l : List Change} (o : Begun s l) where
     part-some : (j : ℕ) → j < 24 → (r : Rec) → unitAt k (standing l) j ≡ is r → payable (is r) (price (1 + j)) ≡ true → Part j
     unfolding partOf
     part-some j lt r e h =
-        let w = slots-in k u du j lt in
+        let w = places-in k u du j lt in
         let v = price-at j lt in
         let z = is-known (placeIn u j .known) (w .none ∙ ap absent e) in
         let y : priceFor t j .known ≡ true = by-test (priceFor t j .known) (λ b. b)

@@ -44,12 +44,12 @@ unchanged g s s′ n-is h e =
     let p : s′ ≡ s = sym (take-all (length s) s′ (omega arith)) ∙ e in
     ap (λ (x : List ℕ). take (length (writeAll (g .list))) (x ++ drop (length s) (writeAll (g .list)))) p ∙ restored (writeAll (g .list)) s h
 
-pub held-is : (g : Reg) (s s′ : List ℕ) (st : Step) → length s′ ≡ length s
+pub log-is : (g : Reg) (s s′ : List ℕ) (st : Step) → length s′ ≡ length s
     → take (length (writeAll (g .list))) s ≡ take (length s) (writeAll (g .list))
     → take (length (leaving (bookOf g) s st .kept)) s′ ≡ leaving (bookOf g) s st .kept
     → take (leaving (bookOf g) s st .book .used) (s′ ++ drop (length s) (writeAll (g .list))) ≡ writeAll (after st g .list)
-held-is g s s′ (answered r) n-is h e = unchanged g s s′ n-is h e
-held-is g s s′ (becomes k) n-is h e = take-append-le (length (writeAll (k .list))) s′ _ (within (writeAll (k .list)) s′ e) ∙ e
+log-is g s s′ (answered r) n-is h e = unchanged g s s′ n-is h e
+log-is g s s′ (becomes k) n-is h e = take-append-le (length (writeAll (k .list))) s′ _ (within (writeAll (k .list)) s′ e) ∙ e
 
 pub book-is : (g : Reg) (s : List ℕ) (st : Step) → leaving (bookOf g) s st .book ≡ bookOf (after st g)
 book-is g s (answered r) = refl
@@ -60,10 +60,10 @@ answer-is g s (answered r) = refl
 answer-is g s (becomes k) = refl
 
 -- the book, the answers and the used part after a list of calls
-record Follows (ts : List Turn) (rs : List Reply) (b : Book) (held : List ℕ) : Type 0 where
+record Follows (ts : List Turn) (rs : List Reply) (b : Book) (log : List ℕ) : Type 0 where
   answers : rs ≡ repliesOf ts
   book : b ≡ bookOf (run ts)
-  used : held ≡ writeAll (run ts .list)
+  used : log ≡ writeAll (run ts .list)
   valid : Valid (run ts .list)
 
 one-more : (ts : List Turn) (rs : List Reply) → rs ≡ repliesOf ts → Valid (run ts .list)
@@ -80,14 +80,14 @@ one-more ts rs e v call s h b′ r s′ m =
       answers = ap₂ _∷_ (m .answer ∙ ap (λ (x : After). x .answer) o ∙ answer-is g s st) e;
       book = pb ∙ book-is g s st;
       used = ap (λ (x : Book). take (x .used) (s′ ++ drop (length s) (writeAll (g .list)))) pb
-          ∙ held-is g s s′ st (m .size) h (subst (λ (x : After). take (length (x .kept)) s′ ≡ x .kept) o (m .bytes));
+          ∙ log-is g s s′ st (m .size) h (subst (λ (x : After). take (length (x .kept)) s′ ≡ x .kept) o (m .bytes));
       valid = called-valid call (length s) g v;
     }
 
-follows : {ts : List Turn} {rs : List Reply} {b : Book} {held : List ℕ} → Session ts rs b held → Follows ts rs b held
+follows : {ts : List Turn} {rs : List Reply} {b : Book} {log : List ℕ} → Session ts rs b log → Follows ts rs b log
 unfolding run repliesOf writeAll Valid
 follows start = record { answers = refl; book = refl; used = refl; valid = tt }
-follows (next {ts = ts} {rs = rs} {b = b} {held = held} before call s h b′ r s′ m) =
+follows (next {ts = ts} {rs = rs} {b = b} {log = log} before call s h b′ r s′ m) =
     let a = follows before in
     subst⁻¹ (λ (x : List ℕ). Follows (record { call = call; lent = length s } ∷ ts) (r ∷ rs) b′ (take (b′ .used) (s′ ++ drop (length s) x))) (a .used)
     (one-more ts rs (a .answers) (a .valid) call s
@@ -130,7 +130,7 @@ backs {ts} op le done = record { reg = λ i. record { list = run ts .list; close
 backs {ts} op le (back {n = n} {us = us} b lent enough) = one-back ts us n lent le enough (backs op (omega arith) b)
 
 -- such takings back are a session, and takings back of the register
-undo-is : {ts : List Turn} {rs : List Reply} {b : Book} {held : List ℕ} (before : Session ts rs b held) {n : ℕ} {us : List Turn} {qs : List Reply} {d : Book}
+undo-is : {ts : List Turn} {rs : List Reply} {b : Book} {log : List ℕ} (before : Session ts rs b log) {n : ℕ} {us : List Turn} {qs : List Reply} {d : Book}
     {kept : List ℕ}
     → Undo before n us qs d kept → Session us qs d kept × Backs ts n us
 undo-is before undone = (before, done)
@@ -139,8 +139,8 @@ undo-is before (undo u s h lent d′ r s′ m) =
     let a = follows (w .0) in
     (next (w .0) (takeBack takeBackBytes) s h d′ r s′ m, back (w .1) (length s) (omega (arith, ap (λ (x : Book). x .used) (a .book))))
 
-agrees : {ts : List Turn} {rs : List Reply} {b : Book} {held : List ℕ} → Session ts rs b held → Agrees ts rs b held
-agrees {ts} {rs} {b} {held} σ =
+agrees : {ts : List Turn} {rs : List Reply} {b : Book} {log : List ℕ} → Session ts rs b log → Agrees ts rs b log
+agrees {ts} {rs} {b} {log} σ =
     let f = follows σ in
     record {
       answers = f .answers;
@@ -154,7 +154,7 @@ agrees {ts} {rs} {b} {held} σ =
           (subst (λ (x : List ℕ). take (length x) s ≡ x) (f .used) h) q;
     }
 
-taken-back : {ts : List Turn} {rs : List Reply} {b : Book} {held : List ℕ} (before : Session ts rs b held) {n : ℕ} {us : List Turn} {qs : List Reply} {d : Book}
+taken-back : {ts : List Turn} {rs : List Reply} {b : Book} {log : List ℕ} (before : Session ts rs b log) {n : ℕ} {us : List Turn} {qs : List Reply} {d : Book}
     {kept : List ℕ}
     → b .closed ≡ false → n ≤ b .changes → Undo before n us qs d kept → Restored ts rs n us qs d kept
 taken-back before {n} op le u =
@@ -168,11 +168,11 @@ taken-back before {n} op le u =
       agrees = agrees (w .0);
     }
 
-holds : {ts : List Turn} {rs : List Reply} {b : Book} {held : List ℕ} (σ : Session ts rs b held) → Holds σ
+holds : {ts : List Turn} {rs : List Reply} {b : Book} {log : List ℕ} (σ : Session ts rs b log) → Holds σ
 holds σ = record { agrees = agrees σ; back = λ op le u. taken-back σ op le u }
 
 -- the theorem: every list of calls from a fresh book
-pub every-list : {ts : List Turn} {rs : List Reply} {b : Book} {held : List ℕ} (σ : Session ts rs b held) → Throughout σ
+pub every-list : {ts : List Turn} {rs : List Reply} {b : Book} {log : List ℕ} (σ : Session ts rs b log) → Throughout σ
 unfolding Throughout
 every-list start = holds start
 every-list (next before call s h b′ r s′ m) = (every-list before, holds (next before call s h b′ r s′ m))

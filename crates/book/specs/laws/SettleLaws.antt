@@ -11,7 +11,7 @@ use Rattle.book.specs.Register.{Reg, fresh, change, Step, answered, beco
 use Rattle.book.specs.Meaning.{belongs, load, Valid, bookOf}
 use Rattle.book.specs.laws.ReplayLaws.{called-valid}
 use Rattle.book.specs.laws.LoadLaws.{loaded-valid, load-whole, load-fresh}
-use Rattle.book.specs.Feed.{firstRecord, FeedReply, stopped, feedOn, fed, feeding, Settled, statement, ref, verdict, settled}
+use Rattle.book.specs.Feed.{firstRecord, FeedReply, stopped, feedOn, fed, feeding, Settled, statement, ref, settledAs, settled}
 use Rattle.book.specs.laws.FeedLaws.{first-some, first-then}
 use Rattle.book.specs.FeedPromise.{Ends, Feeds}
 use Rattle.book.specs.declared.feed.Fed.{Fed as Result}
@@ -61,10 +61,10 @@ unfolding settled
 settles s input r s′ e m =
     go (feeding 65535 fresh input) (subst (λ (n : ℕ). Ends (feeding n fresh input) s r s′) e (m .together [] (load-fresh s)))
   where
-    go : (f : FeedReply) → Ends f s r s′ → Told (verdict (f .reg) (f .count) (f .number)) r s′
+    go : (f : FeedReply) → Ends f s r s′ → Told (settledAs (f .reg) (f .count) (f .number)) r s′
     go f w = tell (f .number) (w .number)
       where
-        tell : (k : ℕ) → r .number ≡ k → Told (verdict (f .reg) (f .count) k) r s′
+        tell : (k : ℕ) → r .number ≡ k → Told (settledAs (f .reg) (f .count) k) r s′
         tell zero q = record { number = q; book = w .book; bytes = w .bytes }
         tell (suc k) q = (ap (λ (n : ℕ). n + 1) (w .count), q)
 
@@ -78,6 +78,6 @@ pub fresh-book : bookOf fresh ≡ record { changes = 0; used = 0; closed = false
 unfolding writeAll
 fresh-book = refl
 
-pub settled-is : (s : List ℕ) → settled s ≡ verdict (feeding 65535 fresh s .reg) (feeding 65535 fresh s .count) (feeding 65535 fresh s .number)
+pub settled-is : (s : List ℕ) → settled s ≡ settledAs (feeding 65535 fresh s .reg) (feeding 65535 fresh s .count) (feeding 65535 fresh s .number)
 unfolding settled
 settled-is s = refl

@@ -138,9 +138,9 @@ units-are l v =
 
 -- ---- the number
 
-pub number-astray : dayFrom (dayAmounts mismatched) .number ≡ 16
+pub number-mismatched : dayFrom (dayAmounts mismatched) .number ≡ 16
 unfolding wholeHanded
-number-astray = refl
+number-mismatched = refl
 
 pub number-whole : (l : List Change) → dayFrom (dayAmounts (belongs l)) .number ≡ 0
 unfolding wholeHanded

@@ -25,7 +25,7 @@ pub record Checked (b : Book) (s rows : List ℕ) : Type 0 where
 -- what every call leaves, accepted or refused, and the rows are those of the book that is handed back
 pub record Makes (f : ℕ → Reg → Step) (b : Book) (s : List ℕ) (k : Key) (r : Done) (s′ rows′ : List ℕ) : Type 0 where
   pub leaves : Leaves f b s (r .book) (replyOf (r .answer)) s′
-  pub held : Checked (r .book) s′ rows′
+  pub checked : Checked (r .book) s′ rows′
   -- but for the number of the key, the latest change of a number is no later than before
   pub older : (l l′ : List Change) → load b s ≡ belongs l → load (r .book) s′ ≡ belongs l′ → (h : ℕ) → (h ≡ bucket k → ⊥) → latestOf h l′ ≤ latestOf h l
 

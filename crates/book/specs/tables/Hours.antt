@@ -7,7 +7,7 @@ use lib.ListN.{length, drop, getD}
 use lib.Dec.{eqb}
 use Rattle.book.specs.Layer.{Key, Rec, Change, filed, write, begins, Good, keyOrder, sameKeyMark, atHour, sameName}
 use Rattle.book.specs.declared.amounts.hours.HourPlace.{HourPlace}
-use Rattle.book.specs.declared.amounts.hours.Day.{Day}
+use Rattle.book.specs.declared.amounts.hours.DayPlaces.{DayPlaces}
 use Rattle.book.specs.tables.Tables.{survey}
 use Rattle.book.specs.tables.Rows.{rowLive, rowSlot, rowPlace}
 
@@ -16,7 +16,7 @@ pub record PlaceIs (k : Key) (l : List Change) (p : HourPlace) : Type 0 where
   pub known : p .known ≡ survey k l .found
   pub start : p .known ≡ true → p .start ≡ survey k l .start
 
-pub record DayIs (k : Key) (l : List Change) (d : Day) : Type 0 where
+pub record DayIs (k : Key) (l : List Change) (d : DayPlaces) : Type 0 where
   pub size : length (d .hours) ≡ 24
   pub each : (j : ℕ) → j < 24 → (e : HourPlace) → PlaceIs (atHour k (1 + j)) l (getD (d .hours) j e)
 

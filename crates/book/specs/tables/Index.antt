@@ -10,12 +10,12 @@ abbrev pub hourSlot : Key → ℕ
 hourSlot k = keyOrder (k .mark) * 32 + k .hour
 
 -- the bytes of a name, each with its weight
-unfoldable pub weighed : ℕ → ℕ → List ℕ → ℕ
-weighed sum weight [] = sum
-weighed sum weight (b ∷ bs) = weighed (sum + b * weight) (weight * 31 % 8192) bs
+unfoldable pub hashed : ℕ → ℕ → List ℕ → ℕ
+hashed sum weight [] = sum
+hashed sum weight (b ∷ bs) = hashed (sum + b * weight) (weight * 31 % 8192) bs
 
 unfoldable pub bucket : Key → ℕ
-bucket k = weighed (hourSlot k) 449 (k .name .bytes) % 8192
+bucket k = hashed (hourSlot k) 449 (k .name .bytes) % 8192
 
 -- 1 more than the place of the latest change whose key has a number, 0 for none
 unfoldable pub latestOf : ℕ → List Change → ℕ

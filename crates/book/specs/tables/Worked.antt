@@ -9,7 +9,7 @@ use lib.Dec.{eqb}
 use Rattle.book.specs.Layer.{Change, Mark, UnitPart, CentsPerStart, noPart, unitPartIn, HourPrices, Quantity, Ticks, Import, Answer, Amount, NoAmount, DayAnswer, Day, Refused, noQuantity, offsetEntryIn, chargeIn, totalsWithIn, offset, offsetAnswer, noTicks, noStart}
 use Rattle.book.specs.declared.answers.NamedAmount.{NamedAmount}
 use Rattle.book.specs.declared.amounts.hours.HourPlace.{HourPlace}
-use Rattle.book.specs.declared.amounts.hours.Day as day
+use Rattle.book.specs.declared.amounts.hours.DayPlaces.{DayPlaces}
 use Rattle.book.specs.declared.amounts.prices.HourPrice.{HourPrice}
 use Rattle.book.specs.declared.amounts.prices.PriceTable.{PriceTable}
 use Rattle.book.specs.declared.amounts.places.Spot.{Spot}
@@ -101,14 +101,14 @@ noPlace = record { known = false; start = 0 }
 abbrev pub noPrice : HourPrice
 noPrice = record { known = false; prices = record { emp = []; pd = record { 0 = pos 0 } } }
 
-abbrev pub InDay : List ℕ → day.Day → Type 0
+abbrev pub InDay : List ℕ → DayPlaces → Type 0
 InDay s d = (j : ℕ) → j < 24 → (e : HourPlace) → getD (d .hours) j e .known ≡ true → getD (d .hours) j e .start ≤ length s
 
 -- an hour without the unit, or with its price
 abbrev pub paid : HourPlace → HourPrice → Bool
 paid u p = not (u .known) || p .known
 
-abbrev pub placeIn : day.Day → ℕ → HourPlace
+abbrev pub placeIn : DayPlaces → ℕ → HourPlace
 placeIn d j = getD (d .hours) j noPlace
 
 abbrev pub priceFor : PriceTable → ℕ → HourPrice
@@ -118,7 +118,7 @@ priceFor t j = getD (t .hours) j noPrice
 unfoldable pub partOf : List ℕ → HourPlace → HourPrice → UnitPart
 partOf s u p = cond (u .known) (unitPartIn (drop (u .start) s) (p .prices) .part) noPart
 
-pub record Parts (s : List ℕ) (d : day.Day) (t : PriceTable) (ts : List Ticks) (ss : List CentsPerStart) (n : ℕ) : Type 0 where
+pub record Parts (s : List ℕ) (d : DayPlaces) (t : PriceTable) (ts : List Ticks) (ss : List CentsPerStart) (n : ℕ) : Type 0 where
   pub ticks : (j : ℕ) → j < n → getD ts j noTicks ≡ partOf s (placeIn d j) (priceFor t j) .ticks
   pub starts : (j : ℕ) → j < n → getD ss j noStart ≡ partOf s (placeIn d j) (priceFor t j) .start
 

@@ -1,6 +1,6 @@
 // A unit's day.
 use crate::amounts::hours;
-use crate::amounts::hours::Day;
+use crate::amounts::hours::DayPlaces;
 use crate::amounts::hours::HourPlace;
 use crate::amounts::prices::HourPrice;
 use crate::amounts::prices::PriceTable;
@@ -43,7 +43,7 @@ struct DayParts {
 }
 
 // No hour of the day has a record.
-fn nowhere(d: Day) -> bool
+fn nowhere(d: DayPlaces) -> bool
     ensures { λ r. ⌜ r ≡ every 24 (λ (j : ℕ). not (placeIn d j .known)) ⌝ }
 {
     let mut j: usize = 0;
@@ -68,7 +68,7 @@ fn hour_payable(unit: HourPlace, price: HourPrice) -> bool
 }
 
 // Each hour with a record has its prices.
-fn payable(units: Day, table: PriceTable) -> bool
+fn payable(units: DayPlaces, table: PriceTable) -> bool
     ensures { λ r. ⌜ r ≡ every 24 (λ (j : ℕ). paid (placeIn units j) (priceFor table j)) ⌝ }
 {
     let mut j: usize = 0;
@@ -100,7 +100,7 @@ fn part_at(log: &[u8], unit: HourPlace, price: HourPrice) -> UnitPart
     }
 }
 
-fn parts_of(log: &[u8], units: Day, table: PriceTable) -> DayParts
+fn parts_of(log: &[u8], units: DayPlaces, table: PriceTable) -> DayParts
     requires { ⌜ InDay (now log) units ⌝ }
     ensures { λ r. ⌜ Parts (now (log .entry)) units table (r .ticks) (r .starts) 24 ⌝ }
 {

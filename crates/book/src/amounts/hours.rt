@@ -25,7 +25,7 @@ pub struct HourPlace {
 }
 
 // The record of each hour, the first at 0.
-pub struct Day {
+pub struct DayPlaces {
     pub hours: [HourPlace; HOURS],
 }
 
@@ -60,7 +60,7 @@ fn hour_for(log: &[u8], row: u32, mark: u32, name: &[u8]) -> usize
 }
 
 // By the rows of n changes, for a mark by its order and a name as it is written.
-fn day_named(log: &[u8], rows: &[u32; CHANGES_MAX], n: usize, mark: u32, name: &[u8]) -> Day
+fn day_named(log: &[u8], rows: &[u32; CHANGES_MAX], n: usize, mark: u32, name: &[u8]) -> DayPlaces
     requires { ⌜ Log (now log) (now rows) n ⌝ }
     ensures { λ r. ⌜ ((k : Key) → Written k mark (now (name .entry)) → (l : List Change) → Logged (now (log .entry)) (now (rows .entry)) n l → DayIs k l r) ⌝ }
 {
@@ -80,11 +80,11 @@ fn day_named(log: &[u8], rows: &[u32; CHANGES_MAX], n: usize, mark: u32, name: &
         }
         i = i + 1;
     }
-    Day { hours }
+    DayPlaces { hours }
 }
 
 // By the rows of n changes, for the key's mark and name. The name is spelled once, and no record is read.
-pub(crate) fn day_in(log: &[u8], rows: &[u32; CHANGES_MAX], n: usize, key: Key) -> Day
+pub(crate) fn day_in(log: &[u8], rows: &[u32; CHANGES_MAX], n: usize, key: Key) -> DayPlaces
     requires { ⌜ Log (now log) (now rows) n ⌝ ∗ ⌜ Wellformed key ⌝ }
     ensures { λ r. ⌜ ((l : List Change) → Logged (now (log .entry)) (now (rows .entry)) n l → DayIs key l r) ⌝ }
 {
@@ -99,7 +99,7 @@ pub(crate) fn day_in(log: &[u8], rows: &[u32; CHANGES_MAX], n: usize, key: Key) 
         known: false,
         start: 0,
     };
-    Day {
+    DayPlaces {
         hours: [none; HOURS],
     }
 }

@@ -38,7 +38,7 @@ pub struct UnitList {
 }
 
 // A place among names, and whether the name is not yet there.
-struct Slot {
+struct Position {
     at: usize,
     new: bool,
 }
@@ -54,7 +54,7 @@ fn of_mark(row: u32, mark: usize) -> bool
 }
 
 // Where a name is, or the first place whose name comes after it, n where none does.
-fn position_of(u: Units, name: Name) -> Slot
+fn position_of(u: Units, name: Name) -> Position
     requires { ⌜ u .n ≤ 512 ⌝ }
     ensures { λ r. ⌜ (r .at ≤ u .n) × (addName name (namesIn u) ≡ cond (r .new) (take (r .at) (namesIn u) ++ (name ∷ drop (r .at) (namesIn u))) (namesIn u)) ⌝ }
 {
@@ -63,14 +63,14 @@ fn position_of(u: Units, name: Name) -> Slot
     while i < n {
         let x = u.names[i];
         if comes_before(name, x) {
-            return Slot { at: i, new: true };
+            return Position { at: i, new: true };
         }
         if !comes_before(x, name) {
-            return Slot { at: i, new: false };
+            return Position { at: i, new: false };
         }
         i = i + 1;
     }
-    Slot { at: n, new: true }
+    Position { at: n, new: true }
 }
 
 // With the name at j, and those from there on one place further.

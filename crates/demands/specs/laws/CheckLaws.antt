@@ -241,9 +241,9 @@ module _ (call : Call) (b : Book) (s : List ℕ) (b′ : Book) (r : Reply) (s′
         go (suc n) st f j = kept call b s b′ r s′ m (refused (suc n)) (step-is st f ∙ j)
 
 module _ (b : Book) (s : List ℕ) (b′ : Book) (r : Reply) (s′ : List ℕ) where
-  question-verdict : (q : Question) (m : Meets (ask q) b s b′ r s′) (l : List Change) → load b s ≡ belongs l → (n : ℕ)
+  question-settled : (q : Question) (m : Meets (ask q) b s b′ r s′) (l : List Change) → load b s ≡ belongs l → (n : ℕ)
       → Told n (answer q (length s) (record { list = l; closed = b .closed })) → Verdict (ask q) b s b′ r s′ m n
-  question-verdict q m l e n t = go n t
+  question-settled q m l e n t = go n t
       (kept (ask q) b s b′ r s′ m (answer q (length s) (record { list = l; closed = b .closed })) (ap (stepped (stepOf (ask q)) b s) e))
     where
       go : (n : ℕ) → Told n (answer q (length s) (record { list = l; closed = b .closed }))
@@ -251,18 +251,18 @@ module _ (b : Book) (s : List ℕ) (b′ : Book) (r : Reply) (s′ : List ℕ) w
       go zero t w = record { is-answer = subst⁻¹ IsAnswer (w .0) t; before = l; stood = e; answer = w .0; book = w .1; bytes = w .2 }
       go (suc n) t w = (w .0 ∙ t, w .1, w .2)
 
-  list-verdict : (call : Call) (m : Meets call b s b′ r s′) (l : List Change) (e : load b s ≡ belongs l)
+  list-settled : (call : Call) (m : Meets call b s b′ r s′) (l : List Change) (e : load b s ≡ belongs l)
       → Verdict call b s b′ r s′ m (firstFault (callChecks call (length s) (record { list = l; closed = b .closed })))
-  list-verdict (file c) m l e = changed (file c) b s b′ r s′ m l e (λ x. x) (listed-judged (Only File) c (length s) (record { list = l; closed = b .closed }))
-  list-verdict (correct c) m l e = changed (correct c) b s b′ r s′ m l e (λ x. x)
+  list-settled (file c) m l e = changed (file c) b s b′ r s′ m l e (λ x. x) (listed-judged (Only File) c (length s) (record { list = l; closed = b .closed }))
+  list-settled (correct c) m l e = changed (correct c) b s b′ r s′ m l e (λ x. x)
       (listed-judged (Only Correct) c (length s) (record { list = l; closed = b .closed }))
-  list-verdict (withdraw c) m l e = changed (withdraw c) b s b′ r s′ m l e (λ x. x)
+  list-settled (withdraw c) m l e = changed (withdraw c) b s b′ r s′ m l e (λ x. x)
       (listed-judged (Only Withdraw) c (length s) (record { list = l; closed = b .closed }))
-  list-verdict (takeBack c) m l e = changed (takeBack c) b s b′ r s′ m l e (λ x. x)
+  list-settled (takeBack c) m l e = changed (takeBack c) b s b′ r s′ m l e (λ x. x)
       (back-judged (bareTakeBack c) (length s) (record { list = l; closed = b .closed }))
-  list-verdict (close c) m l e = changed (close c) b s b′ r s′ m l e (λ x. x) (close-judged (bareClose c) (length s) (record { list = l; closed = b .closed }))
-  list-verdict (change c) m l e = changed (change c) b s b′ r s′ m l e (λ x. x) (any-judged c (length s) (record { list = l; closed = b .closed }))
-  list-verdict (ask q) m l e = question-verdict q m l e (firstFault (questionChecks q (standing l)))
+  list-settled (close c) m l e = changed (close c) b s b′ r s′ m l e (λ x. x) (close-judged (bareClose c) (length s) (record { list = l; closed = b .closed }))
+  list-settled (change c) m l e = changed (change c) b s b′ r s′ m l e (λ x. x) (any-judged c (length s) (record { list = l; closed = b .closed }))
+  list-settled (ask q) m l e = question-settled q m l e (firstFault (questionChecks q (standing l)))
       (question-told (length s) (record { list = l; closed = b .closed }) q)
 
   -- the theorem: for every call, book and bytes
@@ -271,4 +271,4 @@ module _ (b : Book) (s : List ℕ) (b′ : Book) (r : Reply) (s′ : List ℕ) w
     where
       go : (x : Load) → load b s ≡ x → Verdict call b s b′ r s′ m (firstFault (checksOver call (length s) (b .closed) x))
       go mismatched e = kept call b s b′ r s′ m (refused 16) (ap (stepped (stepOf call) b s) e)
-      go (belongs l) e = list-verdict call m l e
+      go (belongs l) e = list-settled call m l e

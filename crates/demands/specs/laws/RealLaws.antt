@@ -15,7 +15,7 @@ use Rattle.book.specs.Register.{judged, takenBack, closing, shorter, unless-clo
 use Rattle.book.specs.Meaning.{bookOf, After, leaving, outcome, Meets, Valid}
 use Rattle.book.specs.laws.ReplayLaws.{called-valid, outcome-is}
 use Rattle.book.specs.Session.{Session, start, next}
-use Rattle.book.specs.laws.SessionLaws.{held-is, book-is, answer-is}
+use Rattle.book.specs.laws.SessionLaws.{log-is, book-is, answer-is}
 
 -- ---- what is accepted has room in what is lent
 
@@ -165,7 +165,7 @@ module _ {ts : List Turn} {rs : List Reply} (g : Reg) (v : Valid (g .list)) (σ 
       let er : x .answer ≡ reply st = ap (λ (y : After). y .answer) o ∙ answer-is g s st in
       let eh : take (x .book .used) (s′ ++ drop (length s) w) ≡ writeAll (after st g .list) =
       ap (λ (y : After). take (y .book .used) (s′ ++ drop (length s) w)) o
-      ∙ held-is g s s′ st (m .size) h (subst (λ (y : After). take (length (y .kept)) s′ ≡ y .kept) o (m .bytes)) in
+      ∙ log-is g s s′ st (m .size) h (subst (λ (y : After). take (length (y .kept)) s′ ≡ y .kept) o (m .bytes)) in
       subst (λ (n : ℕ). Session (record { call = call; lent = n } ∷ ts) (reply (called call n g) ∷ rs) (bookOf (after (called call n g) g))
       (writeAll (after (called call n g) g .list))) len
       (subst (λ (q : List ℕ). Session (record { call = call; lent = length s } ∷ ts) (reply st ∷ rs) (bookOf (after st g)) q) eh

@@ -12,7 +12,7 @@ use Rattle.records.specs.Changes.{Change, put}
 use Rattle.book.specs.declared.book.Book.{Book}
 use Rattle.book.specs.Register.{maxUsed, fresh, writeAll}
 use Rattle.book.specs.Meaning.{Load, belongs, load, bookOf}
-use Rattle.book.specs.Feed.{FeedReply, stopped, later, feeding, verdict}
+use Rattle.book.specs.Feed.{FeedReply, stopped, later, feeding, settledAs}
 use Rattle.book.specs.FeedPromise.{Ends, Feeds}
 use Rattle.book.specs.laws.LoadLaws.{load-fresh}
 use Rattle.book.specs.laws.PieceLaws.{resumed, Pieces, pieces}
@@ -221,7 +221,7 @@ module _ (t : List Change → List ℕ) (longest : ℕ) where
     text-is = go (reached maxUsed s .number) refl ∙ sym (ap (printedBy t) (settled-is s))
       where
         go : (n : ℕ) → reached maxUsed s .number ≡ n
-            → textIn t r (reached maxUsed s .reg .list) ≡ printedBy t (verdict (reached maxUsed s .reg) (reached maxUsed s .count) n)
+            → textIn t r (reached maxUsed s .reg .list) ≡ printedBy t (settledAs (reached maxUsed s .reg) (reached maxUsed s .count) n)
         go zero e = rw (x .number ∙ e)
         go (suc n) e =
             let k = stops maxUsed fresh s in

@@ -14,10 +14,10 @@ no-and : (a : Bool) → false ≡ (a && false)
 no-and true = refl
 no-and false = refl
 
-pub bears-short : (x y : ℕ) (s : List ℕ) → length s < 2 → false ≡ begins (x ∷ y ∷ []) s
-bears-short x y [] h = refl
-bears-short x y (a ∷ []) h = no-and (eqb x a)
-bears-short x y (a ∷ b ∷ s) h = absurd (omega arith)
+pub begins-early : (x y : ℕ) (s : List ℕ) → length s < 2 → false ≡ begins (x ∷ y ∷ []) s
+begins-early x y [] h = refl
+begins-early x y (a ∷ []) h = no-and (eqb x a)
+begins-early x y (a ∷ b ∷ s) h = absurd (omega arith)
 
 turned : (a x : ℕ) → eqb a x ≡ eqb x a
 turned a x = go (eqb a x) refl
@@ -31,7 +31,7 @@ and-one true true = refl
 and-one true false = refl
 and-one false b = refl
 
-pub bears-is : (x y : ℕ) (s : List ℕ) → 2 ≤ length s → is (x ∷ y ∷ []) (getD s 0 0) (getD s 1 0) ≡ begins (x ∷ y ∷ []) s
-bears-is x y [] h = absurd (omega arith)
-bears-is x y (a ∷ []) h = absurd (omega arith)
-bears-is x y (a ∷ b ∷ s) h = (λ i. turned a x i && turned b y i) ∙ and-one (eqb x a) (eqb y b)
+pub begins-is : (x y : ℕ) (s : List ℕ) → 2 ≤ length s → is (x ∷ y ∷ []) (getD s 0 0) (getD s 1 0) ≡ begins (x ∷ y ∷ []) s
+begins-is x y [] h = absurd (omega arith)
+begins-is x y (a ∷ []) h = absurd (omega arith)
+begins-is x y (a ∷ b ∷ s) h = (λ i. turned a x i && turned b y i) ∙ and-one (eqb x a) (eqb y b)

@@ -81,10 +81,10 @@ pub name-all : {s : List ℕ} {n at₀ i at : ℕ} {xs : List ℕ} → Spelled s
 name-all {s} {n} {at₀} {i} {at} {xs} h l p a = ap (λ m. got m (from s at)) (name-is xs i l p) ∙ ap storedName (spelled-all h a)
 
 -- a name that was decoded from a part of the bytes
-pub held-got : (r : Res (List ℕ)) (n : Name) (t u : List ℕ) → got n t ≡ storedName r → got n u ≡ storedName (r >>= λ vs z. got vs u)
-held-got (bad k) n t u e = absurd (bad-got (sym e))
-held-got (got v z) n t u e = let p : n ≡ nameFrom v = cc in ap (λ x. got x u) p
+pub stored-got : (r : Res (List ℕ)) (n : Name) (t u : List ℕ) → got n t ≡ storedName r → got n u ≡ storedName (r >>= λ vs z. got vs u)
+stored-got (bad k) n t u e = absurd (bad-got (sym e))
+stored-got (got v z) n t u e = let p : n ≡ nameFrom v = cc in ap (λ x. got x u) p
 
-pub held-bad : (r : Res (List ℕ)) (j : ℕ) (u : List ℕ) → bad j ≡ storedName r → bad j ≡ storedName (r >>= λ vs z. got vs u)
-held-bad (bad k) j u e = e
-held-bad (got v z) j u e = absurd (bad-got e)
+pub stored-bad : (r : Res (List ℕ)) (j : ℕ) (u : List ℕ) → bad j ≡ storedName r → bad j ≡ storedName (r >>= λ vs z. got vs u)
+stored-bad (bad k) j u e = e
+stored-bad (got v z) j u e = absurd (bad-got e)

@@ -161,16 +161,16 @@ askMark-fault (a ∷ b ∷ c ∷ s) k e = let q : 2 ≡ k = cc in omega arith
 bad-is : {A : Type 0} (j k : ℕ) → 0 < j → _≡_ {A = Res A} (bad j) (bad k) → 0 < k
 bad-is j k h e = let q : j ≡ k = cc in omega arith
 
-held-fault : (r : Res (List ℕ)) (k : ℕ) → storedName r ≡ bad k → r ≡ bad k
-held-fault (bad j) k e = let q : j ≡ k = cc in ap bad q
-held-fault (got v t) k e = absurd (bad-got (sym e))
+stored-fault : (r : Res (List ℕ)) (k : ℕ) → storedName r ≡ bad k → r ≡ bad k
+stored-fault (bad j) k e = let q : j ≡ k = cc in ap bad q
+stored-fault (got v t) k e = absurd (bad-got (sym e))
 
 askName-fault : (m : Mark) (s : List ℕ) (k : ℕ) → askName m s ≡ bad k → 0 < k
 unfolding askName
 askName-fault m s k = go (hasName m) (eqb (length s) 0)
   where
     go : (b c : Bool) → cond b (storedName (decodeName s)) (check c 4 (got emptyName [])) ≡ bad k → 0 < k
-    go true c e = counted-decode .above s k (held-fault (decodeName s) k e)
+    go true c e = counted-decode .above s k (stored-fault (decodeName s) k e)
     go false true e = absurd (bad-got (sym e))
     go false false e = bad-is 4 k (omega arith) e
 
@@ -224,7 +224,7 @@ askHour-fault ms h k = go (askMark ms) refl
 
 -- nor of a name
 pub name-fault : (s : List ℕ) (k : ℕ) → storedName (decodeName s) ≡ bad k → 0 < k
-name-fault s k e = counted-decode .above s k (held-fault (decodeName s) k e)
+name-fault s k e = counted-decode .above s k (stored-fault (decodeName s) k e)
 
 pub askUnit-fault : (ns : List ℕ) (k : ℕ) → askUnit ns ≡ bad k → 0 < k
 unfolding askUnit

@@ -13,7 +13,7 @@ use Rattle.book.specs.Register.{maxChanges}
 use Rattle.book.specs.Meaning.{Load, belongs, mismatched, load, Valid}
 use Rattle.book.specs.laws.LoadLaws.{loaded-valid}
 use Rattle.book.specs.WholeDay.{dayAmounts, dayFrom}
-use Rattle.book.specs.laws.WholeDayLaws.{units-are, number-astray, number-whole}
+use Rattle.book.specs.laws.WholeDayLaws.{units-are, number-mismatched, number-whole}
 use Rattle.statement.specs.Lines.{textOf}
 use Rattle.statement.specs.laws.PutLaws.{put-front}
 use Rattle.statement.specs.Statement.{statementOf, longestStatement, Fits, Answers}
@@ -53,10 +53,10 @@ module _ (b : Book) (s : List ℕ) (day : DayAmounts) (e : day ≡ dayFrom (dayA
     where
       go : (x : Load) → load b s ≡ x → Loaded b s day
       go (belongs l) q = record { list = l; is = q; valid = loaded-valid b s l q; amounts = e ∙ ap (λ (x : Load). dayFrom (dayAmounts x)) q }
-      go mismatched q = absurd (omega (arith, ap (λ (x : DayAmounts). x .number) (e ∙ ap (λ (x : Load). dayFrom (dayAmounts x)) q), number-astray))
+      go mismatched q = absurd (omega (arith, ap (λ (x : DayAmounts). x .number) (e ∙ ap (λ (x : Load). dayFrom (dayAmounts x)) q), number-mismatched))
 
-  pub is-astray : (day .number ≡ 0 → ⊥) → load b s ≡ mismatched
-  is-astray z = go (load b s) refl
+  pub is-mismatched : (day .number ≡ 0 → ⊥) → load b s ≡ mismatched
+  is-mismatched z = go (load b s) refl
     where
       go : (x : Load) → load b s ≡ x → load b s ≡ mismatched
       go mismatched q = q
@@ -79,8 +79,8 @@ stated {b} {s} {d} {e} {day} {r} x w =
 same-list : {l k : List Change} → belongs l ≡ belongs k → l ≡ k
 same-list e = cc
 
-pub answers-astray : {x : Load} (d : List ℕ) → x ≡ mismatched → Answers x d d (record { number = notTogether; len = 0 })
-answers-astray {x} d e = subst (λ (y : Load). Answers y d d (record { number = notTogether; len = 0 })) (sym e) (record {
+pub answers-mismatched : {x : Load} (d : List ℕ) → x ≡ mismatched → Answers x d d (record { number = notTogether; len = 0 })
+answers-mismatched {x} d e = subst (λ (y : Load). Answers y d d (record { number = notTogether; len = 0 })) (sym e) (record {
   number = refl;
   len = refl;
   bytes = refl;

@@ -13,7 +13,7 @@ use Rattle.book.specs.laws.LayerLaws.{askUnit-fault, unit-marked}
 use Rattle.book.specs.declared.book.Book.{Book}
 use Rattle.book.specs.declared.answers.UnitDay.{UnitDay}
 use Rattle.book.specs.declared.amounts.hours.HourPlace.{HourPlace}
-use Rattle.book.specs.declared.amounts.hours.Day.{Day}
+use Rattle.book.specs.declared.amounts.hours.DayPlaces.{DayPlaces}
 use Rattle.book.specs.declared.amounts.prices.HourPrice.{HourPrice}
 use Rattle.book.specs.declared.amounts.prices.PriceTable.{PriceTable}
 use Rattle.book.specs.Register.{standing, ask, dayOf, Reply, refused, unitDay, answered, stepOf, keyed}
@@ -25,7 +25,7 @@ use Rattle.book.specs.Handed.{unitDayFrom}
 use Rattle.book.specs.laws.HandedLaws.{day-whole, day-refused}
 use Rattle.book.specs.tables.Worked.{Begun, placeIn, priceFor, InDay, paid, partOf, Parts, totalReply}
 use Rattle.book.specs.laws.StandLaws.{found-at}
-use Rattle.book.specs.laws.DayLaws.{slots-in, payable-is, day-is}
+use Rattle.book.specs.laws.DayLaws.{places-in, payable-is, day-is}
 use Rattle.book.specs.laws.LoadLaws.{Loaded}
 use Rattle.book.proofs.log.Survey.{to-end}
 use Rattle.book.proofs.book.Lemmas.{step-is, leaves-answered, leaves-16}
@@ -52,13 +52,13 @@ module _ (u : HourPlace) (p : HourPrice) where
 
 -- ---- the loop over the hours
 
-pub record Filled (s : List ℕ) (u : Day) (t : PriceTable) (ts : List Ticks) (ss : List CentsPerStart) (j : ℕ) : Type 0 where
+pub record Filled (s : List ℕ) (u : DayPlaces) (t : PriceTable) (ts : List Ticks) (ss : List CentsPerStart) (j : ℕ) : Type 0 where
   pub upto : j ≤ 24
   pub all-ticks : length ts ≡ 24
   pub all-starts : length ss ≡ 24
   pub parts : Parts s u t ts ss j
 
-pub filled-none : (s : List ℕ) (u : Day) (t : PriceTable) → Filled s u t (replicate 24 noTicks) (replicate 24 noStart) 0
+pub filled-none : (s : List ℕ) (u : DayPlaces) (t : PriceTable) → Filled s u t (replicate 24 noTicks) (replicate 24 noStart) 0
 filled-none s u t =
     record {
       upto = omega arith;
@@ -75,7 +75,7 @@ set-below xs d x f i fits h e j lt =
     (λ q. ap (λ (m : ℕ). getD (set xs i x) m d) q ∙ getD-set-same xs i x d fits ∙ e ∙ ap f (sym q))
     (λ q. getD-set-other xs i j x d (λ z. omega arith) ∙ h j q)
 
-module _ {s : List ℕ} {u : Day} {t : PriceTable} {ts : List Ticks} {ss : List CentsPerStart} {j : ℕ} (h : Filled s u t ts ss j) where
+module _ {s : List ℕ} {u : DayPlaces} {t : PriceTable} {ts : List Ticks} {ss : List CentsPerStart} {j : ℕ} (h : Filled s u t ts ss j) where
   pub filled-more : j < 24 → (r : UnitPart) → r ≡ partOf s (placeIn u j) (priceFor t j) → Filled s u t (set ts j (r .ticks)) (set ss j (r .start)) (j + 1)
   filled-more lt r e =
       record {
@@ -101,14 +101,14 @@ handed-whole x r e = e ∙ day-whole x ∙ sym (ap (λ (d : UnitDay). unitDayFro
 
 -- ---- the answer
 
-module _ {s : List ℕ} {l : List Change} (o : Begun s l) (k : Key) (u : Day) (du : DayIs k l u) where
+module _ {s : List ℕ} {l : List Change} (o : Begun s l) (k : Key) (u : DayPlaces) (du : DayIs k l u) where
   pub in-day : InDay s u
   in-day j lt e h =
       let w = du .each j lt e in
       omega (arith, w .start h, found-at o (atHour k (1 + j)) (sym (w .known) ∙ h) .at .inside)
 
   absent-hours : every 24 (λ (j : ℕ). not (placeIn u j .known)) ≡ every 24 (λ (j : ℕ). absent (unitAt k (standing l) j))
-  absent-hours = every-ext 24 (λ (j : ℕ). not (placeIn u j .known)) (λ (j : ℕ). absent (unitAt k (standing l) j)) (λ j lt. slots-in o k u du j lt .none)
+  absent-hours = every-ext 24 (λ (j : ℕ). not (placeIn u j .known)) (λ (j : ℕ). absent (unitAt k (standing l) j)) (λ j lt. places-in o k u du j lt .none)
 
   module _ (price : ℕ → HourPricing) where
     abbrev priced-day : Bool → Reply
@@ -139,9 +139,9 @@ module _ {s : List ℕ} {l : List Change} (o : Begun s l) (k : Key) (u : Day) (d
 
 -- ---- the question
 
-pub unit-astray : (b : Book) (s name : List ℕ) → load b s ≡ mismatched → (d : UnitDay) → d ≡ unitDayFrom (refused 16)
+pub unit-mismatched : (b : Book) (s name : List ℕ) → load b s ≡ mismatched → (d : UnitDay) → d ≡ unitDayFrom (refused 16)
     → Meets (ask (dayOf name)) b s b (dayReply d) s
-unit-astray b s name e d ed = subst (λ (y : Reply). Meets (ask (dayOf name)) b s b y s) (sym (ap dayReply ed)) (leaves-16 (stepOf (ask (dayOf name))) b s e)
+unit-mismatched b s name e d ed = subst (λ (y : Reply). Meets (ask (dayOf name)) b s b y s) (sym (ap dayReply ed)) (leaves-16 (stepOf (ask (dayOf name))) b s e)
 
 module _ (b : Book) (s name : List ℕ) (x : Loaded b s) (r : KeyAnswer) (e : r ≡ keyAnswer (askUnit name)) where
   abbrev unit-reply : Key → Reply

@@ -162,8 +162,8 @@ pub no-charges-for : (n : ℕ) → (n ≡ 0 → ⊥) → noCharges n ≡ no n
 no-charges-for n z = ap (λ (b : Bool). cond b (charged []) (no n)) (ne-eqb n 0 z)
 
 module _ (m : Mark) (h : ℕ) (d : Load) where
-  pub charges-astray : (c : ChargesReply) → c ≡ noCharges 16 → d ≡ mismatched → c ≡ hourCharges m h d
-  charges-astray c ec e = ec ∙ sym (ap (hourCharges m h) e)
+  pub charges-mismatched : (c : ChargesReply) → c ≡ noCharges 16 → d ≡ mismatched → c ≡ hourCharges m h d
+  charges-mismatched c ec e = ec ∙ sym (ap (hourCharges m h) e)
 
   module _ (l : List Change) (e : d ≡ belongs l) where
     pub charges-other : (c : ChargesReply) → c ≡ noCharges 2 → isFailure m ≡ false → c ≡ hourCharges m h d

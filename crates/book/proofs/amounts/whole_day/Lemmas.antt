@@ -161,9 +161,9 @@ day-made d l e hs eh u few size named us eu =
     sym (length-take-le (u .n) (u .names) (omega arith)) ∙ ap length named ∙ sym (length-map ns f) ∙ sym (length-map (map f ns) unitFrom) in
     (λ k. record { number = 0; hours = eh k; n = count k; units = eu k }) ∙ sym (ap (λ (y : Load). dayFrom (dayAmounts y)) e)
 
-pub day-astray : (d : Load) → d ≡ mismatched → (h : HourAmounts) → h ≡ noHour → (u : UnitAmounts) → u ≡ noUnit
+pub day-mismatched : (d : Load) → d ≡ mismatched → (h : HourAmounts) → h ≡ noHour → (u : UnitAmounts) → u ≡ noUnit
     → _≡_ {A = DayAmounts} (record { number = 16; hours = replicate 24 h; n = 0; units = replicate 512 u }) (dayFrom (dayAmounts d))
 unfolding wholeHanded
-day-astray d e h eh u eu =
+day-mismatched d e h eh u eu =
     (λ k. record { number = 16; hours = (ap (replicate 24) eh ∙ pad-none noHour 24) k; n = 0; units = (ap (replicate 512) eu ∙ pad-none noUnit 512) k })
     ∙ sym (ap (λ (y : Load). dayFrom (dayAmounts y)) e)

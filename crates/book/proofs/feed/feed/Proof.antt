@@ -1,7 +1,7 @@
 use borrow.Author.Needs.{needs}
 use Rattle.book.proofs.book.Rows.{not-rowed}
-use Rattle.book.proofs.log.checked.Lemmas.{held-from}
-use Rattle.book.proofs.feed.Lemmas.{fed-none, fed-checked, fed-astray, feeds-by}
+use Rattle.book.proofs.log.checked.Lemmas.{checked-from}
+use Rattle.book.proofs.feed.Lemmas.{fed-none, fed-checked, fed-mismatched, feeds-by}
 use Rattle.book.proofs.feed.feed.Statement.{statement}
 use Rattle.book.proofs.feed.feed.Tie as tie
 
@@ -17,7 +17,7 @@ check-rows-requires : tie.Need-check-rows-requires
 check-rows-requires c κs = search needs
 
 feed-checked-requires : tie.Need-feed-checked-requires
-feed-checked-requires c κs = held-from _ _ (c .before .before .before .check-rows .ensures) (c .before .before .if2 .taken)
+feed-checked-requires c κs = checked-from _ _ (c .before .before .before .check-rows .ensures) (c .before .before .if2 .taken)
 
 same-length : tie.Need-same-length
 same-length c = search needs
@@ -27,7 +27,7 @@ returns-2 c =
     let c2 = c .before .before in
     let c5 = c2 .before .before .before in
     let c6 = c5 .before in
-    fed-checked (held-from _ _ (c6 .check-rows .ensures) (c5 .if2 .taken)) (c2 .feed-checked .ensures)
+    fed-checked (checked-from _ _ (c6 .check-rows .ensures) (c5 .if2 .taken)) (c2 .feed-checked .ensures)
 
 fed-so-requires-2 : tie.Need-fed-so-requires-2
 fed-so-requires-2 c κs = search needs
@@ -40,7 +40,7 @@ returns-3 c =
     let c2 = c .before .before in
     let c5 = c2 .before .before .before in
     let c8 = c5 .before .before .before in
-    feeds-by (c .fed-so2 .ensures) (fed-astray (c8 .args .book) (c8 .args .log .now) (c8 .args .input .now)
+    feeds-by (c .fed-so2 .ensures) (fed-mismatched (c8 .args .book) (c8 .args .log .now) (c8 .args .input .now)
     (not-rowed _ _ (c2 .check-rows .ensures) (c .before .if2 .left)) (c5 .if1 .left))
 
 pub feed-spec : {M : Type 1} → statement M

@@ -84,7 +84,7 @@ part-checked-change-end c =
 
 checked-change-requires : tie.Need-checked-change-requires Inv-loop μ-loop
 checked-change-requires c κs = (
-  (c .before .before .before .before .before .before .before .before .before .before .before .before .loop) .inv .held,
+  (c .before .before .before .before .before .before .before .before .before .before .before .before .loop) .inv .checked,
   (
     since
         (c .before .before .before .before .before .before .before .before .before .before .before .before .loop .inv)

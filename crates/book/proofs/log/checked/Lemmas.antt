@@ -36,22 +36,22 @@ use Rattle.book.proofs.book.Lemmas.{regOf, step-is, leaves-answered, le
 
 -- ---- a checked book
 
-pub held-from : (b : Book) (s : List ℕ) {ok : Bool} {rows : List ℕ} → Rowed (load b s) ok rows → ok ≡ true → Checked b s rows
-held-from b s w t = let x = is-rowed b s w t in record { base = x; kept = w .kept (x .list) (x .is); size = w .size }
+pub checked-from : (b : Book) (s : List ℕ) {ok : Bool} {rows : List ℕ} → Rowed (load b s) ok rows → ok ≡ true → Checked b s rows
+checked-from b s w t = let x = is-rowed b s w t in record { base = x; kept = w .kept (x .list) (x .is); size = w .size }
 
 module _ {b : Book} {s rows : List ℕ} (h : Checked b s rows) where
-  held-logged : Logged s rows (b .changes) (h .base .list)
-  held-logged = record {
+  checked-logged : Logged s rows (b .changes) (h .base .list)
+  checked-logged = record {
     ruled = record { valid = h .base .valid; kept = h .kept; count = h .base .count-is };
     within = omega (arith, h .base .within, h .base .size);
     bytes = ap (λ (m : ℕ). take m s) (h .base .size) ∙ sym (h .base .bytes);
   }
 
-  pub held-log : Log s rows (b .changes)
-  held-log = record { list = h .base .list; logged = held-logged }
+  pub checked-log : Log s rows (b .changes)
+  checked-log = record { list = h .base .list; logged = checked-logged }
 
-  pub held-rules : Rules rows (b .changes)
-  held-rules = record { list = h .base .list; ruled = held-logged .ruled }
+  pub checked-rules : Rules rows (b .changes)
+  checked-rules = record { list = h .base .list; ruled = checked-logged .ruled }
 
 -- ---- what a step of the register leaves of the rows
 
@@ -62,7 +62,7 @@ module _ {f : ℕ → Reg → Step} {b : Book} {s rows : List ℕ} {k : Key} (h 
   makes-refused : (n : ℕ) → stepped f b s (load b s) ≡ answered (refused n) → Makes f b s k (record { book = b; answer = Refused n }) s rows
   makes-refused n e = record {
     leaves = leaves-answered f b s (refused n) e;
-    held = h;
+    checked = h;
     older = λ l l′ p p′ m z. omega (arith, ap (latestOf m) (belongs-one (sym p ∙ p′)));
   }
 
@@ -71,7 +71,7 @@ module _ {f : ℕ → Reg → Step} {b : Book} {s rows : List ℕ} {k : Key} (h 
       → ((m : ℕ) → (m ≡ bucket k → ⊥) → latestOf m (g .list) ≤ latestOf m (h .base .list)) → Makes f b s k (record { book = b′; answer = Accepted }) s′ rows′
   makes-accepted g b′ s′ rows′ e is size q v kept n o = record {
     leaves = leaves-accepted f b s g b′ s′ e is size q;
-    held = subst⁻¹ (λ (y : Book). Checked y s′ rows′) is (record { base = loaded-whole g s′ v q; kept = kept; size = n });
+    checked = subst⁻¹ (λ (y : Book). Checked y s′ rows′) is (record { base = loaded-whole g s′ v q; kept = kept; size = n });
     older = λ l l′ p p′ m z.
         let was : h .base .list ≡ l = belongs-one (sym (h .base .is) ∙ p) in
         let now-is : g .list ≡ l′ = belongs-one (sym (load-whole g s′ v q) ∙ ap (λ (y : Book). load y s′) (sym is) ∙ p′) in
@@ -135,7 +135,7 @@ module _ {b : Book} {s rows : List ℕ} (h : Checked b s rows) {want : Wanted} {
       {most : ℕ} (em : most ≡ limitOf (v .key)) {w : ℕ} (ew : w ≡ changeFault (kindIn (v .act)) (x .found) m most (b .changes) (b .used) (v .len) (length s))
     where
       sought : Sought rows (b .changes) (v .key) x (h .base .list)
-      sought = fs (h .base .list) (held-logged h) low padded (sn .none (h .base .list) (h .base .is))
+      sought = fs (h .base .list) (checked-logged h) low padded (sn .none (h .base .list) (h .base .is))
 
       -- the code's judgement is the register's
       judged-is : refusal (h .base .list) (length s) (r .what) ≡ w
@@ -143,7 +143,7 @@ module _ {b : Book} {s rows : List ℕ} (h : Checked b s rows) {want : Wanted} {
           let c = r .what in
           let l = h .base .list in
           let fd : x .found ≡ stands (keyOf c) (standing l) = sought .found ∙ survey-found (v .key) l ∙ ap (λ (y : Key). stands y (standing l)) (sym key-is) in
-          let cs : m ≡ count (keyOf c) (standing l) = fm l (held-logged h .ruled) low ∙ ap (λ (y : Key). count y (standing l)) (sym key-is) in
+          let cs : m ≡ count (keyOf c) (standing l) = fm l (checked-logged h .ruled) low ∙ ap (λ (y : Key). count y (standing l)) (sym key-is) in
           let ms : most ≡ limitOf (keyOf c) = em ∙ ap limitOf (sym key-is) in
           sym (ew ∙ (λ i. changeFault (kindIn (r .is i .act)) (fd i) (cs i) (ms i) (sym (h .base .count-is) i) (sym (h .base .size) i) (r .is i .len) (length s))
           ∙ sym (refusal-judge l (length s) c))
@@ -198,7 +198,7 @@ module _ {b : Book} {s rows : List ℕ} (h : Checked b s rows) {want : Wanted} {
             (sym (y .bytes)))
             (subst (λ (k : Step). Valid (after k (regOf b s y) .list)) st
             (listed-valid (parse want rec) (length s) (regOf b s y) (λ k e. parse-fine want rec k e .good) (y .valid)))
-            (subst (λ (k : List ℕ). Rows (set k (b .changes) row) (c ∷ l) (c ∷ l)) (sym ex) (rows-next (held-logged h) (h .size) (listed-few .0) c x f row er′))
+            (subst (λ (k : List ℕ). Rows (set k (b .changes) row) (c ∷ l) (c ∷ l)) (sym ex) (rows-next (checked-logged h) (h .size) (listed-few .0) c x f row er′))
             (length-set rows₁ (b .changes) row ∙ ap length ex ∙ cleared-size rows x ∙ h .size)
             (λ m z. newer-other c l m (λ e. z (e ∙ ap bucket key-is)))
 
@@ -268,7 +268,7 @@ module _ {b : Book} {s rows : List ℕ} (h : Checked b s rows) where
     last =
         let l = h .base .list in
         let n = b .changes in
-        let g = held-logged h .ruled in
+        let g = checked-logged h .ruled in
         let lt : n - 1 < n = omega (arith, above) in
         let o = ruled-at g lt in
         let w = ruled-seen g lt in
@@ -310,7 +310,7 @@ module _ {b : Book} {s rows : List ℕ} (h : Checked b s rows) where
       pub back-makes : {k : Key} {rows′ : List ℕ}
           → ((c : Change) (l : List Change) → Logged s rows (b .changes) (c ∷ l) → Rows rows′ l l) × (length rows′ ≡ 512)
           → Makes (takenBack 0) b s k (record { book = record { changes = b .changes - 1; used = q; closed = b .closed }; answer = Accepted }) s rows′
-      back-makes w = back-taken (w .0 (last .what) (last .rest) (subst (Logged s rows (b .changes)) (last .list-is) (held-logged h))) (w .1)
+      back-makes w = back-taken (w .0 (last .what) (last .rest) (subst (Logged s rows (b .changes)) (last .list-is) (checked-logged h))) (w .1)
 
 -- ---- a book that is closed
 

@@ -13,7 +13,7 @@ use borrow.Author.Tests.{eq-eqb, eqb-true, leb-true}
 use Rattle.book.specs.Layer.{Key, Change, Good, keyOf, kindOf, same, sameHour, Mark, order, keyOrder, isFiling, isWithdrawal}
 use Rattle.book.specs.laws.LayerLaws.{every-mark, Padded, good-padded, same-alike, same-name, one-mark, hour-parts, parts-hour}
 use Rattle.book.specs.tables.Tables.{survey}
-use Rattle.book.specs.tables.Index.{hourSlot, weighed, bucket, latestOf}
+use Rattle.book.specs.tables.Index.{hourSlot, hashed, bucket, latestOf}
 use Rattle.book.specs.laws.RegisterLaws.{by-test, true≠false}
 
 -- ---- the numbers
@@ -22,38 +22,38 @@ use Rattle.book.specs.laws.RegisterLaws.{by-test, true≠false}
 pub order-low : (m : Mark) → keyOrder m ≤ 8
 order-low m = leb-true (keyOrder m) 8 (every-mark (λ (m : Mark). leb (keyOrder m) 8) refl m)
 
--- the loop over a name's bytes, of which i are weighed
-pub record Weighing (start : ℕ) (bytes : List ℕ) (sum weight i : ℕ) : Type 0 where
-  pub so-far : weighed sum weight (drop i bytes) ≡ weighed start 449 bytes
+-- the loop over a name's bytes, of which i are hashed
+pub record Hashing (start : ℕ) (bytes : List ℕ) (sum weight i : ℕ) : Type 0 where
+  pub so-far : hashed sum weight (drop i bytes) ≡ hashed start 449 bytes
   pub most : sum ≤ 512 + i * 2097152
   pub light : weight < 8192
   pub inside : i ≤ 12
 
-pub weighing-start : (start : ℕ) (bytes : List ℕ) → start < 512 → Weighing start bytes start 449 0
-weighing-start start bytes h = record { so-far = refl; most = omega arith; light = omega arith; inside = omega arith }
+pub hashing-start : (start : ℕ) (bytes : List ℕ) → start < 512 → Hashing start bytes start 449 0
+hashing-start start bytes h = record { so-far = refl; most = omega arith; light = omega arith; inside = omega arith }
 
-pub byte-weighs : (b weight : ℕ) → b < 256 → weight < 8192 → b * weight ≤ 2097152
-byte-weighs b weight h w = mul-le-mul {n₁ = b} {m₁ = weight} {n₂ = 256} {m₂ = 8192} (omega arith) (omega arith)
+pub byte-hashes : (b weight : ℕ) → b < 256 → weight < 8192 → b * weight ≤ 2097152
+byte-hashes b weight h w = mul-le-mul {n₁ = b} {m₁ = weight} {n₂ = 256} {m₂ = 8192} (omega arith) (omega arith)
 
-pub weighing-next : (start : ℕ) (bytes : List ℕ) (sum weight i d b : ℕ) → length bytes ≡ 12 → Weighing start bytes sum weight i → i < 12 → b ≡ getD bytes i d
+pub hashing-next : (start : ℕ) (bytes : List ℕ) (sum weight i d b : ℕ) → length bytes ≡ 12 → Hashing start bytes sum weight i → i < 12 → b ≡ getD bytes i d
     → b < 256
-    → Weighing start bytes (sum + b * weight) (weight * 31 % 8192) (i + 1)
-unfolding weighed
-weighing-next start bytes sum weight i d b size h lt e w =
+    → Hashing start bytes (sum + b * weight) (weight * 31 % 8192) (i + 1)
+unfolding hashed
+hashing-next start bytes sum weight i d b size h lt e w =
     record {
       so-far =
-          ap (λ (x : ℕ). weighed (sum + x * weight) (weight * 31 % 8192) (drop (i + 1) bytes)) e
-          ∙ rw add-one (sym (ap (weighed sum weight) (drop-cons bytes i d (omega arith)))) ∙ h .so-far;
-      most = omega (arith, byte-weighs b weight w (h .light), h .most);
+          ap (λ (x : ℕ). hashed (sum + x * weight) (weight * 31 % 8192) (drop (i + 1) bytes)) e
+          ∙ rw add-one (sym (ap (hashed sum weight) (drop-cons bytes i d (omega arith)))) ∙ h .so-far;
+      most = omega (arith, byte-hashes b weight w (h .light), h .most);
       light = omega arith;
       inside = omega arith;
     }
 
-pub weighing-end : (k : Key) (sum weight i : ℕ) → length (k .name .bytes) ≡ 12 → Weighing (hourSlot k) (k .name .bytes) sum weight i → 12 ≤ i
+pub hashing-end : (k : Key) (sum weight i : ℕ) → length (k .name .bytes) ≡ 12 → Hashing (hourSlot k) (k .name .bytes) sum weight i → 12 ≤ i
     → (sum % 8192 ≡ bucket k) × (sum % 8192 < 8192)
-unfolding bucket weighed
-weighing-end k sum weight i size h le =
-    (ap (λ (x : ℕ). x % 8192) (sym (ap (weighed sum weight) (drop-of-length-le (k .name .bytes) {i = i} (omega arith))) ∙ h .so-far), omega arith)
+unfolding bucket hashed
+hashing-end k sum weight i size h le =
+    (ap (λ (x : ℕ). x % 8192) (sym (ap (hashed sum weight) (drop-of-length-le (k .name .bytes) {i = i} (omega arith))) ∙ h .so-far), omega arith)
 
 -- ---- the latest change of a number
 
@@ -72,7 +72,7 @@ unfolding bucket
 bucket-same a b p q h =
     let w = same-alike a b h in
     let n = same-name a b p q h in
-    λ i. weighed (order (w .mark i) * 32 + w .hour i) 449 (n i .bytes) % 8192
+    λ i. hashed (order (w .mark i) * 32 + w .hour i) 449 (n i .bytes) % 8192
 
 pub other-slot : (k : Key) → Padded (k .name) → (c : Change) → Good c → eqb (bucket (keyOf c)) (bucket k) ≡ false → same k (keyOf c) ≡ false
 other-slot k p c g h =

@@ -275,8 +275,8 @@ head-start part n rows e =
       goes = ap (λ (m : ℕ). replay m [] part) p;
     }
 
-pub astray-rowed : (d : Load) (rows : List ℕ) → length rows ≡ 512 → d ≡ mismatched → Rowed d false rows
-astray-rowed d rows size e = record {
+pub mismatched-rowed : (d : Load) (rows : List ℕ) → length rows ≡ 512 → d ≡ mismatched → Rowed d false rows
+mismatched-rowed d rows size e = record {
   checked = sym (ap together e);
   kept = λ l b. let z : _≡_ {A = ℕ} 0 1 = cc in absurd (omega arith);
   size = size;
@@ -306,7 +306,7 @@ module _ {part : List ℕ} {n : ℕ} {rows latest counts : List ℕ} {q i : ℕ}
   one-turn lt = let p : n - i ≡ suc (n - (i + 1)) = omega arith in h .goes ∙ ap (λ (m : ℕ). replay m (h .acc) (drop q part)) p
 
   pub head-bad : i < n → scan (drop q part) ≡ unseen → Rowed (replay n [] part) false rows
-  head-bad lt e = astray-rowed _ rows (h .size) (one-turn lt ∙ ap (replayOn (h .acc) (drop q part) (replay (n - (i + 1)))) e)
+  head-bad lt e = mismatched-rowed _ rows (h .size) (one-turn lt ∙ ap (replayOn (h .acc) (drop q part) (replay (n - (i + 1)))) e)
 
   at-end : n ≤ i → replay n [] part ≡ ended (h .acc) (drop q part)
   unfolding replay
@@ -330,7 +330,7 @@ module _ {part : List ℕ} {n : ℕ} {rows latest counts : List ℕ} {q i : ℕ}
         size = h .size;
       })
       (λ t. subst (λ (b : Bool). Rowed (replay n [] part) b rows) (sym t)
-      (astray-rowed _ rows (h .size) (left-over le (λ z. true≠false (eq-eqb q (length part) z) t))))
+      (mismatched-rowed _ rows (h .size) (left-over le (λ z. true≠false (eq-eqb q (length part) z) t))))
 
   -- a change is read, and its key was looked for
   module _ (lt : i < n) {v : View} (r : Read (drop q part) v) {sl : ℕ} (es : sl ≡ bucket (v .key)) {x : Seek}
@@ -377,7 +377,7 @@ module _ {part : List ℕ} {n : ℕ} {rows latest counts : List ℕ} {q i : ℕ}
 
           pub head-refused : (w ≡ 0 → ⊥) → Rowed (replay n [] part) false rows
           head-refused z =
-              astray-rowed _ rows (h .size) (one-turn lt ∙ ap (replayOn (h .acc) (drop q part) (replay (n - (i + 1)))) (r .scanned)
+              mismatched-rowed _ rows (h .size) (one-turn lt ∙ ap (replayOn (h .acc) (drop q part) (replay (n - (i + 1)))) (r .scanned)
               ∙ ap (λ (b : Bool). cond b (replay (n - (i + 1)) (r .what ∷ h .acc) (drop (v .len) (drop q part))) mismatched)
               (ne-eqb (refusal (h .acc) 65535 (r .what)) 0 (λ y. z (sym judged-is ∙ y))))
 

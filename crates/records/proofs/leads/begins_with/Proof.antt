@@ -1,11 +1,11 @@
 use mathlib.Core.Path.{_∙_}
 use borrow.Author.Needs.{needs}
-use Rattle.records.proofs.leads.Lemmas.{bears-short, bears-is}
+use Rattle.records.proofs.leads.Lemmas.{begins-early, begins-is}
 use Rattle.records.proofs.leads.begins_with.Statement.{statement}
 use Rattle.records.proofs.leads.begins_with.Tie as tie
 
 returns : tie.Need-returns
-returns c = bears-short (c .before .before .args .x) (c .before .before .args .y) (c .before .before .args .s .now) (c .if1 .taken)
+returns c = begins-early (c .before .before .args .x) (c .before .before .args .y) (c .before .before .args .s .now) (c .if1 .taken)
 
 shared-slice-read-is : tie.Need-shared-slice-read-is
 shared-slice-read-is c = search needs
@@ -20,7 +20,7 @@ returns-2 : tie.Need-returns-2
 returns-2 c =
     let c3 = c .before .before .before in
     let c5 = c3 .before .before in
-    (c .is) .ensures ∙ bears-is (c5 .args .x) (c5 .args .y) (c5 .args .s .now) (c3 .if1 .left)
+    (c .is) .ensures ∙ begins-is (c5 .args .x) (c5 .args .y) (c5 .args .s .now) (c3 .if1 .left)
 
 pub begins-with-spec : {M : Type 1} → statement M
 begins-with-spec =

@@ -8,7 +8,7 @@ use Rattle.records.specs.Reading.{from}
 use Rattle.records.specs.Names.{nameField, decodeName}
 use Rattle.records.specs.tables.Inner.{shown}
 use Rattle.records.proofs.names.Some.{some-short, some-at}
-use Rattle.records.proofs.names.Lemmas.{held-got, held-bad}
+use Rattle.records.proofs.names.Lemmas.{stored-got, stored-bad}
 use Rattle.records.proofs.names.read_name.Statement.{statement}
 use Rattle.records.proofs.names.read_name.Tie as tie
 
@@ -133,7 +133,7 @@ returns-4 c =
             some-at s first k
                 (c .before .before .before .before .before .before .if3 .left),
           )
-          (held-got (decodeName part) (c .before .before .before .before .decode .result .name) (from part (c .before .e .given .0 .0)) _ (sym
+          (stored-got (decodeName part) (c .before .before .before .before .decode .result .name) (from part (c .before .e .given .0 .0)) _ (sym
           (ap (λ d. shown part d (c .before .before .before .before .decode .result .name)) (c .before .e .given .1)) ∙
           (c .before .before .before .before .decode) .ensures .value));
       placed = search needs;
@@ -166,7 +166,7 @@ returns-5 c =
             some-at
                 s first k (c7 .if3 .left),
           )
-          (held-bad (decodeName part) (c2 .e2 .given .0 .0) _
+          (stored-bad (decodeName part) (c2 .e2 .given .0 .0) _
           (sym (ap (λ d. shown part d (c5 .decode .result .name)) (c2 .e2 .given .1)) ∙ (c5 .decode) .ensures .value));
       placed = rw (c .name-no4 .ensures .0) tt;
       few = omega (arith, (c .name-no4) .ensures .1);

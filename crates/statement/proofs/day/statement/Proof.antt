@@ -6,7 +6,7 @@ use native.Mathlib.Omega.{arith}
 use borrow.Author.Needs.{needs}
 use Rattle.statement.specs.Statement.{longestStatement}
 use Rattle.statement.proofs.bytes.Lemmas.{writes-size}
-use Rattle.statement.proofs.day.Lemmas.{loaded, is-astray, few-units, few-hours, stated, fits-written, fits-front, answers-astray, answers-fitted}
+use Rattle.statement.proofs.day.Lemmas.{loaded, is-mismatched, few-units, few-hours, stated, fits-written, fits-front, answers-mismatched, answers-fitted}
 use Rattle.statement.proofs.day.statement.Statement.{statement}
 use Rattle.statement.proofs.day.statement.Tie as tie
 
@@ -17,7 +17,7 @@ returns : tie.Need-returns
 returns c =
     let c2 = c .before .before in
     let c5 = c2 .before .before .before in
-    answers-astray (c5 .args .out .now) (is-astray (c5 .args .book) (c5 .args .log .now) (c2 .day .result) (c2 .day .ensures) (c .if1 .taken))
+    answers-mismatched (c5 .args .out .now) (is-mismatched (c5 .args .book) (c5 .args .log .now) (c2 .day .result) (c2 .day .ensures) (c .if1 .taken))
 
 put-day-requires : tie.Need-put-day-requires
 put-day-requires c κs =

@@ -5,7 +5,7 @@ use Rattle.book.specs.Register.{standing}
 use Rattle.book.specs.Amounts.{priceOf}
 use Rattle.book.specs.Meaning.{load}
 use Rattle.book.proofs.book.Rows.{is-rowed, not-rowed, rowed-logged, rowed-log}
-use Rattle.book.proofs.amounts.failures.Lemmas.{hour-low, charges-astray, charges-other, charges-wrong, charges-at}
+use Rattle.book.proofs.amounts.failures.Lemmas.{hour-low, charges-mismatched, charges-other, charges-wrong, charges-at}
 use Rattle.book.proofs.book.Book.charges.Statement.{statement}
 use Rattle.book.proofs.book.Book.charges.Tie as tie
 
@@ -107,7 +107,7 @@ returns-4 : tie.Need-returns-4
 returns-4 c =
     let c2 = c .before .before in
     let c5 = c2 .before .before .before in (
-      charges-astray (c5 .args .mark) (c5 .args .hour) (load (c5 .args .self) (c5 .args .log .now)) _ (c .no-charges3 .ensures .0)
+      charges-mismatched (c5 .args .mark) (c5 .args .hour) (load (c5 .args .self) (c5 .args .log .now)) _ (c .no-charges3 .ensures .0)
           (not-rowed (c5 .args .self) (c5 .args .log .now) (c2 .check-rows .ensures) (c .before .if1 .left)),
       (c .no-charges3) .ensures .1,
       (c .no-charges3) .ensures .2,

@@ -3,7 +3,7 @@ use lib.Seq.{length-take-le}
 use borrow.Author.Needs.{needs}
 use Rattle.book.proofs.book.Rows.{rowed-by}
 use Rattle.book.specs.laws.LoadLaws.{load-short, load-long}
-use Rattle.book.proofs.log.replay.Lemmas.{astray-rowed}
+use Rattle.book.proofs.log.replay.Lemmas.{mismatched-rowed}
 use Rattle.book.proofs.book.Book.check_rows.Statement.{statement}
 use Rattle.book.proofs.book.Book.check_rows.Tie as tie
 
@@ -13,7 +13,7 @@ cast-used c = search needs
 returns : tie.Need-returns
 returns c =
     let c3 = c .before .before .before in
-    astray-rowed _ _ (c3 .pre) (load-short (c3 .args .self) (c3 .args .log .now) (c .if1 .taken))
+    mismatched-rowed _ _ (c3 .pre) (load-short (c3 .args .self) (c3 .args .log .now) (c .if1 .taken))
 
 slice-aggregate-replayed-rows : tie.Need-slice-aggregate-replayed-rows
 slice-aggregate-replayed-rows c = sym (length-take-le _ _ (c .before .if1 .left))

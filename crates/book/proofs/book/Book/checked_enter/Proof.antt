@@ -1,6 +1,6 @@
 use native.Mathlib.Omega.{arith}
 use borrow.Author.Needs.{needs}
-use Rattle.book.proofs.log.checked.Lemmas.{held-log, held-rules, listed-closed, listed-refused, listed-few, listed-clear, listed-row, makes-listed}
+use Rattle.book.proofs.log.checked.Lemmas.{checked-log, checked-rules, listed-closed, listed-refused, listed-few, listed-clear, listed-row, makes-listed}
 use Rattle.book.proofs.book.Book.checked_enter.Statement.{statement}
 use Rattle.book.proofs.book.Book.checked_enter.Tie as tie
 
@@ -16,12 +16,12 @@ cast-at c = search needs
 find-in-requires : tie.Need-find-in-requires
 find-in-requires c κs =
     let c7 = c .before .before .before .before .before .before .before in
-    (held-log (c7 .pre .0), (c7 .pre) .1 .0 .inside)
+    (checked-log (c7 .pre .0), (c7 .pre) .1 .0 .inside)
 
 count-in-requires : tie.Need-count-in-requires
 count-in-requires c κs =
     let c9 = c .before .before .before .before .before .before .before .before .before in
-    held-rules (c9 .pre .0)
+    checked-rules (c9 .pre .0)
 
 limit-of-requires : tie.Need-limit-of-requires
 limit-of-requires c κs = search needs

@@ -1,5 +1,5 @@
 use borrow.Author.Needs.{needs}
-use Rattle.book.proofs.log.checked.Lemmas.{held-log, back-closed, back-none, above, last-few, back-makes}
+use Rattle.book.proofs.log.checked.Lemmas.{checked-log, back-closed, back-none, above, last-few, back-makes}
 use Rattle.book.proofs.book.Book.checked_take_back.Statement.{statement}
 use Rattle.book.proofs.book.Book.checked_take_back.Tie as tie
 
@@ -29,7 +29,7 @@ restore-requires c κs =
     let c3 = c .before .before .before in
     let c5 = c3 .before .before in
     let c7 = c5 .before .before in
-    (held-log (c7 .pre), (above (c7 .pre) (c5 .if1 .left) (c3 .if2 .left), (c7 .pre) .size))
+    (checked-log (c7 .pre), (above (c7 .pre) (c5 .if1 .left) (c3 .if2 .left), (c7 .pre) .size))
 
 sub-self : tie.Need-sub-self
 sub-self c = search needs

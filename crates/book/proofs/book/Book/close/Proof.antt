@@ -4,7 +4,7 @@ use Rattle.records.specs.Changes.{noKey}
 use Rattle.book.specs.Register.{closing}
 use Rattle.book.proofs.book.Lemmas.{leaves-16}
 use Rattle.book.proofs.book.Rows.{is-rowed, not-rowed}
-use Rattle.book.proofs.log.checked.Lemmas.{held-from, close-refused, makes-by}
+use Rattle.book.proofs.log.checked.Lemmas.{checked-from, close-refused, makes-by}
 use Rattle.book.proofs.book.Book.close.Statement.{statement}
 use Rattle.book.proofs.book.Book.close.Tie as tie
 
@@ -31,7 +31,7 @@ returns-2 c =
     let c3 = c2 .before in
     let c4 = c3 .before in
     makes-by (ap closing (sym (c2 .parse-close .ensures) ∙ (c .before .if2) .left))
-    (c .checked-close .ensures _ _ noKey (held-from _ _ (c4 .check-rows .ensures) (c3 .if1 .taken))) .leaves
+    (c .checked-close .ensures _ _ noKey (checked-from _ _ (c4 .check-rows .ensures) (c3 .if1 .taken))) .leaves
 
 returns-3 : tie.Need-returns-3
 returns-3 c =

@@ -8,7 +8,7 @@ use Rattle.book.specs.ByName.{namesOf}
 use Rattle.book.specs.Register.{standing}
 use Rattle.book.proofs.book.Rows.{is-rowed, not-rowed, rowed-logged, rowed-log}
 use Rattle.book.proofs.Inserting.{unmapped}
-use Rattle.book.proofs.amounts.whole_day.Lemmas.{day-made, day-astray, names-formed}
+use Rattle.book.proofs.amounts.whole_day.Lemmas.{day-made, day-mismatched, names-formed}
 use Rattle.book.proofs.book.Book.day.Statement.{statement}
 use Rattle.book.proofs.book.Book.day.Tie as tie
 
@@ -96,7 +96,7 @@ returns-2 c =
     let c2 = c .before .before in
     let c3 = c2 .before in
     let c6 = c3 .before .before .before in
-    day-astray (load (c6 .args .self) (c6 .args .log .now))
+    day-mismatched (load (c6 .args .self) (c6 .args .log .now))
     (not-rowed (c6 .args .self) (c6 .args .log .now) (c3 .check-rows .ensures) (c2 .if1 .left)) (c .before .no-hour .result)
     (c .before .no-hour .ensures) (c .no-unit .result) (c .no-unit .ensures)
 

@@ -1,7 +1,7 @@
 use borrow.Author.Needs.{needs}
 use Rattle.book.proofs.book.Lemmas.{leaves-16}
 use Rattle.book.proofs.book.Rows.{is-rowed, not-rowed}
-use Rattle.book.proofs.log.checked.Lemmas.{held-from, since-all, parse-refused, parse-taken}
+use Rattle.book.proofs.log.checked.Lemmas.{checked-from, since-all, parse-refused, parse-taken}
 use Rattle.book.proofs.book.Book.enter.Statement.{statement}
 use Rattle.book.proofs.book.Book.enter.Tie as tie
 
@@ -33,7 +33,7 @@ checked-enter-requires c κs =
     let c7 = c6 .before in
     let c8 = c7 .before in
     let c13 = c8 .before .before .before .before .before in
-    let h = held-from (c13 .args .self) (c13 .args .log .now) (c8 .check-rows .ensures) (c7 .if1 .taken) in (
+    let h = checked-from (c13 .args .self) (c13 .args .log .now) (c8 .check-rows .ensures) (c7 .if1 .taken) in (
       h,
       (
         since-all h _,

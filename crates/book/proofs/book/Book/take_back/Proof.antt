@@ -4,7 +4,7 @@ use Rattle.records.specs.Changes.{noKey}
 use Rattle.book.specs.Register.{takenBack}
 use Rattle.book.proofs.book.Lemmas.{leaves-16}
 use Rattle.book.proofs.book.Rows.{is-rowed, not-rowed}
-use Rattle.book.proofs.log.checked.Lemmas.{held-from, back-refused, makes-by}
+use Rattle.book.proofs.log.checked.Lemmas.{checked-from, back-refused, makes-by}
 use Rattle.book.proofs.book.Book.take_back.Statement.{statement}
 use Rattle.book.proofs.book.Book.take_back.Tie as tie
 
@@ -23,7 +23,7 @@ returns c =
     (c .before .parse-take-back .ensures) (c .if2 .taken)
 
 checked-take-back-requires : tie.Need-checked-take-back-requires
-checked-take-back-requires c κs = held-from _ _ (c .before .before .before .before .check-rows .ensures) (c .before .before .before .if1 .taken)
+checked-take-back-requires c κs = checked-from _ _ (c .before .before .before .before .check-rows .ensures) (c .before .before .before .if1 .taken)
 
 returns-2 : tie.Need-returns-2
 returns-2 c =

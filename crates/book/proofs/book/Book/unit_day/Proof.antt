@@ -3,7 +3,7 @@ use Rattle.book.specs.Register.{refused, standing}
 use Rattle.book.specs.Amounts.{priceOf}
 use Rattle.book.specs.laws.LayerLaws.{unit-formed}
 use Rattle.book.proofs.book.Rows.{is-rowed, not-rowed, rowed-logged, rowed-log}
-use Rattle.book.proofs.amounts.days.Lemmas.{unit-wrong, unit-right, unit-astray, handed-whole}
+use Rattle.book.proofs.amounts.days.Lemmas.{unit-wrong, unit-right, unit-mismatched, handed-whole}
 use Rattle.book.proofs.book.Book.unit_day.Statement.{statement}
 use Rattle.book.proofs.book.Book.unit_day.Tie as tie
 
@@ -73,7 +73,7 @@ returns-3 : tie.Need-returns-3
 returns-3 c =
     let c2 = c .before .before in
     let c6 = c2 .before .before .before .before in (
-      unit-astray (c6 .args .self) (c6 .args .log .now) (c6 .args .name .now)
+      unit-mismatched (c6 .args .self) (c6 .args .log .now) (c6 .args .name .now)
           (not-rowed (c6 .args .self) (c6 .args .log .now) (c2 .check-rows .ensures) (c .before .if1 .left)) (c .refused-day2 .result)
           (c .refused-day2 .ensures),
       handed-whole (refused 16) _ (c .refused-day2 .ensures),
