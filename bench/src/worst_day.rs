@@ -161,11 +161,13 @@ mod tests {
         let path = concat!(env!("CARGO_MANIFEST_DIR"), "/../crates/book/src/log/index.rt");
         let source = fs::read_to_string(path).expect("the source of the index");
         let steps = [
-            "wide(key_order(mark)) * 32 + wide(key.hour)",
+            "const MARK_SLOTS: usize = 32;",
+            "const BUCKETS: usize = 8192;",
+            "wide(key_order(mark)) * MARK_SLOTS + wide(key.hour)",
             "let mut weight: usize = 449;",
             "sum = sum + wide(bytes[i]) * weight;",
-            "weight = weight * 31 % 8192;",
-            "sum % 8192",
+            "weight = weight * 31 % BUCKETS;",
+            "sum % BUCKETS",
         ];
         for step in steps {
             assert!(source.contains(step), "the index no longer has: {step}");

@@ -4,7 +4,8 @@ use Prim.Native.Nat.{ℕ}
 use mathlib.Core.List.{List, []}
 use lib.IntN.{ℤ}
 use lib.ListN.{length}
-use Rattle.book.specs.Layer.{Name, emptyName, noTicks, pad}
+use Rattle.money.specs.Offset.{maxImports}
+use Rattle.book.specs.Layer.{Name, emptyName, noTicks, pad, hourLimit}
 use Rattle.book.specs.declared.answers.NamedAmount.{NamedAmount}
 use Rattle.book.specs.declared.answers.Credits.{Credits}
 use Rattle.book.specs.declared.answers.ChargeList.{ChargeList}
@@ -22,11 +23,11 @@ use Rattle.book.specs.Register.{maxChanges}
 
 -- "hour holds 16 of that mark": the most credits of an hour
 abbrev pub maxCredits : ℕ
-maxCredits = 16
+maxCredits = maxImports
 
 -- and the most charges of an hour and mark
 abbrev pub maxCharges : ℕ
-maxCharges = 16
+maxCharges = hourLimit
 
 abbrev pub noAmount : NamedAmount
 noAmount = record { name = emptyName; ticks = noTicks }

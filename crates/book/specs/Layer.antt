@@ -22,7 +22,7 @@ pub use Rattle.records.specs.declared.parse.Front.{Front}
 pub use Rattle.records.specs.Reading.{Res, bad, got}
 pub use Rattle.records.specs.declared.marks.Mark.{Mark}
 pub use Rattle.records.specs.declared.marks.Mark.the-variants.{Pr, Im, Ex, Gh, Fi, Fe}
-pub use Rattle.records.specs.Marks.{is as markIs, markBytes, order, keyMark, keyOrder, isFailure}
+pub use Rattle.records.specs.Marks.{is as markIs, hourLimit, markBytes, order, keyMark, keyOrder, isFailure}
 pub use Rattle.records.specs.Keys.{askBytes, same, sameHour, sameKeyMark, askHour, askHourOf, askUnit, askFailure, keyAnswer}
 pub use Rattle.records.specs.Hours.{limitOf, sameName, atHour}
 -- decoded names and their order

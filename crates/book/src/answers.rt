@@ -1,9 +1,11 @@
 // What a call brings back.
 use crate::book::Book;
 use crate::book::CHANGES_MAX;
+use money::imports::IMPORTS_MAX;
 use money::names::Name;
 use money::units::HOURS;
 use money::units::Ticks;
+use records::marks::HOUR_LIMIT;
 use records::names::no_name;
 ghost use mathlib.Core.Path.{_≡_};
 ghost use Rattle.book.specs.Meaning.{replyOf};
@@ -38,10 +40,10 @@ pub struct Done {
 }
 
 // The most credits of an hour: it holds no more imports.
-pub const CREDITS_MAX: usize = 16;
+pub const CREDITS_MAX: usize = IMPORTS_MAX;
 
 // The most charges of an hour and mark: it holds no more failures.
-pub const CHARGES_MAX: usize = 16;
+pub const CHARGES_MAX: usize = HOUR_LIMIT as usize;
 
 // An amount, and the decoded name that it belongs to.
 pub struct NamedAmount {

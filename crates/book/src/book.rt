@@ -5,6 +5,7 @@ ghost use mathlib.Core.Bool.{false};
 ghost use lib.ListN.{length};
 ghost use Rattle.book.specs.Meaning.{load};
 ghost use Rattle.book.specs.tables.Rows.{Rowed};
+ghost use Rattle.book.specs.Register.{maxChanges};
 
 // Changes in a book, at most.
 pub const CHANGES_MAX: usize = 512;
@@ -32,7 +33,7 @@ impl Book {
 
     // Whether the book and the bytes belong together, with a row for each change.
     pub(crate) fn check_rows(self, log: &[u8], rows: &mut [u32; CHANGES_MAX]) -> bool
-        requires { ⌜ length (now rows) ≡ 512 ⌝ }
+        requires { ⌜ length (now rows) ≡ maxChanges ⌝ }
         ensures { λ r. ⌜ Rowed (load self (now (log .entry))) r (now (rows .exit)) ⌝ }
     {
         let used = self.used as usize;

@@ -2,6 +2,7 @@
 use crate::answers::refusal_in;
 use crate::book::Book;
 use crate::book::CHANGES_MAX;
+use crate::log::index::BUCKETS;
 use crate::log::index::bucket_of;
 use money::refusals::NOT_TOGETHER;
 use records::parse::first_change;
@@ -50,7 +51,7 @@ fn feed_checked(mut book: Book, log: &mut [u8], rows: &mut [u32; CHANGES_MAX], i
     ensures { λ r. ⌜ ((l : List Change) → load book (now (log .entry)) ≡ belongs l → Ends (feeding (length (now (log .entry)))
         (record { list = l; closed = book .closed }) (now (input .entry))) (now (log .entry)) r (now (log .exit))) ⌝ }
 {
-    let mut latest = [book.changes; 8192];
+    let mut latest = [book.changes; BUCKETS];
     let mut count: u64 = 0;
     let mut at = 0;
     while at < input.len() {

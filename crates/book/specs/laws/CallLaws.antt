@@ -13,8 +13,8 @@ use Rattle.book.specs.laws.LayerLaws.{askHourOf-fault, parse-fault, Unre
 use Rattle.book.specs.declared.book.Book.{Book}
 use Rattle.book.specs.ByName.{byName}
 use Rattle.book.specs.Amounts.{HourPricing, priced, unpriced, hourKey, priceOf, guaranteesAt, guaranteesOf}
-use Rattle.book.specs.Register.{Reg, standing, Question, hourGuarantees, keyed, asking, Call, file, change, ask, answer, Reply, refused, Step, answered, becomes, stepOf, called, listed, judged, takenBack, closing, shorter, unless-closed, bareTakeBack, bareClose, refusal, writeAll}
-use Rattle.book.specs.Meaning.{Load, belongs, mismatched, load, Valid, After, bookOf, leaving, stepped, outcome, Meets}
+use Rattle.book.specs.Register.{Reg, standing, Question, hourGuarantees, keyed, Call, file, change, ask, answer, Reply, refused, Step, answered, becomes, stepOf, called, listed, judged, takenBack, closing, shorter, unless-closed, bareTakeBack, bareClose, refusal, writeAll}
+use Rattle.book.specs.Meaning.{Load, mismatched, load, Valid, After, bookOf, leaving, stepped, outcome, Meets}
 use Rattle.book.specs.laws.ReplayLaws.{outcome-is}
 
 -- ---- a change is accepted, or refused with a number above 0
@@ -126,13 +126,6 @@ module _ (g : Reg) (s : List ℕ) (v : Valid (g .list)) (h : take (length (write
 
     pub turn-bytes : take (length (leaving (bookOf g) s st .kept)) s′ ≡ leaving (bookOf g) s st .kept
     turn-bytes = subst (λ (x : After). take (length (x .kept)) s′ ≡ x .kept) turn (m .bytes)
-
--- ---- a question, of a book and bytes that belong together
-
-pub question-loaded : (q : Question) (b : Book) (s : List ℕ) (l : List Change) (r : Reply) → load b s ≡ belongs l → Meets (ask q) b s b r s
-    → r ≡ answer q (length s) (record { list = l; closed = b .closed })
-unfolding outcome
-question-loaded q b s l r e m = m .answer ∙ ap (λ (x : Load). leaving b s (stepped (asking q) b s x) .answer) e
 
 -- no refusal of an hour's guarantees is 0
 pub guarantees-fault : (h lent : ℕ) (g : Reg) (n : ℕ) → answer (hourGuarantees h) lent g ≡ refused n → 0 < n

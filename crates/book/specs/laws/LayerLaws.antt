@@ -5,6 +5,6 @@ pub use Rattle.records.specs.laws.BookLaws.{scan-write, Found, scan-got, Taken,
 pub use Rattle.records.specs.laws.BookLaws.{PricesFit, prices-there, standing-prices, totals-written, standing-export, unit-written, charge-written, entry-view, entry-sound, unit-ready}
 pub use Rattle.records.specs.laws.BookLaws.{series-at, series-same, series-none, quantity-most, totals-more, rates-ok, offset-amount, answer-front, day-amount, day-sum, amount-ok, same-names, name-trans, name-tri, name-self}
 pub use Rattle.records.specs.laws.BookLaws.{Wellformed, key-formed, failure-formed, hour-formed, mark-hour-formed, unit-formed}
-pub use Rattle.records.specs.laws.BookLaws.{Unread, bare-early}
+pub use Rattle.records.specs.laws.BookLaws.{Unread, bare-early, longestRecord}
 pub use Rattle.records.specs.laws.BookLaws.{same-by, price-name}
 pub use Rattle.records.specs.laws.PriceExample.{priceBytes, priceRecord, price-read, price-length, price-limit}

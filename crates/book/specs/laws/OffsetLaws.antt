@@ -74,10 +74,6 @@ put-length s (x ∷ xs) = go (nameBefore (decodedBytes (s .name)) (decodedBytes 
 -- ---- what is worked from the places
 
 module _ (s : List ℕ) where
-  pub entries-mapped : (p : HourPrices) (xs : List Spot) → entriesIn s p xs ≡ map (entryAt s p) xs
-  unfolding entriesIn
-  entries-mapped p xs = refl
-
   pub entries-at : (p : HourPrices) {xs : List Spot} {rs : List Rec} → Each (λ (x : Spot) (r : Rec). entryAt s p x ≡ offsetEntry p r) xs rs
       → entriesIn s p xs ≡ map (offsetEntry p) rs
   unfolding entriesIn

@@ -13,6 +13,7 @@ use Rattle.book.specs.Replies.{replied}
 use Rattle.book.specs.laws.EarlyLaws.{early}
 use Rattle.book.specs.Feed.{front, firstRecord, FeedReply, feedOn, fed, feeding}
 use Rattle.book.specs.laws.FeedLaws.{first-within, first-some, first-whole, first-then}
+use Rattle.book.specs.laws.LayerLaws.{longestRecord}
 
 -- of n bytes
 pub record Stops (f : FeedReply) (n : ℕ) : Type 0 where
@@ -52,15 +53,15 @@ stops lent g s = stops-from (length s) lent g s (omega arith)
 
 -- ---- bytes that end early
 
-early-first : (lent : ℕ) (g : Reg) (s : List ℕ) (r : Reply) → called (change (firstRecord s)) lent g ≡ answered r → replied r ≡ 1 → length s < 1383
+early-first : (lent : ℕ) (g : Reg) (s : List ℕ) (r : Reply) → called (change (firstRecord s)) lent g ≡ answered r → replied r ≡ 1 → length s < longestRecord
 unfolding firstRecord
 early-first lent g s r e one = go (entry s) refl
   where
-    go : (i : Res Entry) → entry s ≡ i → length s < 1383
+    go : (i : Res Entry) → entry s ≡ i → length s < longestRecord
     go (bad j) q = entry-early s (unread-early s (early s lent g r (ap (λ (x : Res Entry). called (change (front s x)) lent g) (sym q) ∙ e) one))
     go (got x t) q = absurd (whole-early (firstRecord s) x (first-whole s x t q) (unread-early (firstRecord s) (early (firstRecord s) lent g r e one)))
 
-early-from : (n lent : ℕ) (g : Reg) (s : List ℕ) → length s ≤ n → feeding lent g s .number ≡ 1 → length (drop (feeding lent g s .taken) s) < 1383
+early-from : (n lent : ℕ) (g : Reg) (s : List ℕ) → length s ≤ n → feeding lent g s .number ≡ 1 → length (drop (feeding lent g s .taken) s) < longestRecord
 unfolding fed
 early-from zero lent g [] h z = absurd (omega arith)
 early-from (suc n) lent g [] h z = absurd (omega arith)
@@ -73,17 +74,17 @@ early-from (suc n) lent g (b ∷ s) h z =
     p = firstRecord (b ∷ s)
 
     Short : FeedReply → Type 0
-    Short f = f .number ≡ 1 → length (drop (f .taken) (b ∷ s)) < 1383
+    Short f = f .number ≡ 1 → length (drop (f .taken) (b ∷ s)) < longestRecord
 
     go : ((x : Reg) → feeding lent x (drop (length p) (b ∷ s)) .number ≡ 1 → length
-        (drop (feeding lent x (drop (length p) (b ∷ s)) .taken) (drop (length p) (b ∷ s))) < 1383)
-        → (st : Step) → called (change p) lent g ≡ st → length (drop (feeding lent g (b ∷ s) .taken) (b ∷ s)) < 1383
+        (drop (feeding lent x (drop (length p) (b ∷ s)) .taken) (drop (length p) (b ∷ s))) < longestRecord)
+        → (st : Step) → called (change p) lent g ≡ st → length (drop (feeding lent g (b ∷ s) .taken) (b ∷ s)) < longestRecord
     go ih st e = subst⁻¹ Short (first-then lent g (b ∷ s) (omega arith) ∙ ap (feedOn g p (b ∷ s) (feeding lent)) e) (by st e) z
       where
         by : (st : Step) → called (change p) lent g ≡ st → Short (feedOn g p (b ∷ s) (feeding lent) st)
         by (answered r) e w = early-first lent g (b ∷ s) r e w
-        by (becomes x) e w = subst (λ (l : List ℕ). length l < 1383) (drop-drop (feeding lent x (drop (length p) (b ∷ s)) .taken) (length p) (b ∷ s)) (ih x w)
+        by (becomes x) e w = subst (λ (l : List ℕ). length l < longestRecord) (drop-drop (feeding lent x (drop (length p) (b ∷ s)) .taken) (length p) (b ∷ s)) (ih x w)
 
 -- what is left of a record that ends early is shorter than the longest one
-pub early-short : (lent : ℕ) (g : Reg) (s : List ℕ) → feeding lent g s .number ≡ 1 → length (drop (feeding lent g s .taken) s) < 1383
+pub early-short : (lent : ℕ) (g : Reg) (s : List ℕ) → feeding lent g s .number ≡ 1 → length (drop (feeding lent g s .taken) s) < longestRecord
 early-short lent g s = early-from (length s) lent g s (omega arith)

@@ -8,19 +8,19 @@ use Rattle.book.specs.Layer.{Key, View, Change, Entry, keyOf, fine, pars
 use Rattle.book.specs.tables.LayerTables.{nameable, nameHead}
 use Rattle.book.specs.declared.book.Book.{Book}
 use Rattle.book.specs.declared.answers.Done.{Done}
-use Rattle.book.specs.Register.{Reg, Step, writeAll}
+use Rattle.book.specs.Register.{Reg, Step, writeAll, maxChanges}
 use Rattle.book.specs.Meaning.{belongs, load, Leaves, replyOf}
 use Rattle.book.specs.laws.LoadLaws.{Loaded}
 use Rattle.book.specs.tables.Tables.{survey, viewed}
 use Rattle.book.specs.tables.Places.{liveAt}
 use Rattle.book.specs.tables.Index.{hourSlot, bucket, latestOf}
-use Rattle.book.specs.tables.Rows.{Rows, Logged}
+use Rattle.book.specs.tables.Rows.{Rows, Logged, liveUnit}
 
 -- book and bytes belong together, and the rows are those of their changes
 pub record Checked (b : Book) (s rows : List ℕ) : Type 0 where
   pub base : Loaded b s
   pub kept : Rows rows (base .list) (base .list)
-  pub size : length rows ≡ 512
+  pub size : length rows ≡ maxChanges
 
 -- what every call leaves, accepted or refused, and the rows are those of the book that is handed back
 pub record Makes (f : ℕ → Reg → Step) (b : Book) (s : List ℕ) (k : Key) (r : Done) (s′ rows′ : List ℕ) : Type 0 where
@@ -55,7 +55,7 @@ pub record IsEntry (rec : List ℕ) (v : View) : Type 0 where
 
 -- a row whose record stands
 abbrev pub rowStands : ℕ → ℕ
-rowStands row = row % 134217728 + 134217728
+rowStands row = row % liveUnit + liveUnit
 
 -- the last of n changes replaced or removed a record of its key: the key's mark and hour, and the bytes of its name
 pub record Undoing (s rows : List ℕ) (n hs : ℕ) (name : List ℕ) (c : Change) (l : List Change) : Type 0 where

@@ -4,14 +4,14 @@ use mathlib.Core.List.{List, [], _∷_}
 use mathlib.Core.Bool.{Bool, false, cond}
 use lib.ListN.{take}
 use lib.Dec.{eqb}
-use Rattle.book.specs.Layer.{Kind, isCorrection, isWithdrawal, Rec, Change, decodedBytes, nameBefore}
+use Rattle.book.specs.Layer.{Kind, isCorrection, isWithdrawal, Rec, Change, decodedBytes, nameBefore, hourLimit}
 use Rattle.book.specs.declared.amounts.places.Spot.{Spot}
 use Rattle.book.specs.declared.amounts.places.Places.{Places}
 use Rattle.book.specs.tables.Tables.{Survey, survey}
 
 -- "hour holds 16 of that mark"
 abbrev pub maxPlaces : ℕ
-maxPlaces = 16
+maxPlaces = hourLimit
 
 -- the length of the mark before a corrected record
 abbrev pub leadLength : Kind → ℕ

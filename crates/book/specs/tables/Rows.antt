@@ -8,14 +8,24 @@ use lib.Dec.{leb, eqb}
 use Rattle.book.specs.Layer.{Kind, File, Correct, Withdraw, Key, Change, keyOf, kindOf, keyAnswer, same}
 use Rattle.book.specs.tables.LayerTables.{headKey, nameable, nameHead}
 use Rattle.book.specs.laws.LayerLaws.{Padded}
-use Rattle.book.specs.Register.{writeAll}
+use Rattle.book.specs.Register.{writeAll, maxChanges}
 use Rattle.book.specs.Meaning.{Load, belongs, Valid}
 use Rattle.book.specs.tables.Tables.{survey, together}
-use Rattle.book.specs.tables.Index.{hourSlot, bucket, latestOf}
+use Rattle.book.specs.tables.Index.{markSlots, slots, hourSlot, bucket, latestOf}
 use Rattle.book.specs.tables.Places.{leadLength, liveAt}
 use Rattle.book.specs.declared.log.rows.Seek.{Seek}
 
 -- ---- one change as a number: where it begins, its mark and hour, its kind, and whether the record that it wrote stands
+
+-- a row's units: below the first stands the place, then mark and hour, then the kind, then whether the record stands
+abbrev pub slotUnit : ℕ
+slotUnit = 65536
+
+abbrev pub kindUnit : ℕ
+kindUnit = 33554432
+
+abbrev pub liveUnit : ℕ
+liveUnit = 134217728
 
 -- a kind in two bits, and back
 abbrev pub kindCode : Kind → ℕ
@@ -27,19 +37,19 @@ abbrev pub kindAt : ℕ → Kind
 kindAt code = cond (eqb code 1) File (cond (eqb code 2) Correct Withdraw)
 
 abbrev pub packed : Bool → Kind → ℕ → ℕ → ℕ
-packed live kind slot q = cond live 134217728 0 + kindCode kind * 33554432 + slot * 65536 + q
+packed live kind slot q = cond live liveUnit 0 + kindCode kind * kindUnit + slot * slotUnit + q
 
 abbrev pub rowStart : ℕ → ℕ
-rowStart row = row % 65536
+rowStart row = row % slotUnit
 
 abbrev pub rowSlot : ℕ → ℕ
-rowSlot row = row / 65536 % 512
+rowSlot row = row / slotUnit % slots
 
 abbrev pub rowKind : ℕ → Kind
-rowKind row = kindAt (row / 33554432 % 4)
+rowKind row = kindAt (row / kindUnit % 4)
 
 abbrev pub rowLive : ℕ → Bool
-rowLive row = leb 134217728 row
+rowLive row = leb liveUnit row
 
 -- where its record is written
 abbrev pub rowPlace : ℕ → ℕ
@@ -59,7 +69,7 @@ Rows rows all (c ∷ l) = (getD rows (length l) 0 ≡ rowOf all (length (writeAl
 pub record Rowed (d : Load) (ok : Bool) (rows : List ℕ) : Type 0 where
   pub checked : ok ≡ together d
   pub kept : (l : List Change) → d ≡ belongs l → Rows rows l l
-  pub size : length rows ≡ 512
+  pub size : length rows ≡ maxChanges
 
 -- the rows are those of n changes that can be played
 pub record Ruled (rows : List ℕ) (n : ℕ) (l : List Change) : Type 0 where
@@ -100,7 +110,7 @@ pub record Search (s rows : List ℕ) (n from hs : ℕ) (name : List ℕ) (k : K
   pub slot-is : hs ≡ hourSlot k
   pub able : nameable k ≡ true
   pub name-is : name ≡ nameHead k
-  pub low : k .hour < 32
+  pub low : k .hour < markSlots
   pub padded : Padded (k .name)
   pub few : latestOf (bucket k) l ≤ from
 
@@ -108,7 +118,7 @@ pub record Search (s rows : List ℕ) (n from hs : ℕ) (name : List ℕ) (k : K
 
 -- a row whose record stands no longer
 abbrev pub rowGone : ℕ → ℕ
-rowGone row = row % 134217728
+rowGone row = row % liveUnit
 
 abbrev pub cleared : List ℕ → Seek → List ℕ
 cleared rows r = cond (r .found) (set rows (r .at) (rowGone (getD rows (r .at) 0))) rows

@@ -6,8 +6,7 @@ use lib.ListN.{length}
 use lib.Dec.{ltb}
 use Rattle.money.specs.Refusals.{keyStands, noSuchKey, hourFull}
 use Rattle.book.specs.Layer.{Key, View, Kind, Record, Change, keyOf, kindOf, isFiling, isCorrection, isWithdrawal, write, same, sameHour}
-use Rattle.book.specs.Replies.{replied}
-use Rattle.book.specs.Register.{writeAll, spaceFault, Step, answered, becomes}
+use Rattle.book.specs.Register.{writeAll, spaceFault}
 use Rattle.book.specs.Meaning.{Load, belongs, mismatched}
 
 abbrev pub viewed : Change → View
@@ -50,9 +49,3 @@ unfoldable pub changeFault : Kind → Bool → ℕ → ℕ → ℕ → ℕ → �
 changeFault kind found n most changes used len lent =
     cond (isFiling kind) (cond found keyStands (cond (ltb n most) (spaceFault changes used len lent) hourFull))
     (cond found (spaceFault changes used len lent) noSuchKey)
-
--- ---- the number of a step; 0 where it is none
-
-abbrev pub numberOf : Step → ℕ
-numberOf (answered r) = replied r
-numberOf (becomes g) = 0

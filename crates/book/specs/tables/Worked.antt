@@ -6,6 +6,7 @@ use mathlib.Core.Bool.{Bool, true, false, cond, not, _||_}
 use lib.ListN.{length, take, drop, getD, replicate}
 use lib.IntN.{pos}
 use lib.Dec.{eqb}
+use Rattle.money.specs.Units.{dayHours}
 use Rattle.book.specs.Layer.{Change, Mark, UnitPart, CentsPerStart, noPart, unitPartIn, HourPrices, Quantity, Ticks, Import, Answer, Amount, NoAmount, DayAnswer, Day, Refused, noQuantity, offsetEntryIn, chargeIn, totalsWithIn, offset, offsetAnswer, noTicks, noStart}
 use Rattle.book.specs.declared.answers.NamedAmount.{NamedAmount}
 use Rattle.book.specs.declared.amounts.hours.HourPlace.{HourPlace}
@@ -102,7 +103,7 @@ abbrev pub noPrice : HourPrice
 noPrice = record { known = false; prices = record { emp = []; pd = record { 0 = pos 0 } } }
 
 abbrev pub InDay : List ℕ → DayPlaces → Type 0
-InDay s d = (j : ℕ) → j < 24 → (e : HourPlace) → getD (d .hours) j e .known ≡ true → getD (d .hours) j e .start ≤ length s
+InDay s d = (j : ℕ) → j < dayHours → (e : HourPlace) → getD (d .hours) j e .known ≡ true → getD (d .hours) j e .start ≤ length s
 
 -- an hour without the unit, or with its price
 abbrev pub paid : HourPlace → HourPrice → Bool

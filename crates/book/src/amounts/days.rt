@@ -25,6 +25,7 @@ ghost use mathlib.Core.Bool.{true, not};
 ghost use mathlib.Core.List.{List};
 ghost use lib.ListN.{length};
 ghost use Prim.Native.Nat.{ℕ, _≤_};
+ghost use Rattle.money.specs.Units.{dayHours};
 ghost use Rattle.laws.specs.Sums.{every};
 ghost use Rattle.book.specs.Layer.{Change, Gh};
 ghost use Rattle.book.specs.laws.LayerLaws.{Wellformed};
@@ -44,7 +45,7 @@ struct DayParts {
 
 // No hour of the day has a record.
 fn nowhere(d: DayPlaces) -> bool
-    ensures { λ r. ⌜ r ≡ every 24 (λ (j : ℕ). not (placeIn d j .known)) ⌝ }
+    ensures { λ r. ⌜ r ≡ every dayHours (λ (j : ℕ). not (placeIn d j .known)) ⌝ }
 {
     let mut j: usize = 0;
     while j < HOURS {
@@ -69,7 +70,7 @@ fn hour_payable(unit: HourPlace, price: HourPrice) -> bool
 
 // Each hour with a record has its prices.
 fn payable(units: DayPlaces, table: PriceTable) -> bool
-    ensures { λ r. ⌜ r ≡ every 24 (λ (j : ℕ). paid (placeIn units j) (priceFor table j)) ⌝ }
+    ensures { λ r. ⌜ r ≡ every dayHours (λ (j : ℕ). paid (placeIn units j) (priceFor table j)) ⌝ }
 {
     let mut j: usize = 0;
     while j < HOURS {
@@ -102,7 +103,7 @@ fn part_at(log: &[u8], unit: HourPlace, price: HourPrice) -> UnitPart
 
 fn parts_of(log: &[u8], units: DayPlaces, table: PriceTable) -> DayParts
     requires { ⌜ InDay (now log) units ⌝ }
-    ensures { λ r. ⌜ Parts (now (log .entry)) units table (r .ticks) (r .starts) 24 ⌝ }
+    ensures { λ r. ⌜ Parts (now (log .entry)) units table (r .ticks) (r .starts) dayHours ⌝ }
 {
     let mut d = DayParts {
         ticks: [Ticks(0); HOURS],

@@ -41,6 +41,7 @@ ghost use Rattle.book.specs.tables.Worked.{Inside, ticksOf, chargeReply,
 ghost use Rattle.book.specs.tables.Places.{maxPlaces};
 ghost use Rattle.book.specs.tables.Rows.{Log, Logged};
 ghost use Rattle.book.specs.tables.Prices.{PriceIs};
+ghost use Rattle.book.specs.tables.Index.{markSlots};
 
 fn answer_of(a: Charged) -> Answer
     ensures { λ r. ⌜ replyOf r ≡ chargeReply a ⌝ }
@@ -148,7 +149,7 @@ pub(crate) fn of_hour(
     hour: u8,
     price: HourPrice,
 ) -> Charges
-    requires { ⌜ Log (now log) (now rows) n ⌝ ∗ ⌜ hour < 32 ⌝ }
+    requires { ⌜ Log (now log) (now rows) n ⌝ ∗ ⌜ hour < markSlots ⌝ }
     ensures { λ r. ⌜ ((l : List Change) → Logged (now (log .entry)) (now (rows .entry)) n l → isFailure mark ≡ true → (q : ℕ → HourPricing)
         → PriceIs (q hour) price → chargesReply r ≡ chargesOf (hourKey mark hour) (standing l) q) × (r .charges .n ≤ maxCharges)
         × (r ≡ chargesFrom (chargesReply r)) ⌝ }

@@ -37,6 +37,7 @@ ghost use Rattle.book.specs.tables.Worked.{Inside, entriesIn, totalsIn, 
 ghost use Rattle.book.specs.tables.Places.{maxPlaces, spots};
 ghost use Rattle.book.specs.tables.Rows.{Log, Logged};
 ghost use Rattle.book.specs.tables.Prices.{PriceIs};
+ghost use Rattle.book.specs.tables.Index.{markSlots};
 
 // The offset's entries of the imports at the places.
 pub fn entries_at(log: &[u8], p: Places, prices: HourPrices) -> [Import; CREDITS_MAX]
@@ -163,7 +164,7 @@ pub(crate) fn of_hour(
     hour: u8,
     price: HourPrice,
 ) -> Guarantees
-    requires { ⌜ Log (now log) (now rows) n ⌝ ∗ ⌜ hour < 32 ⌝ }
+    requires { ⌜ Log (now log) (now rows) n ⌝ ∗ ⌜ hour < markSlots ⌝ }
     ensures { λ r. ⌜ ((l : List Change) → Logged (now (log .entry)) (now (rows .entry)) n l → (q : ℕ → HourPricing) → PriceIs (q hour) price
         → guaranteesReply r ≡ guaranteesOf (standing l) q hour) × (r .credits .n ≤ maxCredits) × (r ≡ guaranteesFrom (guaranteesReply r)) ⌝ }
 {

@@ -1,6 +1,10 @@
 // Where the records of a mark and name are written, in each hour of the day.
 use crate::book::CHANGES_MAX;
+use crate::log::rows::LIVE_UNIT;
 use crate::log::rows::NAME_AT;
+use crate::log::rows::ROW_MARK_SLOTS;
+use crate::log::rows::ROW_SLOTS;
+use crate::log::rows::SLOT_UNIT;
 use crate::log::rows::place_in;
 use money::units::HOURS;
 use records::heads::name_head;
@@ -17,6 +21,7 @@ ghost use Rattle.book.specs.Layer.{Change};
 ghost use Rattle.book.specs.laws.LayerLaws.{Wellformed};
 ghost use Rattle.book.specs.tables.Rows.{rowLive, rowSlot, rowPlace, Log, Logged};
 ghost use Rattle.book.specs.tables.Hours.{markHour, nameHour, Written, DayIs};
+ghost use Rattle.book.specs.tables.Index.{markSlots};
 
 // An hour's record: whether there is one, and where it is written.
 pub struct HourPlace {
@@ -33,19 +38,19 @@ pub struct DayPlaces {
 pub(crate) fn hour_in(row: u32, mark: u32) -> usize
     ensures { λ r. ⌜ r ≡ markHour mark row ⌝ }
 {
-    let slot = row / 65536 % 512;
-    if row < 134217728 {
+    let slot = row / SLOT_UNIT % ROW_SLOTS;
+    if row < LIVE_UNIT {
         return 0;
     }
-    if slot / 32 != mark {
+    if slot / ROW_MARK_SLOTS != mark {
         return 0;
     }
-    (slot % 32) as usize
+    (slot % ROW_MARK_SLOTS) as usize
 }
 
 // The same, where behind mark and hour the record begins with a name.
 fn hour_for(log: &[u8], row: u32, mark: u32, name: &[u8]) -> usize
-    requires { ⌜ ((rowLive row && eqb (rowSlot row / 32) mark) ≡ true → rowPlace row + 3 ≤ length (now log)) ⌝ }
+    requires { ⌜ ((rowLive row && eqb (rowSlot row / markSlots) mark) ≡ true → rowPlace row + 3 ≤ length (now log)) ⌝ }
     ensures { λ r. ⌜ r ≡ nameHour mark (now (name .entry)) (now (log .entry)) row ⌝ }
 {
     let hour = hour_in(row, mark);

@@ -6,6 +6,7 @@ use crate::log::rows::stands_in;
 use money::names::Name;
 use records::heads::head_key;
 use records::keys::Key;
+use records::marks::HOUR_LIMIT;
 use records::names::comes_before;
 use records::names::no_name;
 ghost use mathlib.Core.Path.{_≡_};
@@ -17,6 +18,7 @@ ghost use Rattle.book.specs.Register.{standing};
 ghost use Rattle.book.specs.ByName.{byName};
 ghost use Rattle.book.specs.tables.Rows.{rowPlace, keyAt, Log, Logged};
 ghost use Rattle.book.specs.tables.Places.{maxPlaces, spotOf, putSpot, spots};
+ghost use Rattle.book.specs.tables.Index.{markSlots};
 
 // A standing record's decoded name, and where it is written.
 pub struct Spot {
@@ -25,7 +27,7 @@ pub struct Spot {
 }
 
 // An hour holds no more records of a mark.
-pub const PLACES_MAX: usize = 16;
+pub const PLACES_MAX: usize = HOUR_LIMIT as usize;
 
 // Standing records, by decoded name in byte order: the first n of `at`.
 pub struct Places {
@@ -104,7 +106,7 @@ fn with_row(log: &[u8], p: Places, row: u32) -> Places
 
 // By the rows of n changes, for the key's mark and hour.
 pub(crate) fn gather_rows(log: &[u8], rows: &[u32; CHANGES_MAX], n: usize, key: Key) -> Places
-    requires { ⌜ Log (now log) (now rows) n ⌝ ∗ ⌜ key .hour < 32 ⌝ }
+    requires { ⌜ Log (now log) (now rows) n ⌝ ∗ ⌜ key .hour < markSlots ⌝ }
     ensures { λ r. ⌜ ((l : List Change) → Logged (now (log .entry)) (now (rows .entry)) n l → take (r .n) (r .at) ≡ map (spotOf l) (byName key (standing l)))
         × (r .n ≤ maxPlaces) ⌝ }
 {

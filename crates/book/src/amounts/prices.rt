@@ -1,5 +1,9 @@
 // Prices: of an hour, and of each hour of the day.
 use crate::book::CHANGES_MAX;
+use crate::log::rows::LIVE_UNIT;
+use crate::log::rows::ROW_MARK_SLOTS;
+use crate::log::rows::ROW_SLOTS;
+use crate::log::rows::SLOT_UNIT;
 use crate::log::rows::find_in;
 use crate::log::rows::place_in;
 use money::units::HOURS;
@@ -19,6 +23,7 @@ ghost use Rattle.book.specs.Register.{standing};
 ghost use Rattle.book.specs.Amounts.{priceOf};
 ghost use Rattle.book.specs.tables.Rows.{Log, Logged};
 ghost use Rattle.book.specs.tables.Prices.{priceAt, priceHour, PriceIs, TableOf};
+ghost use Rattle.book.specs.tables.Index.{markSlots};
 
 // An hour's prices, where they are known.
 pub(crate) struct HourPrice {
@@ -64,7 +69,7 @@ fn price_at(log: &[u8], at: usize) -> HourPrice
 
 // The price of an hour, by the rows of n changes.
 pub(crate) fn price_in(log: &[u8], rows: &[u32; CHANGES_MAX], n: usize, hour: u8) -> HourPrice
-    requires { ⌜ Log (now log) (now rows) n ⌝ ∗ ⌜ hour < 32 ⌝ }
+    requires { ⌜ Log (now log) (now rows) n ⌝ ∗ ⌜ hour < markSlots ⌝ }
     ensures { λ r. ⌜ ((l : List Change) → Logged (now (log .entry)) (now (rows .entry)) n l → PriceIs (priceOf (standing l) hour) r) ⌝ }
 {
     let p = find_in(log, rows, n, n, key_of(Mark::Pr, hour));
@@ -78,11 +83,11 @@ pub(crate) fn price_in(log: &[u8], rows: &[u32; CHANGES_MAX], n: usize, hour: u8
 fn price_hour(row: u32) -> usize
     ensures { λ r. ⌜ r ≡ priceHour row ⌝ }
 {
-    let slot = row / 65536 % 512;
-    if row < 134217728 {
+    let slot = row / SLOT_UNIT % ROW_SLOTS;
+    if row < LIVE_UNIT {
         return 0;
     }
-    if 32 <= slot {
+    if ROW_MARK_SLOTS <= slot {
         return 0;
     }
     slot as usize

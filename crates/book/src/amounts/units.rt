@@ -2,6 +2,10 @@
 use crate::amounts::places::name_at;
 use crate::book::Book;
 use crate::book::CHANGES_MAX;
+use crate::log::rows::LIVE_UNIT;
+use crate::log::rows::ROW_MARK_SLOTS;
+use crate::log::rows::ROW_SLOTS;
+use crate::log::rows::SLOT_UNIT;
 use crate::log::rows::place_in;
 use money::names::Name;
 use money::refusals::NOT_TOGETHER;
@@ -18,12 +22,13 @@ ghost use lib.Dec.{eqb};
 ghost use lib.ListN.{take, drop};
 ghost use Prim.Native.Nat.{_<_, _≤_, _+_, _/_};
 ghost use Rattle.book.specs.Layer.{Change};
-ghost use Rattle.book.specs.Register.{standing};
+ghost use Rattle.book.specs.Register.{maxChanges, standing};
 ghost use Rattle.book.specs.ByName.{addName, namesOf};
 ghost use Rattle.book.specs.Meaning.{load};
 ghost use Rattle.book.specs.tables.Rows.{rowLive, rowSlot, Log, Logged};
 ghost use Rattle.book.specs.UnitNames.{namesIn, unitNames, unitListOf};
 ghost use Rattle.book.specs.Handed.{unitsOf, unitListFrom};
+ghost use Rattle.book.specs.tables.Index.{markSlots};
 
 // Decoded names in byte order, each once: the first n of `names`.
 pub struct Units {
@@ -45,17 +50,17 @@ struct Position {
 
 // Whether the record that a row's change wrote stands, and is of the mark at a place of the listing.
 fn of_mark(row: u32, mark: usize) -> bool
-    ensures { λ r. ⌜ r ≡ (rowLive row && eqb (rowSlot row / 32) mark) ⌝ }
+    ensures { λ r. ⌜ r ≡ (rowLive row && eqb (rowSlot row / markSlots) mark) ⌝ }
 {
-    if row < 134217728 {
+    if row < LIVE_UNIT {
         return false;
     }
-    (row / 65536 % 512 / 32) as usize == mark
+    (row / SLOT_UNIT % ROW_SLOTS / ROW_MARK_SLOTS) as usize == mark
 }
 
 // Where a name is, or the first place whose name comes after it, n where none does.
 fn position_of(u: Units, name: Name) -> Position
-    requires { ⌜ u .n ≤ 512 ⌝ }
+    requires { ⌜ u .n ≤ maxChanges ⌝ }
     ensures { λ r. ⌜ (r .at ≤ u .n) × (addName name (namesIn u) ≡ cond (r .new) (take (r .at) (namesIn u) ++ (name ∷ drop (r .at) (namesIn u))) (namesIn u)) ⌝ }
 {
     let n = u.n;
@@ -75,7 +80,7 @@ fn position_of(u: Units, name: Name) -> Position
 
 // With the name at j, and those from there on one place further.
 fn inserted(u: Units, j: usize, name: Name) -> Units
-    requires { ⌜ (j ≤ u .n) × (u .n < 512) ⌝ }
+    requires { ⌜ (j ≤ u .n) × (u .n < maxChanges) ⌝ }
     ensures { λ r. ⌜ (r .n ≡ u .n + 1) × (namesIn r ≡ take j (namesIn u) ++ (name ∷ drop j (namesIn u)))
         × (u ≡ unitsOf (namesIn u) → r ≡ unitsOf (namesIn r)) ⌝ }
 {
@@ -93,7 +98,7 @@ fn inserted(u: Units, j: usize, name: Name) -> Units
 }
 
 fn with_name(u: Units, name: Name) -> Units
-    requires { ⌜ u .n < 512 ⌝ }
+    requires { ⌜ u .n < maxChanges ⌝ }
     ensures { λ r. ⌜ (r .n ≤ u .n + 1) × (namesIn r ≡ addName name (namesIn u)) × (u ≡ unitsOf (namesIn u) → r ≡ unitsOf (namesIn r)) ⌝ }
 {
     let s = position_of(u, name);
@@ -116,7 +121,7 @@ fn no_names() -> Units
 // By the rows of n changes, for the key's mark. Names are read where they are written.
 pub(crate) fn names_in(log: &[u8], rows: &[u32; CHANGES_MAX], n: usize, key: Key) -> Units
     requires { ⌜ Log (now log) (now rows) n ⌝ }
-    ensures { λ r. ⌜ ((l : List Change) → Logged (now (log .entry)) (now (rows .entry)) n l → take (r .n) (r .names) ≡ namesOf key (standing l)) × (r .n ≤ 512)
+    ensures { λ r. ⌜ ((l : List Change) → Logged (now (log .entry)) (now (rows .entry)) n l → take (r .n) (r .names) ≡ namesOf key (standing l)) × (r .n ≤ maxChanges)
         × (r ≡ unitsOf (namesIn r)) ⌝ }
 {
     let wanted = key.mark;
@@ -137,7 +142,7 @@ pub(crate) fn names_in(log: &[u8], rows: &[u32; CHANGES_MAX], n: usize, key: Key
 impl Book {
     // The names of the units, by decoded name in byte order.
     pub fn units(self, log: &[u8]) -> UnitList
-        ensures { λ r. ⌜ (unitListOf r ≡ unitNames (load self (now (log .entry)))) × (r .units .n ≤ 512) × (r ≡ unitListFrom (unitListOf r)) ⌝ }
+        ensures { λ r. ⌜ (unitListOf r ≡ unitNames (load self (now (log .entry)))) × (r .units .n ≤ maxChanges) × (r ≡ unitListFrom (unitListOf r)) ⌝ }
     {
         let mut rows = [0u32; CHANGES_MAX];
         if self.check_rows(log, &mut rows) {

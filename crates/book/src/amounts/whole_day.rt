@@ -35,6 +35,7 @@ ghost use Rattle.book.specs.tables.Prices.{PriceIs, TableOf};
 ghost use Rattle.book.specs.tables.Units.{Named};
 ghost use Rattle.book.specs.UnitNames.{ghKey, namesIn};
 ghost use Rattle.book.specs.WholeDay.{hourReply, hourFrom, noHour, noUnit, wholeOf, dayAmounts, dayFrom};
+ghost use Rattle.book.specs.tables.Index.{markSlots};
 
 // An hour without amounts.
 fn no_hour() -> HourAmounts
@@ -58,7 +59,7 @@ fn hour_of(
     hour: u8,
     price: HourPrice,
 ) -> HourAmounts
-    requires { ⌜ Log (now log) (now rows) n ⌝ ∗ ⌜ hour < 32 ⌝ }
+    requires { ⌜ Log (now log) (now rows) n ⌝ ∗ ⌜ hour < markSlots ⌝ }
     ensures { λ r. ⌜ ((l : List Change) → Logged (now (log .entry)) (now (rows .entry)) n l → (q : ℕ → HourPricing) → PriceIs (q hour) price
         → r ≡ hourFrom (hourReply (standing l) q hour)) ⌝ }
 {
@@ -72,7 +73,9 @@ fn hour_of(
     }
 }
 
-// Hours 1 to 24, at the prices of a table.
+const LAST_HOUR: u8 = HOURS as u8;
+
+// Each hour, at the prices of a table.
 fn hours_of(
     log: &[u8],
     rows: &[u32; CHANGES_MAX],
@@ -86,7 +89,7 @@ fn hours_of(
     let none = no_hour();
     let mut hours = [none; HOURS];
     let mut i: u8 = 0;
-    while i < 24 {
+    while i < LAST_HOUR {
         let j = i as usize;
         let price = table.hours[j];
         let x = hour_of(log, rows, n, i + 1, price);
@@ -160,9 +163,9 @@ impl Book {
         let unit = no_unit();
         DayAmounts {
             number: NOT_TOGETHER,
-            hours: [hour; 24],
+            hours: [hour; HOURS],
             n: 0,
-            units: [unit; 512],
+            units: [unit; CHANGES_MAX],
         }
     }
 }

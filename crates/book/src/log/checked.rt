@@ -5,7 +5,10 @@ use crate::book::Book;
 use crate::book::CHANGES_MAX;
 use crate::log::index::hour_slot;
 use crate::log::refusal::change_fault;
+use crate::log::rows::LIVE_UNIT;
 use crate::log::rows::NAME_AT;
+use crate::log::rows::ROW_SLOTS;
+use crate::log::rows::SLOT_UNIT;
 use crate::log::rows::clear_row;
 use crate::log::rows::count_in;
 use crate::log::rows::find_in;
@@ -32,7 +35,7 @@ ghost use lib.Dec.{eqb};
 ghost use lib.ListN.{length};
 ghost use Prim.Native.Nat.{ℕ, _<_};
 ghost use Rattle.book.specs.Layer.{Key, Change, keyOf, isWithdrawal, parse};
-ghost use Rattle.book.specs.Register.{listed, takenBack, closing, general};
+ghost use Rattle.book.specs.Register.{maxChanges, listed, takenBack, closing, general};
 ghost use Rattle.book.specs.tables.Rows.{rowSlot, rowKind, Rows, Logged, Log};
 ghost use Rattle.book.specs.tables.Checked.{Checked, Makes, Since, IsChange, Viewing, IsEntry, Undoing, Wrote};
 
@@ -43,7 +46,7 @@ fn wrote_in(row: u32, slot: usize) -> bool
     if is_withdrawal(kind_in(row)) {
         return false;
     }
-    (row / 65536 % 512) as usize == slot
+    (row / SLOT_UNIT % ROW_SLOTS) as usize == slot
 }
 
 // The newest change before the last one that wrote a record of the mark and hour which has the name behind them.
@@ -75,9 +78,9 @@ fn written_before(
 
 // The rows without the last of n changes: the record that it replaced or removed stands again. A filing did neither.
 fn restore(log: &[u8], rows: &mut [u32; CHANGES_MAX], n: usize)
-    requires { ⌜ Log (now log) (now rows) n ⌝ ∗ ⌜ 0 < n ⌝ ∗ ⌜ length (now rows) ≡ 512 ⌝ }
+    requires { ⌜ Log (now log) (now rows) n ⌝ ∗ ⌜ 0 < n ⌝ ∗ ⌜ length (now rows) ≡ maxChanges ⌝ }
     ensures { λ _. ⌜ ((c : Change) (l : List Change) → Logged (now (log .entry)) (now (rows .entry)) n (c ∷ l) → Rows (now (rows .exit)) l l)
-        × (length (now (rows .exit)) ≡ 512) ⌝ }
+        × (length (now (rows .exit)) ≡ maxChanges) ⌝ }
 {
     let row = rows[n - 1];
     if is_filing(kind_in(row)) {
@@ -92,7 +95,7 @@ fn restore(log: &[u8], rows: &mut [u32; CHANGES_MAX], n: usize)
     let bytes = h.bytes;
     let at = written_before(log, rows, n, slot, &bytes[..len]);
     let was = rows[at];
-    rows[at] = was % 134217728 + 134217728;
+    rows[at] = was % LIVE_UNIT + LIVE_UNIT;
 }
 
 impl Book {

@@ -4,7 +4,15 @@ use records::keys::Key;
 use records::marks::key_order;
 ghost use mathlib.Core.Path.{_≡_};
 ghost use Prim.Native.Nat.{_<_};
-ghost use Rattle.book.specs.tables.Index.{hourSlot, bucket};
+ghost use Rattle.book.specs.tables.Index.{slots, buckets, hourSlot, bucket};
+
+// A mark has one slot for each hour and some that none has; 16 marks have them.
+pub(crate) const MARK_SLOTS: usize = 32;
+
+pub(crate) const SLOTS: usize = 512;
+
+// The numbers that a key may have.
+pub(crate) const BUCKETS: usize = 8192;
 
 fn wide(b: u8) -> usize
     ensures { λ r. ⌜ (r ≡ b) × (r < 256) ⌝ }
@@ -13,14 +21,14 @@ fn wide(b: u8) -> usize
 }
 
 pub(crate) fn hour_slot(key: Key) -> usize
-    ensures { λ r. ⌜ (r ≡ hourSlot key) × (r < 512) ⌝ }
+    ensures { λ r. ⌜ (r ≡ hourSlot key) × (r < slots) ⌝ }
 {
     let mark = key.mark;
-    wide(key_order(mark)) * 32 + wide(key.hour)
+    wide(key_order(mark)) * MARK_SLOTS + wide(key.hour)
 }
 
 pub(crate) fn bucket_of(key: Key) -> usize
-    ensures { λ r. ⌜ (r ≡ bucket key) × (r < 8192) ⌝ }
+    ensures { λ r. ⌜ (r ≡ bucket key) × (r < buckets) ⌝ }
 {
     let name = key.name;
     let bytes = name.bytes;
@@ -29,8 +37,8 @@ pub(crate) fn bucket_of(key: Key) -> usize
     let mut i: usize = 0;
     while i < NAME_MAX {
         sum = sum + wide(bytes[i]) * weight;
-        weight = weight * 31 % 8192;
+        weight = weight * 31 % BUCKETS;
         i = i + 1;
     }
-    sum % 8192
+    sum % BUCKETS
 }

@@ -1,4 +1,5 @@
 // The numbers 10 to 13.
+use crate::book::CHANGES_MAX;
 use crate::book::USED_MAX;
 use money::refusals::HOUR_FULL;
 use money::refusals::KEY_STANDS;
@@ -24,7 +25,7 @@ pub(crate) fn capacity(lent: usize) -> usize
 fn space_fault(changes: usize, used: usize, len: usize, lent: usize) -> u8
     ensures { λ r. ⌜ r ≡ spaceFault changes used len lent ⌝ }
 {
-    if 512 <= changes {
+    if CHANGES_MAX <= changes {
         return NO_SPACE;
     }
     let most = capacity(lent);

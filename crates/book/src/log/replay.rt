@@ -1,6 +1,8 @@
 // The one pass over a book's used part.
 use crate::book::CHANGES_MAX;
 use crate::book::USED_MAX;
+use crate::log::index::BUCKETS;
+use crate::log::index::SLOTS;
 use crate::log::index::bucket_of;
 use crate::log::index::hour_slot;
 use crate::log::refusal::change_fault;
@@ -21,11 +23,12 @@ ghost use lib.ListN.{length};
 ghost use Prim.Native.Nat.{_<_, _+_, _-_};
 ghost use Rattle.book.specs.Layer.{isFiling, isWithdrawal, kindIn};
 ghost use Rattle.book.specs.Meaning.{replay};
-ghost use Rattle.book.specs.tables.Rows.{Rowed};
+ghost use Rattle.book.specs.tables.Rows.{slotUnit, Rowed};
+ghost use Rattle.book.specs.Register.{maxChanges};
 
 // How many records of a mark and hour stand after a change of theirs.
 fn count_with(view: View, count: usize) -> usize
-    requires { ⌜ count < 65536 ⌝ }
+    requires { ⌜ count < slotUnit ⌝ }
     ensures { λ r. ⌜ r ≡ cond (isFiling (kindIn (view .act))) (count + 1) (cond (isWithdrawal (kindIn (view .act))) (count - 1) count) ⌝ }
 {
     let kind = kind_of(view);
@@ -44,11 +47,11 @@ fn count_with(view: View, count: usize) -> usize
 // Whether the bytes are n written changes that can be played, with a row for each change. Each is read once. The search for its key
 // starts at the latest change with the key's number.
 pub(crate) fn replayed_rows(part: &[u8], n: u16, rows: &mut [u32; CHANGES_MAX]) -> bool
-    requires { ⌜ length (now rows) ≡ 512 ⌝ }
+    requires { ⌜ length (now rows) ≡ maxChanges ⌝ }
     ensures { λ r. ⌜ Rowed (replay n [] (now (part .entry))) r (now (rows .exit)) ⌝ }
 {
-    let mut latest = [0u16; 8192];
-    let mut counts = [0usize; 512];
+    let mut latest = [0u16; BUCKETS];
+    let mut counts = [0usize; SLOTS];
     let mut q: usize = 0;
     let mut i: usize = 0;
     let end = n as usize;

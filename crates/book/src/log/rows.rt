@@ -1,5 +1,7 @@
 // The rows of a checked book: one number for each change, lent and never copied.
 use crate::book::CHANGES_MAX;
+use crate::log::index::MARK_SLOTS;
+use crate::log::index::SLOTS;
 use crate::log::index::hour_slot;
 use records::heads::name_head;
 use records::keys::Key;
@@ -18,17 +20,29 @@ ghost use lib.ListN.{length, drop};
 ghost use Prim.Native.Nat.{_<_, _≤_, _+_, _%_, _/_};
 ghost use Rattle.book.specs.Layer.{Key, Change, isWithdrawal, kindIn, scan, viewOf};
 ghost use Rattle.book.specs.laws.LayerLaws.{Padded};
-ghost use Rattle.book.specs.Register.{standing, count};
-ghost use Rattle.book.specs.tables.Index.{bucket, latestOf};
-ghost use Rattle.book.specs.tables.Rows.{rowSlot, rowLive, rowPlace, rowStart, rowKind, kindCode, packed, Ruled, Rules, Logged, Log, Search, Sought, cleared};
+ghost use Rattle.book.specs.Register.{maxChanges, standing, count};
+ghost use Rattle.book.specs.tables.Index.{slots, markSlots, bucket, latestOf};
+ghost use Rattle.book.specs.tables.Rows.{slotUnit, rowSlot, rowLive, rowPlace, rowStart, rowKind, kindCode, packed, Ruled, Rules, Logged, Log, Search, Sought, cleared};
+
+// A row's units: below the first stands the place, then mark and hour, then the kind, then whether the record stands.
+pub(crate) const SLOT_UNIT: u32 = 65536;
+
+pub(crate) const KIND_UNIT: u32 = 33554432;
+
+pub(crate) const LIVE_UNIT: u32 = 134217728;
+
+// Slots, and those of a mark, as a row has them.
+pub(crate) const ROW_SLOTS: u32 = SLOTS as u32;
+
+pub(crate) const ROW_MARK_SLOTS: u32 = MARK_SLOTS as u32;
 
 // Where a record has its name: behind mark and hour.
 pub(crate) const NAME_AT: usize = 3;
 
 pub(crate) fn start_in(row: u32) -> usize
-    ensures { λ r. ⌜ (r ≡ rowStart row) × (r < 65536) ⌝ }
+    ensures { λ r. ⌜ (r ≡ rowStart row) × (r < slotUnit) ⌝ }
 {
-    (row % 65536) as usize
+    (row % SLOT_UNIT) as usize
 }
 
 // A kind in two bits of a row.
@@ -45,7 +59,7 @@ fn code_of(kind: Kind) -> u32
 pub(crate) fn kind_in(row: u32) -> Kind
     ensures { λ r. ⌜ r ≡ rowKind row ⌝ }
 {
-    let code = row / 33554432 % 4;
+    let code = row / KIND_UNIT % 4;
     if code == 1 {
         return Kind::File;
     }
@@ -57,7 +71,7 @@ pub(crate) fn kind_in(row: u32) -> Kind
 
 // Where the change wrote its record.
 pub(crate) fn place_in(row: u32) -> usize
-    ensures { λ r. ⌜ (r ≡ rowPlace row) × (r < 65538) ⌝ }
+    ensures { λ r. ⌜ (r ≡ rowPlace row) × (r < slotUnit + 2) ⌝ }
 {
     if is_correction(kind_in(row)) {
         return start_in(row) + 2;
@@ -69,14 +83,14 @@ pub(crate) fn place_in(row: u32) -> usize
 pub(crate) fn stands_in(row: u32, slot: usize) -> bool
     ensures { λ r. ⌜ r ≡ (rowLive row && eqb (rowSlot row) slot) ⌝ }
 {
-    if row < 134217728 {
+    if row < LIVE_UNIT {
         return false;
     }
-    (row / 65536 % 512) as usize == slot
+    (row / SLOT_UNIT % ROW_SLOTS) as usize == slot
 }
 
 fn counted(row: u32, slot: usize, count: usize) -> usize
-    requires { ⌜ count < 65536 ⌝ }
+    requires { ⌜ count < slotUnit ⌝ }
     ensures { λ r. ⌜ r ≡ cond (rowLive row && eqb (rowSlot row) slot) (count + 1) count ⌝ }
 {
     if stands_in(row, slot) {
@@ -88,7 +102,7 @@ fn counted(row: u32, slot: usize, count: usize) -> usize
 // How many records of the key's mark and hour stand.
 pub(crate) fn count_in(rows: &[u32; CHANGES_MAX], n: usize, key: Key) -> usize
     requires { ⌜ Rules (now rows) n ⌝ }
-    ensures { λ r. ⌜ ((l : List Change) → Ruled (now (rows .entry)) n l → key .hour < 32 → r ≡ count key (standing l)) ⌝ }
+    ensures { λ r. ⌜ ((l : List Change) → Ruled (now (rows .entry)) n l → key .hour < markSlots → r ≡ count key (standing l)) ⌝ }
 {
     let slot = hour_slot(key);
     let mut sum: usize = 0;
@@ -168,7 +182,7 @@ pub(crate) fn find_in(
     key: Key,
 ) -> Seek
     requires { ⌜ Log (now log) (now rows) n ⌝ ∗ ⌜ from ≤ n ⌝ }
-    ensures { λ r. ⌜ ((l : List Change) → Logged (now (log .entry)) (now (rows .entry)) n l → key .hour < 32 → Padded (key .name)
+    ensures { λ r. ⌜ ((l : List Change) → Logged (now (log .entry)) (now (rows .entry)) n l → key .hour < markSlots → Padded (key .name)
         → latestOf (bucket key) l ≤ from → Sought (now (rows .entry)) n key r l) ⌝ }
 {
     if from == 0 {
@@ -186,25 +200,25 @@ pub(crate) fn find_in(
 
 // A change at q whose record stands, unless it is a withdrawal.
 pub(crate) fn row_for(view: View, slot: usize, q: usize) -> u32
-    requires { ⌜ (slot < 512) × (q < 65536) ⌝ }
+    requires { ⌜ (slot < slots) × (q < slotUnit) ⌝ }
     ensures { λ r. ⌜ r ≡ packed (not (isWithdrawal (kindIn (view .act)))) (kindIn (view .act)) slot q ⌝ }
 {
     let kind = kind_of(view);
-    let row = code_of(kind) * 33554432 + slot as u32 * 65536 + q as u32;
+    let row = code_of(kind) * KIND_UNIT + slot as u32 * SLOT_UNIT + q as u32;
     if is_withdrawal(kind) {
         return row;
     }
-    134217728 + row
+    LIVE_UNIT + row
 }
 
 // The record that was found stands no longer.
 pub(crate) fn clear_row(rows: &mut [u32; CHANGES_MAX], r: Seek)
-    requires { ⌜ (r .found ≡ true → r .at < 512) ⌝ }
+    requires { ⌜ (r .found ≡ true → r .at < maxChanges) ⌝ }
     ensures { λ _. ⌜ now (rows .exit) ≡ cleared (now (rows .entry)) r ⌝ }
 {
     let at = r.at;
     if r.found {
         let row = rows[at];
-        rows[at] = row % 134217728;
+        rows[at] = row % LIVE_UNIT;
     }
 }

@@ -27,6 +27,7 @@ use Rattle.filter.specs.Program.{inputOf, Run, start, next, Settles}
 use Rattle.filter.specs.laws.MoveLaws.{put-first, take-taken}
 use Rattle.filter.specs.laws.WaitLaws.{loaded-size, feeding-early}
 use Rattle.filter.specs.declared.reading.Reading.{Reading}
+use Rattle.book.specs.laws.LayerLaws.{longestRecord}
 
 counted-more : (a b : ℕ) → counted (counted a + b) ≡ counted (a + b)
 counted-more a b = omega arith
@@ -189,7 +190,7 @@ stands (next {ps} {r} {log} {input} before p space q r′ log′ input′ m) =
 -- ---- what is held
 
 -- less is held than the longest record has: there is always room to read on
-pub held-short : {ps : List (List ℕ)} {r : Reading} {log input : List ℕ} → Run ps r log input → isOver r ≡ false → r .held < 1383
+pub held-short : {ps : List (List ℕ)} {r : Reading} {log input : List ℕ} → Run ps r log input → isOver r ≡ false → r .held < longestRecord
 held-short {ps} {r} {log} {input} run o = go (reached (length log) s .number) refl (omega (arith, ltb-false 1 (r .number) o, x .number))
   where
     s : List ℕ
@@ -198,7 +199,7 @@ held-short {ps} {r} {log} {input} run o = go (reached (length log) s .number) re
     x : Stands (length log) s r log input
     x = stands run
 
-    go : (n : ℕ) → reached (length log) s .number ≡ n → n ≤ 1 → r .held < 1383
+    go : (n : ℕ) → reached (length log) s .number ≡ n → n ≤ 1 → r .held < longestRecord
     go zero e h = omega (arith, x .held o, length-drop (reached (length log) s .taken) s, pieces (length log) fresh s [] .whole e .0)
     go (suc zero) e h = omega (arith, x .held o, early-short (length log) fresh s e)
     go (suc (suc n)) e h = absurd (omega arith)

@@ -18,7 +18,7 @@ use Rattle.records.specs.Keys.{same, sameHour}
 use Rattle.records.specs.Hours.{limitOf}
 use Rattle.records.specs.Changes.{Rec, Change, filed, change, write, Good}
 use Rattle.records.specs.HourRecord.{ofHour, sameAs}
-use Rattle.records.specs.laws.BookLaws.{same-by, same-refl, hour-parts, parts-hour, good-hour, price-name, hour-limit, hour-written}
+use Rattle.records.specs.laws.BookLaws.{same-by, same-refl, hour-parts, parts-hour, good-hour, price-name, hour-limit, longestOfHour, hour-written}
 use Rattle.records.specs.declared.keys.Key.{Key}
 use Rattle.records.specs.declared.marks.Mark.{Mark}
 use Rattle.records.specs.declared.marks.Mark.the-variants.{Pr, Im, Ex, Gh, Fi, Fe}
@@ -60,7 +60,7 @@ pub record Booked (s : List ℕ) (o : ℕ) (l : List Change) (h : Sheet) : Type 
   pub valid : Valid l
   pub hour : Hour o l
   pub number : length l ≤ cond (h .priced) 1 0 + (length (h .imports) + length (h .exports))
-  pub short : length (writeAll l) ≤ 297 * length l
+  pub short : length (writeAll l) ≤ longestOfHour * length l
   pub reach : h .price ≤ length s
   pub price : Priced s (h .priced) (h .price) (pick (hourKey Pr o) (standing l))
   pub imports : Each (Stood s) (h .imports) (byName (hourKey Im o) (standing l))
@@ -95,7 +95,7 @@ priced-found s b at (is r) e = e .0
 
 -- ---- room for every record: at most 1 + 16 + 16 of at most 297 bytes
 
-roomy : (n used len : ℕ) → n ≤ 33 → used ≤ 297 * n → len ≤ 297 → spaceFault n used len maxUsed ≡ 0
+roomy : (n used len : ℕ) → n ≤ 33 → used ≤ longestOfHour * n → len ≤ longestOfHour → spaceFault n used len maxUsed ≡ 0
 roomy n used len a b c =
     ap₂ (λ (x y : Bool). cond x (cond y 0 noSpace) noSpace) (lt-ltb n maxChanges (omega arith))
     (ap (λ (t : Bool). leb (used + len) (cond t maxUsed maxUsed)) (le-ltb maxUsed maxUsed (omega arith)) ∙ le-leb (used + len) maxUsed (omega arith))
@@ -170,7 +170,7 @@ module _ (s : List ℕ) (l : List Change) (h : Sheet) (r : Rec) (g : Good (filed
     abbrev spot : Spot
     spot = record { name = k .name; start = at }
 
-    short-then : length (writeAll (filed r ∷ l)) ≤ 297 * length (filed r ∷ l)
+    short-then : length (writeAll (filed r ∷ l)) ≤ longestOfHour * length (filed r ∷ l)
     short-then = omega (arith, filing-length l r, b .short, hour-written r g o)
 
     hour-then : Hour (k .hour) (filed r ∷ l)

@@ -11,15 +11,15 @@ pub use Rattle.records.specs.laws.ChangeLaws.{Read, view-bad, view-got}
 -- a mark by itself
 pub use Rattle.records.specs.laws.ChangeLaws.{bare-exact}
 -- any mark, and changes one after the other
-pub use Rattle.records.specs.laws.EntryLaws.{Ahead, entry-got, entry-fault, any-fault, any-good, alone, asEntry, any-back, any-close, any-change}
+pub use Rattle.records.specs.laws.EntryLaws.{Ahead, entry-got, entry-fault, any-fault, alone, asEntry, any-back, any-close, any-change}
 -- the first of several changes, with more bytes behind and by itself; a fault in any mark
 pub use Rattle.records.specs.laws.FirmLaws.{entry-more, entry-alone, entry-firm, Unread, entry-bad}
--- the first of several changes by the code's answer; a change that is written of its view
-pub use Rattle.records.specs.laws.ViewedLaws.{Alone, First, front-first, front-unread, viewed-put}
+-- a change that is written of its view
+pub use Rattle.records.specs.laws.ViewedLaws.{viewed-put}
 -- a record that ends early is shorter than the longest one
-pub use Rattle.records.specs.laws.LengthLaws.{entry-early, unread-early, bare-early, whole-early}
+pub use Rattle.records.specs.laws.LengthLaws.{longestRecord, entry-early, unread-early, bare-early, whole-early}
 -- the records of one hour: their limit and their written length; a `PR` has no name
-pub use Rattle.records.specs.laws.HourRecordLaws.{OfHour, hour-record-got, hour-record-fault, price-name, hour-limit, hour-written}
+pub use Rattle.records.specs.laws.HourRecordLaws.{OfHour, hour-record-got, hour-record-fault, price-name, hour-limit, longestOfHour, hour-written}
 -- keys that are the same: mark, hour and decoded name; one stands for the other in every test
 pub use Rattle.records.specs.laws.KeyLaws.{same-by, same-alike, same-refl, same-sym, same-left, same-right, hour-right}
 -- they have one name then, if zeros stand behind their names' bytes, as behind those of changes that may stand
@@ -53,7 +53,7 @@ pub use Rattle.records.specs.laws.HourLaws.{unit-asked}
 -- typed views are what was read, and keep the money rules' ranges; no fault of theirs is 0
 pub use Rattle.records.specs.laws.ViewLaws.{prices-view, prices-there, import-view, export-view, unit-view, failed-import-view, failed-export-view, counted-viewed, counted-failure}
 -- the amounts of a written record are those of its fields
-pub use Rattle.records.specs.laws.ViewLaws.{credit-view, unit-amount-view, failed-import-charge, failed-export-charge}
+pub use Rattle.records.specs.laws.ViewLaws.{failed-import-charge, failed-export-charge}
 pub use Rattle.records.specs.laws.FitLaws.{PricesFit, ImportFits, FailureFits, Listed, ReserveFits, UnitFits, standing-prices, standing-import, standing-export, standing-unit, standing-failed-import, standing-failed-export}
 -- what the amounts of a standing record come to: none is refused at prices that stand
 pub use Rattle.records.specs.laws.AmountLaws.{credit-amount, unit-amount, charge-amount, unit-written, charge-written}

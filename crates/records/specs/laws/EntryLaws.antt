@@ -184,16 +184,6 @@ any-fault s n = go (entry s) refl
     go (got x []) q e z = let y : _≡_ {A = ℕ} 0 1 = cc in omega arith
     go (got x (b ∷ t)) q e z = let p : 8 ≡ n = cc in omega arith
 
--- a change that the general call takes may be written, and the calls for one kind or mark take it too
-pub any-good : (s : List ℕ) (c : Change) → parseAny s ≡ fine (changed c) → Good c
-unfolding parseAny
-any-good s c = go (entry s) refl
-  where
-    go : (r : Res Entry) → entry s ≡ r → whole r ≡ fine (changed c) → Good c
-    go (bad k) q e = absurd (let z : _≡_ {A = ℕ} 0 1 = cc in omega arith)
-    go (got x []) q e = let p : x ≡ changed c = cc in entry-got s x [] q .good c p
-    go (got x (b ∷ t)) q e = absurd (let z : _≡_ {A = ℕ} 0 1 = cc in omega arith)
-
 -- ---- the general call and the methods: it takes a mark for what the method of that mark takes it
 
 abbrev pub alone : Entry → ℕ → Input Entry

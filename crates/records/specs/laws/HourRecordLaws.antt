@@ -98,7 +98,10 @@ unfolding limitOf
 hour-limit k h = eqb-true (limit (k .mark)) hourLimit (every-such ofHour (λ (m : Mark). eqb (limit m) hourLimit) refl (k .mark) h)
 
 -- 3 bytes of mark and hour, 37 of a name, and no more than 257 of fields
-pub hour-written : (r : Rec) → Good (filed r) → ofHour (r .key .mark) ≡ true → length (write (filed r)) ≤ 297
+abbrev pub longestOfHour : ℕ
+longestOfHour = 297
+
+pub hour-written : (r : Rec) → Good (filed r) → ofHour (r .key .mark) ≡ true → length (write (filed r)) ≤ longestOfHour
 hour-written r g h = omega (arith, written-most r g, few (r .key .mark) h)
   where
     few : (m : Mark) → ofHour m ≡ true → bodyMost m ≤ 257

@@ -25,6 +25,7 @@ use Rattle.records.specs.declared.marks.Kind.{Kind}
 use Rattle.records.specs.declared.marks.Kind.the-variants.{File, Correct, Withdraw}
 use Rattle.records.specs.declared.marks.Wanted.{Wanted}
 use Rattle.records.specs.declared.marks.Wanted.the-variants.{Any}
+use Rattle.records.specs.tables.Inner.{maxHead, maxNameHead}
 
 -- a reader of at most n bytes: what it got took no more, and where they end early there are fewer
 pub record Brief {A : Type 0} (n : ℕ) (f : Reader A) : Type 0 where
@@ -222,8 +223,15 @@ bodyMost Gh = 1341
 bodyMost Fi = 16
 bodyMost Fe = 16
 
-body-most : (m : Mark) → bodyMost m ≤ 1341
-body-most m = leb-true (bodyMost m) 1341 (every-mark (λ (m : Mark). leb (bodyMost m) 1341) refl m)
+-- a unit's hour is the longest
+abbrev pub maxBody : ℕ
+maxBody = bodyMost Gh
+
+body-most : (m : Mark) → bodyMost m ≤ maxBody
+body-most m = leb-true (bodyMost m) maxBody (every-mark (λ (m : Mark). leb (bodyMost m) maxBody) refl m)
+
+abbrev pub longestRecord : ℕ
+longestRecord = maxHead + maxBody
 
 brief-layout : (m : Mark) → Brief (bodyMost m) (layout m)
 unfolding layout
@@ -333,11 +341,11 @@ brief-name k m = brief-cond 37 (hasName m) _ (nameless k) (brief-bind 37 0 nameF
 brief-fields : (m : Mark) → Brief (bodyMost m) (taken (layout m))
 brief-fields m = brief-taken (bodyMost m) (layout m) (brief-layout m)
 
-brief-body : (k : Kind) (m : Mark) → Brief 1341 (bodyFor k m)
+brief-body : (k : Kind) (m : Mark) → Brief maxBody (bodyFor k m)
 unfolding bodyFor
-brief-body File m = brief-more (bodyMost m) 1341 _ (body-most m) (brief-fields m)
-brief-body Correct m = brief-more (bodyMost m) 1341 _ (body-most m) (brief-fields m)
-brief-body Withdraw m = brief-more 0 1341 _ (omega arith) (brief-got [])
+brief-body File m = brief-more (bodyMost m) maxBody _ (body-most m) (brief-fields m)
+brief-body Correct m = brief-more (bodyMost m) maxBody _ (body-most m) (brief-fields m)
+brief-body Withdraw m = brief-more 0 maxBody _ (omega arith) (brief-got [])
 
 -- mark and hour, a name, and its mark's fields
 pub written-most : (r : Rec) → Good (filed r) → length (write (filed r)) ≤ 40 + bodyMost (r .key .mark)
@@ -394,23 +402,23 @@ head-behind want a b =
     (brief-cond 2 (is (leadBytes Withdraw) a b) (inside want Withdraw) _ (brief-inside 2 want Withdraw mark brief-mark)
     (brief-more 0 2 _ (omega arith) (brief-inside 0 want File (λ s. mark (a ∷ b ∷ s)) (mark-behind a b))))
 
-brief-rest : (h : Head) → Brief 1379 (rest h)
+brief-rest : (h : Head) → Brief (1 + maxNameHead + maxBody) (rest h)
 unfolding rest
 brief-rest h =
-    brief-bind 1 1378 hour _ brief-hour (λ o. brief-bind 37 1341 (nameFor (h .kind) (h .mark)) _ (brief-name (h .kind) (h .mark)) (λ n.
-    brief-bind 1341 0 (bodyFor (h .kind) (h .mark)) _ (brief-body (h .kind) (h .mark)) (λ b. brief-got _)))
+    brief-bind 1 (maxNameHead + maxBody) hour _ brief-hour (λ o. brief-bind maxNameHead maxBody (nameFor (h .kind) (h .mark)) _ (brief-name (h .kind) (h .mark)) (λ n.
+    brief-bind maxBody 0 (bodyFor (h .kind) (h .mark)) _ (brief-body (h .kind) (h .mark)) (λ b. brief-got _)))
 
-brief-entry : Brief 1383 entry
+brief-entry : Brief longestRecord entry
 unfolding entry change
 brief-entry =
-    brief-two 1381 entry refl (λ a. refl) (λ a b.
-    brief-cond 1381 (is takeBackBytes a b) (λ s. got takingBack s) _ (brief-more 0 1381 _ (omega arith) (brief-got takingBack))
-    (brief-cond 1381 (is closeBytes a b) (λ s. got closing s) _ (brief-more 0 1381 _ (omega arith) (brief-got closing))
-    (brief-bind 1381 0 (λ s. change Any (a ∷ b ∷ s)) _ (brief-bind 2 1379 (λ s. head Any (a ∷ b ∷ s)) _ (head-behind Any a b) (λ h. brief-rest h))
+    brief-two (2 + 1 + maxNameHead + maxBody) entry refl (λ a. refl) (λ a b.
+    brief-cond (2 + 1 + maxNameHead + maxBody) (is takeBackBytes a b) (λ s. got takingBack s) _ (brief-more 0 (2 + 1 + maxNameHead + maxBody) _ (omega arith) (brief-got takingBack))
+    (brief-cond (2 + 1 + maxNameHead + maxBody) (is closeBytes a b) (λ s. got closing s) _ (brief-more 0 (2 + 1 + maxNameHead + maxBody) _ (omega arith) (brief-got closing))
+    (brief-bind (2 + 1 + maxNameHead + maxBody) 0 (λ s. change Any (a ∷ b ∷ s)) _ (brief-bind 2 (1 + maxNameHead + maxBody) (λ s. head Any (a ∷ b ∷ s)) _ (head-behind Any a b) (λ h. brief-rest h))
     (λ c. brief-got (changed c)))))
 
 -- a record that ends early is shorter than the longest one
-pub entry-early : (s : List ℕ) → entry s ≡ bad 1 → length s < 1383
+pub entry-early : (s : List ℕ) → entry s ≡ bad 1 → length s < longestRecord
 entry-early = brief-entry .early
 
 -- ---- the general call

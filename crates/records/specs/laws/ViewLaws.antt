@@ -4,8 +4,6 @@ use mathlib.Core.List.{List, [], _∷_, _++_, append-assoc, append-nil}
 use Prim.Native.Nat.{ℕ}
 use borrow.Author.Tests.{eq-eqb}
 use native.Mathlib.Omega.{arith}
-use Rattle.money.specs.Production.{hourAnswer}
-use Rattle.money.specs.declared.production.UnitHour.{UnitHour}
 use Rattle.money.specs.declared.failure.Failure.{Failure}
 use Rattle.money.specs.declared.names.Name.{Name}
 use Rattle.records.specs.Reading.{Res, got, Reader, _>>=_}
@@ -14,9 +12,8 @@ use Rattle.records.specs.Marks.{markBytes, markAmong, mark, order, sameM
 use Rattle.records.specs.Layouts.{hourPrices, import, export, unit, failure, skip, layout, taken}
 use Rattle.records.specs.Changes.{Rec, filed, head, nameBytes, bodyFor, headBytes, write, Good}
 use Rattle.records.specs.Views.{valueOr, pricesOf, importOf, exportOf, unitHourOf, failureOf, noPrices, noImport, noExport, noUnit, noFailure, ahead, viewed, viewedFailure, pricesIn}
-use Rattle.records.specs.Amounts.{amountFrom, creditFor, creditOf, creditIn, unitAmountOf, unitAmountIn, chargeFor, chargeOf, chargeIn}
+use Rattle.records.specs.Amounts.{amountFrom, chargeFor, chargeOf, chargeIn}
 use Rattle.records.specs.declared.layouts.HourPrices.{HourPrices}
-use Rattle.records.specs.declared.layouts.Import.{Import}
 use Rattle.records.specs.laws.ReaderLaws.{Lawful, lawful-prices, lawful-import, lawful-export, lawful-unit, lawful-failure, Viewed, taken-view, Counted, counted-bind, counted-check}
 use Rattle.records.specs.laws.ChangeLaws.{Kept, good-kept, counted-head, counted-hour, counted-name}
 use Rattle.records.specs.declared.marks.Mark.{Mark}
@@ -133,12 +130,6 @@ module _ (r : Rec) (g : Good (filed r)) (u : List ℕ) where
 
   pub failed-export-view : r .key .mark ≡ Fe → viewedFailure Fe (write (filed r) ++ u) ≡ got (failureOf r) u
   failed-export-view e = written-view failure Fe view-failed-export r e g u noFailure
-
-  pub credit-view : r .key .mark ≡ Im → (p : HourPrices) → creditIn (write (filed r) ++ u) p ≡ creditOf r p
-  credit-view e p = ap (λ (x : Res Import). amountFrom x (λ i. creditFor i p)) (import-view e)
-
-  pub unit-amount-view : r .key .mark ≡ Gh → (p : HourPrices) → unitAmountIn (write (filed r) ++ u) p ≡ unitAmountOf r p
-  unit-amount-view e p = ap (λ (x : Res UnitHour). amountFrom x (λ h. hourAnswer h (p .emp))) (unit-view e)
 
   pub failed-import-charge : r .key .mark ≡ Fi → (p : HourPrices) → chargeIn Fi (write (filed r) ++ u) p ≡ chargeOf r p
   failed-import-charge e p =

@@ -15,6 +15,7 @@ use Rattle.filter.specs.declared.reading.Reading.{Reading}
 use Rattle.stdin.specs.Rounds.{maxRead, brought, Rounds, none, round, ReadAll}
 use Rattle.stdin.specs.declared.Input.{Input}
 use Rattle.io.specs.Counts.{clamped}
+use Rattle.book.specs.laws.LayerLaws.{longestRecord}
 
 pub apart : {A : Type 0} {b : Bool} → b ≡ true → b ≡ false → A
 apart t f = absurd (let z : _≡_ {A = ℕ} 0 1 = cc in omega arith)
@@ -45,7 +46,7 @@ brings (none log bytes e) = record { run = start log bytes; few = omega arith }
 brings (round {ps} {i} {log} {bytes} before o got lent e f i′ log′ bytes′ t) =
     let r : Reading = i .reading in
     let x : Brings ps i log bytes = brings before in
-    let h : r .held < 1383 = held-short (x .run) (more-open before o) in
+    let h : r .held < longestRecord = held-short (x .run) (more-open before o) in
     let n : ℕ = brought got r lent in
     let m : n ≤ length lent - r .held = clamped-most got (length lent - r .held) in
     let p : List ℕ = take n (drop (r .held) lent) in
@@ -58,7 +59,7 @@ brings (round {ps} {i} {log} {bytes} before o got lent e f i′ log′ bytes′ 
     }
 
 -- there is room to read on
-pub room : {ps : List (List ℕ)} {i : Input} {log bytes : List ℕ} → Rounds ps i log bytes → i .more ≡ true → i .reading .held < 1383
+pub room : {ps : List (List ℕ)} {i : Input} {log bytes : List ℕ} → Rounds ps i log bytes → i .more ≡ true → i .reading .held < longestRecord
 room x m = held-short (brings x .run) (more-open x m)
 
 -- ---- all that was read

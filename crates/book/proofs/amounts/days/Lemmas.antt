@@ -2,7 +2,7 @@
 use Prim.Native.Nat.{ℕ, _+_, _-_, _≤_, _<_}
 use mathlib.Core.Path.{_≡_, refl, sym, ap, _∙_, subst}
 use mathlib.Core.List.{List}
-use mathlib.Core.Bool.{Bool, true, false, cond, not, _||_}
+use mathlib.Core.Bool.{Bool, true, false, cond, not}
 use native.Mathlib.Omega.{arith}
 use lib.ListN.{length, take, drop, getD, set, replicate, length-set}
 use lib.Seq.{getD-set-same, getD-set-other}
@@ -33,12 +33,6 @@ use Rattle.book.proofs.book.Lemmas.{step-is, leaves-answered, leaves-16
 -- ---- an hour
 
 module _ (u : HourPlace) (p : HourPrice) where
-  pub paid-known : u .known ≡ true → p .known ≡ paid u p
-  paid-known h = sym (ap (λ (b : Bool). not b || p .known) h)
-
-  pub paid-none : u .known ≡ false → true ≡ paid u p
-  paid-none h = sym (ap (λ (b : Bool). not b || p .known) h)
-
   module _ (s : List ℕ) where
     pub part-empty : u .known ≡ false → noPart ≡ partOf s u p
     unfolding partOf

@@ -15,7 +15,7 @@ use Rattle.book.specs.tables.Tables.{survey}
 use Rattle.book.specs.tables.Places.{leadLength, liveAt, spotOf, putSpot, spots}
 use Rattle.book.specs.laws.RegisterLaws.{valid-new, hour-few}
 use Rattle.book.specs.laws.GatherLaws.{gather, collect, gather-standing, hourPass}
-use Rattle.book.proofs.Inserting.{Sought, sought-here, sought-on, sought-end}
+use Rattle.book.specs.laws.Inserting.{Sought, sought-here, sought-on, sought-end}
 
 pub place-co : (kind : Kind) (q : ℕ) → isCorrection kind ≡ true → q + 2 ≡ q + leadLength kind
 place-co kind q h = simp h

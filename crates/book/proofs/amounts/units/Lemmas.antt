@@ -6,7 +6,7 @@ use mathlib.Core.Bool.{Bool, true, false, cond, _&&_}
 use native.Mathlib.Omega.{arith}
 use lib.ListN.{length, take, drop, getD, set, length-set, drop-of-length-le}
 use lib.Dec.{eqb}
-use borrow.Author.Tests.{eq-eqb, ne-eqb, eqb-true, le-leb, lt-leb}
+use borrow.Author.Tests.{eq-eqb, ne-eqb, eqb-true}
 use lib.Seq.{length-take-le}
 use Rattle.book.specs.Layer.{Key, Name, Change, keyOf, keyOrder, sameKeyMark, decodedBytes, nameBefore, emptyName, pad, kindOf}
 use Rattle.book.specs.declared.amounts.units.Units.{Units}
@@ -24,7 +24,7 @@ use Rattle.book.specs.laws.GatherLaws.{gather, markPass, mark-standing}
 use Rattle.book.proofs.log.Survey.{valid-size}
 use Rattle.book.proofs.log.rows.Lemmas.{Seen, ruled-at, ruled-few, ruled-seen, and-turned, written-at, key-at}
 use Rattle.book.proofs.amounts.places.Gathering.{left-of}
-use Rattle.book.proofs.Inserting.{Sought, sought-here, sought-there, sought-on, sought-end, Opened, opened-behind}
+use Rattle.book.specs.laws.Inserting.{Sought, sought-here, sought-there, sought-on, sought-end, Opened, opened-behind}
 
 -- ---- the place of a name
 module _ (a : Name) (u : Units) (i : ℕ) (h : Sought (addName a) (u .names) (u .n) i) (le : u .n ≤ length (u .names)) where
@@ -90,12 +90,6 @@ picked-mark {row} {all} {q} {c} s k mark e =
     let m : rowSlot row / 32 ≡ keyOrder (keyOf c .mark) = omega (arith, s .slot, s .low) in
     ap₂ _&&_ (s .live) (ap₂ eqb m e ∙ turned (keyOrder (keyOf c .mark)) (keyOrder (k .mark))) ∙ and-turned (liveAt (survey (keyOf c) all) (kindOf c) q)
     (sameKeyMark k (keyOf c))
-
-pub mark-gone : (row mark : ℕ) → row < 134217728 → false ≡ ofMark row mark
-mark-gone row mark h = sym (ap (λ (b : Bool). b && eqb (rowSlot row / 32) mark) (lt-leb 134217728 row h))
-
-pub mark-live : (row mark : ℕ) {b : Bool} → 134217728 ≤ row → b ≡ eqb (rowSlot row / 32) mark → b ≡ ofMark row mark
-mark-live row mark h e = e ∙ sym (ap (λ (b : Bool). b && eqb (rowSlot row / 32) mark) (le-leb 134217728 row h))
 
 -- ---- the loop over a mark
 pub record Listed (s rows : List ℕ) (n mark i : ℕ) (u : Units) : Type 0 where

@@ -6,7 +6,7 @@ use borrow.Author.Needs.{needs}
 use native.Mathlib.Omega.{arith}
 use Rattle.book.specs.Layer.{chargeIn}
 use Rattle.book.specs.tables.Worked.{ticksOf, noSpot}
-use Rattle.book.proofs.Inserting.{unmapped}
+use Rattle.book.specs.laws.Inserting.{unmapped}
 use Rattle.book.proofs.log.Survey.{to-end}
 use Rattle.book.proofs.amounts.failures.Lemmas.{spot-inside, Charging, charging-start, charging-more, charging-end}
 use Rattle.book.proofs.amounts.failures.charges_at.Statement.{statement}

@@ -6,7 +6,7 @@ use borrow.Author.Needs.{needs}
 use Rattle.book.specs.tables.Places.{maxPlaces}
 use Rattle.book.specs.Handed.{maxCharges}
 use Rattle.book.proofs.amounts.guarantees.Pairing.{Naming, charges-start, naming-more, naming-all, charges-whole}
-use Rattle.book.proofs.Inserting.{unmapped}
+use Rattle.book.specs.laws.Inserting.{unmapped}
 use Rattle.book.proofs.amounts.failures.named_charges.Statement.{statement}
 use Rattle.book.proofs.amounts.failures.named_charges.Tie as tie
 

@@ -2,7 +2,7 @@ use mathlib.Core.Path.{_≡_, ap, _∙_}
 use lib.ListN.{length}
 use borrow.Author.Needs.{needs}
 use Rattle.book.specs.Amounts.{charged}
-use Rattle.book.proofs.Inserting.{unmapped}
+use Rattle.book.specs.laws.Inserting.{unmapped}
 use Rattle.book.proofs.amounts.failures.Lemmas.{passed, passed-inside, key-low, hour-absent, hour-unpriced, hour-charged}
 use Rattle.book.proofs.amounts.Handed.{with-charges}
 use Rattle.book.proofs.amounts.failures.of_hour.Statement.{statement}

@@ -6,7 +6,7 @@ use Rattle.records.specs.Amounts.{noImport}
 use Rattle.book.specs.laws.Built.{Filling, fill-start, fill-more, fill-all}
 use Rattle.book.specs.tables.Worked.{entryCredit}
 use Rattle.book.specs.Layer.{noTicks}
-use Rattle.book.proofs.Inserting.{unmapped}
+use Rattle.book.specs.laws.Inserting.{unmapped}
 use Rattle.book.proofs.amounts.guarantees.credits_of.Statement.{statement}
 use Rattle.book.proofs.amounts.guarantees.credits_of.Tie as tie
 

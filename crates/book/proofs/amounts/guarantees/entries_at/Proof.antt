@@ -11,7 +11,7 @@ use Rattle.book.specs.laws.Built.{Filling, fill-start, fill-more, fill-a
 use Rattle.book.specs.Layer.{EntryAnswer, offsetEntryIn}
 use Rattle.book.proofs.log.Survey.{to-end}
 use Rattle.book.specs.tables.Worked.{entryAt, entriesIn, noSpot}
-use Rattle.book.proofs.Inserting.{unmapped}
+use Rattle.book.specs.laws.Inserting.{unmapped}
 use Rattle.book.proofs.amounts.guarantees.entries_at.Statement.{statement}
 use Rattle.book.proofs.amounts.guarantees.entries_at.Tie as tie
 

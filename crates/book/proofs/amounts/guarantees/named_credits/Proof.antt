@@ -6,7 +6,7 @@ use borrow.Author.Needs.{needs}
 use Rattle.book.specs.tables.Places.{maxPlaces}
 use Rattle.book.specs.Handed.{maxCredits}
 use Rattle.book.proofs.amounts.guarantees.Pairing.{Naming, credits-start, naming-more, naming-all, credits-whole}
-use Rattle.book.proofs.Inserting.{unmapped}
+use Rattle.book.specs.laws.Inserting.{unmapped}
 use Rattle.book.proofs.amounts.guarantees.named_credits.Statement.{statement}
 use Rattle.book.proofs.amounts.guarantees.named_credits.Tie as tie
 

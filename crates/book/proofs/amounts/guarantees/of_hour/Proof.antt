@@ -1,7 +1,7 @@
 use mathlib.Core.Path.{_≡_, _∙_}
 use lib.ListN.{length}
 use borrow.Author.Needs.{needs}
-use Rattle.book.proofs.Inserting.{unmapped}
+use Rattle.book.specs.laws.Inserting.{unmapped}
 use Rattle.book.proofs.amounts.failures.Lemmas.{passed, passed-inside, key-low}
 use Rattle.book.proofs.amounts.guarantees.Lemmas.{hour-none, hour-unpriced, hour-worked}
 use Rattle.book.proofs.amounts.guarantees.of_hour.Statement.{statement}

@@ -9,8 +9,8 @@ use native.Mathlib.Omega.{arith}
 use Rattle.book.specs.Layer.{TotalsAnswer, totalsWithIn}
 use Rattle.book.proofs.log.Survey.{to-end}
 use Rattle.book.specs.tables.Worked.{noSpot}
-use Rattle.book.proofs.Totalling.{Totalling, totalling-start, totalling-more, totalling-all}
-use Rattle.book.proofs.Inserting.{unmapped}
+use Rattle.book.specs.laws.Totalling.{Totalling, totalling-start, totalling-more, totalling-all}
+use Rattle.book.specs.laws.Inserting.{unmapped}
 use Rattle.book.proofs.amounts.guarantees.totals_at.Statement.{statement}
 use Rattle.book.proofs.amounts.guarantees.totals_at.Tie as tie
 

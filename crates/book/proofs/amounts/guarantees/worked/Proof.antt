@@ -1,7 +1,7 @@
 use mathlib.Core.Path.{_≡_, sym, _∙_}
 use lib.ListN.{length}
 use borrow.Author.Needs.{needs}
-use Rattle.book.proofs.Inserting.{unmapped}
+use Rattle.book.specs.laws.Inserting.{unmapped}
 use Rattle.book.proofs.amounts.guarantees.Lemmas.{worked-offset, worked-is, never-refused}
 use Rattle.book.proofs.amounts.Handed.{with-credits}
 use Rattle.book.proofs.amounts.guarantees.worked.Statement.{statement}

@@ -4,7 +4,7 @@ use mathlib.Core.Logic.{⊎-elim}
 use native.Mathlib.Omega.{arith}
 use lib.ListN.{length}
 use borrow.Author.Needs.{needs}
-use Rattle.book.proofs.Inserting.{unmapped}
+use Rattle.book.specs.laws.Inserting.{unmapped}
 use Rattle.book.proofs.amounts.places.Gathering.{Gathered, gathered-start, gathered-end, gathered-few, gathered-room, gathered-with, gathered-on}
 use Rattle.book.proofs.amounts.places.gather_rows.Statement.{statement}
 use Rattle.book.proofs.amounts.places.gather_rows.Tie as tie

@@ -4,7 +4,7 @@ use mathlib.Core.Path.{_≡_}
 use borrow.Author.Needs.{needs}
 use native.Mathlib.Omega.{arith}
 use Rattle.book.specs.tables.Places.{putSpot}
-use Rattle.book.proofs.Inserting.{unmapped, Sought, sought-start}
+use Rattle.book.specs.laws.Inserting.{unmapped, Sought, sought-start}
 use Rattle.book.proofs.amounts.places.Lemmas.{slot-here, slot-on, slot-end}
 use Rattle.book.proofs.amounts.places.position_for.Statement.{statement}
 use Rattle.book.proofs.amounts.places.position_for.Tie as tie

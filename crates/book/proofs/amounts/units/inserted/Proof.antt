@@ -2,7 +2,7 @@ use lib.ListN.{length}
 use mathlib.Core.Path.{_≡_, refl}
 use borrow.Author.Needs.{needs}
 use native.Mathlib.Omega.{arith}
-use Rattle.book.proofs.Inserting.{unmapped, Opened, opened-start, opened-next, opened-end}
+use Rattle.book.specs.laws.Inserting.{unmapped, Opened, opened-start, opened-next, opened-end}
 use Rattle.book.proofs.amounts.units.Lemmas.{inserted-whole}
 use Rattle.book.proofs.amounts.units.inserted.Statement.{statement}
 use Rattle.book.proofs.amounts.units.inserted.Tie as tie

@@ -4,7 +4,7 @@ use mathlib.Core.Logic.{⊎-elim}
 use mathlib.Core.Path.{_≡_, sym, ap, _∙_, subst⁻¹}
 use borrow.Author.Needs.{needs}
 use native.Mathlib.Omega.{arith}
-use Rattle.book.proofs.Inserting.{unmapped}
+use Rattle.book.specs.laws.Inserting.{unmapped}
 use Rattle.book.proofs.amounts.units.Lemmas.{Listed, listed-start, listed-few, listed-at, listed-place, listed-skip, listed-next, listed-end}
 use Rattle.book.specs.tables.Rows.{keyAt}
 use Rattle.book.proofs.amounts.units.names_in.Statement.{statement}

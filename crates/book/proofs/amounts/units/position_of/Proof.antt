@@ -5,7 +5,7 @@ use borrow.Author.Tests.{not-true, not-false}
 use borrow.Author.Needs.{needs}
 use native.Mathlib.Omega.{arith}
 use Rattle.book.specs.ByName.{addName}
-use Rattle.book.proofs.Inserting.{unmapped, Sought, sought-start}
+use Rattle.book.specs.laws.Inserting.{unmapped, Sought, sought-start}
 use Rattle.book.proofs.amounts.units.Lemmas.{name-here, name-there, name-on, name-end}
 use Rattle.book.proofs.amounts.units.position_of.Statement.{statement}
 use Rattle.book.proofs.amounts.units.position_of.Tie as tie

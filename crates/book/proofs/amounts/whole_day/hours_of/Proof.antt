@@ -2,7 +2,7 @@ use Prim.Native.Nat.{_-_}
 use native.Mathlib.Omega.{arith}
 use borrow.Author.Needs.{needs}
 use mathlib.Core.Path.{refl}
-use Rattle.book.proofs.Inserting.{unmapped}
+use Rattle.book.specs.laws.Inserting.{unmapped}
 use Rattle.book.proofs.amounts.whole_day.Lemmas.{Hours, hours-start, hours-more, hours-end}
 use Rattle.book.proofs.amounts.whole_day.hours_of.Statement.{statement}
 use Rattle.book.proofs.amounts.whole_day.hours_of.Tie as tie

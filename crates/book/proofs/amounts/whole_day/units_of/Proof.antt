@@ -3,7 +3,7 @@ use native.Mathlib.Omega.{arith}
 use borrow.Author.Needs.{needs}
 use lib.ListN.{length}
 use mathlib.Core.Path.{_≡_, refl}
-use Rattle.book.proofs.Inserting.{unmapped}
+use Rattle.book.specs.laws.Inserting.{unmapped}
 use Rattle.book.proofs.amounts.whole_day.Lemmas.{Dealt, dealt-start, dealt-more, dealt-end, unit-keyed}
 use Rattle.book.proofs.amounts.whole_day.units_of.Statement.{statement}
 use Rattle.book.proofs.amounts.whole_day.units_of.Tie as tie

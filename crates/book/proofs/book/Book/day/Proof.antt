@@ -7,7 +7,7 @@ use Rattle.book.specs.Meaning.{load}
 use Rattle.book.specs.ByName.{namesOf}
 use Rattle.book.specs.Register.{standing}
 use Rattle.book.proofs.book.Rows.{is-rowed, not-rowed, rowed-logged, rowed-log}
-use Rattle.book.proofs.Inserting.{unmapped}
+use Rattle.book.specs.laws.Inserting.{unmapped}
 use Rattle.book.proofs.amounts.whole_day.Lemmas.{day-made, day-mismatched, names-formed}
 use Rattle.book.proofs.book.Book.day.Statement.{statement}
 use Rattle.book.proofs.book.Book.day.Tie as tie
