@@ -1,5 +1,5 @@
 // Runs 01's money cases through the compiled code and prints each answer in ticks and in cents. The same cases stand, of the
-// definitions, in specs/Examples.antt of money.
+// definitions, in specs/laws/Examples.antt of money.
 use money::failure::Failure;
 use money::failure::export_charge;
 use money::failure::import_charge;

@@ -3,11 +3,15 @@
 -- A mark that joins costs a line in each of these tables; what is proved of all marks (`MarkLaws.antt`, and `markAmong` by induction) goes along the listing and stays as it is.
 -- Definitions: here `markBytes`, `listing`, `hasName`, `isFailure`, `order`, `keyMark`, `limit`; `layout` (Layouts), `chargeFor` and `chargeTicksFor` (Amounts),
 -- `ofHour` (HourRecord), `bodyMost` (LengthLaws).
--- Laws: `order-back` (MarkLaws), `head-again` for each kind (ChangeLaws), `head-file` and, for a new layout, a `Layout` (ViewLaws), `askMark-bytes` (KeyLaws), `lawful-layout` (ReaderLaws),
+-- Laws: `order-back` (MarkLaws), `head-again` for each kind (ChangeLaws), `head-file` and a `Layout` (ViewLaws), `askMark-bytes` (KeyLaws), `lawful-layout` (ReaderLaws),
 -- `firm-layout` (FirmLaws), `brief-layout` (LengthLaws).
 -- Code: `Mark`, `MARKS`, `bytes_of`, `listed`, `has_name`, `is_failure`, `order`, `key_mark`, `limit` (marks.rt), `of_hour` (hour_records.rt); with an arm in their proofs
 -- `layout_then` (layouts.rt) and `charge_for` (amounts.rt).
--- In the crate hour_offset: `addFault` and `adding` (Tally), the two `go` of TallyLaws, and with an arm in its proof `with_record` (tally.rt).
+-- In other crates: `book/specs/Layer.antt` hands the names on; hour_offset has `addFault` and `adding` (Tally), the two `go` of TallyLaws, and with an arm in its proof `with_record`
+-- (tally.rt). A mark with an amount: `standing-*` (FitLaws), `*-view` (ViewLaws), `hasAmount`, `amountIn` (bridge/Bridge), `has_amount`, `amount_of` (bridge).
+-- One that is printed: `statement/Statement`.
+-- Beside the crates: peer (`records/mod.rs`, `read.rs`, `write.rs`, `questions.rs`, `statement.rs`, `bin/vectors.rs`), recordtext (`layout.rs`), bench (`generate/forms.rs`, `peer_side.rs`,
+-- `worst_day.rs`, `workloads.rs`, `sweeps_records.rs`), tests/pieces, man (`pewatuno-records.5`, `settle.1`, `recordtext.1`), and include/pewatuno.h where the C call reads it.
 use mathlib.Core.List.{List, [], _∷_}
 use mathlib.Core.Bool.{Bool, true, false, cond, _&&_}
 use Prim.Native.Nat.{ℕ}
