@@ -4,8 +4,8 @@ use mathlib.Core.List.{List, [], _∷_}
 use mathlib.Core.Bool.{false}
 use Prim.Native.Nat.{ℕ, zero, suc, _+_, _-_, _≤_, _<_}
 use native.Mathlib.Omega.{arith}
-use lib.ListN.{length, take, drop, getD, length-drop}
-use lib.Seq.{take-all, drop-drop, drop-length, getD-take}
+use lib.ListN.{length, take, drop, length-drop}
+use lib.Seq.{take-all, drop-drop, drop-length}
 use Rattle.money.specs.declared.units.Answer.{Answer}
 use Rattle.money.specs.declared.units.Answer.the-variants.{Refused}
 use Rattle.records.specs.Reading.{Res, bad, got}
@@ -16,16 +16,11 @@ use Rattle.records.specs.declared.keys.Key.{Key}
 use Rattle.records.specs.declared.hour_records.HourFront.{HourFront}
 use Rattle.records.specs.declared.marks.Kind.the-variants.{File}
 use Rattle.records.specs.declared.marks.Wanted.the-variants.{Only}
-use Rattle.book.specs.declared.amounts.places.Spot.{Spot}
-use Rattle.book.specs.declared.amounts.places.Places.{Places}
-use Rattle.book.specs.tables.Places.{maxPlaces, spots}
-use Rattle.book.specs.tables.Worked.{Inside, noSpot}
 use Rattle.book.specs.Register.{maxUsed, Reg, file, called, listed, judged, refusal, writeAll}
 use Rattle.book.specs.laws.CallLaws.{called-long}
-use Rattle.book.specs.laws.OffsetLaws.{Each, none, more}
 use Rattle.hour_offset.specs.HourOffset.{recordOn, recorded, offsetAfter, hourOffset, answerOf}
 use Rattle.hour_offset.specs.laws.HourOffsetLaws.{at-none, first-then}
-use Rattle.hour_offset.specs.tables.Tally.{Sheet, noSheet, sheetOf, Few, Ready, addFault, adding, endOf}
+use Rattle.hour_offset.specs.tables.Tally.{Sheet, noSheet, sheetOf, Few, addFault, adding, endOf}
 use Rattle.hour_offset.specs.laws.TallyLaws.{Stood, Booked, booked-none, booked-few, rebased, added-is, stepped}
 use Rattle.hour_offset.specs.laws.EndLaws.{ended}
 use Rattle.hour_offset.specs.declared.tally.Tally.{Tally}
@@ -74,28 +69,11 @@ unfolding hourOffset
 started records t w = record
     { within = omega arith; few = w .1; list = []; booked = subst (Booked records 0 []) (sym (w .0)) (booked-none records); so-far = refl }
 
-each-inside : {s : List ℕ} {xs : List Spot} {rs : List Rec} → Each (Stood s) xs rs → (i : ℕ) → getD xs i noSpot .start ≤ length s
-each-inside none zero = omega arith
-each-inside none (suc i) = omega arith
-each-inside (more a e) zero = a .inside
-each-inside (more a e) (suc i) = each-inside e i
-
-inside : {s : List ℕ} (p : Places) {rs : List Rec} → p .n ≤ maxPlaces → Each (Stood s) (spots p) rs → Inside s p
-inside {s} p h e = record { few = h; each = λ i l. subst (λ (x : Spot). x .start ≤ length s) (getD-take (p .n) (p .at) i noSpot l) (each-inside e i) }
-
 -- the used part of so few records
 used-few : (s : List ℕ) (o : ℕ) (l : List Change) (h : Sheet) → Booked s o l h → length (writeAll l) ≤ maxUsed
 used-few s o l h b = omega (arith, b .short, booked-few b)
 
 module _ (records : List ℕ) (t : Tally) (o at : ℕ) (g : Going records t o at) where
-  pub ready : Ready records t
-  ready = record {
-    price = g .booked .reach;
-    imports = inside (t .imports) (g .few .imports) (g .booked .imports);
-    exports = inside (t .exports)
-        (g .few .exports) (g .booked .exports);
-  }
-
   -- nothing is left
   pub finished : length records ≤ at → endOf records (sheetOf t) ≡ answerOf (hourOffset records)
   finished h =
@@ -188,7 +166,7 @@ module _ (records : List ℕ) (t : Tally) (o at : ℕ) (g : Going records t o at
               let sheet-is : sheetOf (d .tally) ≡ adding (r .key .mark) (record { name = r .key .name; start = at }) (sheetOf t) =
               w .1 .1 q ∙ ap (λ (k : Key). adding (k .mark) (record { name = k .name; start = at }) (sheetOf t)) key-is in
               let stood : Stood records (record { name = r .key .name; start = at }) r = record
-              { inside = g .within; name = refl; rest = x .left; front = rd .front } in
+              { name = refl; rest = x .left; front = rd .front } in
               record {
                 within = end-within;
                 few = w .1 .0;

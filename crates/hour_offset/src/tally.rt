@@ -4,9 +4,9 @@ use book::amounts::guarantees::totals_at;
 use book::amounts::places::PLACES_MAX;
 use book::amounts::places::Places;
 use book::amounts::places::Spot;
-use book::amounts::places::inserted;
 use book::amounts::places::no_spots;
-use book::amounts::places::position_for;
+use book::amounts::places::with_spot;
+use book::amounts::prices::prices_at;
 use money::names::Name;
 use money::names::same_name;
 use money::refusals::HOUR_FULL;
@@ -17,17 +17,13 @@ use money::units::Answer;
 use money::units::Ticks;
 use records::amounts::hour_offset;
 use records::keys::Key;
-use records::layouts::HourPrices;
 use records::marks::Mark;
-use records::views::prices_of;
 ghost use mathlib.Core.Path.{_≡_};
 ghost use mathlib.Core.Bool.{cond};
-ghost use lib.ListN.{length, drop};
 ghost use Prim.Native.Nat.{_≤_};
 ghost use Rattle.money.specs.Refusals.{keyStands};
-ghost use Rattle.records.specs.Views.{pricesIn};
 ghost use Rattle.book.specs.tables.Places.{maxPlaces, putSpot, spots};
-ghost use Rattle.hour_offset.specs.tables.Tally.{Few, sheetOf, noSheet, among, placedFault, withPrice, withImport, withExport, addFault, adding, Ready, endOf};
+ghost use Rattle.hour_offset.specs.tables.Tally.{Few, sheetOf, noSheet, among, placedFault, withPrice, withImport, withExport, addFault, adding, endOf};
 
 // The place of the hour's prices, if there is one, and those of its imports and its exports, by name.
 pub struct Tally {
@@ -93,8 +89,7 @@ fn with_place(p: Places, s: Spot) -> Placed
         };
     }
     if p.n < PLACES_MAX {
-        let j = position_for(p, s);
-        let places = inserted(p, j, s);
+        let places = with_spot(p, s);
         return Placed { number: 0, places };
     }
     Placed {
@@ -188,18 +183,9 @@ pub(crate) fn with_record(t: Tally, key: Key, at: usize) -> Tallied
 
 // ---- at the end
 
-// The prices at a place.
-fn prices_at(s: &[u8], at: usize) -> HourPrices
-    requires { ⌜ at ≤ length (now s) ⌝ }
-    ensures { λ r. ⌜ r ≡ pricesIn (drop at (now (s .entry))) ⌝ }
-{
-    let p = prices_of(&s[at..]);
-    p.prices
-}
-
 // The offset of the records that were tallied; 0 without imports, 15 for imports without prices.
 pub(crate) fn at_end(s: &[u8], t: Tally) -> Answer
-    requires { ⌜ Ready (now s) t ⌝ }
+    requires { ⌜ Few t ⌝ }
     ensures { λ r. ⌜ r ≡ endOf (now (s .entry)) (sheetOf t) ⌝ }
 {
     let imports = t.imports;

@@ -1,6 +1,8 @@
 // An hour's guarantees and its wheel offset.
 use crate::amounts::places;
+use crate::amounts::places::PLACES_MAX;
 use crate::amounts::places::Places;
+use crate::amounts::places::least;
 use crate::amounts::prices::HourPrice;
 use crate::amounts::prices::price_in;
 use crate::answers::CREDITS_MAX;
@@ -33,24 +35,24 @@ ghost use Rattle.book.specs.Register.{standing, ask, hourGuarantees};
 ghost use Rattle.book.specs.Meaning.{Meets, guaranteesReply};
 ghost use Rattle.book.specs.Amounts.{HourPricing, guaranteesOf};
 ghost use Rattle.book.specs.Handed.{maxCredits, creditsOf, guaranteesFrom};
-ghost use Rattle.book.specs.tables.Worked.{Inside, entriesIn, totalsIn, entryCredit, namedOf, noGuarantees, Workable, workedIn};
+ghost use Rattle.book.specs.tables.Worked.{entriesIn, totalsIn, entryCredit, namedOf, noGuarantees, Workable, workedIn};
 ghost use Rattle.book.specs.tables.Places.{maxPlaces, spots};
 ghost use Rattle.book.specs.tables.Rows.{Log, Logged};
 ghost use Rattle.book.specs.tables.Prices.{PriceIs};
 ghost use Rattle.book.specs.tables.Index.{markSlots};
 
-// The offset's entries of the imports at the places.
+// The offset's entries of the imports at the places. A place beyond the log's end reads from the end.
 pub fn entries_at(log: &[u8], p: Places, prices: HourPrices) -> [Import; CREDITS_MAX]
-    requires { ⌜ Inside (now log) p ⌝ }
     ensures { λ r. ⌜ take (p .n) r ≡ entriesIn (now (log .entry)) prices (take (p .n) (p .at)) ⌝ }
 {
     let blank = offset_entry(&log[..0], prices);
     let none = blank.entry;
     let mut entries = [none; CREDITS_MAX];
+    let n = least(p.n, PLACES_MAX);
     let mut i: usize = 0;
-    while i < p.n {
+    while i < n {
         let x = p.at[i];
-        let start = x.start;
+        let start = least(x.start, log.len());
         let a = offset_entry(&log[start..], prices);
         let e = a.entry;
         entries[i] = e;
@@ -61,14 +63,14 @@ pub fn entries_at(log: &[u8], p: Places, prices: HourPrices) -> [Import; CREDITS
 
 // The quantities of the exports at the places, summed for each interval.
 pub fn totals_at(log: &[u8], p: Places) -> [Quantity; INTERVALS]
-    requires { ⌜ Inside (now log) p ⌝ }
     ensures { λ r. ⌜ r ≡ totalsIn (now (log .entry)) (take (p .n) (p .at)) ⌝ }
 {
     let mut sums = [Quantity(0); INTERVALS];
+    let n = least(p.n, PLACES_MAX);
     let mut i: usize = 0;
-    while i < p.n {
+    while i < n {
         let x = p.at[i];
-        let start = x.start;
+        let start = least(x.start, log.len());
         let a = totals_with_export(&log[start..], sums);
         let next = a.totals;
         sums = next;
@@ -134,7 +136,7 @@ pub(crate) fn no_guarantees(number: u8) -> Guarantees
 
 // Of the imports and exports at the places, at their hour's prices.
 fn worked(log: &[u8], imports: Places, exports: Places, prices: HourPrices) -> Guarantees
-    requires { ⌜ Inside (now log) imports ⌝ ∗ ⌜ Inside (now log) exports ⌝ }
+    requires { ⌜ imports .n ≤ maxPlaces ⌝ }
     ensures { λ r. ⌜ (Workable (now (log .entry)) prices (spots imports) (spots exports)
         → guaranteesReply r ≡ workedIn (now (log .entry)) prices (spots imports) (spots exports)) × (r .credits .n ≤ maxCredits)
         × (r ≡ guaranteesFrom (guaranteesReply r)) ⌝ }

@@ -4,6 +4,6 @@ pub mod failures;
 pub mod guarantees;
 pub mod hours;
 pub mod places;
-pub(crate) mod prices;
+pub mod prices;
 pub mod units;
 pub mod whole_day;

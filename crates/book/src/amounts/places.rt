@@ -10,9 +10,11 @@ use records::marks::HOUR_LIMIT;
 use records::names::comes_before;
 use records::names::no_name;
 ghost use mathlib.Core.Path.{_≡_};
+ghost use mathlib.Core.Bool.{cond};
 ghost use mathlib.Core.List.{List, _∷_, _++_, map};
+ghost use lib.Dec.{ltb};
 ghost use lib.ListN.{length, take, drop};
-ghost use Prim.Native.Nat.{_<_, _≤_, _+_};
+ghost use Prim.Native.Nat.{_<_, _≤_, _+_, min};
 ghost use Rattle.book.specs.Layer.{Change};
 ghost use Rattle.book.specs.Register.{standing};
 ghost use Rattle.book.specs.ByName.{byName};
@@ -36,7 +38,7 @@ pub struct Places {
 }
 
 // The first place whose name comes after the spot's, n where none does.
-pub fn position_for(p: Places, s: Spot) -> usize
+fn position_for(p: Places, s: Spot) -> usize
     requires { ⌜ p .n ≤ maxPlaces ⌝ }
     ensures { λ r. ⌜ (r ≤ p .n) × (putSpot s (spots p) ≡ take r (spots p) ++ (s ∷ drop r (spots p))) ⌝ }
 {
@@ -53,7 +55,7 @@ pub fn position_for(p: Places, s: Spot) -> usize
 }
 
 // With the spot at j, and those from there on one place further.
-pub fn inserted(p: Places, j: usize, s: Spot) -> Places
+fn inserted(p: Places, j: usize, s: Spot) -> Places
     requires { ⌜ (j ≤ p .n) × (p .n < maxPlaces) ⌝ }
     ensures { λ r. ⌜ (r .n ≡ p .n + 1) × (spots r ≡ take j (spots p) ++ (s ∷ drop j (spots p))) ⌝ }
 {
@@ -70,6 +72,17 @@ pub fn inserted(p: Places, j: usize, s: Spot) -> Places
     next
 }
 
+// With a spot before the first whose name comes after its own; as they are where an hour has no more places.
+pub fn with_spot(p: Places, s: Spot) -> Places
+    ensures { λ r. ⌜ (spots r ≡ cond (ltb (p .n) maxPlaces) (putSpot s (spots p)) (spots p)) × (p .n ≤ maxPlaces → r .n ≤ maxPlaces) ⌝ }
+{
+    if p.n < PLACES_MAX {
+        let j = position_for(p, s);
+        return inserted(p, j, s);
+    }
+    p
+}
+
 // No place is used yet.
 pub fn no_spots() -> Places
     ensures { λ r. ⌜ r .n ≡ 0 ⌝ }
@@ -80,6 +93,16 @@ pub fn no_spots() -> Places
         n: 0,
         at: [blank; PLACES_MAX],
     }
+}
+
+// A count or place, within a limit.
+pub(crate) fn least(a: usize, b: usize) -> usize
+    ensures { λ r. ⌜ r ≡ min a b ⌝ }
+{
+    if a < b {
+        return a;
+    }
+    b
 }
 
 // The name of the record that is written at a place.
@@ -100,8 +123,7 @@ fn with_row(log: &[u8], p: Places, row: u32) -> Places
     let start = place_in(row);
     let name = name_at(log, start);
     let s = Spot { name, start };
-    let j = position_for(p, s);
-    inserted(p, j, s)
+    with_spot(p, s)
 }
 
 // By the rows of n changes, for the key's mark and hour.

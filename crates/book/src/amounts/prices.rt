@@ -1,4 +1,5 @@
 // Prices: of an hour, and of each hour of the day.
+use crate::amounts::places::least;
 use crate::book::CHANGES_MAX;
 use crate::log::rows::LIVE_UNIT;
 use crate::log::rows::ROW_MARK_SLOTS;
@@ -47,12 +48,12 @@ fn no_price() -> HourPrice
     }
 }
 
-// Of the `PR` that is written at a place.
-pub(crate) fn prices_at(log: &[u8], at: usize) -> HourPrices
-    requires { ⌜ at ≤ length (now log) ⌝ }
+// Of the `PR` that is written at a place. One beyond the log's end reads from the end.
+pub fn prices_at(log: &[u8], at: usize) -> HourPrices
     ensures { λ r. ⌜ r ≡ pricesIn (drop at (now (log .entry))) ⌝ }
 {
-    let p = prices_of(&log[at..]);
+    let start = least(at, log.len());
+    let p = prices_of(&log[start..]);
     p.prices
 }
 

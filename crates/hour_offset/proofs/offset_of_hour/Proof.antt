@@ -3,7 +3,7 @@ use mathlib.Core.Path.{_∙_}
 use Prim.Native.Nat.{_-_}
 use lib.ListN.{length}
 use borrow.Author.Needs.{needs}
-use Rattle.hour_offset.proofs.OffsetOfHour.{Going, started, ready, finished, faulty, end-within, end-after, stops, continues}
+use Rattle.hour_offset.proofs.OffsetOfHour.{Going, started, finished, faulty, end-within, end-after, stops, continues}
 use Rattle.hour_offset.proofs.offset_of_hour.Statement.{statement}
 use Rattle.hour_offset.proofs.offset_of_hour.Tie as tie
 
@@ -93,9 +93,7 @@ loop-again c =
     (c6 .first-of-hour .result) (c6 .first-of-hour .ensures) (c5 .if1 .left) _ (c2 .with-record .ensures) (c .before .if2 .left)
 
 at-end-requires : tie.Need-at-end-requires Inv-loop μ-loop
-at-end-requires c κs =
-    let c4 = c .before .before .before .before in
-    ready (c4 .args .records .now) (c .before .loop .tally) (c .before .loop .hour) (c .before .loop .at) (c .before .loop .inv)
+at-end-requires c κs = (c .before .loop) .inv .few
 
 returns-3 : tie.Need-returns-3 Inv-loop μ-loop
 returns-3 c =

@@ -18,12 +18,12 @@ use Rattle.records.specs.laws.BookLaws.{answer-front}
 use Rattle.records.specs.declared.layouts.HourPrices.{HourPrices}
 use Rattle.book.specs.tables.Places.{spots}
 use Rattle.book.specs.tables.Worked.{entriesIn, totalsIn}
-use Rattle.hour_offset.specs.tables.Tally.{sheetOf, Ready, workedAt, endOf}
+use Rattle.hour_offset.specs.tables.Tally.{sheetOf, Few, workedAt, endOf}
 use Rattle.hour_offset.specs.declared.tally.Tally.{Tally}
 
-module _ (s : List ℕ) (t : Tally) (rd : Ready s t) (z : length (t .imports .at) ≡ 16) where
+module _ (s : List ℕ) (t : Tally) (few : Few t) (z : length (t .imports .at) ≡ 16) where
   used : length (spots (t .imports)) ≡ t .imports .n
-  used = length-take-le (t .imports .n) (t .imports .at) (omega (arith, rd .imports .few))
+  used = length-take-le (t .imports .n) (t .imports .at) (omega (arith, few .imports))
 
   by-tests : (a b : Bool) → eqb (t .imports .n) 0 ≡ a → t .priced ≡ b
       → cond a (Amount (record { 0 = pos 0 })) (cond b (workedAt s (pricesIn (drop (t .price) s)) (sheetOf t)) (Refused 15)) ≡ endOf s (sheetOf t)

@@ -1,12 +1,12 @@
 -- The loops over an hour's places, and a record more among them.
-use Prim.Native.Nat.{ℕ, suc, _+_, _-_, _≤_, _<_}
+use Prim.Native.Nat.{ℕ, suc, _+_, _≤_, _<_}
 use mathlib.Core.Path.{_≡_, refl, sym, ap, ap₂, _∙_, subst}
-use mathlib.Core.List.{List, [], _∷_, _++_}
+use mathlib.Core.List.{List, [], _∷_}
 use mathlib.Core.Bool.{Bool, true, false, cond}
 use native.Mathlib.Omega.{arith}
 use lib.Dec.{ltb}
-use lib.ListN.{length, take, drop, getD, length-drop, drop-of-length-le}
-use lib.Seq.{take-all, drop-cons, getD-take, length-take-le}
+use lib.ListN.{length, take, drop, getD, drop-of-length-le}
+use lib.Seq.{drop-cons, getD-take, length-take-le}
 use borrow.Author.Tests.{lt-ltb, le-ltb}
 use Rattle.money.specs.Refusals.{keyStands, hourFull}
 use Rattle.money.specs.Names.{sameName}
@@ -18,9 +18,6 @@ use Rattle.hour_offset.specs.tables.Tally.{Sheet, noSheet, sheetOf, Few,
 use Rattle.hour_offset.specs.declared.tally.Tally.{Tally}
 use Rattle.hour_offset.specs.declared.tally.Tallied.{Tallied}
 use Rattle.hour_offset.specs.declared.tally.Placed.{Placed}
-
-pub to-end : (q : ℕ) (s : List ℕ) → take (length s - q) (drop q s) ≡ drop q s
-to-end q s = take-all (length s - q) (drop q s) (omega (arith, length-drop q s))
 
 -- ---- the search for a name
 pub record Passed (n : Name) (at : List Spot) (m i : ℕ) : Type 0 where
@@ -79,9 +76,12 @@ module _ (p : Places) (s : Spot) (z : length (p .at) ≡ maxPlaces) (h : p .n �
   pub put-full : b ≡ false → maxPlaces ≤ p .n → Puts p s (record { number = hourFull; places = p })
   put-full t f = (number-is t false (le-ltb (p .n) maxPlaces f), (h, λ q. absurd (omega arith)))
 
-  pub put-new : b ≡ false → p .n < maxPlaces → (q : Places) (j : ℕ) → putSpot s (spots p) ≡ take j (spots p) ++ (s ∷ drop j (spots p))
-      → (q .n ≡ p .n + 1) × (spots q ≡ take j (spots p) ++ (s ∷ drop j (spots p))) → Puts p s (record { number = 0; places = q })
-  put-new t f q j w v = (number-is t true (lt-ltb (p .n) maxPlaces f), (omega (arith, v .0), λ x. v .1 ∙ sym w))
+  pub put-new : b ≡ false → p .n < maxPlaces → (q : Places)
+      → (spots q ≡ cond (ltb (p .n) maxPlaces) (putSpot s (spots p)) (spots p)) × (p .n ≤ maxPlaces → q .n ≤ maxPlaces)
+      → Puts p s (record { number = 0; places = q })
+  put-new t f q v =
+      let w = lt-ltb (p .n) maxPlaces f in
+      (number-is t true w, (v .1 h, λ x. v .0 ∙ ap (λ (y : Bool). cond y (putSpot s (spots p)) (spots p)) w))
 
 -- ---- a record more
 abbrev pub Adds : ℕ → Sheet → Tally → Tallied → Type 0

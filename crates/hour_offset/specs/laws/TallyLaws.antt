@@ -40,7 +40,6 @@ use Rattle.hour_offset.specs.tables.Tally.{Sheet, noSheet, among, placed
 
 -- a record is read at a place of the bytes, under its name
 pub record Stood (s : List ℕ) (x : Spot) (r : Rec) : Type 0 where
-  pub inside : x .start ≤ length s
   pub name : x .name ≡ r .key .name
   pub rest : List ℕ
   pub front : change (Only File) (drop (x .start) s) ≡ got (filed r) rest
@@ -61,7 +60,6 @@ pub record Booked (s : List ℕ) (o : ℕ) (l : List Change) (h : Sheet) : Type 
   pub hour : Hour o l
   pub number : length l ≤ cond (h .priced) 1 0 + (length (h .imports) + length (h .exports))
   pub short : length (writeAll l) ≤ longestOfHour * length l
-  pub reach : h .price ≤ length s
   pub price : Priced s (h .priced) (h .price) (pick (hourKey Pr o) (standing l))
   pub imports : Each (Stood s) (h .imports) (byName (hourKey Im o) (standing l))
   pub exports : Each (Stood s) (h .exports) (byName (hourKey Ex o) (standing l))
@@ -74,7 +72,6 @@ booked-none s = record {
   hour = unknown;
   number = omega arith;
   short = omega (arith, none-used);
-  reach = omega arith;
   price = subst (Priced s false 0) (sym (none-picked (hourKey Pr 0))) refl;
   imports = subst (Each (Stood s) []) (sym (none-named (hourKey Im 0))) none;
   exports = subst (Each (Stood s) []) (sym (none-named (hourKey Ex 0))) none;
@@ -195,7 +192,7 @@ module _ (s : List ℕ) (l : List Change) (h : Sheet) (r : Rec) (g : Good (filed
     new-price e =
         subst (Priced s true at) (sym (filing-picked l r (hourKey Pr (k .hour)) true
         (ap (same (hourKey Pr (k .hour))) (sym (price-key (k .hour) r g (mine Pr e))) ∙ same-refl (hourKey Pr (k .hour)))))
-        (refl, record { inside = stood .inside; name = sym (price-name r g e); rest = stood .rest; front = stood .front })
+        (refl, record { name = sym (price-name r g e); rest = stood .rest; front = stood .front })
 
     has-room : (xs : List Spot) → placedFault (k .name) xs ≡ 0 → length xs < maxPlaces
     has-room xs e = ltb-true (length xs) maxPlaces (free (among (k .name) xs) (ltb (length xs) maxPlaces) e)
@@ -219,7 +216,6 @@ module _ (s : List ℕ) (l : List Change) (h : Sheet) (r : Rec) (g : Good (filed
           hour = hour-then;
           number = omega (arith, b .number, unpriced (h .priced) q);
           short = short-then;
-          reach = stood .inside;
           price = new-price e;
           imports = others Pr Im e refl (h .imports) (b .imports);
           exports = others Pr Ex e refl (h .exports) (b .exports);
@@ -231,7 +227,6 @@ module _ (s : List ℕ) (l : List Change) (h : Sheet) (r : Rec) (g : Good (filed
           hour = hour-then;
           number = omega (arith, b .number, put-length spot (h .imports));
           short = short-then;
-          reach = b .reach;
           price = same-price Im e refl;
           imports = one-more Im e (h .imports) (b .imports);
           exports = others Im Ex e refl (h .exports) (b .exports);
@@ -243,7 +238,6 @@ module _ (s : List ℕ) (l : List Change) (h : Sheet) (r : Rec) (g : Good (filed
           hour = hour-then;
           number = omega (arith, b .number, put-length spot (h .exports));
           short = short-then;
-          reach = b .reach;
           price = same-price Ex e refl;
           imports = others Ex Im e refl (h .imports) (b .imports);
           exports = one-more Ex e (h .exports) (b .exports);
@@ -266,7 +260,6 @@ rebased s h p lo hi unknown b f = record {
   hour = known p [] lo hi;
   number = b .number;
   short = b .short;
-  reach = b .reach;
   price = subst (Priced s (h .priced) (h .price)) (none-picked (hourKey Pr 0) ∙ sym (none-picked (hourKey Pr p))) (b .price);
   imports = subst (Each (Stood s) (h .imports)) (none-named (hourKey Im 0) ∙ sym (none-named (hourKey Im p))) (b .imports);
   exports = subst (Each (Stood s) (h .exports)) (none-named (hourKey Ex 0) ∙ sym (none-named (hourKey Ex p))) (b .exports);

@@ -17,7 +17,7 @@ use Rattle.records.specs.declared.marks.Mark.{Mark}
 use Rattle.records.specs.declared.marks.Mark.the-variants.{Pr, Im, Ex, Gh, Fi, Fe}
 use Rattle.book.specs.declared.amounts.places.Spot.{Spot}
 use Rattle.book.specs.tables.Places.{maxPlaces, putSpot, spots}
-use Rattle.book.specs.tables.Worked.{Inside, entriesIn, totalsIn}
+use Rattle.book.specs.tables.Worked.{entriesIn, totalsIn}
 use Rattle.hour_offset.specs.declared.tally.Tally.{Tally}
 
 -- the places that are used: of the prices, if there are any, and of imports and exports by name
@@ -82,12 +82,6 @@ adding Fi s h = h
 adding Fe s h = h
 
 -- ---- the end
-
--- every place is within the bytes
-pub record Ready (s : List ℕ) (t : Tally) : Type 0 where
-  pub price : t .price ≤ length s
-  pub imports : Inside s (t .imports)
-  pub exports : Inside s (t .exports)
 
 -- the offset of the imports and exports at the places
 abbrev pub workedAt : List ℕ → HourPrices → Sheet → Answer

@@ -13,18 +13,14 @@ returns : tie.Need-returns
 returns c = let z : length (c .before .before .args .p .at) ≡ 16 = search (needs, unmapped) in put-there (c .before .before .args .p)
     (c .before .before .args .s) z (c .before .before .pre) _ (c .before .holds .ensures) (c .if1 .taken)
 
-position-for-requires : tie.Need-position-for-requires
-position-for-requires c κs = search needs
-
-inserted-requires : tie.Need-inserted-requires
-inserted-requires c κs = (c .position-for .ensures .0, (c .before .if2) .taken)
+with-spot-requires : tie.Need-with-spot-requires
+with-spot-requires c κs = search needs
 
 returns-2 : tie.Need-returns-2
-returns-2 c = let z : length (c .before .before .before .before .before .before .args .p .at) ≡ 16 = search (needs, unmapped) in put-new
-    (c .before .before .before .before .before .before .args .p) (c .before .before .before .before .before .before .args .s) z
-    (c .before .before .before .before .before .before .pre) _ (c .before .before .before .before .before .holds .ensures)
-    (c .before .before .before .before .if1 .left) (c .before .before .if2 .taken) _ (c .before .position-for .result)
-    (c .before .position-for .ensures .1) (c .inserted .ensures)
+returns-2 c = let z : length (c .before .before .before .before .before .args .p .at) ≡ 16 = search (needs, unmapped) in put-new
+    (c .before .before .before .before .before .args .p) (c .before .before .before .before .before .args .s) z
+    (c .before .before .before .before .before .pre) _ (c .before .before .before .before .holds .ensures)
+    (c .before .before .before .if1 .left) (c .before .if2 .taken) _ (c .with-spot .ensures)
 
 returns-3 : tie.Need-returns-3
 returns-3 c = let z : length (c .before .before .before .before .args .p .at) ≡ 16 = search (needs, unmapped) in put-full
@@ -34,4 +30,4 @@ returns-3 c = let z : length (c .before .before .before .before .args .p .at) �
 pub with-place-spec : {M : Type 1} → statement M
 with-place-spec =
     tie.close
-    (tie.spec holds-requires returns position-for-requires inserted-requires returns-2 returns-3)
+    (tie.spec holds-requires returns with-spot-requires returns-2 returns-3)

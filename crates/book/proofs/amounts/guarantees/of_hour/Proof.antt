@@ -2,7 +2,7 @@ use mathlib.Core.Path.{_≡_, _∙_}
 use lib.ListN.{length}
 use borrow.Author.Needs.{needs}
 use Rattle.book.specs.laws.Inserting.{unmapped}
-use Rattle.book.proofs.amounts.failures.Lemmas.{passed, passed-inside, key-low}
+use Rattle.book.proofs.amounts.failures.Lemmas.{passed, key-low}
 use Rattle.book.proofs.amounts.guarantees.Lemmas.{hour-none, hour-unpriced, hour-worked}
 use Rattle.book.proofs.amounts.guarantees.of_hour.Statement.{statement}
 use Rattle.book.proofs.amounts.guarantees.of_hour.Tie as tie
@@ -34,15 +34,7 @@ gather-rows-requires-2 c κs =
     (c7 .pre .0, key-low (c .key-of2 .ensures) (c7 .pre .1))
 
 worked-requires : tie.Need-worked-requires
-worked-requires c κs = let k = (c .before .before .before .before .before .before .gather-rows) .ok in let k2 = (c .before .gather-rows2) .ok in let la : length
-    (c .before .before .before .before .before .before .gather-rows .result .at) ≡ 16 = search (needs, unmapped) in let lb : length
-    (c .before .gather-rows2 .result .at) ≡ 16 = search (needs, unmapped) in (
-      passed-inside (passed (c .before .before .before .before .before .before .before .key-of .ensures)
-          (c .before .before .before .before .before .before .gather-rows .ensures) la)
-          (c .before .before .before .before .before .before .before .before .before .pre .0),
-      passed-inside (passed (c .before .before .key-of2 .ensures)
-          (c .before .gather-rows2 .ensures) lb) (c .before .before .before .before .before .before .before .before .before .pre .0),
-    )
+worked-requires c κs = c .before .before .before .before .before .before .gather-rows .ensures .1
 
 returns-2 : tie.Need-returns-2
 returns-2 c = let k = (c .before .before .before .before .before .before .before .gather-rows) .ok in let k2 = (c .before .before .gather-rows2) .ok in let la :

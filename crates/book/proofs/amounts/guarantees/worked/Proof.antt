@@ -49,7 +49,7 @@ returns c = let la : length (c .before .before .before .before .before .before .
           (c .before .before .before .before .before .before .before .before .before .before .args .imports)
           (c .before .before .before .before .before .before .before .before .before .before .args .exports)
           (c .before .before .before .before .before .before .before .before .before .before .args .prices) w
-          (c .before .before .before .before .before .before .before .before .before .before .pre .0 .few) la
+          (c .before .before .before .before .before .before .before .before .before .before .pre) la
           (c .before .before .before .before .before .before .before .before .entries-at .result)
           (c .before .before .before .before .before .before .before .before .entries-at .ensures)
           (c .before .before .before .before .before .before .before .totals-at .result)
@@ -67,7 +67,7 @@ returns-2 c = let la : length (c .before .before .before .before .before .before
           (c .before .before .before .before .before .before .before .before .before .args .imports)
           (c .before .before .before .before .before .before .before .before .before .args .exports)
           (c .before .before .before .before .before .before .before .before .before .args .prices) w
-          (c .before .before .before .before .before .before .before .before .before .pre .0 .few) la
+          (c .before .before .before .before .before .before .before .before .before .pre) la
           (c .before .before .before .before .before .before .before .entries-at .result)
           (c .before .before .before .before .before .before .before .entries-at .ensures)
           (c .before .before .before .before .before .before .totals-at .result) (c .before .before .before .before .before .before .totals-at .ensures)),

@@ -1,8 +1,10 @@
 use mathlib.Core.Path.{sym, ap, _∙_}
 use native.Mathlib.Omega.{arith}
 use borrow.Author.Needs.{needs}
+use borrow.Author.Tests.{lt-ltb}
 use Rattle.book.specs.tables.Places.{putSpot, spots}
 use Rattle.book.proofs.amounts.places.Gathering.{spot-read}
+use Rattle.book.proofs.amounts.places.Lemmas.{taken-up}
 use Rattle.book.proofs.amounts.places.with_row.Statement.{statement}
 use Rattle.book.proofs.amounts.places.with_row.Tie as tie
 
@@ -12,24 +14,20 @@ place-in-requires c κs = search needs
 name-at-requires : tie.Need-name-at-requires
 name-at-requires c κs = omega (arith, (c .place-in) .ensures .0, (c .before .before .pre) .1)
 
-position-for-requires : tie.Need-position-for-requires
-position-for-requires c κs = omega (arith, (c .before .before .before .pre) .0)
-
-inserted-requires : tie.Need-inserted-requires
-inserted-requires c κs = (c .position-for .ensures .0, (c .before .before .before .before .pre) .0)
+with-spot-requires : tie.Need-with-spot-requires
+with-spot-requires c κs = search needs
 
 returns : tie.Need-returns
 returns c =
     let c2 = c .before .before in
-    let c3 = c2 .before in
-    let c5 = c3 .before .before in (
-      omega (arith, (c .inserted) .ensures .0, (c5 .pre) .0),
-      (c .inserted) .ensures .1 ∙ sym (c .before .position-for .ensures .1)
-          ∙ ap (λ y. putSpot y (spots (c5 .args .p))) (spot-read (c5 .args .log .now) (c5 .args .row) (c3 .place-in .result) (c2 .name-at .result)
-          (c3 .place-in .ensures .0) (c2 .name-at .ensures)),
+    let c4 = c2 .before .before in (
+      c .with-spot .ensures .1 (omega (arith, (c4 .pre) .0)),
+      c .with-spot .ensures .0 ∙ sym (taken-up _ _ _ (lt-ltb _ _ (c4 .pre .0)))
+          ∙ ap (λ y. putSpot y (spots (c4 .args .p))) (spot-read (c4 .args .log .now) (c4 .args .row) (c2 .place-in .result) (c .before .name-at .result)
+          (c2 .place-in .ensures .0) (c .before .name-at .ensures)),
     )
 
 pub with-row-spec : {M : Type 1} → statement M
 with-row-spec =
     tie.close
-    (tie.spec place-in-requires name-at-requires position-for-requires inserted-requires returns)
+    (tie.spec place-in-requires name-at-requires with-spot-requires returns)
