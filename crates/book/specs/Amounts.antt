@@ -18,12 +18,14 @@ pub data Pick : Type 0 where
   is : Rec → Pick
   nil : Pick
 
+-- the newest of the key; a key stands once
 unfoldable pub pick : Key → List Rec → Pick
 pick k [] = nil
 pick k (x ∷ xs) = cond (same k (x .key)) (is x) (pick k xs)
 
 -- ---- the price of an hour
 
+-- the prices of an hour, or that it has none
 pub data HourPricing : Type 0 where
   priced : HourPrices → HourPricing
   unpriced : HourPricing
@@ -32,6 +34,7 @@ pub data HourPricing : Type 0 where
 abbrev pub hourKey : Mark → ℕ → Key
 hourKey m h = record { mark = m; hour = h; name = emptyName }
 
+-- a `PR` that stands gives the hour its prices
 abbrev pub priceFrom : Pick → HourPricing
 priceFrom (is r) = priced (pricesOf r)
 priceFrom nil = unpriced
@@ -51,6 +54,7 @@ unfoldable pub exported : List Rec → ℕ → ℕ
 exported [] k = 0
 exported (r ∷ rs) k = quantityAt (exportOf r .mqsw) k + exported rs k
 
+-- in each interval
 abbrev pub totalsOf : List Rec → List Quantity
 totalsOf es = seriesOf 0 intervals (exported es)
 
@@ -73,6 +77,7 @@ hourTicks nil q = pos 0
 hourTicks (is r) unpriced = pos 0
 hourTicks (is r) (priced p) = unitTicks r p +ℤ pos (startCents r * ticksPerCent)
 
+-- no record of the key stands
 abbrev pub absent : Pick → Bool
 absent (is r) = false
 absent nil = true
@@ -100,6 +105,7 @@ unitDayOf k rs price =
 
 -- ---- failure charges
 
+-- "no such key", then "a question needs a price that is not filed"
 abbrev pub chargeAt : Pick → HourPricing → Reply
 chargeAt nil q = refused noSuchKey
 chargeAt (is r) unpriced = refused priceMissing
@@ -114,13 +120,16 @@ pub data ChargesReply : Type 0 where
   charged : List NamedAmount → ChargesReply
   no : ℕ → ChargesReply
 
+-- a charge, under its name
 abbrev pub chargeLine : HourPrices → Rec → NamedAmount
 chargeLine p r = record { name = r .key .name; ticks = record { 0 = chargeTicks r p } }
 
+-- no price is needed where none stands
 abbrev pub chargesAt : HourPricing → List Rec → ChargesReply
 chargesAt q [] = charged []
 chargesAt unpriced (f ∷ fs) = no priceMissing
 chargesAt (priced p) (f ∷ fs) = charged (map (chargeLine p) (f ∷ fs))
 
+-- those of the key's mark and hour
 unfoldable pub chargesOf : Key → List Rec → (ℕ → HourPricing) → ChargesReply
 chargesOf k rs price = chargesAt (price (k .hour)) (byName k rs)

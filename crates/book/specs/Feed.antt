@@ -13,6 +13,7 @@ abbrev pub front : List ℕ → Res Entry → List ℕ
 front s (bad k) = s
 front s (got x t) = take (length s - length t) s
 
+-- the bytes of the first record, up to its end; all bytes where none is read
 unfoldable pub firstRecord : List ℕ → List ℕ
 firstRecord s = front s (readEntry s)
 
@@ -24,6 +25,7 @@ pub record FeedReply : Type 0 where
   pub taken : ℕ
   pub number : ℕ
 
+-- nothing is read on
 abbrev pub stopped : Reg → ℕ → FeedReply
 stopped g n = record { reg = g; count = 0; taken = 0; number = n }
 
@@ -53,6 +55,7 @@ pub data Settled : Type 0 where
   statement : Reg → Settled
   ref : ℕ → ℕ → Settled
 
+-- a refusal is that of the record behind those that were taken
 abbrev pub settledAs : Reg → ℕ → ℕ → Settled
 settledAs g n zero = statement g
 settledAs g n (suc k) = ref (n + 1) (suc k)

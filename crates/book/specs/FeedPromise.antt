@@ -32,6 +32,7 @@ pub record Remains (b : Book) (s input : List ℕ) (r : Result) (s′ : List ℕ
   pub book : r .book ≡ b
   pub bytes : s′ ≡ s
 
+-- what reading an input into a book owes, whether or not book and bytes belong together
 pub record Feeds (b : Book) (s input : List ℕ) (r : Result) (s′ : List ℕ) : Type 0 where
   pub together : (l : List Change) → load b s ≡ belongs l → Ends (feeding (length s) (record { list = l; closed = b .closed }) input) s r s′
   pub apart : load b s ≡ mismatched → Remains b s input r s′

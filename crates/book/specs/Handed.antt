@@ -29,15 +29,19 @@ maxCredits = maxImports
 abbrev pub maxCharges : ℕ
 maxCharges = hourLimit
 
+-- the places behind the last amount
 abbrev pub noAmount : NamedAmount
 noAmount = record { name = emptyName; ticks = noTicks }
 
+-- amounts with zeros behind them
 unfoldable pub creditsOf : List NamedAmount → Credits
 creditsOf xs = record { n = length xs; list = pad noAmount maxCredits xs }
 
+-- the same of charges
 unfoldable pub chargeListOf : List NamedAmount → ChargeList
 chargeListOf xs = record { n = length xs; list = pad noAmount maxCharges xs }
 
+-- a number, the credits and the offset
 abbrev pub hourHanded : ℕ → List NamedAmount → ℤ → Guarantees
 hourHanded n cs o = record { number = n; credits = creditsOf cs; offset = record { 0 = o } }
 
@@ -51,12 +55,14 @@ guaranteesFrom (number n) = hourHanded 0 [] (noTicks .0)
 guaranteesFrom (unitDay t v) = hourHanded 0 [] (noTicks .0)
 guaranteesFrom (charge t) = hourHanded 0 [] (noTicks .0)
 
+-- the charges of an hour
 abbrev pub chargesFrom : ChargesReply → Charges
 chargesFrom (charged cs) = record { number = 0; charges = chargeListOf cs }
 chargesFrom (no n) = record { number = n; charges = chargeListOf [] }
 
 -- ---- a unit's day
 
+-- a number, the day total and the reversal
 abbrev pub dayHanded : ℕ → ℤ → ℤ → UnitDay
 dayHanded n t v = record { number = n; total = record { 0 = t }; reversal = record { 0 = v } }
 
@@ -72,9 +78,11 @@ unitDayFrom (charge t) = dayHanded 0 (noTicks .0) (noTicks .0)
 
 -- ---- the names of units, in 512 places
 
+-- names with empty ones behind them
 unfoldable pub unitsOf : List Name → Units
 unitsOf ns = record { n = length ns; names = pad emptyName maxChanges ns }
 
+-- the units' names, or a number
 abbrev pub unitListFrom : NameList → UnitList
 unitListFrom (named ns) = record { number = 0; units = unitsOf ns }
 unitListFrom (unlisted n) = record { number = n; units = unitsOf [] }

@@ -53,5 +53,6 @@ pub use Rattle.money.specs.declared.units.CentsPerStart.{CentsPerStart}
 abbrev pub Asked : Type 0
 Asked = Res Key
 
+-- the key that a question's mark, hour and name ask for
 abbrev pub keyAsked : List ℕ → ℕ → List ℕ → Asked
 keyAsked m h n = ask m h n

@@ -28,6 +28,7 @@ abbrev pub replayOn : List Change → List ℕ → (List Change → List ℕ →
 replayOn acc rest f (seen c n) = cond (eqb (refusal acc maxUsed c) 0) (f (c ∷ acc) (drop n rest)) mismatched
 replayOn acc rest f unseen = mismatched
 
+-- no bytes are left over
 abbrev pub ended : List Change → List ℕ → Load
 ended acc [] = belongs acc
 ended acc (b ∷ rest) = mismatched
@@ -69,6 +70,7 @@ abbrev pub stepped : (ℕ → Reg → Step) → Book → List ℕ → Load → S
 stepped f b s (belongs l) = f (length s) (record { list = l; closed = b .closed })
 stepped f b s mismatched = answered (refused notTogether)
 
+-- what a step leaves of any book and bytes: 16 where they don't belong together
 unfoldable pub outcome : (ℕ → Reg → Step) → Book → List ℕ → After
 outcome f b s = leaving b s (stepped f b s (load b s))
 
@@ -85,6 +87,7 @@ Meets call b s b′ r s′ = Leaves (stepOf call) b s b′ r s′
 
 -- ---- the numbers and values of an answer
 
+-- an answer of the code as a reply
 abbrev pub replyOf : Answer → Reply
 replyOf Accepted = accepted
 replyOf (Refused n) = refused n
@@ -102,6 +105,7 @@ dayReply d = cond (eqb (d .number) 0) (unitDay (d .total .0) (d .reversal .0)) (
 
 -- ---- the charges of a mark and hour
 
+-- 3 where the hour is none of the day
 abbrev pub chargesKeyed : List Change → Asked → ChargesReply
 chargesKeyed l (bad n) = no n
 chargesKeyed l (got k t) = chargesOf k (standing l) (priceOf (standing l))
@@ -111,5 +115,6 @@ abbrev pub hourCharges : Mark → ℕ → Load → ChargesReply
 hourCharges m h mismatched = no notTogether
 hourCharges m h (belongs l) = cond (isFailure m) (chargesKeyed l (askHourOf m h)) (no markUnknown)
 
+-- the answer for charges as a reply
 abbrev pub chargesReply : Charges → ChargesReply
 chargesReply c = cond (eqb (c .number) 0) (charged (take (c .charges .n) (c .charges .list))) (no (c .number))

@@ -69,6 +69,7 @@ capped lent = cond (ltb maxUsed lent) maxUsed lent
 abbrev pub spaceFault : ℕ → ℕ → ℕ → ℕ → ℕ
 spaceFault changes used len lent = cond (ltb changes maxChanges) (cond (leb (used + len) (capped lent)) 0 noSpace) noSpace
 
+-- 13 of a change behind a list
 abbrev pub roomFor : List Change → ℕ → Change → ℕ
 roomFor l lent c = spaceFault (length l) (length (writeAll l)) (length (write c)) lent
 
@@ -88,6 +89,7 @@ pub data Step : Type 0 where
 
 -- ---- the five changes
 
+-- a change that is refused with a number, or joins the list
 abbrev pub judged : Change → Reg → ℕ → Step
 judged c g zero = becomes (record { list = c ∷ g .list; closed = g .closed })
 judged c g (suc n) = answered (refused (suc n))
@@ -107,6 +109,7 @@ abbrev pub shorter : Bool → List Change → Step
 shorter cl [] = answered (refused nothingToTakeBack)
 shorter cl (c ∷ l) = becomes (record { list = l; closed = cl })
 
+-- 1, 2, 8 of the mark, then 9, then 14
 abbrev pub takenBack : ℕ → ℕ → Reg → Step
 takenBack m lent g = unless-closed m g (shorter (g .closed) (g .list))
 
@@ -118,6 +121,7 @@ closing m lent g = unless-closed m g (becomes (record { list = g .list; closed =
 abbrev pub bareTakeBack : List ℕ → ℕ
 bareTakeBack s = bare takeBackBytes s
 
+-- the same of `CL`
 abbrev pub bareClose : List ℕ → ℕ
 bareClose s = bare closeBytes s
 
@@ -157,6 +161,7 @@ answer (hourGuarantees h) lent g = keyed (askHourOf Im h) (λ (k : Key). guarant
 answer (dayOf n) lent g = keyed (askUnit n) (λ (k : Key). unitDayOf k (standing (g .list)) (priceOf (standing (g .list))))
 answer (failureCharge m h n) lent g = keyed (askFailure m h n) (λ (k : Key). chargeOf k (standing (g .list)) (priceOf (standing (g .list))))
 
+-- a question changes nothing
 abbrev pub asking : Question → ℕ → Reg → Step
 asking q lent g = answered (answer q lent g)
 
@@ -172,6 +177,7 @@ pub data Call : Type 0 where
   change : List ℕ → Call
   ask : Question → Call
 
+-- any mark: `TB` and `CL` by themselves, else a change of a record
 abbrev pub general : List ℕ → ℕ → Reg → Step
 general s = cond (begins takeBackBytes s) (takenBack (bareTakeBack s)) (cond (begins closeBytes s) (closing (bareClose s)) (listed (parse Any s)))
 
@@ -194,6 +200,7 @@ abbrev pub after : Step → Reg → Reg
 after (answered r) g = g
 after (becomes h) g = h
 
+-- what a call is told
 abbrev pub reply : Step → Reply
 reply (answered r) = r
 reply (becomes g) = accepted
@@ -208,6 +215,7 @@ unfoldable pub run : List Turn → Reg
 run [] = fresh
 run (t ∷ ts) = after (called (t .call) (t .lent) (run ts)) (run ts)
 
+-- the reply to each call
 unfoldable pub repliesOf : List Turn → List Reply
 repliesOf [] = []
 repliesOf (t ∷ ts) = reply (called (t .call) (t .lent) (run ts)) ∷ repliesOf ts

@@ -4,6 +4,7 @@ use mathlib.Core.List.{List}
 use lib.IntN.{ℤ}
 use Rattle.book.specs.declared.answers.NamedAmount.{NamedAmount}
 
+-- a number, a bare acceptance, or the answer of one of the six questions
 pub data Reply : Type 0 where
   refused : ℕ → Reply
   accepted : Reply

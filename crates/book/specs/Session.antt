@@ -40,6 +40,7 @@ pub record Shown (x : Rec) (bytes : List ℕ) (r : Reply) : Type 0 where
   pub inside : start + len ≤ length bytes
   pub written : take len (drop start bytes) ≡ write (filed x)
 
+-- the reply to the key question: where the standing record is written in the log, or 11
 abbrev pub Shows : Pick → List ℕ → Reply → Type 0
 Shows (is x) bytes r = Shown x bytes r
 Shows nil bytes r = r ≡ refused noSuchKey
@@ -66,6 +67,7 @@ pub record Restored (ts : List Turn) (rs : List Reply) (n : ℕ) (us : List Turn
   pub register : run us ≡ record { list = drop n (run ts .list); closed = false }
   pub agrees : Agrees us qs d kept
 
+-- after a list of calls, and after N takings back from there
 pub record Holds {ts : List Turn} {rs : List Reply} {b : Book} {log : List ℕ} (σ : Session ts rs b log) : Type 0 where
   pub agrees : Agrees ts rs b log
   -- an open book, and every n up to its number of changes

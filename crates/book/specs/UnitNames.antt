@@ -20,6 +20,7 @@ unitKey n = record { mark = Gh; hour = 1; name = n }
 abbrev pub ghKey : Key
 ghKey = unitKey emptyName
 
+-- the used places of a list of units
 abbrev pub namesIn : Units → List Name
 namesIn u = take (u .n) (u .names)
 
@@ -33,5 +34,6 @@ abbrev pub unitNames : Load → NameList
 unitNames mismatched = no notTogether
 unitNames (belongs l) = named (namesOf ghKey (standing l))
 
+-- an answer of the code as names, or a number
 abbrev pub unitListOf : UnitList → NameList
 unitListOf r = cond (eqb (r .number) 0) (named (namesIn (r .units))) (no (r .number))

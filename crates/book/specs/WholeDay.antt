@@ -21,6 +21,7 @@ pub record HourReply : Type 0 where
   pub imports : ChargesReply
   pub exports : ChargesReply
 
+-- the guarantees and both lists of charges of an hour
 abbrev pub hourReply : List Rec → (ℕ → HourPricing) → ℕ → HourReply
 hourReply rs price h = record { guaranteed = guaranteesOf rs price h; imports = chargesOf (hourKey Fi h) rs price; exports = chargesOf (hourKey Fe h) rs price }
 
@@ -29,6 +30,7 @@ pub record UnitReply : Type 0 where
   pub name : Name
   pub day : Reply
 
+-- the day of a unit, under its name
 abbrev pub unitReply : List Rec → (ℕ → HourPricing) → Name → UnitReply
 unitReply rs price n = record { name = n; day = unitDayOf (unitKey n) rs price }
 
@@ -53,9 +55,11 @@ dayAmounts (belongs l) = wholeOf (standing l) (priceOf (standing l))
 
 -- ---- the struct that a day is handed back in; nothing of it is free
 
+-- an hour as it is handed over
 abbrev pub hourFrom : HourReply → HourAmounts
 hourFrom x = record { guarantees = guaranteesFrom (x .guaranteed); imports = chargesFrom (x .imports); exports = chargesFrom (x .exports) }
 
+-- a unit as it is handed over
 abbrev pub unitFrom : UnitReply → UnitAmounts
 unitFrom x = record { name = x .name; day = unitDayFrom (x .day) }
 
@@ -63,9 +67,11 @@ unitFrom x = record { name = x .name; day = unitDayFrom (x .day) }
 abbrev pub noHour : HourAmounts
 noHour = record { guarantees = hourHanded 0 [] (noTicks .0); imports = chargesFrom (charged []); exports = chargesFrom (charged []) }
 
+-- the places behind the last unit
 abbrev pub noUnit : UnitAmounts
 noUnit = record { name = emptyName; day = dayHanded 0 (noTicks .0) (noTicks .0) }
 
+-- a number, the hours and the units
 unfoldable pub wholeHanded : ℕ → List HourAmounts → List UnitAmounts → DayAmounts
 wholeHanded k hs us = record { number = k; hours = pad noHour dayHours hs; n = length us; units = pad noUnit maxChanges us }
 

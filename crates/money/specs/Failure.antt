@@ -38,13 +38,16 @@ importCharge f pd = charge (pd .0 -ℤ dayAheadPrice f) (preDispatchPrice f -ℤ
 abbrev pub exportCharge : Failure → Price → ℤ
 exportCharge f pd = charge (dayAheadPrice f -ℤ pd .0) (dayAheadPrice f -ℤ preDispatchPrice f) (dev f)
 
+-- both quantities and all three prices are in range
 unfoldable pub failureOk : Failure → Price → Bool
 failureOk f pd =
     priceOk pd && (quantityOk (f .«day_ahead_quantity») && (quantityOk (f .«pre_dispatch_quantity»)
     && (priceOk (f .«day_ahead_price») && priceOk (f .«pre_dispatch_price»))))
 
+-- the import charge, or 5
 abbrev pub importChargeAnswer : Failure → Price → Answer
 importChargeAnswer f pd = answer (unless (failureOk f pd) numberOutside 0) (importCharge f pd)
 
+-- the export charge, or 5
 abbrev pub exportChargeAnswer : Failure → Price → Answer
 exportChargeAnswer f pd = answer (unless (failureOk f pd) numberOutside 0) (exportCharge f pd)

@@ -21,12 +21,14 @@ nameBefore xs [] = false
 nameBefore [] (y ∷ ys) = true
 nameBefore (x ∷ xs) (y ∷ ys) = cond (ltb x y) true (cond (ltb y x) false (nameBefore xs ys))
 
+-- the same bytes in the same order
 unfoldable pub sameBytes : List ℕ → List ℕ → Bool
 sameBytes [] [] = true
 sameBytes [] (y ∷ ys) = false
 sameBytes (x ∷ xs) [] = false
 sameBytes (x ∷ xs) (y ∷ ys) = eqb x y && sameBytes xs ys
 
+-- the same decoded bytes
 unfoldable pub sameName : Name → Name → Bool
 sameName a b = sameBytes (decodedBytes a) (decodedBytes b)
 
@@ -41,5 +43,6 @@ lastVisible = 126
 abbrev pub nameByteOk : ℕ → Bool
 nameByteOk b = leb firstVisible b && leb b lastVisible
 
+-- "1 to 12 bytes, each 0x21 to 0x7E"
 unfoldable pub nameOk : Name → Bool
 nameOk a = (leb 1 (a .len) && leb (a .len) maxName) && every (a .len) (λ i. nameByteOk (getD (a .bytes) i 0))

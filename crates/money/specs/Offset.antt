@@ -27,6 +27,7 @@ abbrev pub noImport : Import
 noImport = record
     { name = record { len = 0; bytes = [] }; credit = record { 0 = pos 0 }; quantities = []; offer = record { count = 0; prices = []; quantities = [] } }
 
+-- the i-th entry
 abbrev pub entry : List Import → ℕ → Import
 entry es i = getD es i noImport
 
@@ -43,6 +44,7 @@ precedes a b = cond (ltZ (a .credit .0) (b .credit .0)) true
 unfoldable pub upTo : Import → Import → Bool
 upTo a e = precedes a e || sameName (a .name) (e .name)
 
+-- what an entry adds to the sum up to another
 unfoldable pub counted : Import → Import → ℕ → ℕ
 counted a e k = cond (upTo a e) (mqsi a k) 0
 
@@ -63,6 +65,7 @@ abbrev pub scheduleFault : List Price → Import → ℕ
 scheduleFault ps e = unless (withinOk (e .quantities) (lastQ (e .offer))) beyondList
     (unless (sameℤ (e .credit .0) (credit (e .offer) ps (mqsi e))) numberOutside 0)
 
+-- "entry by entry with 4, 5, 6, 7 as for a record, 5 for a credit that the formula doesn't give"
 unfoldable pub entryFault : List Price → Import → ℕ
 entryFault ps e = unless (nameOk (e .name)) nameFault
     (unless (quantitiesOk (e .quantities)) numberOutside (orElse (offerFault (e .offer)) (scheduleFault ps e)))
@@ -71,9 +74,11 @@ entryFault ps e = unless (nameOk (e .name)) nameFault
 unfoldable pub freshName : List Import → ℕ → Bool
 freshName es i = every i (λ j. not (sameName (entry es i .name) (entry es j .name)))
 
+-- 10 comes after the entry's own faults
 unfoldable pub nthFault : List Price → List Import → ℕ → ℕ
 nthFault ps es i = orElse (entryFault ps (entry es i)) (unless (freshName es i) keyStands 0)
 
+-- the first fault, entry by entry
 unfoldable pub entriesFault : ℕ → List Price → List Import → ℕ
 entriesFault n ps es = firstOf n (nthFault ps es)
 
@@ -81,6 +86,7 @@ entriesFault n ps es = firstOf n (nthFault ps es)
 abbrev pub maxTotal : ℕ
 maxTotal = 1600000
 
+-- "each at most 1,600,000"
 abbrev pub totalOk : Quantity → Bool
 totalOk t = leb (t .0) maxTotal
 
@@ -88,9 +94,11 @@ totalOk t = leb (t .0) maxTotal
 unfoldable pub totalsWith : List Quantity → List Quantity → List Quantity
 totalsWith ts ms = seriesOf 0 intervals (λ (k : ℕ). min (quantityAt ts k + quantityAt ms k) (maxTotal + 1))
 
+-- price and total of an interval
 abbrev pub rateOk : List Price → List Quantity → ℕ → Bool
 rateOk ps ts k = priceOk (getD ps k noPrice) && totalOk (getD ts k noQuantity)
 
+-- of all twelve
 unfoldable pub ratesOk : List Price → List Quantity → Bool
 ratesOk ps ts = every intervals (rateOk ps ts)
 

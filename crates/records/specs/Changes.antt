@@ -38,21 +38,25 @@ pub data Change : Type 0 where
   corrected : Rec → Change
   withdrawn : Key → Change
 
+-- the key of the record that a change is about
 abbrev pub keyOf : Change → Key
 keyOf (filed r) = r .key
 keyOf (corrected r) = r .key
 keyOf (withdrawn k) = k
 
+-- what a change does
 abbrev pub kind : Change → Kind
 kind (filed r) = File
 kind (corrected r) = Correct
 kind (withdrawn k) = Withdraw
 
+-- the fields of its record; a withdrawal has none
 abbrev pub bodyOf : Change → List ℕ
 bodyOf (filed r) = r .body
 bodyOf (corrected r) = r .body
 bodyOf (withdrawn k) = []
 
+-- a change of these parts
 abbrev pub made : Kind → Key → List ℕ → Change
 made File k b = filed (record { key = k; body = b })
 made Correct k b = corrected (record { key = k; body = b })
@@ -60,11 +64,13 @@ made Withdraw k b = withdrawn k
 
 -- ---- marks of changes
 
+-- "`CO`", "`WD`": the mark before the record's
 abbrev pub leadBytes : Kind → List ℕ
 leadBytes File = []
 leadBytes Correct = bytes "CO"
 leadBytes Withdraw = bytes "WD"
 
+-- "`TB`, `CL`: mark only"
 abbrev pub takeBackBytes : List ℕ
 takeBackBytes = bytes "TB"
 
@@ -98,6 +104,7 @@ abbrev pub allowed : Wanted → Kind → Bool
 allowed Any k = true
 allowed (Only w) k = sameKind w k
 
+-- what a change does, and the mark of its record
 pub record Head : Type 0 where
   pub kind : Kind
   pub mark : Mark
@@ -120,6 +127,7 @@ nameless File s = got emptyName s
 nameless Correct s = got emptyName s
 nameless Withdraw s = byte s >>= λ n t. check (eqb n 0) nameFault (got emptyName t)
 
+-- "Name: a length byte .. then that many bytes"; none where the mark has none
 unfoldable pub nameFor : Kind → Mark → Reader Name
 nameFor k m s = cond (hasName m) (storedName (nameField s)) (nameless k s)
 
@@ -135,6 +143,7 @@ rest h s =
     hour s >>= λ o t. nameFor (h .kind) (h .mark) t >>= λ n u. bodyFor (h .kind) (h .mark) u >>= λ b v.
     got (made (h .kind) (record { mark = h .mark; hour = o; name = n }) b) v
 
+-- mark, hour, name, fields: "Fields are read left to right"
 unfoldable pub change : Wanted → Reader Change
 change want s = head want s >>= λ h t. rest h t
 
@@ -144,6 +153,7 @@ pub data Entry : Type 0 where
   takingBack : Entry
   closing : Entry
 
+-- a change of any kind: a bare mark, or one of a record
 unfoldable pub entry : Reader Entry
 entry [] = bad endsEarly
 entry (a ∷ []) = bad endsEarly
@@ -153,10 +163,12 @@ entry (a ∷ b ∷ s) =
 
 -- ---- what an argument is: any spelling, and "bytes left over" give 8
 
+-- what an argument is: a change, or the number of its first fault
 pub data Input (A : Type 0) : Type 0 where
   fine : A → Input A
   fault : ℕ → Input A
 
+-- "bytes left over" gives 8
 abbrev pub whole : {A : Type 0} → Res A → Input A
 whole (bad k) = fault k
 whole (got a []) = fine a
@@ -178,14 +190,17 @@ bare m (a ∷ b ∷ s) = cond (is m a b) (cond (eqb (length s) 0) 0 bytesLeftOve
 
 -- ---- writing
 
+-- what stands for no name: nothing, or a withdrawal's length byte 0
 abbrev pub noName : Kind → List ℕ
 noName File = []
 noName Correct = []
 noName Withdraw = 0 ∷ []
 
+-- the length byte and the one spelling
 unfoldable pub nameBytes : Kind → Mark → Name → List ℕ
 nameBytes k m n = cond (hasName m) (length (spell (bytesOf n)) ∷ spell (bytesOf n)) (noName k)
 
+-- mark of the change, mark of the record, hour, name
 unfoldable pub headBytes : Kind → Key → List ℕ
 headBytes k x = leadBytes k ++ (markBytes (x .mark) ++ (x .hour ∷ nameBytes k (x .mark) (x .name)))
 
@@ -197,6 +212,7 @@ write c = headBytes (kind c) (keyOf c) ++ bodyOf c
 unfoldable pub put : List ℕ → ℕ → List ℕ → List ℕ
 put d at xs = sets d at xs
 
+-- there is room at the place
 abbrev pub fits : Change → ℕ → List ℕ → Bool
 fits c at d = leb (at + length (write c)) (length d)
 
@@ -205,6 +221,7 @@ abbrev pub putNumber : Input Change → ℕ → List ℕ → ℕ
 putNumber (fault k) at d = k
 putNumber (fine c) at d = cond (fits c at d) 0 noSpace
 
+-- what the bytes then are
 abbrev pub putBytes : Input Change → ℕ → List ℕ → List ℕ
 putBytes (fault k) at d = d
 putBytes (fine c) at d = cond (fits c at d) (put d at (write c)) d
@@ -216,11 +233,13 @@ pub data Scan : Type 0 where
   seen : Change → ℕ → Scan
   unseen : Scan
 
+-- the second begins with the first
 abbrev pub begins : List ℕ → List ℕ → Bool
 begins [] s = true
 begins (x ∷ xs) [] = false
 begins (x ∷ xs) (y ∷ s) = eqb x y && begins xs s
 
+-- read, and written so
 abbrev pub written : List ℕ → Res Change → Scan
 written s (bad k) = unseen
 written s (got c t) = cond (begins (write c) s) (seen c (length (write c))) unseen
@@ -235,6 +254,7 @@ Good c = (t : List ℕ) → change Any (write c ++ t) ≡ got c t
 
 -- ---- what the code answers
 
+-- the key beside a number
 abbrev pub noKey : Key
 noKey = record { mark = Pr; hour = 0; name = emptyName }
 
@@ -252,10 +272,12 @@ kindIn TakeBack = File
 kindIn Close = File
 kindIn Nothing = File
 
+-- a change as its view
 abbrev pub viewOf : Scan → View
 viewOf (seen c n) = record { act = Record (kind c); key = keyOf c; len = n }
 viewOf unseen = record { act = Nothing; key = noKey; len = 0 }
 
+-- an entry as its view
 abbrev pub entryView : Entry → View
 entryView (changed c) = viewOf (seen c (length (write c)))
 entryView takingBack = record { act = TakeBack; key = noKey; len = 0 }
@@ -265,13 +287,16 @@ entryView closing = record { act = Close; key = noKey; len = 0 }
 abbrev pub changeView : Res Change → Res View
 changeView r = r >>= λ c t. got (viewOf (seen c (length (write c)))) t
 
+-- the first of several, as its view
 abbrev pub entryRead : Res Entry → Res View
 entryRead r = r >>= λ x t. got (entryView x) t
 
+-- an argument as its view, or its number
 abbrev pub parsedOf : Input Change → Parsed
 parsedOf (fine c) = record { number = 0; view = viewOf (seen c (length (write c))) }
 parsedOf (fault n) = record { number = n; view = viewOf unseen }
 
+-- the same of any mark
 abbrev pub entryOf : Input Entry → Parsed
 entryOf (fine x) = record { number = 0; view = entryView x }
 entryOf (fault n) = record { number = n; view = viewOf unseen }

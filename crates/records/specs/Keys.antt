@@ -52,9 +52,11 @@ askFailureMark ms = askMark ms >>= λ m t. check (isFailure m) markUnknown (got 
 unfoldable pub askFrom : Res Mark → ℕ → List ℕ → Res Key
 askFrom x h ns = x >>= λ m t. check (between 1 dayHours h) hourOutside (askName m ns >>= λ n u. got (record { mark = m; hour = h; name = n }) [])
 
+-- the key of a record
 abbrev pub ask : List ℕ → ℕ → List ℕ → Res Key
 ask ms h ns = askFrom (askMark ms) h ns
 
+-- the key of a failure
 abbrev pub askFailure : List ℕ → ℕ → List ℕ → Res Key
 askFailure ms h ns = askFrom (askFailureMark ms) h ns
 
@@ -62,6 +64,7 @@ askFailure ms h ns = askFrom (askFailureMark ms) h ns
 unfoldable pub askHourOf : Mark → ℕ → Res Key
 askHourOf m h = check (between 1 dayHours h) hourOutside (got (record { mark = m; hour = h; name = emptyName }) [])
 
+-- asked for by the mark's bytes
 unfoldable pub askHour : List ℕ → ℕ → Res Key
 askHour ms h = askMark ms >>= λ m t. askHourOf m h
 
@@ -69,10 +72,12 @@ askHour ms h = askMark ms >>= λ m t. askHourOf m h
 unfoldable pub askUnit : List ℕ → Res Key
 askUnit ns = storedName (decodeName ns) >>= λ n u. got (record { mark = Gh; hour = 1; name = n }) []
 
+-- a key, or the number of what is wrong with it
 abbrev pub keyAnswer : Res Key → KeyAnswer
 keyAnswer (bad n) = record { number = n; key = noKey }
 keyAnswer (got k t) = record { number = 0; key = k }
 
+-- a name, or its number
 abbrev pub nameAnswer : Res Name → NameAnswer
 nameAnswer (bad n) = record { number = n; name = emptyName }
 nameAnswer (got x t) = record { number = 0; name = x }

@@ -63,9 +63,11 @@ lists s1 s2 s3 s =
     listFrom (fewest s1) s >>= λ l1 s. listFrom (fewest s2) s >>= λ l2 s. listFrom (fewest s3) s >>= λ l3 s.
     got (record { ahead = da; real = rt; spinning = l1; nonspinning = l2; thirty = l3 }) s
 
+-- "D within both lists, each reserve schedule within its own"
 abbrev pub allWithin : Lists → List Quantity → List Quantity → List Quantity → List Quantity → Bool
 allWithin l d s1 s2 s3 = within (l .ahead) d && (within (l .real) d && (within (l .spinning) s1 && (within (l .nonspinning) s2 && within (l .thirty) s3)))
 
+-- the fields as a unit's hour
 abbrev pub unitOf : Schedules → Reserve → Reserve → Reserve → Offer → Offer → UnitHour
 unitOf h r1 r2 r3 da rt = record {
   startup = h .startup;
@@ -82,9 +84,11 @@ unitOf h r1 r2 r3 da rt = record {
   realoffer = rt;
 }
 
+-- prices, schedules and list of a reserve
 abbrev pub reserveOf : ReserveSeries → Offer → Reserve
 reserveOf w o = record { prices = w .prices; schedules = w .schedules; offer = o }
 
+-- "start-up cents u32 .. then lists DA, RT and three reserves"; 7 after all of them
 unfoldable pub unit : Reader UnitHour
 unit s =
     schedules s >>= λ h s. reserveSeries s >>= λ w1 s. reserveSeries s >>= λ w2 s. reserveSeries s >>= λ w3 s.

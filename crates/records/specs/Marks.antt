@@ -79,6 +79,7 @@ order Gh = 3
 order Fi = 4
 order Fe = 5
 
+-- one mark
 abbrev pub sameMark : Mark → Mark → Bool
 sameMark a b = eqb (order a) (order b)
 
@@ -91,6 +92,7 @@ keyMark Gh = Gh
 keyMark Fi = Fi
 keyMark Fe = Fe
 
+-- its place in the listing
 abbrev pub keyOrder : Mark → ℕ
 keyOrder m = order (keyMark m)
 
@@ -98,9 +100,11 @@ keyOrder m = order (keyMark m)
 abbrev pub hourLimit : ℕ
 hourLimit = 16
 
+-- "8 for `GH`"
 abbrev pub unitLimit : ℕ
 unitLimit = 8
 
+-- of each mark
 abbrev pub limit : Mark → ℕ
 limit Pr = hourLimit
 limit Im = hourLimit

@@ -70,15 +70,18 @@ digit n = cond (ltb n 10) (char "0" + n) (char "A" + (n - 10))
 unfoldable pub spellByte : ℕ → List ℕ
 spellByte x = cond (unreserved x) (x ∷ []) (char "%" ∷ digit (x / 16) ∷ digit (x % 16) ∷ [])
 
+-- byte by byte
 unfoldable pub spell : List ℕ → List ℕ
 spell [] = []
 spell (x ∷ xs) = spellByte x ++ spell xs
 
 -- ---- a decoded name as a key holds it: its length, and its bytes with zeros behind them
 
+-- a name as it is kept: its bytes with zeros behind them
 abbrev pub nameFrom : List ℕ → Name
 nameFrom n = record { len = length n; bytes = pad 0 maxName n }
 
+-- the bytes of a name, without the zeros
 abbrev pub bytesOf : Name → List ℕ
 bytesOf n = take (n .len) (n .bytes)
 
@@ -92,8 +95,10 @@ storedName r = r >>= λ n t. got (nameFrom n) t
 
 -- ---- a name as it is written, with zeros behind it: number 0, or "name breaks its rule" of one that is none, and no bytes
 
+-- a number, and bytes with zeros behind them
 abbrev pub spellingBytes : ℕ → List ℕ → Spelling
 spellingBytes k s = record { number = k; len = length s; bytes = pad 0 maxSpelling s }
 
+-- 4 of a name that breaks its rule
 unfoldable pub spellingOf : Name → Spelling
 spellingOf n = cond (nameOk n) (spellingBytes 0 (spell (bytesOf n))) (spellingBytes nameFault [])
