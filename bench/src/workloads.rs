@@ -207,11 +207,16 @@ impl Bench {
         let book = kept.book();
         let mut sizes = [0; GUARANTEE_SIZES];
         let mut amounts = [0; GUARANTEE_AMOUNTS];
+        // The interface tells each import by its place, which it asks for.
+        let place = |name: &[u8]| book.record(&kept.bytes, b"IM", 5, name).is_ok();
         self.row(
-            format!("an hour of 16 IM, 16 EX, {size} changes"),
+            format!("an hour of 16 IM, 16 EX and 16 places, {size} changes"),
             Layer::AmountQuestions,
             || bridge::guarantees(kept.state, &kept.bytes, 5, &mut sizes, &mut amounts),
-            || book.guarantees(&kept.bytes, 5).is_ok(),
+            || {
+                let hour = book.guarantees(&kept.bytes, 5);
+                hour.is_ok_and(|hour| hour.credits.iter().all(|(name, _)| place(&name.spelled())))
+            },
         )
     }
 

@@ -158,7 +158,10 @@ mod tests {
     /// Names made for another index would be names like any others.
     #[test]
     fn the_number_is_that_of_the_proved_index() {
-        let path = concat!(env!("CARGO_MANIFEST_DIR"), "/../crates/book/src/log/index.rt");
+        let path = concat!(
+            env!("CARGO_MANIFEST_DIR"),
+            "/../crates/book/src/log/index.rt"
+        );
         let source = fs::read_to_string(path).expect("the source of the index");
         let steps = [
             "const MARK_SLOTS: usize = 32;",

@@ -43,7 +43,7 @@ fn print_all(bench: Bench) {
     let questions = bench.questions();
     print_rows(&questions);
     let amounts = [
-        ("an hour of 16 IM, 16 EX", bench.guarantees()),
+        ("an hour of 16 IM, 16 EX and 16 places", bench.guarantees()),
         ("a unit's day of 24 hours", bench.unit_days()),
         ("a failure charge", bench.charges()),
     ];
