@@ -23,6 +23,7 @@ pub mod OrderLaws
 pub mod HandedLaws
 pub mod ValidLaws
 pub mod WholeDayLaws
+pub mod SizeLaws
 pub mod GatherLaws
 pub mod HourLaws
 pub mod Examples

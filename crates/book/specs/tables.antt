@@ -8,3 +8,4 @@ pub mod Worked
 pub mod Prices
 pub mod Units
 pub mod Hours
+pub mod Sizes

@@ -7,4 +7,5 @@ pub mod CancelledLaws
 pub mod LentLaws
 pub mod ProductionLaws
 pub mod FailureLaws
+pub mod SizeLaws
 pub mod Examples

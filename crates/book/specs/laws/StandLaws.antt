@@ -9,7 +9,7 @@ use lib.ListN.{length, drop, getD, take-append-drop}
 use lib.Seq.{drop-append-le}
 use Rattle.laws.specs.Lists.{All, done, also}
 use Rattle.book.specs.Layer.{Key, sameKeyMark, Name, Rec, Change, filed, corrected, withdrawn, write, Good, same, sameHour, decodedBytes, nameBefore, keyAsked, got, markBytes}
-use Rattle.book.specs.laws.LayerLaws.{good-co, same-refl, same-alike, names-apart, sameHour-same, asked, sole, sole-is}
+use Rattle.book.specs.laws.LayerLaws.{good-co, same-refl, same-mark, names-apart, sameHour-same, asked, sole}
 use Rattle.book.specs.Layer.{askBytes}
 use Rattle.book.specs.Register.{writeAll, without, standing, stands}
 use Rattle.book.specs.Amounts.{is, nil, pick}
@@ -110,7 +110,7 @@ pub record Found (s : List ℕ) (l : List Change) (k : Key) : Type 0 where
 
 -- it has the key's mark, if that shares its keys with no other
 pub found-mark : {s : List ℕ} {l : List Change} {k : Key} (f : Found s l k) → sole (k .mark) ≡ true → f .what .key .mark ≡ k .mark
-found-mark {k = k} f o = sym (sole-is (k .mark) o (f .what .key .mark) (same-alike k (f .what .key) (f .same) .mark))
+found-mark {k = k} f o = same-mark k (f .what .key) o (f .same)
 
 module _ {s : List ℕ} {l : List Change} (o : Begun s l) where
   whole : s ≡ writeAll l ++ drop (length (writeAll l)) s

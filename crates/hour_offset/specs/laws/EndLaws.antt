@@ -15,7 +15,7 @@ use Rattle.records.specs.Reading.{Res}
 use Rattle.records.specs.Amounts.{offsetAnswer, offsetEntry}
 use Rattle.records.specs.Views.{pricesOf, pricesIn}
 use Rattle.records.specs.Changes.{Rec, Change, filed, Good}
-use Rattle.records.specs.laws.BookLaws.{PricesFit, standing-prices, read-prices, read-entry, read-totals, same-alike, sole-is, hour-mark, hour-key}
+use Rattle.records.specs.laws.BookLaws.{PricesFit, standing-prices, read-prices, read-entry, read-totals, same-mark, hour-mark, hour-key}
 use Rattle.records.specs.declared.keys.Key.{Key}
 use Rattle.records.specs.declared.amounts.EntryAnswer.{EntryAnswer}
 use Rattle.records.specs.declared.amounts.TotalsAnswer.{TotalsAnswer}
@@ -94,7 +94,7 @@ module _ (s : List ℕ) (o : ℕ) (l : List Change) (h : Sheet) (b : Booked s o 
         by-tests false false test w
         ∙ ap (λ (r : Reply). answerOf (offsetIn r)) (no-price imports exports some)
     some-said (is r) e w =
-        let mk : r .key .mark ≡ Pr = sym (sole-is Pr refl (r .key .mark) (same-alike (hourKey Pr o) (r .key) (pick-key (hourKey Pr o) (standing l) r e) .mark)) in
+        let mk : r .key .mark ≡ Pr = same-mark (hourKey Pr o) (r .key) refl (pick-key (hourKey Pr o) (standing l) r e) in
         let good : Good (filed r) = all-pick (hourKey Pr o) r (standing-good l (b .valid)) e in
         let p = pricesOf r in
         let f : PricesFit p = standing-prices r good mk in

@@ -81,7 +81,7 @@ module _ (ps : List Price) (ts : List Quantity) {n : ℕ} {es : List Import} (s 
   pub adj-ready : {q : ℕ → ℕ} {i : ℕ} → i < n → ((k : ℕ) → k < intervals → q k ≡ adj n es ts i k) → Ready (entry es i .offer) ps q
   adj-ready {i = i} l h = record { good = s .each i l .good; prices = rates; within = λ k m. omega (arith, h k m, s .each i l .within k m) }
 
-  gives-size : (i : ℕ) → i < n → natAbs (gives n es ps ts i) ≤ 10560000000000
+  pub gives-size : (i : ℕ) → i < n → natAbs (gives n es ps ts i) ≤ 10560000000000
   gives-size i l = sub-within (entry es i .credit .0) (credit (entry es i .offer) ps (adj n es ts i)) (s .each i l .small)
       (credit-size _ _ _ (adj-ready {q = adj n es ts i} {i = i} l (λ k m. refl)))
 

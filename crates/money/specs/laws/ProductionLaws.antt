@@ -544,7 +544,7 @@ pub hour-given : (h : UnitHour) (ps : List Price) → unitFault h ps ≡ 0 → h
 hour-given h ps e = ap (λ (n : ℕ). answer n (hourAmount h ps)) e
 
 -- ---- a day
-amount-in : (t : Ticks) (s : CentsPerStart) → amountOk t s ≡ true → (natAbs (t .0) ≤ 100000000000000) × (s .0 ≤ 100000000)
+pub amount-in : (t : Ticks) (s : CentsPerStart) → amountOk t s ≡ true → (natAbs (t .0) ≤ 100000000000000) × (s .0 ≤ 100000000)
 amount-in t s e =
     let a = and-true (leZ (negℤ (pos maxHour)) (t .0)) (leZ (t .0) (pos maxHour) && leb (s .0) maxCents) e in
     let b = and-true (leZ (t .0) (pos maxHour)) (leb (s .0) maxCents) (a .1) in
@@ -573,9 +573,14 @@ day-of ts ss e =
     = λ i l. amount-in (getD ts i noTicks) (getD ss i noStart) (every-at dayHours (λ i. amountOk (getD ts i noTicks) (getD ss i noStart)) e i l) in
     record { amounts = λ i l. at i l .0; starts = λ i l. at i l .1 }
 
+-- an hour's amount with its start-up
+pub part-within : (t : Ticks) (s : CentsPerStart) → natAbs (t .0) ≤ maxHour → s .0 ≤ maxCents
+    → natAbs (t .0 +ℤ pos (s .0 * ticksPerCent)) ≤ maxHour + maxCents * ticksPerCent
+part-within t s h k = add-within (t .0) (pos (s .0 * ticksPerCent)) {B = maxCents * ticksPerCent} h (omega arith)
+
 module _ {ts : List Ticks} {ss : List CentsPerStart} (ready : DayReady ts ss) where
   part-size : (j : ℕ) → j < dayHours → natAbs (hourPart ts ss j) ≤ 100012000000000
-  part-size j l = add-within (getD ts j noTicks .0) (pos (getD ss j noStart .0 * ticksPerCent)) {B = 12000000000} (ready .amounts j l) (omega (arith, ready .starts j l))
+  part-size j l = part-within (getD ts j noTicks) (getD ss j noStart) (ready .amounts j l) (ready .starts j l)
 
   pub day-room : {sum : ℤ} {i : ℕ} → Summed dayHours (hourPart ts ss) sum i → Moderate sum
   day-room {i = i} u = rw (u .so-far) (omega (arith, u .upto, Σℤ-within 100012000000000 i (hourPart ts ss) (λ j m. part-size j (omega (arith, u .upto)))))

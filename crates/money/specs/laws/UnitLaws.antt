@@ -15,13 +15,14 @@ use mir.Val.{SFits, toZ, ofZ}
 use mir.Facts.{toZ-ofZ}
 use Rattle.laws.specs.Carried.{Carried}
 use Rattle.laws.specs.Ints.{minℤ}
-use Rattle.laws.specs.IntLaws.{ints, by₁, by₂, dif, dif-abs, pos-dif, neg-*, le-true, ≤ℤ-antisym}
+use Rattle.laws.specs.IntLaws.{ints, by₁, by₂, dif, dif-abs, pos-dif, abs-neg, neg-*, le-true, ≤ℤ-antisym}
 use Rattle.laws.specs.Sums.{every, orElse}
 use Rattle.laws.specs.SumLaws.{every-yes, every-at, and-true, last-or}
 use Rattle.money.specs.declared.units.Price.{Price}
 use Rattle.money.specs.declared.units.Quantity.{Quantity}
 use Rattle.money.specs.declared.units.Answer.the-variants.{Amount, Refused}
 use Rattle.money.specs.Units.{intervals, ticksPerCent, minPrice, maxPrice, noPrice, noQuantity, priceOk, quantityOk, quantityAt, seriesOf, pricesOk, quantitiesOk, withinOk, sameℤ, unless, answer, centsOf}
+use Rattle.money.specs.tables.Numbers.{maxAmount, Bounded}
 use Rattle.money.specs.tables.Ready.{Rates}
 
 -- what owning an array of structs tells of its list
@@ -166,6 +167,12 @@ cents-half-below n = below (suc n * 120 - 60) (suc n) (omega arith) (omega arith
     below : (m k : ℕ) → 0 < m → (m + 60) / 120 ≡ k → centsOf (negℤ (pos m)) ≡ negℤ (pos k)
     below zero k h e = absurd (omega arith)
     below (suc m) k h e = ap (λ (x : ℕ). negℤ (pos x)) e
+
+-- the cents of an amount within the largest one are within its cents
+pub cents-bounded : (t : ℤ) → Bounded t → natAbs (centsOf t) ≤ maxAmount / ticksPerCent
+unfolding centsOf
+cents-bounded (pos n) h = omega arith
+cents-bounded (negsuc n) h = rw (abs-neg (pos ((suc n + ticksPerCent / 2) / ticksPerCent))) (omega arith)
 
 -- a series of zeros
 pub zeros : (n k : ℕ) → quantityAt (replicate n noQuantity) k ≡ 0

@@ -1,18 +1,31 @@
--- What the code's numbers hold: amounts that can be added up, an array's element, what two quantities give, an interval's speed no-load.
+-- What the code's numbers hold: amounts that can be added up, the largest amount, an array's element, what two quantities give, an interval's speed
+-- no-load.
 use mathlib.Core.Bool.{cond}
 use mathlib.Core.List.{List}
-use Prim.Native.Nat.{ℕ, _-_, _*_, _≤_, min, max}
+use Prim.Native.Nat.{ℕ, _+_, _-_, _*_, _≤_, min, max}
 use lib.Dec.{ltb}
 use lib.IntN.{ℤ, pos, natAbs}
 use lib.ListN.{getD}
 use Rattle.money.specs.declared.units.Ticks.{Ticks}
 use Rattle.money.specs.declared.production.Pick.{Pick}
 use Rattle.money.specs.declared.production.Pick.the-variants.{Lesser, Greater, Above}
-use Rattle.money.specs.Units.{noloadTicks}
+use Rattle.money.specs.Units.{dayHours, ticksPerCent, noloadTicks, maxCents}
+use Rattle.money.specs.Production.{maxHour}
 
 -- an amount that any sum or difference of two such still holds in 64 bits
+abbrev pub maxModerate : ℕ
+maxModerate = 100000000000000000
+
 abbrev pub Moderate : ℤ → Type 0
-Moderate z = natAbs z ≤ 100000000000000000
+Moderate z = natAbs z ≤ maxModerate
+
+-- no amount of a day is larger than a unit's of 24 hours, each of the largest amount that a day takes and with the largest start-up: in ticks
+abbrev pub maxAmount : ℕ
+maxAmount = dayHours * (maxHour + maxCents * ticksPerCent)
+
+-- an amount within it
+abbrev pub Bounded : ℤ → Type 0
+Bounded z = natAbs z ≤ maxAmount
 
 -- a sum of quantities that a quantity's 32 bits hold
 abbrev pub Fits : ℕ → Type 0

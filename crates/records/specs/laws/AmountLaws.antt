@@ -1,19 +1,24 @@
--- No amount of a record that stands is refused, at prices that stand: what it comes to, and what the offset and the day take of it.
+-- No amount of a record that stands is refused, at prices that stand: what it comes to, its size, and what the offset and the day take of it.
 use mathlib.Core.Path.{_≡_, refl, ap, _∙_, subst, subst⁻¹}
 use mathlib.Core.List.{List, [], _∷_, _++_}
 use mathlib.Core.Bool.{true, _&&_}
 use mathlib.Core.Logic.{⊎-elim}
-use Prim.Native.Nat.{ℕ, zero, suc, _≤_, _<_}
+use Prim.Native.Nat.{ℕ, zero, suc, _+_, _*_, _≤_, _<_}
 use native.Mathlib.Nat.{not-suc-le-zero, le-of-suc-le-suc}
+use lib.IntN.{pos, natAbs, _+ℤ_}
 use lib.ListN.{length, getD}
+use Rattle.money.specs.Units.{ticksPerCent, maxCents}
 use Rattle.money.specs.Names.{nameByteOk, nameOk}
 use Rattle.money.specs.Offset.{entryFault}
-use Rattle.money.specs.Production.{amountOk, reserveFault, reserveNumbersOk, unitFault, hourAnswer}
+use Rattle.money.specs.Production.{maxHour, amountOk, reserveFault, reserveNumbersOk, unitFault, hourAnswer}
+use Rattle.money.specs.tables.Numbers.{Bounded}
 use Rattle.money.specs.laws.GuaranteeLaws.{credit-given}
 use Rattle.money.specs.laws.NameLaws.{name-fine}
 use Rattle.money.specs.laws.OffsetLaws.{entry-fine}
 use Rattle.money.specs.laws.ProductionLaws.{reserve-full, reserve-empty, numbers-fine, lists-fine, within-fine, unit-fine, hour-given, hour-taken}
 use Rattle.money.specs.laws.FailureLaws.{failure-fine, import-charged, export-charged}
+use Rattle.money.specs.laws.SizeLaws.{no-amount, answered-credit, answered-import-charge, answered-export-charge, part-bounded}
+use Rattle.money.specs.declared.units.Ticks.{Ticks}
 use Rattle.money.specs.declared.units.Answer.{Answer}
 use Rattle.money.specs.declared.units.Answer.the-variants.{Amount}
 use Rattle.money.specs.declared.units.Quantity.{Quantity}
@@ -28,13 +33,13 @@ use Rattle.records.specs.Reading.{Res, got, _>>=_}
 use Rattle.records.specs.Layouts.{import}
 use Rattle.records.specs.Changes.{Rec, Change, filed, keyOf, write, Good}
 use Rattle.records.specs.Views.{importOf, exportOf, unitHourOf, failureOf, noImport}
-use Rattle.records.specs.Amounts.{creditFor, creditOf, unitAmountOf, chargeFor, chargeOf, creditTicks, unitTicks, chargeTicksFor, chargeTicks, given, entryFrom, entryAnswer, partAnswer, totalsAnswer, totalsWith, offsetEntry, offsetEntryIn, unitPartIn, totalsWithIn, chargeIn}
+use Rattle.records.specs.Amounts.{creditFor, creditOf, unitAmountOf, chargeFor, chargeOf, creditTicks, unitTicks, startCents, chargeTicksFor, chargeTicks, given, entryFrom, entryAnswer, partAnswer, totalsAnswer, totalsWith, offsetEntry, offsetEntryIn, unitPartIn, totalsWithIn, chargeIn}
 use Rattle.records.specs.laws.NameLaws.{Visible}
 use Rattle.records.specs.laws.KeyLaws.{name-decoded}
 use Rattle.records.specs.laws.ViewLaws.{view-import, written-ahead, body-view, export-view, failed-import-charge, failed-export-charge, unit-view}
 use Rattle.records.specs.laws.FitLaws.{PricesFit, Listed, full, empty, ReserveFits, UnitFits, standing-import, standing-unit, standing-failed-import, standing-failed-export}
 use Rattle.records.specs.declared.marks.Mark.{Mark}
-use Rattle.records.specs.declared.marks.Mark.the-variants.{Im, Ex, Gh, Fi, Fe}
+use Rattle.records.specs.declared.marks.Mark.the-variants.{Pr, Im, Ex, Gh, Fi, Fe}
 use Rattle.records.specs.declared.layouts.HourPrices.{HourPrices}
 use Rattle.records.specs.declared.layouts.Import.{Import}
 use Rattle.records.specs.declared.layouts.Export.{Export}
@@ -63,6 +68,9 @@ module _ (r : Rec) (p : HourPrices) (g : Good (filed r)) (e : r .key .mark ≡ I
   credit-amount =
       let i = standing-import r g e in
       credit-given (importOf r .offer) (p .emp) (importOf r .mqsi) (f .emp) (i .mqsi) (i .offer) (i .inside)
+
+  pub credit-bounded : Bounded (creditTicks r p)
+  credit-bounded = answered-credit (importOf r .offer) (p .emp) (importOf r .mqsi) _ credit-amount
 
   pub entry-sound : entryFault (p .emp) (offsetEntry p r) ≡ 0
   unfolding creditTicks
@@ -115,6 +123,10 @@ module _ (r : Rec) (p : HourPrices) (g : Good (filed r)) (e : r .key .mark ≡ G
   unfolding unitTicks
   unit-ready = hour-taken (unitHourOf r) (p .emp) (unit-sound (unitHourOf r) p (standing-unit r g e) f)
 
+  -- with its start-up
+  pub unit-bounded : natAbs (unitTicks r p +ℤ pos (startCents r * ticksPerCent)) ≤ maxHour + maxCents * ticksPerCent
+  unit-bounded = part-bounded (record { 0 = unitTicks r p }) (unitHourOf r .startup) unit-ready
+
 -- ---- a failure
 
 pub charge-amount : (r : Rec) (p : HourPrices) → Good (filed r) → isFailure (r .key .mark) ≡ true → PricesFit p
@@ -137,6 +149,17 @@ charge-amount r p g h f = ⊎-elim by-import by-export (failure-mark (r .key .ma
         let s = standing-failed-export r g e in
         subst⁻¹ Charged e (export-charged (failureOf r) (p .pd)
         (failure-fine (failureOf r) (p .pd) (f .pd) (s .day-ahead-quantity) (s .pre-dispatch-quantity) (s .day-ahead-price) (s .pre-dispatch-price)))
+
+pub charge-bounded : (r : Rec) (p : HourPrices) → Good (filed r) → isFailure (r .key .mark) ≡ true → PricesFit p → Bounded (chargeTicks r p)
+charge-bounded r p g h f = by-mark (r .key .mark) _ (charge-amount r p g h f)
+  where
+    by-mark : (m : Mark) (t : Ticks) → chargeFor m (failureOf r) p ≡ Amount t → Bounded (t .0)
+    by-mark Pr t = no-amount
+    by-mark Im t = no-amount
+    by-mark Ex t = no-amount
+    by-mark Gh t = no-amount
+    by-mark Fi t = answered-import-charge (failureOf r) (p .pd) t
+    by-mark Fe t = answered-export-charge (failureOf r) (p .pd) t
 
 -- the same in bytes that begin with the record as it was filed
 pub charge-written : (r : Rec) (p : HourPrices) (u : List ℕ) → Good (filed r) → isFailure (r .key .mark) ≡ true → PricesFit p

@@ -25,7 +25,7 @@ pub use Rattle.records.specs.laws.KeyLaws.{same-by, same-alike, same-ref
 -- they have one name then, if zeros stand behind their names' bytes, as behind those of changes that may stand
 pub use Rattle.records.specs.laws.KeyLaws.{Padded, good-padded, same-name}
 -- marks whose records stand under one key, and a mark that shares its keys with no other
-pub use Rattle.records.specs.laws.KeyLaws.{one-mark, mark-one, hour-mark}
+pub use Rattle.records.specs.laws.KeyLaws.{one-mark, mark-one, hour-mark, same-mark}
 pub use Rattle.records.specs.laws.MarkLaws.{sole, sole-is}
 -- keys of one mark and hour, and the key of a question
 pub use Rattle.records.specs.laws.KeyLaws.{sameHour-same, hour-parts, parts-hour, asked, ask-fault, askFailure-fault, askHour-fault, name-fault}
@@ -57,6 +57,8 @@ pub use Rattle.records.specs.laws.ViewLaws.{failed-import-charge, failed
 pub use Rattle.records.specs.laws.FitLaws.{PricesFit, ImportFits, FailureFits, Listed, ReserveFits, UnitFits, standing-prices, standing-import, standing-export, standing-unit, standing-failed-import, standing-failed-export}
 -- what the amounts of a standing record come to: none is refused at prices that stand
 pub use Rattle.records.specs.laws.AmountLaws.{credit-amount, unit-amount, charge-amount, unit-written, charge-written}
+-- none is larger than the largest of a day
+pub use Rattle.records.specs.laws.AmountLaws.{credit-bounded, unit-bounded, charge-bounded}
 -- an import as the offset takes it: as its bytes give it, and without a fault
 pub use Rattle.records.specs.laws.AmountLaws.{entry-view, entry-sound}
 -- an hour's export totals with those of one more
@@ -68,9 +70,10 @@ pub use Rattle.records.specs.laws.AmountLaws.{unit-ready}
 -- names: the name of a record that stands keeps its rule
 pub use Rattle.records.specs.laws.AmountLaws.{name-sound}
 pub use Rattle.records.specs.laws.NameLaws.{Visible, Valid, decoded-valid, spelled-back, spelled-short, one-name, spelling-full, spelling-none, take-pad}
--- of the money rules: series of totals, the offset and a day that are not refused, names
+-- of the money rules: series of totals, the offset and a day that are not refused, and their sizes, names
 pub use Rattle.money.specs.laws.UnitLaws.{series-at, series-same, series-none, quantity-most}
 pub use Rattle.money.specs.laws.OffsetLaws.{totals-more, rates-ok, offset-amount}
 pub use Rattle.money.specs.laws.LentLaws.{answer-front}
 pub use Rattle.money.specs.laws.ProductionLaws.{day-amount, day-sum, amount-ok}
+pub use Rattle.money.specs.laws.SizeLaws.{answered-offset, day-bounded, reversal-bounded}
 pub use Rattle.money.specs.laws.NameLaws.{same-names, name-trans, name-tri, name-self, name-most}

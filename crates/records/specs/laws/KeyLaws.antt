@@ -70,6 +70,9 @@ same-alike a b h =
     let p = hour-parts a b (same-hour a b h) in
     record { mark = p .0; hour = p .1; name = same-names (a .name) (b .name) (and-right (sameHour a b) _ h) }
 
+pub same-mark : (a b : Key) → sole (a .mark) ≡ true → same a b ≡ true → b .mark ≡ a .mark
+same-mark a b o h = sym (sole-is (a .mark) o (b .mark) (same-alike a b h .mark))
+
 pub alike-same : (a b : Key) → Alike a b → same a b ≡ true
 unfolding same
 alike-same a b w = simp (parts-hour a b (w .mark) (w .hour), same-of (a .name) (b .name) (w .name))
