@@ -10,14 +10,15 @@ use Rattle.money.specs.declared.names.Name.{Name}
 use Rattle.records.specs.Names.{maxSpelling, spell, bytesOf}
 use Rattle.statement.specs.Decimal.{twoDigits, decimal}
 use Rattle.statement.specs.declared.lines.Kind.{Kind}
-use Rattle.statement.specs.declared.lines.Kind.the-variants.{Iog, Off, Ifc, Efc, Pcg, Rev, Err}
+use Rattle.statement.specs.declared.lines.Kind.the-variants.{Iog, Off, Ifc, Efc, Pcg, Rev, Err, Tot}
 use Rattle.statement.specs.declared.lines.Line.{Line}
 
 -- "hour or `DD`"; `05`: the hour in two digits
 unfoldable pub whenBytes : ℕ → List ℕ
 whenBytes h = cond (eqb h 0) (bytes "DD") (twoDigits h)
 
--- "kind": "`IOG` per import by name, `OFF` where imports stand, `IFC`, `EFC` by name; then for each unit by name `PCG` (day total) and `REV`"; "`05 ERR - 15`"
+-- "kind": "`IOG` per import by name, `OFF` where imports stand, `IFC`, `EFC` by name; then for each unit by name `PCG` (day total) and `REV`"; "`05 ERR - 15`";
+-- 02, W1: "`DD TOT - amount`"
 unfoldable pub kindBytes : Kind → List ℕ
 kindBytes Iog = bytes "IOG"
 kindBytes Off = bytes "OFF"
@@ -26,6 +27,7 @@ kindBytes Efc = bytes "EFC"
 kindBytes Pcg = bytes "PCG"
 kindBytes Rev = bytes "REV"
 kindBytes Err = bytes "ERR"
+kindBytes Tot = bytes "TOT"
 
 -- "written name or `-`"; one that breaks the rule of a name is none
 unfoldable pub nameBytes : Name → List ℕ
@@ -53,6 +55,7 @@ isNumber Efc = false
 isNumber Pcg = false
 isNumber Rev = false
 isNumber Err = true
+isNumber Tot = false
 
 -- the last field: the number of an `ERR`, the dollars of any other kind
 unfoldable pub figure : Kind → ℤ → List ℕ

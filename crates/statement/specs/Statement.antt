@@ -1,4 +1,4 @@
--- 01, "The statement and its examples": the lines of the statement, over the two things that book's amounts are over (the standing records
+-- 01, "The statement and its examples", with the total of 02, W1: the lines of the statement, over the two things that book's amounts are over (the standing records
 -- and the price of an hour), and what a call for its text answers. Assumes nothing.
 use mathlib.Core.Path.{_≡_}
 use mathlib.Core.Bool.{cond}
@@ -20,6 +20,7 @@ use Rattle.book.specs.Register.{standing, maxChanges}
 use Rattle.book.specs.Meaning.{Load, belongs, mismatched}
 use Rattle.book.specs.Handed.{maxCredits, maxCharges}
 use Rattle.statement.specs.Lines.{maxLine, textOf}
+use Rattle.statement.specs.Total.{withTotal}
 use Rattle.statement.specs.declared.lines.Kind.{Kind}
 use Rattle.statement.specs.declared.lines.Kind.the-variants.{Iog, Off, Ifc, Efc, Pcg, Rev, Err}
 use Rattle.statement.specs.declared.lines.Line.{Line}
@@ -102,8 +103,12 @@ eachUnit f [] = []
 eachUnit f (n ∷ ns) = f n ++ eachUnit f ns
 
 -- "by hour: ..; then for each unit by name"
+unfoldable pub dayLines : List Rec → (ℕ → HourPricing) → List Line
+dayLines rs price = hoursTo dayHours (hourOf rs price) ++ eachUnit (unitOf rs price) (namesOf ghKey rs)
+
+-- 02, W1: "Print a last line `DD TOT - amount`"; an empty day has it too
 unfoldable pub statementLines : List Rec → (ℕ → HourPricing) → List Line
-statementLines rs price = hoursTo dayHours (hourOf rs price) ++ eachUnit (unitOf rs price) (namesOf ghKey rs)
+statementLines rs price = withTotal (dayLines rs price)
 
 -- of a list of changes
 unfoldable pub statementOf : List Change → List ℕ
@@ -155,25 +160,13 @@ maxHourLines = maxCredits + 1 + 2 * maxCharges
 abbrev pub maxUnitLines : ℕ
 maxUnitLines = 2
 
--- the most bytes of an hour
-abbrev pub maxHour : ℕ
-maxHour = maxHourLines * maxLine
-
--- the most bytes of a unit
-abbrev pub maxUnit : ℕ
-maxUnit = maxUnitLines * maxLine
-
--- the most bytes of all hours
-abbrev pub maxHours : ℕ
-maxHours = dayHours * maxHour
-
--- the most bytes of all units: there are no more of them than changes
-abbrev pub maxUnits : ℕ
-maxUnits = maxChanges * maxUnit
+-- the most lines of a statement: those of all hours and units, of which there are no more than changes, and the total
+abbrev pub maxLines : ℕ
+maxLines = maxHourLines * dayHours + maxUnitLines * maxChanges + 1
 
 -- no statement is longer than this, `STATEMENT_MAX`
 abbrev pub longestStatement : ℕ
-longestStatement = maxHours + maxUnits
+longestStatement = maxLine * maxLines
 
 -- what a call for the statement promises, from the bytes lent to the bytes left
 abbrev pub Answers : Load → List ℕ → List ℕ → Written → Type 0

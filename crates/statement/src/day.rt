@@ -2,7 +2,10 @@
 use crate::bytes::write_front;
 use crate::hours::put_hour;
 use crate::lines::Cursor;
+use crate::lines::Kind;
 use crate::lines::LINE_MAX;
+use crate::lines::Line;
+use crate::lines::put_text;
 use crate::units::put_unit;
 use book::answers::CHARGES_MAX;
 use book::answers::CREDITS_MAX;
@@ -12,22 +15,29 @@ use book::answers::UnitAmounts;
 use book::book::Book;
 use book::book::CHANGES_MAX;
 use money::refusals::NOT_TOGETHER;
+use money::units::Cents;
 use money::units::HOURS;
-ghost use Prim.Native.Nat.{_+_, _≤_};
+use records::names::no_name;
+ghost use Prim.Native.Nat.{_+_, _*_, _≤_};
 ghost use lib.ListN.{length, take};
 ghost use Rattle.money.specs.Units.{dayHours};
 ghost use Rattle.book.specs.Register.{maxChanges};
 ghost use Rattle.book.specs.Meaning.{load};
-ghost use Rattle.statement.specs.Statement.{maxHours, maxUnits, longestStatement, Answers};
-ghost use Rattle.statement.specs.tables.Inner.{WritesLines, FewInAll, linesOfHours, linesOfUnits, linesOfDay};
+ghost use Rattle.statement.specs.Lines.{lineBytes, textOf, maxLine};
+ghost use Rattle.statement.specs.Total.{totalOf, withTotal};
+ghost use Rattle.statement.specs.Statement.{maxHourLines, maxUnitLines, longestStatement, Answers};
+ghost use Rattle.statement.specs.tables.Inner.{Writes, Room, WritesLines, PrintableHours, PrintableUnits, PrintableDay, linesOfHours, linesOfUnits, linesOfDay};
 
 // The most lines of an hour: an `IOG` for each credit, an `OFF`, an `IFC` and an `EFC` for each charge; and of a unit.
 const HOUR_LINES_MAX: usize = CREDITS_MAX + 1 + 2 * CHARGES_MAX;
 
 const UNIT_LINES_MAX: usize = 2;
 
-// The most bytes of a statement: 145,200.
-pub const STATEMENT_MAX: usize = (HOURS * HOUR_LINES_MAX + CHANGES_MAX * UNIT_LINES_MAX) * LINE_MAX;
+// The most lines of a statement, its total among them.
+const LINES_MAX: usize = HOUR_LINES_MAX * HOURS + UNIT_LINES_MAX * CHANGES_MAX + 1;
+
+// The most bytes of a statement: 145,266.
+pub const STATEMENT_MAX: usize = LINE_MAX * LINES_MAX;
 
 // 0 and how many bytes were written, or the number of a refusal.
 pub struct Written {
@@ -37,8 +47,8 @@ pub struct Written {
 
 // Writes the hours in turn.
 fn put_hours(out: &mut [u8], c: Cursor, hours: [HourAmounts; HOURS]) -> Cursor
-    requires { ⌜ FewInAll hours × (c .at + maxHours ≤ length (now out)) ⌝ }
-    ensures { λ r. ⌜ WritesLines (now (out .entry)) c (linesOfHours dayHours hours) (now (out .exit)) r × (r .at ≤ c .at + maxHours) ⌝ }
+    requires { ⌜ Room (now out) c (maxHourLines * dayHours) × PrintableHours hours ⌝ }
+    ensures { λ r. ⌜ WritesLines (now (out .entry)) c (maxHourLines * dayHours) (linesOfHours dayHours hours) (now (out .exit)) r ⌝ }
 {
     let mut next = c;
     let mut h: usize = 0;
@@ -52,8 +62,8 @@ fn put_hours(out: &mut [u8], c: Cursor, hours: [HourAmounts; HOURS]) -> Cursor
 
 // Writes the first n units in turn.
 fn put_units(out: &mut [u8], c: Cursor, units: [UnitAmounts; CHANGES_MAX], n: usize) -> Cursor
-    requires { ⌜ (n ≤ maxChanges) × (c .at + maxUnits ≤ length (now out)) ⌝ }
-    ensures { λ r. ⌜ WritesLines (now (out .entry)) c (linesOfUnits (take n units)) (now (out .exit)) r × (r .at ≤ c .at + maxUnits) ⌝ }
+    requires { ⌜ (n ≤ maxChanges) × Room (now out) c (maxUnitLines * n) × PrintableUnits n units ⌝ }
+    ensures { λ r. ⌜ WritesLines (now (out .entry)) c (maxUnitLines * n) (linesOfUnits (take n units)) (now (out .exit)) r ⌝ }
 {
     let mut next = c;
     let mut i: usize = 0;
@@ -65,15 +75,36 @@ fn put_units(out: &mut [u8], c: Cursor, units: [UnitAmounts; CHANGES_MAX], n: us
     next
 }
 
-// Writes all lines of a day from the first byte on.
-fn put_day(out: &mut [u8], day: DayAmounts) -> Cursor
-    requires { ⌜ (day .n ≤ maxChanges) × FewInAll (day .hours) × (longestStatement ≤ length (now out)) ⌝ }
-    ensures { λ r. ⌜ WritesLines (now (out .entry)) (record { at = 0 }) (linesOfDay day) (now (out .exit)) r × (r .at ≤ longestStatement) ⌝ }
+// Writes the line of the total, which no sum counts.
+fn put_total(out: &mut [u8], at: usize, cents: Cents) -> usize
+    requires { ⌜ at + maxLine ≤ length (now out) ⌝ }
+    ensures { λ r. ⌜ Writes (now (out .entry)) at (lineBytes (totalOf (cents .0))) (now (out .exit)) r × (length (lineBytes (totalOf (cents .0))) ≤ maxLine) ⌝ }
+{
+    let name = no_name();
+    let line = Line {
+        hour: 0,
+        kind: Kind::Tot,
+        name,
+        cents,
+    };
+    put_text(out, at, line)
+}
+
+// Writes all lines of a day and their total from the first byte on, and answers the place behind them.
+fn put_day(out: &mut [u8], day: DayAmounts) -> usize
+    requires { ⌜ PrintableDay day × (longestStatement ≤ length (now out)) ⌝ }
+    ensures { λ r. ⌜ Writes (now (out .entry)) 0 (textOf (withTotal (linesOfDay day))) (now (out .exit)) r × (r ≤ longestStatement) ⌝ }
 {
     let hours = day.hours;
     let units = day.units;
-    let c = put_hours(out, Cursor { at: 0 }, hours);
-    put_units(out, c, units, day.n)
+    let first = Cursor {
+        at: 0,
+        sum: Cents(0),
+    };
+    let c = put_hours(out, first, hours);
+    let d = put_units(out, c, units, day.n);
+    let sum = d.sum;
+    put_total(out, d.at, sum)
 }
 
 // Writes the statement from the first lent byte on: 13 where it is longer than what is lent, 16 where book and log don't
@@ -89,14 +120,10 @@ pub fn statement(book: Book, log: &[u8], out: &mut [u8]) -> Written
         };
     }
     if STATEMENT_MAX <= out.len() {
-        let end = put_day(out, day);
-        return Written {
-            number: 0,
-            len: end.at,
-        };
+        let len = put_day(out, day);
+        return Written { number: 0, len };
     }
     let mut aside = [0u8; STATEMENT_MAX];
-    let end = put_day(&mut aside, day);
-    let len = end.at;
+    let len = put_day(&mut aside, day);
     write_front(out, &aside[..len])
 }

@@ -13,13 +13,14 @@ use money::units::Ticks;
 use records::names::no_name;
 ghost use mathlib.Core.Path.{_≡_};
 ghost use mathlib.Core.List.{[], _∷_, map};
-ghost use Prim.Native.Nat.{_+_, _*_, _≤_};
+ghost use Prim.Native.Nat.{_≤_};
 ghost use lib.ListN.{length, take};
+ghost use Rattle.money.specs.tables.Numbers.{Bounded};
 ghost use Rattle.book.specs.Handed.{maxCredits, maxCharges};
+ghost use Rattle.book.specs.tables.Sizes.{AllBounded};
 ghost use Rattle.statement.specs.declared.lines.Kind.the-variants.{Iog};
-ghost use Rattle.statement.specs.Lines.{maxLine};
-ghost use Rattle.statement.specs.Statement.{amountLine, lineOf, errorLine, hourError, offsetLines, maxHour};
-ghost use Rattle.statement.specs.tables.Inner.{WritesLines, linesOfHour, FewLines};
+ghost use Rattle.statement.specs.Statement.{amountLine, lineOf, errorLine, hourError, offsetLines, maxHourLines};
+ghost use Rattle.statement.specs.tables.Inner.{Room, WritesLines, linesOfHour, PrintableHour};
 
 pub(crate) fn amount_line(hour: u8, kind: Kind, name: Name, ticks: Ticks) -> Line
     ensures { λ r. ⌜ r ≡ amountLine hour kind name (ticks .0) ⌝ }
@@ -35,8 +36,8 @@ pub(crate) fn amount_line(hour: u8, kind: Kind, name: Name, ticks: Ticks) -> Lin
 
 // A price lacks: the only line.
 pub(crate) fn put_error(out: &mut [u8], c: Cursor, hour: u8, name: Name) -> Cursor
-    requires { ⌜ c .at + maxLine ≤ length (now out) ⌝ }
-    ensures { λ r. ⌜ WritesLines (now (out .entry)) c (errorLine hour name ∷ []) (now (out .exit)) r × (r .at ≤ c .at + maxLine) ⌝ }
+    requires { ⌜ Room (now out) c 1 ⌝ }
+    ensures { λ r. ⌜ WritesLines (now (out .entry)) c 1 (errorLine hour name ∷ []) (now (out .exit)) r ⌝ }
 {
     let line = Line {
         hour,
@@ -48,16 +49,16 @@ pub(crate) fn put_error(out: &mut [u8], c: Cursor, hour: u8, name: Name) -> Curs
 }
 
 fn put_hour_error(out: &mut [u8], c: Cursor, hour: u8) -> Cursor
-    requires { ⌜ c .at + maxLine ≤ length (now out) ⌝ }
-    ensures { λ r. ⌜ WritesLines (now (out .entry)) c (hourError hour) (now (out .exit)) r × (r .at ≤ c .at + maxLine) ⌝ }
+    requires { ⌜ Room (now out) c 1 ⌝ }
+    ensures { λ r. ⌜ WritesLines (now (out .entry)) c 1 (hourError hour) (now (out .exit)) r ⌝ }
 {
     put_error(out, c, hour, no_name())
 }
 
 // A line for each credit, in their order.
 fn put_credits(out: &mut [u8], c: Cursor, hour: u8, a: Credits) -> Cursor
-    requires { ⌜ (a .n ≤ maxCredits) × (c .at + maxLine * a .n ≤ length (now out)) ⌝ }
-    ensures { λ r. ⌜ WritesLines (now (out .entry)) c (map (lineOf hour Iog) (take (a .n) (a .list))) (now (out .exit)) r × (r .at ≤ c .at + maxLine * a .n)
+    requires { ⌜ (a .n ≤ maxCredits) × Room (now out) c (a .n) × AllBounded (a .n) (a .list) ⌝ }
+    ensures { λ r. ⌜ WritesLines (now (out .entry)) c (a .n) (map (lineOf hour Iog) (take (a .n) (a .list))) (now (out .exit)) r
         × (a .n ≡ length (take (a .n) (a .list))) ⌝ }
 {
     let n = a.n;
@@ -75,9 +76,8 @@ fn put_credits(out: &mut [u8], c: Cursor, hour: u8, a: Credits) -> Cursor
 
 // A line for each charge, in their order.
 fn put_charges(out: &mut [u8], c: Cursor, hour: u8, kind: Kind, a: ChargeList) -> Cursor
-    requires { ⌜ (a .n ≤ maxCharges) × (c .at + maxLine * a .n ≤ length (now out)) ⌝ }
-    ensures { λ r. ⌜ WritesLines (now (out .entry)) c (map (lineOf hour kind) (take (a .n) (a .list))) (now (out .exit)) r × (r .at ≤ c .at + maxLine * a .n)
-        × (a .n ≡ length (take (a .n) (a .list))) ⌝ }
+    requires { ⌜ (a .n ≤ maxCharges) × Room (now out) c (a .n) × AllBounded (a .n) (a .list) ⌝ }
+    ensures { λ r. ⌜ WritesLines (now (out .entry)) c (a .n) (map (lineOf hour kind) (take (a .n) (a .list))) (now (out .exit)) r ⌝ }
 {
     let n = a.n;
     let mut next = c;
@@ -94,8 +94,8 @@ fn put_charges(out: &mut [u8], c: Cursor, hour: u8, kind: Kind, a: ChargeList) -
 
 // The wheel offset, where imports stand.
 fn put_offset(out: &mut [u8], c: Cursor, hour: u8, imports: usize, offset: Ticks) -> Cursor
-    requires { ⌜ c .at + maxLine ≤ length (now out) ⌝ }
-    ensures { λ r. ⌜ WritesLines (now (out .entry)) c (offsetLines hour imports (offset .0)) (now (out .exit)) r × (r .at ≤ c .at + maxLine) ⌝ }
+    requires { ⌜ Room (now out) c 1 × Bounded (offset .0) ⌝ }
+    ensures { λ r. ⌜ WritesLines (now (out .entry)) c 1 (offsetLines hour imports (offset .0)) (now (out .exit)) r ⌝ }
 {
     if imports == 0 {
         return c;
@@ -105,8 +105,8 @@ fn put_offset(out: &mut [u8], c: Cursor, hour: u8, imports: usize, offset: Ticks
 
 // The lines of an hour's amounts.
 pub(crate) fn put_hour(out: &mut [u8], c: Cursor, hour: u8, a: HourAmounts) -> Cursor
-    requires { ⌜ FewLines a × (c .at + maxHour ≤ length (now out)) ⌝ }
-    ensures { λ r. ⌜ WritesLines (now (out .entry)) c (linesOfHour hour a) (now (out .exit)) r × (r .at ≤ c .at + maxHour) ⌝ }
+    requires { ⌜ Room (now out) c maxHourLines × PrintableHour a ⌝ }
+    ensures { λ r. ⌜ WritesLines (now (out .entry)) c maxHourLines (linesOfHour hour a) (now (out .exit)) r ⌝ }
 {
     let g = a.guarantees;
     let f = a.imports;

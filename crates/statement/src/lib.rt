@@ -4,4 +4,5 @@ pub mod day;
 mod hours;
 pub mod lines;
 pub mod refusal;
+pub mod sums;
 mod units;

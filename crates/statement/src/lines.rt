@@ -4,6 +4,8 @@ use crate::bytes::put_decimal;
 use crate::bytes::put_part;
 use crate::bytes::put_three;
 use crate::bytes::put_two;
+use crate::sums::counted;
+use crate::sums::effect_of;
 use money::names::Name;
 use money::units::Cents;
 use records::names::SPELLING_MAX;
@@ -14,8 +16,8 @@ ghost use Prim.Native.Nat.{_+_, _≤_, _<_};
 ghost use lib.IntN.{natAbs};
 ghost use lib.ListN.{length};
 ghost use Rattle.records.specs.Names.{maxSpelling};
-ghost use Rattle.statement.specs.Lines.{whenBytes, kindBytes, isNumber, nameBytes, sign, figure, maxFigure, maxLine};
-ghost use Rattle.statement.specs.tables.Inner.{Writes, WritesLines};
+ghost use Rattle.statement.specs.Lines.{whenBytes, kindBytes, isNumber, nameBytes, sign, figure, lineBytes, maxFigure, maxLine};
+ghost use Rattle.statement.specs.tables.Inner.{Writes, Countable, Room, WritesLines};
 
 // The most bytes of a figure, and of a line.
 const FIGURE_MAX: usize = 21;
@@ -30,6 +32,7 @@ pub enum Kind {
     Pcg,
     Rev,
     Err,
+    Tot,
 }
 
 // Hour 0 is the day. A name that breaks its rule, as one of no bytes, is none. The cents of an `Err` are its number.
@@ -40,9 +43,10 @@ pub struct Line {
     pub cents: Cents,
 }
 
-// Where the next line is written.
+// Where the next line is written, and the sum of the lines before it.
 pub(crate) struct Cursor {
     pub(crate) at: usize,
+    pub(crate) sum: Cents,
 }
 
 // The hour in two digits, or the day.
@@ -69,6 +73,7 @@ fn put_kind(out: &mut [u8], at: usize, kind: Kind) -> usize
         Kind::Pcg => put_three(out, at, b'P', b'C', b'G'),
         Kind::Rev => put_three(out, at, b'R', b'E', b'V'),
         Kind::Err => put_three(out, at, b'E', b'R', b'R'),
+        Kind::Tot => put_three(out, at, b'T', b'O', b'T'),
     }
 }
 
@@ -97,6 +102,7 @@ fn is_number(kind: Kind) -> bool
         Kind::Pcg => false,
         Kind::Rev => false,
         Kind::Err => true,
+        Kind::Tot => false,
     }
 }
 
@@ -126,20 +132,32 @@ fn put_figure(out: &mut [u8], at: usize, kind: Kind, cents: Cents) -> usize
 }
 
 // Writes the text of a line.
-pub(crate) fn put_line(out: &mut [u8], c: Cursor, line: Line) -> Cursor
-    requires { ⌜ c .at + maxLine ≤ length (now out) ⌝ }
-    ensures { λ r. ⌜ WritesLines (now (out .entry)) c (line ∷ []) (now (out .exit)) r × (r .at ≤ c .at + maxLine) ⌝ }
+pub(crate) fn put_text(out: &mut [u8], at: usize, line: Line) -> usize
+    requires { ⌜ at + maxLine ≤ length (now out) ⌝ }
+    ensures { λ r. ⌜ Writes (now (out .entry)) at (lineBytes line) (now (out .exit)) r × (length (lineBytes line) ≤ maxLine) ⌝ }
 {
     let kind = line.kind;
     let name = line.name;
     let cents = line.cents;
-    let a = put_when(out, c.at, line.hour);
+    let a = put_when(out, at, line.hour);
     let b = put_byte(out, a, b' ');
     let d = put_kind(out, b, kind);
     let e = put_byte(out, d, b' ');
     let f = put_name(out, e, name);
     let g = put_byte(out, f, b' ');
     let h = put_figure(out, g, kind, cents);
-    let at = put_byte(out, h, b'\n');
-    Cursor { at }
+    put_byte(out, h, b'\n')
+}
+
+// Writes a line behind those before it, and counts it.
+pub(crate) fn put_line(out: &mut [u8], c: Cursor, line: Line) -> Cursor
+    requires { ⌜ Room (now out) c 1 × Countable line ⌝ }
+    ensures { λ r. ⌜ WritesLines (now (out .entry)) c 1 (line ∷ []) (now (out .exit)) r ⌝ }
+{
+    let before = c.sum;
+    let kind = line.kind;
+    let cents = line.cents;
+    let sum = counted(before, effect_of(kind), cents);
+    let at = put_text(out, c.at, line);
+    Cursor { at, sum }
 }

@@ -5,15 +5,14 @@ use crate::lines::Cursor;
 use crate::lines::Kind;
 use crate::lines::put_line;
 use book::answers::UnitAmounts;
-ghost use Prim.Native.Nat.{_+_, _≤_};
-ghost use lib.ListN.{length};
-ghost use Rattle.statement.specs.Statement.{maxUnit};
-ghost use Rattle.statement.specs.tables.Inner.{WritesLines, linesOfUnit};
+ghost use Rattle.book.specs.tables.Sizes.{BoundedUnit};
+ghost use Rattle.statement.specs.Statement.{maxUnitLines};
+ghost use Rattle.statement.specs.tables.Inner.{Room, WritesLines, linesOfUnit};
 
 // The day total and the reversal of a unit, or its error.
 pub(crate) fn put_unit(out: &mut [u8], c: Cursor, u: UnitAmounts) -> Cursor
-    requires { ⌜ c .at + maxUnit ≤ length (now out) ⌝ }
-    ensures { λ r. ⌜ WritesLines (now (out .entry)) c (linesOfUnit u) (now (out .exit)) r × (r .at ≤ c .at + maxUnit) ⌝ }
+    requires { ⌜ Room (now out) c maxUnitLines × BoundedUnit u ⌝ }
+    ensures { λ r. ⌜ WritesLines (now (out .entry)) c maxUnitLines (linesOfUnit u) (now (out .exit)) r ⌝ }
 {
     let name = u.name;
     let day = u.day;

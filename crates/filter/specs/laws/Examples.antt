@@ -1,4 +1,4 @@
--- 01's cases, all of those marked (P) among them, of the definitions of every layer and of the whole program, from an input's bytes to all that is
+-- 01's cases, all of those marked (P) among them, and 02's, of the definitions of every layer and of the whole program, from an input's bytes to all that is
 -- printed: one list, one test. Assumes nothing.
 use mathlib.Core.Path.{_≡_, refl}
 use mathlib.Core.Bool.{Bool, true, _&&_}
@@ -35,7 +35,8 @@ use Rattle.book.specs.laws.Examples as register
 use Rattle.book.specs.Feed.{firstRecord, fed, settled}
 use Rattle.statement.specs.Decimal.{twoDigits, digits, decimal}
 use Rattle.statement.specs.Lines.{whenBytes, kindBytes, nameBytes as lineName, sign, dollars, number, figure, lineBytes, textOf}
-use Rattle.statement.specs.Statement.{hourOf, unitOf, hoursTo, eachUnit, statementLines, statementOf}
+use Rattle.statement.specs.Total.{sumOf}
+use Rattle.statement.specs.Statement.{hourOf, unitOf, hoursTo, eachUnit, dayLines, statementLines, statementOf}
 use Rattle.statement.specs.Refusal.{refusalLine}
 use Rattle.statement.specs.laws.Examples as statement
 use Rattle.filter.specs.Output.{outputBy, outputOf}
@@ -93,6 +94,10 @@ hour5 = pr ++ (im 100 (list 4000 100) ++ (other ++ sold))
 abbrev named : String → List ℕ
 named n = of "IM" 5 n (level 100 ++ list 4000 100)
 
+-- the same, 12 times 5 at a cent above EMP: 60 ticks
+abbrev half : String → List ℕ
+half n = of "IM" 5 n (level 5 ++ list 3001 5)
+
 -- (P) "EMP 5100 once, 3900 eleven times, 100 imported throughout at 4000"; "Export 100 in the first interval"
 abbrev once : List ℕ
 once = bytes "PR" ++ (5 ∷ (w 5100 ++ times 12 (w 3900))) ++ named "A"
@@ -112,29 +117,31 @@ ran =
 abbrev whole : List Case
 whole =
     -- (P) hour 5: "All of the output"
-    prints hour5 "05 IOG A%2FB 100.00\n05 IOG C 40.00\n05 OFF - 90.00\n"
+    prints hour5 "05 IOG A%2FB 100.00\n05 IOG C 40.00\n05 OFF - 90.00\nDD TOT - 50.00\n"
     -- (P) `A/B` and `A%2FB` are one name, which is refused the second time; `A%2fb` is `A/b`
     ∷ prints (pr ++ (named "A/B" ++ named "A%2FB")) "REF 3 10\n"
-    ∷ prints (pr ++ (named "A%2fb" ++ named "A/B")) "05 IOG A%2FB 100.00\n05 IOG A%2Fb 100.00\n05 OFF - 0.00\n"
+    ∷ prints (pr ++ (named "A%2fb" ++ named "A/B")) "05 IOG A%2FB 100.00\n05 IOG A%2Fb 100.00\n05 OFF - 0.00\nDD TOT - 200.00\n"
     -- (P) `%252F` is `%2F`, not `/`
-    ∷ prints (pr ++ (named "%252F" ++ named "/")) "05 IOG %252F 100.00\n05 IOG %2F 100.00\n05 OFF - 0.00\n"
+    ∷ prints (pr ++ (named "%252F" ++ named "/")) "05 IOG %252F 100.00\n05 IOG %2F 100.00\n05 OFF - 0.00\nDD TOT - 200.00\n"
     -- (P) Q 100 against last Q 100 has a cost; 101 has none
-    ∷ prints (pr ++ im 100 (list 4000 100)) "05 IOG A%2FB 100.00\n05 OFF - 0.00\n"
+    ∷ prints (pr ++ im 100 (list 4000 100)) "05 IOG A%2FB 100.00\n05 OFF - 0.00\nDD TOT - 100.00\n"
     ∷ prints (pr ++ im 101 (list 4000 100)) "REF 2 7\n"
     -- (P) credit 0; with the export "offset -110,000 ticks, printed -9.17"
-    ∷ prints once "05 IOG A 0.00\n05 OFF - 0.00\n"
-    ∷ prints (once ++ first) "05 IOG A 0.00\n05 OFF - -9.17\n"
+    ∷ prints once "05 IOG A 0.00\n05 OFF - 0.00\nDD TOT - 0.00\n"
+    ∷ prints (once ++ first) "05 IOG A 0.00\n05 OFF - -9.17\nDD TOT - 9.17\n"
     -- (P) 001's hour: "total $410 without a start"
-    ∷ prints (priced 7 3000 3000 ++ ran) "DD PCG G1 410.00\nDD REV G1 0.00\n"
+    ∷ prints (priced 7 3000 3000 ++ ran) "DD PCG G1 410.00\nDD REV G1 0.00\nDD TOT - 410.00\n"
     -- (P) "002's import charge is 0, its export charge $5,000"
     ∷ prints (priced 1 0 9000 ++ (of "FI" 1 "A" (failed 1000 900 10000 10000) ++ (priced 2 0 70000 ++ of "FE" 2 "A" (failed 2000 1500 90000 80000))))
-    "01 IFC A 0.00\n02 EFC A 5000.00\n"
+    "01 IFC A 0.00\n02 EFC A 5000.00\nDD TOT - -5000.00\n"
     -- nothing; prices only; a price that lacks, in an hour and for a unit
-    ∷ prints [] ""
-    ∷ prints pr ""
-    ∷ prints (named "A" ++ ran) "05 ERR - 15\nDD ERR G1 15\n"
+    ∷ prints [] "DD TOT - 0.00\n"
+    ∷ prints pr "DD TOT - 0.00\n"
+    ∷ prints (named "A" ++ ran) "05 ERR - 15\nDD ERR G1 15\nDD TOT - 0.00\n"
+    -- 02, W1: "the sum of the printed cents", which two half cents are
+    ∷ prints (pr ++ (half "A" ++ half "B")) "05 IOG A 0.01\n05 IOG B 0.01\n05 OFF - 0.00\nDD TOT - 0.02\n"
     -- what was taken back, and what is said of a closed book
-    ∷ prints (pr ++ (named "A" ++ (named "B" ++ bytes "TBCL"))) "05 IOG A 100.00\n05 OFF - 0.00\n"
+    ∷ prints (pr ++ (named "A" ++ (named "B" ++ bytes "TBCL"))) "05 IOG A 100.00\n05 OFF - 0.00\nDD TOT - 100.00\n"
     ∷ prints (pr ++ (bytes "CL" ++ named "A")) "REF 3 9\n"
     -- a record that ends early is the last one: cut short, or a stray byte
     ∷ prints (take 54 pr) "REF 1 1\n"
@@ -148,8 +155,8 @@ cases = whole ++ (map tells register.examples ++ (map reads records.cases ++ (ma
 pub examples : all cases ≡ true
 unfolding outputBy refusalLine settled fed firstRecord called run refusal stands count standing writeAll without sameHour same limitOf parse parseAny bare write
     headBytes nameBytes entry change head mark markAmong rest hour byte nameFor bodyFor nameField some decodeName nameUpTo one escaped hexVal visible taken
-    layout hourPrices import export schedules reserveSeries lists unit failure many pair pairs listFrom price quantity amount word statementOf statementLines
-    hoursTo hourOf eachUnit unitOf textOf lineBytes whenBytes twoDigits kindBytes lineName spell spellByte unreserved digit figure sign dollars number decimal
+    layout hourPrices import export schedules reserveSeries lists unit failure many pair pairs listFrom price quantity amount word statementOf statementLines dayLines
+    sumOf hoursTo hourOf eachUnit unitOf textOf lineBytes whenBytes twoDigits kindBytes lineName spell spellByte unreserved digit figure sign dollars number decimal
     digits centsOf placeOf guaranteesOf byName inOrder priceOf pick chargesOf unitDayOf dayTotal atHour namesOf addName exported creditTicks unitTicks
     chargeTicks seriesOf offset precedes upTo counted sameName sameBytes nameBefore profits cost fullPairs Σℤ Σℕ minℤ maxℤ every costAnswer offerFault numbersOk
     orderOk creditAnswer pricesOk quantitiesOk withinOk offsetAnswer ratesOk entriesFault nthFault freshName entryFault nameOk firstOf shortfall arranged

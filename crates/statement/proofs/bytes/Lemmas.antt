@@ -4,16 +4,26 @@ use mathlib.Core.List.{List, [], _∷_, _++_, map}
 use Prim.Native.Nat.{ℕ, _+_, _*_, _≤_, _<_}
 use native.Mathlib.Omega.{arith}
 use native.Mathlib.Numerals.{add-one}
-use lib.IntN.{ℤ}
-use lib.ListN.{length, take, set, getD, length-append, length-set, length-map, length-take}
+use lib.IntN.{ℤ, natAbs, _+ℤ_, +ℤ-assoc, +ℤ-idr}
+use lib.ListN.{length, take, set, getD, length-append, length-set}
 use lib.Seq.{take-suc, take-all}
+use Rattle.laws.specs.IntLaws.{add-within}
+use Rattle.money.specs.Units.{centsOf}
+use Rattle.money.specs.tables.Numbers.{Bounded}
+use Rattle.money.specs.laws.UnitLaws.{cents-bounded}
+use Rattle.money.specs.declared.units.Cents.{Cents}
+use Rattle.money.specs.declared.names.Name.{Name}
 use Rattle.book.specs.Amounts.{charged}
+use Rattle.book.specs.Handed.{maxCredits, maxCharges}
 use Rattle.book.specs.declared.answers.NamedAmount.{NamedAmount}
 use Rattle.statement.specs.Lines.{lineBytes, maxLine, textOf}
+use Rattle.statement.specs.Total.{effectOf, towards, sumOf}
 use Rattle.statement.specs.laws.LineLaws.{text-none, text-one, text-append}
+use Rattle.statement.specs.laws.TotalLaws.{signed-size, sum-none, sum-one, sum-append}
 use Rattle.statement.specs.laws.PutLaws.{put, put-none, put-one, put-more, put-next, put-length}
-use Rattle.statement.specs.Statement.{lineOf, offsetLines, chargedLines}
-use Rattle.statement.specs.tables.Inner.{Writes, WritesLines}
+use Rattle.statement.specs.Statement.{amountLine, lineOf, offsetLines, chargedLines, maxHourLines}
+use Rattle.statement.specs.tables.Inner.{Writes, maxPrinted, Countable, Room, WritesLines}
+use Rattle.statement.specs.declared.lines.Kind.{Kind}
 use Rattle.statement.specs.declared.lines.Kind.the-variants.{Iog, Ifc, Efc}
 use Rattle.statement.specs.declared.lines.Line.{Line}
 use Rattle.statement.specs.declared.lines.Cursor.{Cursor}
@@ -56,30 +66,57 @@ copied-all {d} {e} {at} {i} {n} {xs} p h q room = record { room = room; bytes = 
 
 -- ---- lines
 
-pub lines-size : {d e : List ℕ} {c r : Cursor} {ls : List Line} → WritesLines d c ls e r → length e ≡ length d
+pub lines-size : {d e : List ℕ} {c r : Cursor} {n : ℕ} {ls : List Line} → WritesLines d c n ls e r → length e ≡ length d
 lines-size w = writes-size (w .text)
 
-pub lines-end : {d e : List ℕ} {c r : Cursor} {ls : List Line} (n : ℕ) → length ls ≤ n → WritesLines d c ls e r → r .at ≤ c .at + maxLine * n
-lines-end n h w = omega (arith, w .text .behind, w .few)
+pub lines-none : (d : List ℕ) (c : Cursor) → c .at ≤ length d → WritesLines d c 0 [] d c
+lines-none d c h = record {
+  text = subst (λ (xs : List ℕ). Writes d (c .at) xs d (c .at)) (sym text-none) (writes-none d (c .at) h);
+  sum = sym (ap (λ (z : ℤ). c .sum .0 +ℤ z) sum-none ∙ +ℤ-idr (c .sum .0));
+  short = omega (arith, ap length text-none);
+  small = omega arith;
+}
 
-pub lines-none : (d : List ℕ) (c : Cursor) → c .at ≤ length d → WritesLines d c [] d c
-lines-none d c h = record
-    { text = subst (λ (xs : List ℕ). Writes d (c .at) xs d (c .at)) (sym text-none) (writes-none d (c .at) h); few = omega (arith, ap length text-none) }
+pub lines-one : {d e : List ℕ} {c : Cursor} {at : ℕ} {s : Cents} (l : Line) → length (lineBytes l) ≤ maxLine → Countable l → Writes d (c .at) (lineBytes l) e at
+    → s .0 ≡ c .sum .0 +ℤ towards l → WritesLines d c 1 (l ∷ []) e (record { at = at; sum = s })
+lines-one {d} {e} {c} {at} {s} l h k w q = record {
+  text = subst (λ (xs : List ℕ). Writes d (c .at) xs e at) (sym (text-one l)) w;
+  sum = q ∙ ap (λ (z : ℤ). c .sum .0 +ℤ z) (sym (sum-one l));
+  short = omega (arith, ap length (text-one l));
+  small = subst (λ (z : ℤ). natAbs z ≤ natAbs (c .sum .0) + maxPrinted * 1) (sym q)
+      (omega (arith, add-within (c .sum .0) (towards l) {A = natAbs (c .sum .0)} {B = maxPrinted} (omega arith) (k .within)));
+}
 
-pub lines-one : {d e : List ℕ} {c : Cursor} {at : ℕ} (l : Line) → length (lineBytes l) ≤ maxLine → Writes d (c .at) (lineBytes l) e at
-    → WritesLines d c (l ∷ []) e (record { at = at })
-lines-one {d} {e} {c} {at} l h w =
-    record { text = subst (λ (xs : List ℕ). Writes d (c .at) xs e at) (sym (text-one l)) w; few = omega (arith, ap length (text-one l)) }
+pub lines-then : {d e f : List ℕ} {c r q : Cursor} {n m : ℕ} {xs ys : List Line} → WritesLines d c n xs e r → WritesLines e r m ys f q
+    → WritesLines d c (n + m) (xs ++ ys) f q
+lines-then {d} {e} {f} {c} {r} {q} {n} {m} {xs} {ys} a b = record {
+  text = subst (λ (t : List ℕ). Writes d (c .at) t f (q .at)) (sym (text-append xs ys)) (writes-then (a .text) (b .text));
+  sum = b .sum ∙ ap (λ (z : ℤ). z +ℤ sumOf ys) (a .sum) ∙ +ℤ-assoc (c .sum .0) (sumOf xs) (sumOf ys)
+      ∙ ap (λ (z : ℤ). c .sum .0 +ℤ z) (sym (sum-append xs ys));
+  short = omega (arith, a .short, b .short, ap length (text-append xs ys), length-append (textOf xs) (textOf ys));
+  small = omega (arith, a .small, b .small);
+}
 
-pub lines-then : {d e f : List ℕ} {c r q : Cursor} {xs ys : List Line} → WritesLines d c xs e r → WritesLines e r ys f q → WritesLines d c (xs ++ ys) f q
-lines-then {d} {e} {f} {c} {r} {q} {xs} {ys} a b =
-    record {
-      text = subst (λ (t : List ℕ). Writes d (c .at) t f (q .at)) (sym (text-append xs ys)) (writes-then (a .text) (b .text));
-      few = omega (arith, a .few, b .few, ap length (text-append xs ys), length-append (textOf xs) (textOf ys), length-append xs ys);
-    }
+pub lines-as : {d e : List ℕ} {c r : Cursor} {n : ℕ} {xs ys : List Line} → xs ≡ ys → WritesLines d c n xs e r → WritesLines d c n ys e r
+lines-as {d} {e} {c} {r} {n} q w = subst (λ (ls : List Line). WritesLines d c n ls e r) q w
 
-pub lines-as : {d e : List ℕ} {c r : Cursor} {xs ys : List Line} → xs ≡ ys → WritesLines d c xs e r → WritesLines d c ys e r
-lines-as {d} {e} {c} {r} q w = subst (λ (ls : List Line). WritesLines d c ls e r) q w
+pub lines-within : {d e : List ℕ} {c r : Cursor} {n m : ℕ} {ls : List Line} → n ≤ m → WritesLines d c n ls e r → WritesLines d c m ls e r
+lines-within h w = record { text = w .text; sum = w .sum; short = omega (arith, w .short); small = omega (arith, w .small) }
+
+-- ---- room
+
+pub room-less : {d : List ℕ} {c : Cursor} {n m : ℕ} → m ≤ n → Room d c n → Room d c m
+room-less h k = record { text = omega (arith, k .text); sum = omega (arith, k .sum) }
+
+-- what is left of it behind n lines
+pub room-then : {d e : List ℕ} {c r : Cursor} {n m k : ℕ} {ls : List Line} → n + m ≤ k → Room d c k → WritesLines d c n ls e r → Room e r m
+room-then h k w = record { text = omega (arith, k .text, w .text .behind, w .short, lines-size w); sum = omega (arith, k .sum, w .small) }
+
+-- ---- amounts
+
+-- the line of an amount counts no more than the largest
+pub countable : {l : Line} {h : ℕ} {k : Kind} {n : Name} (t : ℤ) → l ≡ amountLine h k n t → Bounded t → Countable l
+countable {k = k} t e b = subst Countable (sym e) (record { within = omega (arith, signed-size (effectOf k) (centsOf t), cents-bounded t b) })
 
 map-snoc : {A : Type 0} (f : A → Line) (xs : List A) (x : A) → map f (xs ++ (x ∷ [])) ≡ map f xs ++ (f x ∷ [])
 map-snoc f [] x = refl
@@ -90,12 +127,10 @@ pub next-line : {A : Type 0} (f : A → Line) (xs : List A) (i : ℕ) (d : A) �
     → map f (take i xs) ++ (f (getD xs i d) ∷ []) ≡ map f (take (i + 1) xs)
 next-line f xs i d h = sym (rw (add-one, take-suc xs i d h) (map-snoc f (take i xs) (getD xs i d)))
 
-pub few-lines : {A : Type 0} (f : A → Line) (n : ℕ) (xs : List A) → length (map f (take n xs)) ≤ n
-few-lines f n xs = omega (arith, length-map (take n xs) f, length-take n xs)
-
 -- an hour that needs no price, or has it
-pub hour-written : {d e f g k : List ℕ} {c o i x r : Cursor} (h n : ℕ) (cs fs es : List NamedAmount) (t : ℤ) → n ≡ length cs
-    → WritesLines d c (map (lineOf h Iog) cs) e o → WritesLines e o (offsetLines h n t) f i → WritesLines f i (map (lineOf h Ifc) fs) g x → WritesLines g x
-    (map (lineOf h Efc) es) k r
-    → WritesLines d c (chargedLines h cs t (charged fs) (charged es)) k r
-hour-written h n cs fs es t q iog off ifc efc = lines-then (lines-then (lines-then iog (lines-as (ap (λ (m : ℕ). offsetLines h m t) q) off)) ifc) efc
+pub hour-written : {d e f g k : List ℕ} {c o i x r : Cursor} {n p q : ℕ} (h : ℕ) (cs fs es : List NamedAmount) (t : ℤ) → n ≡ length cs → n ≤ maxCredits
+    → p ≤ maxCharges → q ≤ maxCharges → WritesLines d c n (map (lineOf h Iog) cs) e o → WritesLines e o 1 (offsetLines h n t) f i
+    → WritesLines f i p (map (lineOf h Ifc) fs) g x → WritesLines g x q (map (lineOf h Efc) es) k r
+    → WritesLines d c maxHourLines (chargedLines h cs t (charged fs) (charged es)) k r
+hour-written h cs fs es t z a b l iog off ifc efc =
+    lines-within (omega arith) (lines-then (lines-then (lines-then iog (lines-as (ap (λ (m : ℕ). offsetLines h m t) z) off)) ifc) efc)

@@ -1,26 +1,30 @@
 -- What a call for the statement rests on.
 use mathlib.Core.Path.{_≡_, refl, sym, ap, _∙_, subst}
-use mathlib.Core.List.{List}
+use mathlib.Core.List.{List, _++_}
 use Prim.Native.Nat.{ℕ, _+_, _≤_, _<_}
 use native.Mathlib.Omega.{arith}
+use lib.IntN.{ℤ, pos, +ℤ-idl}
 use lib.ListN.{length, take}
 use borrow.Author.Tests.{le-leb, lt-leb}
 use Rattle.money.specs.Refusals.{noSpace, notTogether}
 use Rattle.book.specs.Layer.{Change}
 use Rattle.book.specs.declared.book.Book.{Book}
 use Rattle.book.specs.declared.answers.DayAmounts.{DayAmounts}
-use Rattle.book.specs.Register.{maxChanges}
 use Rattle.book.specs.Meaning.{Load, belongs, mismatched, load, Valid}
 use Rattle.book.specs.laws.LoadLaws.{loaded-valid}
 use Rattle.book.specs.WholeDay.{dayAmounts, dayFrom}
-use Rattle.book.specs.laws.WholeDayLaws.{units-are, number-mismatched, number-whole}
-use Rattle.statement.specs.Lines.{textOf}
+use Rattle.book.specs.laws.WholeDayLaws.{number-mismatched, number-whole}
+use Rattle.statement.specs.Lines.{lineBytes, textOf}
+use Rattle.statement.specs.Total.{sumOf, totalOf, withTotal}
 use Rattle.statement.specs.laws.PutLaws.{put-front}
-use Rattle.statement.specs.Statement.{statementOf, longestStatement, Fits, Answers}
-use Rattle.statement.specs.tables.Inner.{Writes, WritesLines, linesOfDay, FewInAll}
-use Rattle.statement.specs.laws.StatementLaws.{day-text, day-few}
+use Rattle.statement.specs.laws.TotalLaws.{total-text}
+use Rattle.statement.specs.Statement.{statementOf, maxLines, longestStatement, Fits, Answers}
+use Rattle.statement.specs.tables.Inner.{Writes, Room, WritesLines, linesOfDay, PrintableDay}
+use Rattle.statement.specs.laws.StatementLaws.{day-text, day-printable}
 use Rattle.statement.specs.declared.day.Written.{Written}
 use Rattle.statement.specs.declared.lines.Cursor.{Cursor}
+use Rattle.statement.specs.declared.lines.Line.{Line}
+use Rattle.statement.proofs.bytes.Lemmas.{writes-then}
 
 -- ---- a text at the front
 
@@ -62,17 +66,29 @@ module _ (b : Book) (s : List ℕ) (day : DayAmounts) (e : day ≡ dayFrom (dayA
       go mismatched q = q
       go (belongs l) q = absurd (z (ap (λ (x : DayAmounts). x .number) (e ∙ ap (λ (x : Load). dayFrom (dayAmounts x)) q) ∙ number-whole l))
 
-pub few-units : {b : Book} {s : List ℕ} {day : DayAmounts} → Loaded b s day → day .n ≤ maxChanges
-few-units x = subst (λ (d : DayAmounts). d .n ≤ maxChanges) (sym (x .amounts)) (units-are (x .list) (x .valid) .few)
+pub printable : {b : Book} {s : List ℕ} {day : DayAmounts} → Loaded b s day → PrintableDay day
+printable x = subst PrintableDay (sym (x .amounts)) (day-printable (x .list) (x .valid))
 
-pub few-hours : {b : Book} {s : List ℕ} {day : DayAmounts} → Loaded b s day → FewInAll (day .hours)
-few-hours x = subst (λ (d : DayAmounts). FewInAll (d .hours)) (sym (x .amounts)) (day-few (x .list) (x .valid))
+-- ---- its lines, and their total
+
+-- where the first line is written
+abbrev pub top : Cursor
+top = record { at = 0; sum = record { 0 = pos 0 } }
+
+pub room-top : (d : List ℕ) → longestStatement ≤ length d → Room d top maxLines
+room-top d h = record { text = omega arith; sum = omega arith }
+
+pub with-total : {d e f : List ℕ} {r : Cursor} {n q : ℕ} {ls : List Line} → WritesLines d top n ls e r → Writes e (r .at) (lineBytes (totalOf (r .sum .0))) f q
+    → Writes d 0 (textOf (withTotal ls)) f q
+with-total {d} {f = f} {q = q} {ls = ls} w t =
+    let same : _ ≡ textOf ls ++ lineBytes (totalOf (sumOf ls)) = ap (λ (z : ℤ). textOf ls ++ lineBytes (totalOf z)) (w .sum ∙ +ℤ-idl (sumOf ls)) in
+    subst (λ (b : List ℕ). Writes d 0 b f q) (same ∙ sym (total-text ls)) (writes-then (w .text) t)
 
 -- what is written of it is the statement
-pub stated : {b : Book} {s d e : List ℕ} {day : DayAmounts} {r : Cursor} (x : Loaded b s day) → WritesLines d (record { at = 0 }) (linesOfDay day) e r
-    → Writes d 0 (statementOf (x .list)) e (r .at)
+pub stated : {b : Book} {s d e : List ℕ} {day : DayAmounts} {r : ℕ} (x : Loaded b s day) → Writes d 0 (textOf (withTotal (linesOfDay day))) e r
+    → Writes d 0 (statementOf (x .list)) e r
 stated {b} {s} {d} {e} {day} {r} x w =
-    subst (λ (t : List ℕ). Writes d 0 t e (r .at)) (ap (λ (y : DayAmounts). textOf (linesOfDay y)) (x .amounts) ∙ day-text (x .list) (x .valid)) (w .text)
+    subst (λ (t : List ℕ). Writes d 0 t e r) (ap (λ (y : DayAmounts). textOf (withTotal (linesOfDay y))) (x .amounts) ∙ day-text (x .list) (x .valid)) w
 
 -- ---- the answers
 

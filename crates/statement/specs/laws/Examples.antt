@@ -1,4 +1,4 @@
--- 01's cases of printed lines, those marked (P) among them, and some of their neighbours: one list, one test. Assumes nothing.
+-- 01's cases of printed lines, those marked (P) among them, 02's of totals (W1), and some of their neighbours: one list, one test. Assumes nothing.
 use mathlib.Core.Path.{_≡_, refl}
 use mathlib.Core.Bool.{Bool, true, _&&_}
 use mathlib.Core.List.{List, [], _∷_}
@@ -17,6 +17,7 @@ use Rattle.book.specs.Replies.{Reply, refused, guarantees, unitDay}
 use Rattle.book.specs.Amounts.{ChargesReply, charged, no}
 use Rattle.statement.specs.Decimal.{twoDigits, digits, decimal}
 use Rattle.statement.specs.Lines.{whenBytes, kindBytes, nameBytes, sign, dollars, number, figure, lineBytes, textOf}
+use Rattle.statement.specs.Total.{sumOf, withTotal}
 use Rattle.statement.specs.Statement.{hourLines, unitLines}
 use Rattle.statement.specs.declared.lines.Kind.{Kind}
 use Rattle.statement.specs.declared.lines.Kind.the-variants.{Iog, Off, Ifc, Efc, Pcg, Rev, Err}
@@ -38,6 +39,8 @@ named n t = record { name = nameFrom (bytes n); ticks = record { 0 = t } }
 pub data Case : Type 0 where
   -- the lines, and all of their text
   shows : List Line → String → Case
+  -- the lines of a day, and all of their text with the total
+  totals : List Line → String → Case
   -- a line, and the length of its text
   takes : Line → ℕ → Case
   -- an hour's guarantees, its charges of failed imports and of failed exports, and all of its text
@@ -47,6 +50,7 @@ pub data Case : Type 0 where
 
 abbrev pub holds : Case → Bool
 holds (shows ls s) = sameBytes (textOf ls) (bytes s)
+holds (totals ls s) = sameBytes (textOf (withTotal ls)) (bytes s)
 holds (takes l n) = eqb (length (lineBytes l)) n
 holds (hour h g fs es s) = sameBytes (textOf (hourLines h g fs es)) (bytes s)
 holds (unit n r s) = sameBytes (textOf (unitLines (nameFrom (bytes n)) r)) (bytes s)
@@ -89,9 +93,29 @@ cases =
     ∷ unit "U1" (unitDay (pos 12000) (pos 0)) "DD PCG U1 1.00\nDD REV U1 0.00\n"
     ∷ unit "U1" (unitDay (negsuc 11999) (pos 12000)) "DD PCG U1 -1.00\nDD REV U1 1.00\n"
     ∷ unit "U1" (refused 15) "DD ERR U1 15\n"
+    -- 02, W1: (P) hour 5 with its total
+    ∷ totals
+    (amount 5 Iog "A/B" (pos 1200000) ∷ amount 5 Iog "C" (pos 480000) ∷ amount 5 Off "" (pos 1080000) ∷ [])
+    "05 IOG A%2FB 100.00\n05 IOG C 40.00\n05 OFF - 90.00\nDD TOT - 50.00\n"
+    -- a day of no lines
+    ∷ totals [] "DD TOT - 0.00\n"
+    -- "the sum of the printed cents": two half cents are two cents, though their ticks come to one
+    ∷ totals (amount 5 Iog "A" (pos 60) ∷ amount 5 Iog "B" (pos 60) ∷ []) "05 IOG A 0.01\n05 IOG B 0.01\nDD TOT - 0.02\n"
+    -- a negative offset that is taken off adds; a charge that is taken off leaves less than nothing
+    ∷ totals (amount 5 Off "" (negsuc 109999) ∷ []) "05 OFF - -9.17\nDD TOT - 9.17\n"
+    ∷ totals (amount 2 Efc "A" (pos 60000000) ∷ []) "02 EFC A 5000.00\nDD TOT - -5000.00\n"
+    -- "Lines marked `ERR` add nothing"
+    ∷ totals (line 5 Err "" (pos 15) ∷ line 0 Err "U1" (pos 15) ∷ []) "05 ERR - 15\nDD ERR U1 15\nDD TOT - 0.00\n"
+    -- a reversal gives back what a negative day total takes
+    ∷ totals (amount 0 Pcg "U1" (negsuc 11999) ∷ amount 0 Rev "U1" (pos 12000) ∷ []) "DD PCG U1 -1.00\nDD REV U1 1.00\nDD TOT - 0.00\n"
+    -- each kind by a size of its own: 0.01 - 0.10 - 1.00 - 10.00 + 100.00 + 1000.00
+    ∷ totals
+    (line 1 Iog "A" (pos 1) ∷ line 1 Off "" (pos 10) ∷ line 1 Ifc "A" (pos 100) ∷ line 1 Efc "A" (pos 1000) ∷ line 0 Pcg "U" (pos 10000)
+    ∷ line 0 Rev "U" (pos 100000) ∷ [])
+    "01 IOG A 0.01\n01 OFF - 0.10\n01 IFC A 1.00\n01 EFC A 10.00\nDD PCG U 100.00\nDD REV U 1000.00\nDD TOT - 1088.91\n"
     ∷ []
 
 pub examples : all cases ≡ true
 unfolding textOf lineBytes whenBytes twoDigits kindBytes nameBytes nameOk every spell spellByte unreserved digit figure sign dollars number decimal digits
-    centsOf sameBytes
+    centsOf sameBytes sumOf
 examples = refl

@@ -19,7 +19,7 @@ use Rattle.statement.specs.Decimal.{digit, twoDigits, decimal}
 use Rattle.statement.specs.laws.DecimalLaws.{decimal-length}
 use Rattle.statement.specs.Lines.{whenBytes, kindBytes, isNumber, nameBytes, sign, dollars, number, figure, lineBytes, maxFigure, maxLine, textOf}
 use Rattle.statement.specs.declared.lines.Kind.{Kind}
-use Rattle.statement.specs.declared.lines.Kind.the-variants.{Iog, Off, Ifc, Efc, Pcg, Rev, Err}
+use Rattle.statement.specs.declared.lines.Kind.the-variants.{Iog, Off, Ifc, Efc, Pcg, Rev, Err, Tot}
 use Rattle.statement.specs.declared.lines.Line.{Line}
 
 -- ---- signs
@@ -107,6 +107,7 @@ kind-length Efc = refl
 kind-length Pcg = refl
 kind-length Rev = refl
 kind-length Err = refl
+kind-length Tot = refl
 
 -- ---- figures
 pub figure-number : (k : Kind) (z : ℤ) → isNumber k ≡ true → figure k z ≡ sign z ++ decimal (natAbs z)

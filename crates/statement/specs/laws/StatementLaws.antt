@@ -1,4 +1,4 @@
--- The lines of a day's amounts, as the book hands them over, are those of the statement. Assumes nothing.
+-- The lines of a day's amounts, as the book hands them over, are those of the statement; its last line is their total. Assumes nothing.
 use mathlib.Core.Path.{_≡_, refl, sym, ap, _∙_, subst}
 use mathlib.Core.List.{List, [], _∷_, _++_, map, append-assoc, append-nil}
 use Prim.Native.Nat.{ℕ, zero, suc, _+_, _-_, _<_}
@@ -8,11 +8,11 @@ use lib.ListN.{length, take, getD}
 use lib.Seq.{take-suc}
 use Rattle.money.specs.Units.{dayHours}
 use Rattle.money.specs.declared.names.Name.{Name}
-use Rattle.book.specs.Layer.{Change}
+use Rattle.book.specs.Layer.{Rec, Change}
 use Rattle.book.specs.declared.answers.HourAmounts.{HourAmounts}
 use Rattle.book.specs.declared.answers.UnitAmounts.{UnitAmounts}
 use Rattle.book.specs.declared.answers.DayAmounts.{DayAmounts}
-use Rattle.book.specs.Amounts.{priceOf}
+use Rattle.book.specs.Amounts.{HourPricing, priceOf}
 use Rattle.book.specs.ByName.{namesOf}
 use Rattle.book.specs.laws.ChargeLaws.{getD-same}
 use Rattle.book.specs.UnitNames.{ghKey, unitKey}
@@ -20,9 +20,12 @@ use Rattle.book.specs.Register.{standing}
 use Rattle.book.specs.Meaning.{belongs, Valid}
 use Rattle.book.specs.WholeDay.{noHour, dayAmounts, dayFrom}
 use Rattle.book.specs.laws.WholeDayLaws.{HourIs, hour-is, unitIn, units-are, day-back}
-use Rattle.statement.specs.Lines.{textOf}
-use Rattle.statement.specs.Statement.{hourLines, hourOf, unitLines, unitOf, hoursTo, eachUnit, statementLines, statementOf}
-use Rattle.statement.specs.tables.Inner.{linesOfHour, linesOfHours, linesOfUnit, linesOfUnits, linesOfDay, FewInAll}
+use Rattle.book.specs.laws.SizeLaws.{hours-bounded, units-bounded}
+use Rattle.statement.specs.Lines.{lineBytes, textOf}
+use Rattle.statement.specs.Total.{sumOf, totalOf, withTotal}
+use Rattle.statement.specs.Statement.{hourLines, hourOf, unitLines, unitOf, hoursTo, eachUnit, dayLines, statementLines, statementOf}
+use Rattle.statement.specs.tables.Inner.{linesOfHour, linesOfHours, linesOfUnit, linesOfUnits, linesOfDay, PrintableDay}
+use Rattle.statement.specs.laws.TotalLaws.{total-is, total-text}
 use Rattle.statement.specs.declared.lines.Line.{Line}
 
 -- ---- one hour or unit more
@@ -81,16 +84,35 @@ module _ (l : List Change) (v : Valid l) where
       (subst (λ (k : ℕ). HourIs l k (getD (day .hours) h noHour)) n (hour-is l v h lt noHour)) in
       λ i. hourLines (suc h) (x .guaranteed i) (x .imports i) (x .exports i)
 
-  pub day-lines : linesOfDay day ≡ statementLines (standing l) (priceOf (standing l))
-  unfolding statementLines
+  pub day-lines : linesOfDay day ≡ dayLines (standing l) (priceOf (standing l))
+  unfolding dayLines
   day-lines =
       let s = hours-same (λ (h : ℕ). linesOfHour h (getD (day .hours) (h - 1) noHour)) (hourOf (standing l) (priceOf (standing l))) dayHours hour-lines in
       let t = ap linesOfUnits (units-are l v .units) ∙ units-same l (namesOf ghKey (standing l)) in
       λ i. s i ++ t i
 
-  pub day-text : textOf (linesOfDay day) ≡ statementOf l
-  unfolding statementOf
-  day-text = ap textOf day-lines
+  pub day-text : textOf (withTotal (linesOfDay day)) ≡ statementOf l
+  unfolding statementOf statementLines
+  day-text = ap (λ (ls : List Line). textOf (withTotal ls)) day-lines
 
-  pub day-few : FewInAll (day .hours)
-  day-few = record { hour = λ j lt d. let x = hour-is l v j lt d in record { credits = x .few-credits; imports = x .few-imports; exports = x .few-exports } }
+  pub day-printable : PrintableDay day
+  day-printable = record {
+    few = units-are l v .few;
+    hours = λ j lt d.
+        let x = hour-is l v j lt d in
+        record { credits = x .few-credits; imports = x .few-imports; exports = x .few-exports; bounded = hours-bounded l v j lt d };
+    units = units-bounded l v;
+  }
+
+-- ---- the total
+
+-- the sum of all lines of a statement is the sum of the day's
+pub statement-sum : (rs : List Rec) (price : ℕ → HourPricing) → sumOf (statementLines rs price) ≡ sumOf (dayLines rs price)
+unfolding statementLines
+statement-sum rs price = total-is (dayLines rs price)
+
+-- the text of a statement is the day's lines, and the line of their sum behind them
+pub foot : (l : List Change)
+    → let ls = dayLines (standing l) (priceOf (standing l)) in statementOf l ≡ textOf ls ++ lineBytes (totalOf (sumOf ls))
+unfolding statementOf statementLines
+foot l = total-text (dayLines (standing l) (priceOf (standing l)))

@@ -1,34 +1,33 @@
 use mathlib.Core.Path.{_≡_, sym}
-use Prim.Native.Nat.{_≤_, _+_, _-_, _*_}
+use Prim.Native.Nat.{_≤_, _-_, _*_}
 use lib.ListN.{length}
 use borrow.Author.Needs.{needs}
 use native.Mathlib.Omega.{arith}
 use Rattle.money.specs.Units.{dayHours}
 use Rattle.money.specs.laws.UnitLaws.{unmapped}
-use Rattle.statement.specs.Statement.{maxHour, maxHours}
-use Rattle.statement.specs.tables.Inner.{WritesLines, linesOfHours, FewInAll}
+use Rattle.statement.specs.Statement.{maxHourLines}
+use Rattle.statement.specs.tables.Inner.{Room, WritesLines, linesOfHours, PrintableHours}
 use Rattle.statement.specs.laws.StatementLaws.{hours-none, hours-more}
-use Rattle.statement.proofs.bytes.Lemmas.{lines-none, lines-then, lines-as, lines-size}
+use Rattle.statement.proofs.bytes.Lemmas.{lines-none, lines-then, lines-as, lines-within, lines-size, room-then}
 use Rattle.statement.proofs.day.put_hours.Statement.{statement}
 use Rattle.statement.proofs.day.put_hours.Tie as tie
 
 abbrev Inv-loop : tie.InvT-loop
-Inv-loop out₀ hours next₀ h₀ out next h = (h ≤ dayHours) × (length hours ≡ dayHours) × (next₀ .at + maxHours ≤ length out₀) × (next .at ≤ next₀ .at + maxHour * h) × FewInAll
-    hours × WritesLines out₀ next₀ (linesOfHours h hours) out next
+Inv-loop out₀ hours next₀ h₀ out next h = (h ≤ dayHours) × (length hours ≡ dayHours) × Room out₀ next₀ (maxHourLines * dayHours) × PrintableHours hours
+    × WritesLines out₀ next₀ (maxHourLines * h) (linesOfHours h hours) out next
 
 abbrev μ-loop : tie.MeasureT-loop
 μ-loop out₀ hours next₀ h₀ out next h = dayHours - h
 
 loop-holds : tie.Need-loop-holds Inv-loop μ-loop
-loop-holds c = (
-  search needs,
-  search (needs, unmapped),
-  search needs,
-  search needs,
-  (c .before .pre) .0,
-  lines-as (sym (hours-none (c .before .args .t3)))
-      (lines-none (c .before .args .out .now) (c .before .args .c) (omega (arith, (c .before .pre) .1))),
-)
+loop-holds c =
+    let pre = c .before .pre in (
+      search needs,
+      search (needs, unmapped),
+      pre .0,
+      pre .1,
+      lines-as (sym (hours-none (c .before .args .t3))) (lines-none (c .before .args .out .now) (c .before .args .c) (omega (arith, pre .0 .text))),
+    )
 
 mul-a : tie.Need-mul-a Inv-loop μ-loop
 mul-a c = search needs
@@ -45,7 +44,8 @@ add-put-hour c = search needs
 put-hour-requires : tie.Need-put-hour-requires Inv-loop μ-loop
 put-hour-requires c κs =
     let c3 = c .before .before .before in
-    let v = (c3 .loop) .inv in (v .4 .hour (c3 .loop .h) (omega arith) _, omega (arith, lines-size (v .5), v .3, v .2))
+    let v = c3 .loop .inv in
+    (room-then (omega arith) (v .2) (v .4), v .3 (c3 .loop .h) (omega arith) _)
 
 add-h : tie.Need-add-h Inv-loop μ-loop
 add-h c = search needs
@@ -55,24 +55,23 @@ loop-less c = search needs
 
 loop-again : tie.Need-loop-again Inv-loop μ-loop
 loop-again c =
-    let v = (c .before .before .before .before .before .before .loop) .inv in (
+    let l = c .before .before .before .before .before .before .loop in
+    let hours = c .before .before .before .before .before .before .before .before .args .t3 in
+    let more = lines-then (l .inv .4) (c .before .before .put-hour .ensures) in (
       search needs,
       search needs,
-      search needs,
-      omega (arith, v .3, (c .before .before .put-hour) .ensures .1),
-      v .4,
-      lines-as (sym (hours-more (c .before .before .before .before .before .before .before .before .args .t3)
-          (c .before .before .before .before .before .before .loop .h) _ (omega arith))) (lines-then (v .5) (c .before .before .put-hour .ensures .0)),
+      l .inv .2,
+      l .inv .3,
+      lines-within (omega arith) (lines-as (sym (hours-more hours (l .h) _ (omega arith))) more),
     )
 
 same-length : tie.Need-same-length Inv-loop μ-loop
-same-length c = lines-size (c .before .loop .inv .5)
+same-length c = lines-size (c .before .loop .inv .4)
 
 returns : tie.Need-returns Inv-loop μ-loop
 returns c =
-    let v = (c .before .loop) .inv in
     let e : (c .before .loop) .h ≡ dayHours = omega arith in
-    (rw e at (v .5), omega (arith, v .3))
+    rw e at (c .before .loop .inv .4)
 
 pub put-hours-spec : {M : Type 1} → statement M
 put-hours-spec =

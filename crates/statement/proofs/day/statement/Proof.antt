@@ -6,7 +6,7 @@ use native.Mathlib.Omega.{arith}
 use borrow.Author.Needs.{needs}
 use Rattle.statement.specs.Statement.{longestStatement}
 use Rattle.statement.proofs.bytes.Lemmas.{writes-size}
-use Rattle.statement.proofs.day.Lemmas.{loaded, is-mismatched, few-units, few-hours, stated, fits-written, fits-front, answers-mismatched, answers-fitted}
+use Rattle.statement.proofs.day.Lemmas.{loaded, is-mismatched, printable, stated, fits-written, fits-front, answers-mismatched, answers-fitted}
 use Rattle.statement.proofs.day.statement.Statement.{statement}
 use Rattle.statement.proofs.day.statement.Tie as tie
 
@@ -25,7 +25,7 @@ put-day-requires c κs =
     let c4 = c2 .before .before in
     let c7 = c4 .before .before .before in
     let x = loaded (c7 .args .book) (c7 .args .log .now) (c4 .day .result) (c4 .day .ensures) (c2 .if1 .left) in
-    (few-units x, few-hours x, (c .before .if2) .taken)
+    (printable x, (c .before .if2) .taken)
 
 same-length : tie.Need-same-length
 same-length c = search needs
@@ -49,16 +49,16 @@ put-day-requires-2 c κs =
     let c4 = c2 .before .before in
     let c7 = c4 .before .before .before in
     let x = loaded (c7 .args .book) (c7 .args .log .now) (c4 .day .result) (c4 .day .ensures) (c2 .if1 .left) in
-    (few-units x, few-hours x, omega (arith, length-replicate {A = ℕ} longestStatement 0))
+    (printable x, omega (arith, length-replicate {A = ℕ} longestStatement 0))
 
 array-share-prefix-aside : tie.Need-array-share-prefix-aside
-array-share-prefix-aside c = let w = (c .before .before .put-day2) .ensures .0 .text in omega (arith, w .behind, w .room, writes-size w)
+array-share-prefix-aside c = let w = (c .before .before .put-day2) .ensures .0 in omega (arith, w .behind, w .room, writes-size w)
 
 slice-aggregate-write-front : tie.Need-slice-aggregate-write-front
 slice-aggregate-write-front c =
     let c3 = c .before .before .before in
-    let w = (c3 .put-day2) .ensures .0 .text in sym
-    (length-take-le {A = ℕ} (c3 .put-day2 .result .at) (c3 .put-day2 .last .0) (omega (arith, w .behind, w .room, writes-size w)))
+    let w = (c3 .put-day2) .ensures .0 in sym
+    (length-take-le {A = ℕ} (c3 .put-day2 .result) (c3 .put-day2 .last .0) (omega (arith, w .behind, w .room, writes-size w)))
 
 write-front-requires : tie.Need-write-front-requires
 write-front-requires c κs = search needs

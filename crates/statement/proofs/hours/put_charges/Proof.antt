@@ -1,32 +1,32 @@
-use mathlib.Core.Path.{_≡_, sym, ap}
-use lib.Seq.{length-take-le}
+use mathlib.Core.Path.{_≡_, ap}
 use mathlib.Core.List.{[], _∷_, map}
-use Prim.Native.Nat.{_≤_, _+_, _-_, _*_}
+use Prim.Native.Nat.{_≤_, _-_}
 use lib.ListN.{length, take}
 use borrow.Author.Needs.{needs}
 use native.Mathlib.Omega.{arith}
 use Rattle.money.specs.laws.UnitLaws.{unmapped}
 use Rattle.book.specs.Handed.{maxCharges}
-use Rattle.statement.specs.Lines.{maxLine}
+use Rattle.book.specs.tables.Sizes.{AllBounded}
 use Rattle.statement.specs.Statement.{lineOf}
-use Rattle.statement.specs.tables.Inner.{WritesLines}
+use Rattle.statement.specs.tables.Inner.{Room, WritesLines}
 use Rattle.statement.specs.declared.lines.Line.{Line}
-use Rattle.statement.proofs.bytes.Lemmas.{lines-none, lines-then, lines-as, lines-size, lines-end, next-line, few-lines}
+use Rattle.statement.proofs.bytes.Lemmas.{lines-none, lines-then, lines-as, lines-size, room-then, countable, next-line}
 use Rattle.statement.proofs.hours.put_charges.Statement.{statement}
 use Rattle.statement.proofs.hours.put_charges.Tie as tie
 
 abbrev Inv-loop : tie.InvT-loop
 Inv-loop out₀ hour kind a n next₀ i₀ out next i =
-    (i ≤ n) × (n ≡ a .n) × (a .n ≤ maxCharges) × (length (a .list) ≡ maxCharges) × (next₀ .at + maxLine * n ≤ length out₀)
-    × WritesLines out₀ next₀ (map (lineOf hour kind) (take i (a .list))) out next
+    (i ≤ n) × (n ≡ a .n) × (a .n ≤ maxCharges) × (length (a .list) ≡ maxCharges) × Room out₀ next₀ n × AllBounded n (a .list)
+    × WritesLines out₀ next₀ i (map (lineOf hour kind) (take i (a .list))) out next
 
 abbrev μ-loop : tie.MeasureT-loop
 μ-loop out₀ hour kind a n next₀ i₀ out next i = n - i
 
 loop-holds : tie.Need-loop-holds Inv-loop μ-loop
 loop-holds c =
-    let none = lines-none (c .before .args .out .now) (c .before .args .c) (omega (arith, (c .before .pre) .1)) in
-    (search needs, search needs, search needs, search (needs, unmapped), search needs, none)
+    let pre = c .before .pre in
+    let none = lines-none (c .before .args .out .now) (c .before .args .c) (omega (arith, pre .1 .text)) in
+    (search needs, search needs, search needs, search (needs, unmapped), pre .1, pre .2, none)
 
 mul-x : tie.Need-mul-x Inv-loop μ-loop
 mul-x c = search needs
@@ -39,12 +39,9 @@ amount-line-requires c κs = search needs
 
 put-line-requires : tie.Need-put-line-requires Inv-loop μ-loop
 put-line-requires c κs =
-    let c6 = c .before .before .before .before .before .before in
-    let c8 = c6 .before .before in
-    let args = c8 .args in
-    let l = c6 .loop in
+    let l = c .before .before .before .before .before .before .loop in
     let v = l .inv in
-    omega (arith, lines-size (v .5), lines-end (l .i) (few-lines (lineOf (args .hour) (args .kind)) (l .i) (args .t5 .list)) (v .5), v .4)
+    (room-then (omega arith) (v .4) (v .6), countable _ (c .amount-line .ensures) (v .5 (l .i) (omega arith) _))
 
 add-i : tie.Need-add-i Inv-loop μ-loop
 add-i c = search needs
@@ -56,26 +53,23 @@ loop-again : tie.Need-loop-again Inv-loop μ-loop
 loop-again c =
     let args = c .before .before .before .before .before .before .before .before .before .before .before .args in
     let l = c .before .before .before .before .before .before .before .before .before .loop in
-    let line = lines-as (ap (λ (x : Line). x ∷ []) (c .before .before .before .amount-line .ensures)) (c .before .before .put-line .ensures .0) in (
+    let line = lines-as (ap (λ (x : Line). x ∷ []) (c .before .before .before .amount-line .ensures)) (c .before .before .put-line .ensures) in (
       search needs,
       search needs,
       search needs,
       search needs,
-      search needs,
-      lines-as (next-line (lineOf (args .hour) (args .kind)) (args .t5 .list) (l .i) _ (omega arith)) (lines-then (l .inv .5) line),
+      l .inv .4,
+      l .inv .5,
+      lines-as (next-line (lineOf (args .hour) (args .kind)) (args .t5 .list) (l .i) _ (omega arith)) (lines-then (l .inv .6) line),
     )
 
 same-length : tie.Need-same-length Inv-loop μ-loop
-same-length c = lines-size (c .before .loop .inv .5)
+same-length c = lines-size (c .before .loop .inv .6)
 
 returns : tie.Need-returns Inv-loop μ-loop
 returns c =
-    let args = c .before .before .before .args in
-    let v = (c .before .loop) .inv in
-    let e : (c .before .loop) .i ≡ args .t5 .n = omega arith in
-    let w = rw e at (v .5) in
-    let few = few-lines (lineOf (args .hour) (args .kind)) (args .t5 .n) (args .t5 .list) in
-    (w, lines-end (args .t5 .n) few w, sym (length-take-le (args .t5 .n) (args .t5 .list) (omega (arith, v .2, v .3))))
+    let e : (c .before .loop) .i ≡ (c .before .before .before .args) .t5 .n = omega arith in
+    rw e at (c .before .loop .inv .6)
 
 pub put-charges-spec : {M : Type 1} → statement M
 put-charges-spec =

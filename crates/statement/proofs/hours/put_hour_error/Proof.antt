@@ -21,7 +21,7 @@ returns c =
     let c2 = c .before .before in
     let c3 = c2 .before in
     let c6 = c3 .before .before .before in
-    (lines-as (ap (λ (n : Name). errorLine (c6 .args .hour) n ∷ []) (c3 .no-name .ensures)) (c2 .put-error .ensures .0), (c2 .put-error) .ensures .1)
+    lines-as (ap (λ (n : Name). errorLine (c6 .args .hour) n ∷ []) (c3 .no-name .ensures)) (c2 .put-error .ensures)
 
 pub put-hour-error-spec : {M : Type 1} → statement M
 put-hour-error-spec = tie.close (tie.spec no-name-requires put-error-requires same-length returns)

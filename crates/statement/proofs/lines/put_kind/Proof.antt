@@ -45,6 +45,12 @@ enum-told-7 c = search needs
 put-three-requires-7 : tie.Need-put-three-requires-7
 put-three-requires-7 c κs = search needs
 
+enum-told-8 : tie.Need-enum-told-8
+enum-told-8 c = search needs
+
+put-three-requires-8 : tie.Need-put-three-requires-8
+put-three-requires-8 c κs = search needs
+
 same-length : tie.Need-same-length
 same-length c = search needs
 
@@ -94,6 +100,13 @@ returns-7 : tie.Need-returns-7
 unfolding kindBytes
 returns-7 c = rw (c .before .before .before .before .enum-told7 .given .1) (c .before .before .put-three7 .ensures)
 
+same-length-8 : tie.Need-same-length-8
+same-length-8 c = search needs
+
+returns-8 : tie.Need-returns-8
+unfolding kindBytes
+returns-8 c = rw (c .before .before .before .before .enum-told8 .given .1) (c .before .before .put-three8 .ensures)
+
 pub put-kind-spec : {M : Type 1} → statement M
 put-kind-spec =
     tie.close
@@ -112,6 +125,8 @@ put-kind-spec =
     put-three-requires-6
     enum-told-7
     put-three-requires-7
+    enum-told-8
+    put-three-requires-8
     same-length
     returns
     same-length-2
@@ -125,4 +140,6 @@ put-kind-spec =
     same-length-6
     returns-6
     same-length-7
-    returns-7)
+    returns-7
+    same-length-8
+    returns-8)

@@ -1,211 +1,40 @@
+use mathlib.Core.Path.{sym, ap, _∙_, subst}
+use lib.IntN.{_+ℤ_}
 use native.Mathlib.Omega.{arith}
 use borrow.Author.Needs.{needs}
-use Rattle.statement.specs.Lines.{lineBytes}
-use Rattle.statement.specs.laws.LineLaws.{when-length, kind-length, name-length, figure-length, line-length}
-use Rattle.statement.proofs.bytes.Lemmas.{writes-then, writes-size, lines-one}
+use Rattle.money.specs.tables.Numbers.{Moderate}
+use Rattle.statement.specs.Total.{signed, towards}
+use Rattle.statement.specs.declared.sums.Effect.{Effect}
+use Rattle.statement.proofs.bytes.Lemmas.{lines-one}
 use Rattle.statement.proofs.lines.put_line.Statement.{statement}
 use Rattle.statement.proofs.lines.put_line.Tie as tie
 
-put-when-requires : tie.Need-put-when-requires
-put-when-requires c κs = search needs
+effect-of-requires : tie.Need-effect-of-requires
+effect-of-requires c κs = search needs
 
-put-byte-requires : tie.Need-put-byte-requires
-put-byte-requires c κs =
-    let c3 = c .before .before .before in
-    let c8 = c3 .before .before .before .before .before in
-    omega (arith, (c8 .pre), (c3 .put-when) .ensures .behind, writes-size (c3 .put-when .ensures), when-length (c8 .args .line .hour))
+counted-requires : tie.Need-counted-requires
+counted-requires c κs =
+    let c4 = c .before .before .before .before in
+    let line = c4 .args .line in
+    let small : Moderate (towards line) = omega (arith, c4 .pre .0 .sum, c4 .pre .1 .within) in
+    (omega (arith, c4 .pre .0 .sum), subst (λ (e : Effect). Moderate (signed e (line .cents .0))) (sym (c .effect-of .ensures)) small)
 
-put-kind-requires : tie.Need-put-kind-requires
-put-kind-requires c κs =
-    let c3 = c .before .before .before in
-    let c7 = c3 .before .before .before .before in
-    let c12 = c7 .before .before .before .before .before in
-    omega (
-      arith,
-      (c12 .pre),
-      (c7 .put-when) .ensures .behind,
-      writes-size (c7 .put-when .ensures),
-      (c3 .put-byte) .ensures .behind,
-      writes-size
-          (c3 .put-byte .ensures),
-      when-length (c12 .args .line .hour),
-    )
-
-put-byte-requires-2 : tie.Need-put-byte-requires-2
-put-byte-requires-2 c κs =
-    let c3 = c .before .before .before in
-    let c7 = c3 .before .before .before .before in
-    let c11 = c7 .before .before .before .before in
-    let c16 = c11 .before .before .before .before .before in
-    omega (
-      arith,
-      (c16 .pre),
-      (c11 .put-when) .ensures .behind,
-      writes-size (c11 .put-when .ensures),
-      (c7 .put-byte) .ensures .behind,
-      writes-size
-          (c7 .put-byte .ensures),
-      (c3 .put-kind) .ensures .behind,
-      writes-size (c3 .put-kind .ensures),
-      when-length (c16 .args .line .hour),
-      kind-length
-          (c16 .args .line .kind),
-    )
-
-put-name-requires : tie.Need-put-name-requires
-put-name-requires c κs =
-    let c3 = c .before .before .before in
-    let c7 = c3 .before .before .before .before in
-    let c11 = c7 .before .before .before .before in
-    let c15 = c11 .before .before .before .before in
-    let c20 = c15 .before .before .before .before .before in
-    omega (
-      arith,
-      (c20 .pre),
-      (c15 .put-when) .ensures .behind,
-      writes-size (c15 .put-when .ensures),
-      (c11 .put-byte) .ensures .behind,
-      writes-size
-          (c11 .put-byte .ensures),
-      (c7 .put-kind) .ensures .behind,
-      writes-size (c7 .put-kind .ensures),
-      (c3 .put-byte2) .ensures .behind,
-      writes-size
-          (c3 .put-byte2 .ensures),
-      when-length (c20 .args .line .hour),
-      kind-length (c20 .args .line .kind),
-    )
-
-put-byte-requires-3 : tie.Need-put-byte-requires-3
-put-byte-requires-3 c κs =
-    let c3 = c .before .before .before in
-    let c7 = c3 .before .before .before .before in
-    let c11 = c7 .before .before .before .before in
-    let c15 = c11 .before .before .before .before in
-    let c19 = c15 .before .before .before .before in
-    let c24 = c19 .before .before .before .before .before in
-    omega (
-      arith,
-      (c24 .pre),
-      (c19 .put-when) .ensures .behind,
-      writes-size (c19 .put-when .ensures),
-      (c15 .put-byte) .ensures .behind,
-      writes-size
-          (c15 .put-byte .ensures),
-      (c11 .put-kind) .ensures .behind,
-      writes-size (c11 .put-kind .ensures),
-      (c7 .put-byte2) .ensures .behind,
-      writes-size
-          (c7 .put-byte2 .ensures),
-      (c3 .put-name) .ensures .behind,
-      writes-size (c3 .put-name .ensures),
-      when-length (c24 .args .line .hour),
-      kind-length
-          (c24 .args .line .kind),
-      name-length (c24 .args .line .name),
-    )
-
-put-figure-requires : tie.Need-put-figure-requires
-put-figure-requires c κs =
-    let c3 = c .before .before .before in
-    let c7 = c3 .before .before .before .before in
-    let c11 = c7 .before .before .before .before in
-    let c15 = c11 .before .before .before .before in
-    let c19 = c15 .before .before .before .before in
-    let c23 = c19 .before .before .before .before in
-    let c28 = c23 .before .before .before .before .before in
-    omega (
-      arith,
-      (c28 .pre),
-      (c23 .put-when) .ensures .behind,
-      writes-size (c23 .put-when .ensures),
-      (c19 .put-byte) .ensures .behind,
-      writes-size
-          (c19 .put-byte .ensures),
-      (c15 .put-kind) .ensures .behind,
-      writes-size (c15 .put-kind .ensures),
-      (c11 .put-byte2) .ensures .behind,
-      writes-size
-          (c11 .put-byte2 .ensures),
-      (c7 .put-name) .ensures .behind,
-      writes-size (c7 .put-name .ensures),
-      (c3 .put-byte3) .ensures .behind,
-      writes-size
-          (c3 .put-byte3 .ensures),
-      when-length (c28 .args .line .hour),
-      kind-length (c28 .args .line .kind),
-      name-length (c28 .args .line .name),
-    )
-
-put-byte-requires-4 : tie.Need-put-byte-requires-4
-put-byte-requires-4 c κs =
-    let c3 = c .before .before .before in
-    let c7 = c3 .before .before .before .before in
-    let c11 = c7 .before .before .before .before in
-    let c15 = c11 .before .before .before .before in
-    let c19 = c15 .before .before .before .before in
-    let c23 = c19 .before .before .before .before in
-    let c27 = c23 .before .before .before .before in
-    let c32 = c27 .before .before .before .before .before in
-    omega (
-      arith,
-      (c32 .pre),
-      (c27 .put-when) .ensures .behind,
-      writes-size (c27 .put-when .ensures),
-      (c23 .put-byte) .ensures .behind,
-      writes-size
-          (c23 .put-byte .ensures),
-      (c19 .put-kind) .ensures .behind,
-      writes-size (c19 .put-kind .ensures),
-      (c15 .put-byte2) .ensures .behind,
-      writes-size
-          (c15 .put-byte2 .ensures),
-      (c11 .put-name) .ensures .behind,
-      writes-size (c11 .put-name .ensures),
-      (c7 .put-byte3) .ensures .behind,
-      writes-size
-          (c7 .put-byte3 .ensures),
-      (c3 .put-figure) .ensures .0 .behind,
-      writes-size (c3 .put-figure .ensures .0),
-      when-length (c32 .args .line .hour),
-      kind-length (c32 .args .line .kind),
-      name-length (c32 .args .line .name),
-      figure-length (c32 .args .line .kind) (c32 .args .line .cents .0)
-          (c3 .put-figure .ensures .1),
-    )
+put-text-requires : tie.Need-put-text-requires
+put-text-requires c κs = omega (arith, (c .before .before .before .before .before .before .pre) .0 .text)
 
 same-length : tie.Need-same-length
 same-length c = search needs
 
 returns : tie.Need-returns
-unfolding lineBytes
 returns c =
     let c2 = c .before .before in
-    let c6 = c2 .before .before .before .before in
-    let c10 = c6 .before .before .before .before in
-    let c14 = c10 .before .before .before .before in
-    let c18 = c14 .before .before .before .before in
-    let c22 = c18 .before .before .before .before in
-    let c26 = c22 .before .before .before .before in
-    let c30 = c26 .before .before .before .before in
-    let c35 = c30 .before .before .before .before .before in
-    let w = (writes-then (writes-then (writes-then (writes-then
-    (writes-then (writes-then (writes-then (c30 .put-when .ensures) (c26 .put-byte .ensures)) (c22 .put-kind .ensures)) (c18 .put-byte2 .ensures))
-    (c14 .put-name .ensures)) (c10 .put-byte3 .ensures)) (c6 .put-figure .ensures .0)) (c2 .put-byte4 .ensures)) in
-    let h = line-length (c35 .args .line) (c6 .put-figure .ensures .1) in
-    (lines-one (c35 .args .line) h w, omega (arith, w .behind, h))
+    let c4 = c2 .before .before in
+    let c5 = c4 .before in
+    let c9 = c5 .before .before .before .before in
+    let args = c9 .args in
+    let line = args .line in
+    lines-one line (c2 .put-text .ensures .1) (c9 .pre .1) (c2 .put-text .ensures .0)
+    (c4 .counted .ensures ∙ ap (λ (e : Effect). args .c .sum .0 +ℤ signed e (line .cents .0)) (c5 .effect-of .ensures))
 
 pub put-line-spec : {M : Type 1} → statement M
-put-line-spec =
-    tie.close
-    (tie.spec
-    put-when-requires
-    put-byte-requires
-    put-kind-requires
-    put-byte-requires-2
-    put-name-requires
-    put-byte-requires-3
-    put-figure-requires
-    put-byte-requires-4
-    same-length
-    returns)
+put-line-spec = tie.close (tie.spec effect-of-requires counted-requires put-text-requires same-length returns)
