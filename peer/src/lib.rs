@@ -1,8 +1,9 @@
 //! The settlement book of one participant and one trading day.
 //!
-//! An independent implementation, written from the specification only, to be
-//! compared call by call with another one. Sentences of the specification
-//! stand in quotes where their rule is implemented.
+//! An independent implementation, written from the specification and its
+//! later requests (W1 so far) only, to be compared call by call with another
+//! one. Sentences of these papers stand in quotes where their rule is
+//! implemented.
 //!
 //! - [`refusal`]: the numbers 1 to 16 that a call can bring back.
 //! - [`units`]: price, quantity, cents, ticks and hour.

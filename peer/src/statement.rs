@@ -1,4 +1,4 @@
-//! The statement: one line for each amount of the day.
+//! The statement: one line for each amount of the day, and the day's total.
 
 use crate::feed::feed;
 use crate::names::Name;
@@ -33,7 +33,7 @@ fn read_all(input: &[u8]) -> Result<Register, (u64, Refusal)> {
 
 /// The statement of standing records: "by hour: `IOG` per import by name,
 /// `OFF` where imports stand, `IFC`, `EFC` by name; then for each unit by name
-/// `PCG` (day total) and `REV`."
+/// `PCG` (day total) and `REV`." W1 adds "a last line `DD TOT - amount`".
 pub fn statement(records: &impl Standing) -> String {
     let mut lines = Lines::default();
     for hour in Hour::all() {
@@ -42,7 +42,41 @@ pub fn statement(records: &impl Standing) -> String {
     for name in unit_names(records) {
         unit_lines(records, name, &mut lines);
     }
-    lines.text
+    lines.with_total()
+}
+
+/// The kinds of amounts that a statement prints.
+#[derive(Clone, Copy)]
+enum Kind {
+    ImportGuarantee,
+    Offset,
+    ImportFailure,
+    ExportFailure,
+    ProductionGuarantee,
+    Reversal,
+}
+
+impl Kind {
+    /// The kind as it is printed.
+    fn printed(self) -> &'static str {
+        match self {
+            Kind::ImportGuarantee => "IOG",
+            Kind::Offset => "OFF",
+            Kind::ImportFailure => "IFC",
+            Kind::ExportFailure => "EFC",
+            Kind::ProductionGuarantee => "PCG",
+            Kind::Reversal => "REV",
+        }
+    }
+
+    /// How an amount counts in a total: "`IOG`, `PCG` and `REV` added, `OFF`,
+    /// `IFC` and `EFC` taken off."
+    fn sign(self) -> i64 {
+        match self {
+            Kind::ImportGuarantee | Kind::ProductionGuarantee | Kind::Reversal => 1,
+            Kind::Offset | Kind::ImportFailure | Kind::ExportFailure => -1,
+        }
+    }
 }
 
 /// An hour's lines; "Where a price lacks: `05 ERR - 15` as the hour's only
@@ -60,19 +94,22 @@ fn hour_lines(records: &impl Standing, hour: Hour, lines: &mut Lines) {
 }
 
 /// Kind, name and amount of each of an hour's lines.
-type Amounts = Vec<(&'static str, Option<Name>, Ticks)>;
+type Amounts = Vec<(Kind, Option<Name>, Ticks)>;
 
 /// The lines' amounts; 15 where an import or a failure stands without `PR`.
 fn hour_amounts(records: &impl Standing, hour: Hour) -> Result<Amounts, Refusal> {
     let mut amounts = Amounts::new();
     let guarantees = guarantees_of(records, hour)?;
     for &(name, credit) in &guarantees.credits {
-        amounts.push(("IOG", Some(name), credit));
+        amounts.push((Kind::ImportGuarantee, Some(name), credit));
     }
     if !guarantees.credits.is_empty() {
-        amounts.push(("OFF", None, guarantees.offset));
+        amounts.push((Kind::Offset, None, guarantees.offset));
     }
-    for (kind, mark) in [("IFC", Mark::ImportFailure), ("EFC", Mark::ExportFailure)] {
+    for (kind, mark) in [
+        (Kind::ImportFailure, Mark::ImportFailure),
+        (Kind::ExportFailure, Mark::ExportFailure),
+    ] {
         for name in records.names(mark, hour) {
             let charge = failure_charge_of(records, &Key::named(mark, hour, name))?;
             amounts.push((kind, Some(name), charge));
@@ -85,8 +122,8 @@ fn hour_amounts(records: &impl Standing, hour: Hour) -> Result<Amounts, Refusal>
 fn unit_lines(records: &impl Standing, name: Name, lines: &mut Lines) {
     match unit_day_of(records, name) {
         Ok(day) => {
-            lines.amount("DD", "PCG", Some(name), day.total);
-            lines.amount("DD", "REV", Some(name), day.reversal);
+            lines.amount("DD", Kind::ProductionGuarantee, Some(name), day.total);
+            lines.amount("DD", Kind::Reversal, Some(name), day.reversal);
         }
         Err(refusal) => lines.error("DD", Some(name), refusal),
     }
@@ -103,15 +140,27 @@ fn unit_names(records: &impl Standing) -> BTreeSet<Name> {
 #[derive(Default)]
 struct Lines {
     text: String,
+    /// "the sum of the printed cents" so far.
+    total: i64,
 }
 
 impl Lines {
-    fn amount(&mut self, label: &str, kind: &str, name: Option<Name>, amount: Ticks) {
-        self.line(label, kind, name, &dollars(amount));
+    fn amount(&mut self, label: &str, kind: Kind, name: Option<Name>, amount: Ticks) {
+        let cents = amount.rounded_cents();
+        // A day's cents stay far inside 64 bits.
+        self.total += kind.sign() * cents;
+        self.line(label, kind.printed(), name, &dollars_of_cents(cents));
     }
 
+    /// "Lines marked `ERR` add nothing."
     fn error(&mut self, label: &str, name: Option<Name>, refusal: Refusal) {
         self.line(label, "ERR", name, &refusal.to_string());
+    }
+
+    /// "Print a last line `DD TOT - amount`."
+    fn with_total(mut self) -> String {
+        self.line("DD", "TOT", None, &dollars_of_cents(self.total));
+        self.text
     }
 
     fn line(&mut self, label: &str, kind: &str, name: Option<Name>, last: &str) {
@@ -126,7 +175,11 @@ impl Lines {
 /// "dollars with two decimals, rounded half away from zero, zero without a
 /// sign."
 pub fn dollars(amount: Ticks) -> String {
-    let cents = amount.rounded_cents();
+    dollars_of_cents(amount.rounded_cents())
+}
+
+/// Whole cents as dollars: they are rounded already.
+fn dollars_of_cents(cents: i64) -> String {
     let sign = if cents < 0 { "-" } else { "" };
     let size = cents.unsigned_abs();
     format!("{sign}{}.{:02}", size / 100, size % 100)

@@ -133,6 +133,8 @@ fn cut_and_damaged_input_settles_to_a_line_or_a_statement() {
         if text.starts_with("REF") {
             assert!(text.ends_with(" 1\n"));
         } else {
+            let last = text.lines().last().expect("a total");
+            assert!(last.starts_with("DD TOT - "));
             ends += 1;
         }
     }
