@@ -21,7 +21,9 @@ pub const GUARANTEE_SIZES: usize = 1 + 2 * IMPORTS_MOST;
 /// Amounts of an hour's guarantees: the offset, then each credit.
 pub const GUARANTEE_AMOUNTS: usize = 1 + IMPORTS_MOST;
 /// Bytes that every statement has room in.
-pub const STATEMENT_MOST: usize = 145_200;
+pub const STATEMENT_MOST: usize = 145_266;
+/// Bytes of the shortest statement, which is its total alone.
+pub const STATEMENT_LEAST: usize = 14;
 
 /// The symbols of the static library.
 mod symbols {

@@ -17,8 +17,8 @@
 //! - [`programs`], [`one_byte`]: the settle programs that are measured, and an
 //!   input of which each read brings one byte.
 //! - [`worst_day`]: the day that costs the proved book most.
-//! - `mock`: the C interface over the peer, with deliberate bugs (feature
-//!   `mock` only).
+//! - `mock`, `wrong_statements`: the C interface over the peer, with deliberate
+//!   bugs (feature `mock` only).
 
 #![deny(unsafe_code)]
 #![warn(missing_docs)]
@@ -46,3 +46,5 @@ pub mod tally;
 pub mod timing;
 pub mod workloads;
 pub mod worst_day;
+#[cfg(feature = "mock")]
+mod wrong_statements;

@@ -12,8 +12,11 @@ use crate::answer::Answer;
 use crate::bridge::{Layer, State, MISSING, VERSION};
 use crate::call::{Alone, Ask, Start, Way};
 use crate::peer_side::{self, PeerBook};
+use crate::wrong_statements;
+use peer::book::Book;
 use peer::names;
 use peer::records::{parse_for, Change, Method, Record};
+use peer::refusal::Refusal;
 use peer::units::INTERVALS;
 use std::cell::Cell;
 use std::env;
@@ -42,11 +45,19 @@ pub enum Bug {
     CountRefused,
     /// The statement prints a price that lacks as an amount of 0.
     ZeroForError,
+    /// The total adds offsets.
+    OffsetAdded,
+    /// The total adds the 15 of a price that lacks.
+    ErrorAdded,
+    /// The total is rounded from the day's ticks.
+    TotalOfTicks,
+    /// A day without amounts has no total.
+    NoTotalAlone,
 }
 
 impl Bug {
     /// All bugs and their names in the environment variable.
-    pub const ALL: [(Bug, &'static str); 10] = [
+    pub const ALL: [(Bug, &'static str); 14] = [
         (Bug::WrongVersion, "wrong-version"),
         (Bug::ClampOffset, "clamp-offset"),
         (Bug::NoLoadAtZero, "no-load-at-zero"),
@@ -57,6 +68,10 @@ impl Bug {
         (Bug::FullAt100, "full-at-100"),
         (Bug::CountRefused, "count-refused"),
         (Bug::ZeroForError, "zero-for-error"),
+        (Bug::OffsetAdded, "offset-added"),
+        (Bug::ErrorAdded, "error-added"),
+        (Bug::TotalOfTicks, "total-of-ticks"),
+        (Bug::NoTotalAlone, "no-total-alone"),
     ];
 
     fn from_environment() -> Option<Bug> {
@@ -604,12 +619,31 @@ pub unsafe extern "C" fn pewatuno_statement(
     };
     let room = out.len();
     let mut answer = book(state, lent).question(lent.len(), &Ask::Statement { room });
-    if has(Bug::ZeroForError) {
-        let text = String::from_utf8_lossy(&answer.bytes);
-        answer.bytes = text.replace(" ERR - 15", " OFF - 0.").into_bytes();
+    if let (0, Some(bug)) = (answer.number, BUG.get()) {
+        answer = altered_statement(bug, &answer.bytes, state, lent, room);
     }
     out[..answer.bytes.len()].copy_from_slice(&answer.bytes);
     put_out(&answer, sizes, &mut [])
+}
+
+/// The answer with what a bug makes of a statement.
+fn altered_statement(bug: Bug, text: &[u8], state: &[u64], lent: &[u8], room: usize) -> Answer {
+    let text = String::from_utf8_lossy(text);
+    let kept = Book {
+        changes: state[0] as u32,
+        used: state[1] as u32,
+        closed: state[2] == 1,
+    };
+    let standing = kept.read(lent).expect("a book that has a statement");
+    let bytes = wrong_statements::altered(bug, &text, &standing).into_bytes();
+    match bytes.len() <= room {
+        true => Answer {
+            sizes: vec![bytes.len() as u64],
+            bytes,
+            ..Answer::default()
+        },
+        false => Answer::refused(Refusal::NoSpace.number()),
+    }
 }
 
 /// The C call for one hour's offset.

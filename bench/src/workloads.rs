@@ -1,7 +1,7 @@
 //! The work that is measured, the same on both sides.
 
 use crate::bridge::{
-    self, Layer, Layers, State, GUARANTEE_AMOUNTS, GUARANTEE_SIZES, STATEMENT_MOST,
+    self, Layer, Layers, State, GUARANTEE_AMOUNTS, GUARANTEE_SIZES, STATEMENT_LEAST, STATEMENT_MOST,
 };
 use crate::callgrind::counted;
 use crate::generate::sweeps_records::full_unit;
@@ -313,7 +313,8 @@ impl Bench {
             || bridge::statement(kept.state, &kept.bytes, &mut out, &mut sizes),
             || {
                 let standing = book.read(black_box(&kept.bytes));
-                standing.is_ok_and(|standing| !statement(&standing).is_empty())
+                // More than the total of nothing.
+                standing.is_ok_and(|standing| statement(&standing).len() > STATEMENT_LEAST)
             },
         )
     }

@@ -139,8 +139,8 @@ mod tests {
                 .filter(|line| line[3..].starts_with(kind))
                 .count()
         };
-        let seen = ["PCG", "IOG", "IFC", "EFC", "OFF", "ERR"].map(lines);
-        assert_eq!(seen, [70, 72, 144, 144, 9, 0]);
+        let seen = ["PCG", "IOG", "IFC", "EFC", "OFF", "ERR", "TOT"].map(lines);
+        assert_eq!(seen, [70, 72, 144, 144, 9, 0, 1]);
     }
 
     #[test]

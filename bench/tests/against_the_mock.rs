@@ -133,6 +133,19 @@ fn another_line_of_the_statement_is_found() {
 }
 
 #[test]
+fn another_total_of_the_statement_is_found() {
+    for bug in [
+        Bug::OffsetAdded,
+        Bug::ErrorAdded,
+        Bug::TotalOfTicks,
+        Bug::NoTotalAlone,
+    ] {
+        let report = found(bug, Part::Days, 4_000);
+        assert!(report.contains("DD TOT - "), "{bug:?}: {report}");
+    }
+}
+
+#[test]
 fn a_short_taking_back_is_found() {
     let report = found(Bug::ShortTakeBack, Part::Books, 60_000);
     assert!(

@@ -1,21 +1,22 @@
 //! Random days: records back to back, whole and damaged, and statements.
 
-use crate::bridge::STATEMENT_MOST;
+use crate::bridge::{STATEMENT_LEAST, STATEMENT_MOST};
 use crate::call::{Ask, Call, Lent, List, Start};
 use crate::draw::Draw;
 use crate::generate::books::{self, Story, Style, DAY};
-use crate::generate::{changes, forms, pairs};
+use crate::generate::{changes, forms, pairs, totals};
 use peer::feed::feed;
 use peer::register::{Register, LENT_MOST};
 use peer::statement::statement;
 
 /// A random list.
 pub fn list(draw: &mut Draw) -> List {
-    match draw.below(24) {
+    match draw.below(27) {
         0..=4 => pairs_list(draw),
         5 if draw.once_in(2) => from_full(draw),
         5 => from_busy(draw),
         6..=10 => from_crowded(draw),
+        11..=13 => totals::list(draw),
         _ => {
             let style = style(draw);
             let start = Start::Fresh(style.room);
@@ -52,7 +53,7 @@ fn pairs_list(draw: &mut Draw) -> List {
             },
             1 => Ask::Feed { input: Vec::new() },
             _ => Ask::Statement {
-                room: draw.pick(&[0, 20, STATEMENT_MOST]),
+                room: draw.pick(&[0, STATEMENT_LEAST - 1, STATEMENT_LEAST, STATEMENT_MOST]),
             },
         };
         Call::Book(lent, ask)
@@ -133,7 +134,8 @@ fn story(draw: &mut Draw, style: Style, mut register: Register) -> Vec<Call> {
 
 /// The statement, into bytes that have room for it or are too few.
 fn asked(draw: &mut Draw, register: &Register, room: usize) -> (Lent, Ask) {
-    let length = statement(register).len();
+    let text = statement(register);
+    let length = text.len();
     let lent = match draw.below(8) {
         0 => Lent::Used(-draw.between(1, 60)),
         1 => Lent::Used(0),
@@ -142,7 +144,8 @@ fn asked(draw: &mut Draw, register: &Register, room: usize) -> (Lent, Ask) {
     };
     let room = match draw.below(8) {
         0 => 0,
-        1 | 2 => length.saturating_sub(1),
+        1 => length - 1,
+        2 => totals::around_an_end(draw, &text),
         3 => length,
         4 => draw.below(length + 1),
         5 => STATEMENT_MOST,
@@ -224,9 +227,45 @@ mod tests {
             assert_eq!(answer.number, 0);
             text += &String::from_utf8_lossy(&answer.bytes);
         }
-        for kind in ["IOG", "OFF", "IFC", "EFC", "PCG", "REV", "ERR"] {
+        for kind in ["IOG", "OFF", "IFC", "EFC", "PCG", "REV", "ERR", "TOT"] {
             assert!(text.contains(&format!(" {kind} ")), "{kind}");
         }
+    }
+
+    /// The statements that a list's calls bring back.
+    fn statements(list: &List) -> Vec<String> {
+        let mut book = PeerBook::new(&list.start);
+        let mut texts = Vec::new();
+        for call in &list.calls {
+            let Call::Book(lent, ask) = call else {
+                panic!("a call on a book");
+            };
+            let lent = lent.length(book.state().used as usize, book.bytes.len());
+            let answer = match ask {
+                Ask::Feed { input } => book.feed(lent, input),
+                ask => book.question(lent, ask),
+            };
+            if matches!(ask, Ask::Statement { .. }) && answer.number == 0 {
+                texts.push(String::from_utf8_lossy(&answer.bytes).into_owned());
+            }
+        }
+        texts
+    }
+
+    #[test]
+    fn totals_of_every_kind_are_compared() {
+        let mut draw = Draw::new(7);
+        let texts = (0..1500).flat_map(|_| statements(&list(&mut draw)));
+        let texts: Vec<String> = texts.collect();
+        let with = |words: &str| texts.iter().filter(|text| text.contains(words)).count();
+        let seen = [
+            with("DD TOT - -"),
+            with("DD TOT - 0.00"),
+            with(" OFF - -"),
+            with(" ERR "),
+            texts.len() - with("DD TOT - -") - with("DD TOT - 0.00"),
+        ];
+        assert!(seen.iter().all(|&count| count > 50), "{seen:?}");
     }
 
     #[test]

@@ -18,6 +18,7 @@ pub mod sweeps_books;
 pub mod sweeps_days;
 pub mod sweeps_money;
 pub mod sweeps_records;
+pub mod totals;
 
 use crate::call::{List, Part};
 use crate::draw::Draw;

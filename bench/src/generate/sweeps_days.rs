@@ -1,19 +1,22 @@
-//! Systematic days: an input cut at each byte, with its statement, and damaged
-//! at each byte; every lent length; a statement into every room.
+//! Systematic days: a statement into every room; an input cut at each byte, with
+//! its statement, and damaged at each byte; every lent length.
 
-use crate::bridge::STATEMENT_MOST;
+use crate::bridge::{State, STATEMENT_MOST};
 use crate::call::{Ask, Call, Lent, List, Start};
 use crate::generate::sweeps_books::{small_book, state};
+use crate::generate::totals;
 use peer::records::raw::{self, RawName, RawUnit};
 use peer::register::LENT_MOST;
+use peer::statement::settle;
 
 /// All sweeps in turn.
 pub fn all() -> Box<dyn Iterator<Item = List>> {
     Box::new(
-        cut_inputs()
+        rooms()
+            .chain(totals::largest())
+            .chain(cut_inputs())
             .chain(damaged_inputs())
-            .chain(lent_lengths())
-            .chain(rooms()),
+            .chain(lent_lengths()),
     )
 }
 
@@ -83,13 +86,31 @@ fn lent_lengths() -> impl Iterator<Item = List> {
     })
 }
 
-/// The statement of the small book into each room up to more than enough.
+/// Statements into each room: of an empty book, open and closed, of the small
+/// book, and of a day with lines of every kind.
 fn rooms() -> impl Iterator<Item = List> {
-    let book = small_book();
+    let books = [
+        (Vec::new(), false),
+        (Vec::new(), true),
+        (small_book(), false),
+        (totals::every_kind(), false),
+    ];
+    let books = books.into_iter();
+    books.flat_map(|(book, closed)| each_room(&book, closed))
+}
+
+/// The statement of a book into each room up to more than enough.
+fn each_room(book: &[Vec<u8>], closed: bool) -> impl Iterator<Item = List> {
     let bytes = book.concat();
-    let rooms = (0..120).chain([STATEMENT_MOST - 1, STATEMENT_MOST, STATEMENT_MOST + 1]);
+    let enough = settle(&bytes).len();
+    let state = State {
+        closed,
+        ..state(book)
+    };
+    let rooms = 0..enough + 20;
+    let rooms = rooms.chain([STATEMENT_MOST - 1, STATEMENT_MOST, STATEMENT_MOST + 1]);
     rooms.map(move |room| List {
-        start: Start::Given(state(&book), bytes.clone()),
+        start: Start::Given(state, bytes.clone()),
         calls: vec![Call::Book(Lent::Whole, Ask::Statement { room })],
     })
 }
@@ -97,6 +118,8 @@ fn rooms() -> impl Iterator<Item = List> {
 #[cfg(test)]
 mod tests {
     use super::*;
+    use crate::bridge::STATEMENT_LEAST;
+    use crate::peer_side::PeerBook;
     use peer::feed::feed;
     use peer::register::Register;
     use peer::statement::statement;
@@ -109,6 +132,25 @@ mod tests {
         assert_eq!((fed.count, fed.refusal), (12, None));
         assert_eq!(fed.taken, input.len());
         assert!(register.is_closed());
-        assert_eq!(statement(&register).lines().count(), 6);
+        assert_eq!(statement(&register).lines().count(), 7);
+    }
+
+    /// The least room that a statement is written into, of each book.
+    #[test]
+    fn rooms_begin_below_the_shortest_statement() {
+        let answers = rooms().map(|list| match &list.calls[..] {
+            [Call::Book(_, ask @ Ask::Statement { room })] => {
+                let answer = PeerBook::new(&list.start).question(list.start.room(), ask);
+                (*room, answer.number)
+            }
+            _ => panic!("a statement"),
+        });
+        let answers: Vec<(usize, u32)> = answers.collect();
+        let firsts = answers.windows(2).filter_map(|pair| match pair {
+            [(_, 13), (room, 0)] => Some(*room),
+            _ => None,
+        });
+        let firsts: Vec<usize> = firsts.collect();
+        assert_eq!(firsts, [STATEMENT_LEAST, STATEMENT_LEAST, 63, 172]);
     }
 }
