@@ -67,6 +67,7 @@ fn whole(output: Output, took_all: bool) -> Result<Vec<u8>, String> {
     let said = String::from_utf8_lossy(&output.stderr);
     let said = said.trim_end();
     let statement = output.stdout;
+    let status = Status::of(&statement);
     if !output.status.success() {
         let ended = output.status;
         Err(format!("{NAME} ended with {ended}, and said: '{said}'"))
@@ -74,8 +75,13 @@ fn whole(output: Output, took_all: bool) -> Result<Vec<u8>, String> {
         Err(format!("{NAME} said: '{said}'"))
     } else if statement.last().is_some_and(|&byte| byte != b'\n') {
         Err(format!("the output of {NAME} ends within a line"))
-    } else if !took_all && Status::of(&statement) != Status::Refused {
+    } else if !took_all && status != Status::Refused {
         Err(format!("{NAME} did not read the whole day"))
+    } else if status == Status::Trouble {
+        Err(format!(
+            "the output of {NAME} is no whole statement: neither REF alone, nor a day's lines and \
+             their total (TOT) at the end"
+        ))
     } else {
         Ok(statement)
     }
