@@ -11,7 +11,7 @@ use money::units::{HOURS, Ticks};
 use records::marks::HOUR_LIMIT;
 use records::names::no_name;
 
-#[derive(Drop)]
+#[derive(Clone, Copy)]
 pub enum Answer {
     Accepted,
     Refused(u8),
@@ -34,7 +34,7 @@ pub fn refusal_in(a: Answer) -> u8
 }
 
 // The book as a change hands it back, and its answer.
-#[derive(Drop)]
+#[derive(Clone, Copy)]
 pub struct Done {
     pub book: Book,
     pub answer: Answer,
@@ -47,21 +47,21 @@ pub const CREDITS_MAX: usize = IMPORTS_MAX;
 pub const CHARGES_MAX: usize = HOUR_LIMIT as usize;
 
 // An amount, and the decoded name that it belongs to.
-#[derive(Drop)]
+#[derive(Clone, Copy)]
 pub struct NamedAmount {
     pub name: Name,
     pub ticks: Ticks,
 }
 
 // Credits by name: the first n of the list.
-#[derive(Drop)]
+#[derive(Clone, Copy)]
 pub struct Credits {
     pub n: usize,
     pub list: [NamedAmount; CREDITS_MAX],
 }
 
 // Charges by name: the first n of the list.
-#[derive(Drop)]
+#[derive(Clone, Copy)]
 pub struct ChargeList {
     pub n: usize,
     pub list: [NamedAmount; CHARGES_MAX],
@@ -79,7 +79,7 @@ pub(crate) fn no_amount() -> NamedAmount
 }
 
 // The credits of an hour's imports and its wheel offset, or the number of a refusal.
-#[derive(Drop)]
+#[derive(Clone, Copy)]
 pub struct Guarantees {
     pub number: u8,
     pub credits: Credits,
@@ -87,14 +87,14 @@ pub struct Guarantees {
 }
 
 // The charges of an hour's failures of one mark, or the number of a refusal.
-#[derive(Drop)]
+#[derive(Clone, Copy)]
 pub struct Charges {
     pub number: u8,
     pub charges: ChargeList,
 }
 
 // A unit's day total and its reversal, or the number of a refusal.
-#[derive(Drop)]
+#[derive(Clone, Copy)]
 pub struct UnitDay {
     pub number: u8,
     pub total: Ticks,
@@ -102,7 +102,7 @@ pub struct UnitDay {
 }
 
 // An hour's guarantees, its charges of failed imports and those of failed exports.
-#[derive(Drop)]
+#[derive(Clone, Copy)]
 pub struct HourAmounts {
     pub guarantees: Guarantees,
     pub imports: Charges,
@@ -110,14 +110,14 @@ pub struct HourAmounts {
 }
 
 // A unit's decoded name and its day.
-#[derive(Drop)]
+#[derive(Clone, Copy)]
 pub struct UnitAmounts {
     pub name: Name,
     pub day: UnitDay,
 }
 
 // All amounts of a day, or the number of a refusal: those of hour h at h - 1, and the first n units by name.
-#[derive(Drop)]
+#[derive(Clone, Copy)]
 pub struct DayAmounts {
     pub number: u8,
     pub hours: [HourAmounts; HOURS],

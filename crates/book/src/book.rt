@@ -13,7 +13,7 @@ pub const CHANGES_MAX: usize = 512;
 pub const USED_MAX: usize = 65535;
 
 // What the book carries: its number of changes, its used bytes, and whether it is closed.
-#[derive(Drop)]
+#[derive(Clone, Copy)]
 pub struct Book {
     pub changes: u16,
     pub used: u32,

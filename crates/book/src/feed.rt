@@ -13,7 +13,7 @@ use money::refusals::NOT_TOGETHER;
 use records::parse::first_change;
 
 // The book with the records that it took, how many they were and how many bytes; and the number of the refusal that ended the reading, 0 for none.
-#[derive(Drop)]
+#[derive(Clone, Copy)]
 pub struct Fed {
     pub book: Book,
     pub count: u64,

@@ -1,6 +1,8 @@
 // The proved crates over numbers and slices, for a program in another language that holds them against its own. A slice is a
 // pointer and a count. Each function answers 0 or the number of the refusal, and promises what it leaves in every lent place: at a
 // refusal what stood there.
+#![tactic(auto)]
+
 ghost use Rattle.std.specs.Prelude.{◌≡◌, ◌+◌, ◌≤◌, cond, eqb, take};
 ghost use Rattle.records.specs.Changes.{parse, parsed_of, put_number, put_bytes, entry, front_of};
 ghost use Rattle.book.specs.Register.{record_of, count_of, free_bytes, hour_guarantees, day_of, failure_charge};

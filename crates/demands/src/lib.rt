@@ -1,5 +1,7 @@
 // The machine link between the three demands (specs/Demands.antt) and the book's methods: one function that makes any call of the register
 // by the book's own method. It promises demands 1 and 3 of that call, so it is proved only while every method keeps its own promise whole.
+#![tactic(auto)]
+
 ghost use Rattle.std.specs.Prelude.{◌≡◌, []};
 ghost use Rattle.book.specs.Register.{ask, accepted};
 ghost use Rattle.book.specs.Handed.{guarantees_from, unit_day_from};
@@ -19,7 +21,7 @@ use records::marks::Mark;
 use records::names::no_name;
 
 // What a call hands back: the book, and its answer; or an hour's guarantees, or a unit's day, where it asked for these.
-#[derive(Drop)]
+#[derive(Clone, Copy)]
 pub struct Turned {
     pub book: Book,
     pub hourly: bool,

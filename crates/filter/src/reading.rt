@@ -14,7 +14,7 @@ pub const COUNT_MAX: u64 = 18446744073709551615;
 
 // The book so far, and the records that it took; how many bytes of the next one are held, at the front of the input's bytes; and the number
 // of the refusal at which the reading stands, 0 for none. Bytes that end early may still go on.
-#[derive(Drop)]
+#[derive(Clone, Copy)]
 pub struct Reading {
     pub book: Book,
     pub count: u64,

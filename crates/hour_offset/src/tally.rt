@@ -15,7 +15,7 @@ use records::keys::Key;
 use records::marks::Mark;
 
 // The place of the hour's prices, if there is one, and those of its imports and its exports, by name.
-#[derive(Drop)]
+#[derive(Clone, Copy)]
 pub struct Tally {
     pub priced: bool,
     pub price: usize,
@@ -24,14 +24,14 @@ pub struct Tally {
 }
 
 // The number of a record's refusal, 0 for none, beside the tally with it.
-#[derive(Drop)]
+#[derive(Clone, Copy)]
 pub struct Tallied {
     pub number: u8,
     pub tally: Tally,
 }
 
 // The same of the places of one mark.
-#[derive(Drop)]
+#[derive(Clone, Copy)]
 pub struct Placed {
     pub number: u8,
     pub places: Places,

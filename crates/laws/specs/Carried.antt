@@ -43,10 +43,10 @@ plain {w} {z} f = carried f (le_refl (nat_abs z))
 
 -- an `i32` and an `i64` by the bound alone
 pub num32 : (z : ℤ) {B : ℕ} → nat_abs z ≤ B → B < 2 ^ 31 → Carried (to_z w32 (of_z w32 z)) z B
-num32 z h t = carried (sfits-lt z (lt_of_le_of_lt h t)) h
+num32 z h t = carried {w = w32} (sfits-lt z (lt_of_le_of_lt h t)) h
 
 pub num64 : (z : ℤ) {B : ℕ} → nat_abs z ≤ B → B < 2 ^ 63 → Carried (to_z w64 (of_z w64 z)) z B
-num64 z h t = carried (sfits-lt z (lt_of_le_of_lt h t)) h
+num64 z h t = carried {w = w64} (sfits-lt z (lt_of_le_of_lt h t)) h
 
 -- an unsigned number that was cast to an `i64`
 pub nat : {n B : ℕ} → n ≤ B → B < 2 ^ 63 → Carried (to_z w64 n) (pos n) B

@@ -8,7 +8,7 @@ use crate::refusals::NUMBER_OUTSIDE;
 use crate::units::{Answer, Price, PriceGap, Quantity, Ticks};
 
 // A failed import or export of an hour: the quantities scheduled, and the prices offered or bid, day-ahead and in pre-dispatch.
-#[derive(Drop)]
+#[derive(Clone, Copy)]
 pub struct Failure {
     pub day_ahead_quantity: Quantity,
     pub pre_dispatch_quantity: Quantity,

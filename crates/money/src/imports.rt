@@ -13,7 +13,7 @@ use crate::units::{INTERVALS, Price, Quantity, Ticks, quantities_ok, within_ok};
 pub const IMPORTS_MAX: usize = 16;
 
 // An hour's import, as the offset takes it.
-#[derive(Drop)]
+#[derive(Clone, Copy)]
 pub struct Import {
     pub name: Name,
     pub credit: Ticks,

@@ -1,4 +1,6 @@
 // The market rules' amounts, over numbers alone: nothing here knows of records or of a book.
+#![tactic(auto)]
+
 pub mod failure;
 pub mod guarantee;
 pub mod imports;

@@ -11,7 +11,7 @@ const FIRST_VISIBLE: u8 = 0x21;
 const LAST_VISIBLE: u8 = 0x7E;
 
 // A decoded name: its length, and places for twelve bytes.
-#[derive(Drop)]
+#[derive(Clone, Copy)]
 pub struct Name {
     pub len: u8,
     pub bytes: [u8; NAME_MAX],

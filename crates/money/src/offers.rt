@@ -13,7 +13,7 @@ use crate::units::{Answer, Price, Quantity, Ticks};
 pub const PAIRS_MAX: usize = 20;
 
 // A count, and places for twenty pairs of a price and a quantity.
-#[derive(Drop)]
+#[derive(Clone, Copy)]
 pub struct Offer {
     pub count: u8,
     pub prices: [Price; PAIRS_MAX],

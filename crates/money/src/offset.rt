@@ -188,7 +188,7 @@ pub fn offset_core(
 }
 
 // The entries taken so far, beside the hour's prices and export totals.
-#[derive(Drop)]
+#[derive(Clone, Copy)]
 pub struct Taken {
     pub count: u8,
     pub prices: [Price; INTERVALS],

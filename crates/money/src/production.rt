@@ -16,7 +16,7 @@ use crate::units::{
 };
 
 // A kind of operating reserve in an hour: prices, unconstrained schedules, and the list offered, which may be empty.
-#[derive(Drop)]
+#[derive(Clone, Copy)]
 pub struct Reserve {
     pub prices: [Price; INTERVALS],
     pub schedules: [Quantity; INTERVALS],
@@ -24,7 +24,7 @@ pub struct Reserve {
 }
 
 // A unit's hour. The schedules are 01's D, R, U, A and K; the offers its DA and RT.
-#[derive(Drop)]
+#[derive(Clone, Copy)]
 pub struct UnitHour {
     pub startup: CentsPerStart,
     pub noload: CentsPerHour,
@@ -41,7 +41,7 @@ pub struct UnitHour {
 }
 
 // A unit's day total and its reversal, or the number of the refusal.
-#[derive(Drop)]
+#[derive(Clone, Copy)]
 pub enum DayAnswer {
     Day(Ticks, Ticks),
     Refused(u8),
@@ -208,7 +208,7 @@ fn c4(h: UnitHour, prices: [Price; INTERVALS], k: usize) -> Ticks
 // ---- twelve intervals at a time: each list is walked in one call, not in each interval
 
 // How two quantities give one.
-#[derive(Drop)]
+#[derive(Clone, Copy)]
 pub(crate) enum Pick {
     Lesser,
     Greater,

@@ -19,47 +19,47 @@ pub const TICKS_PER_CENT: u64 = 120;
 const NOLOAD_TICKS: i64 = 10;
 
 // Cents per MWh.
-#[derive(Drop)]
+#[derive(Clone, Copy)]
 pub struct Price(pub i32);
 
 // Cents per MWh between two prices, 0 to 400,000: a price's own limits don't bind it.
-#[derive(Drop)]
+#[derive(Clone, Copy)]
 pub struct PriceGap(pub i32);
 
 // Tenths of a MW.
-#[derive(Drop)]
+#[derive(Clone, Copy)]
 pub struct Quantity(pub u32);
 
 // 1/120 cent: a price times a quantity for one interval is that many.
-#[derive(Drop)]
+#[derive(Clone, Copy)]
 pub struct Ticks(pub i64);
 
 // Cents for each start of a unit.
-#[derive(Drop)]
+#[derive(Clone, Copy)]
 pub struct CentsPerStart(pub u32);
 
 // Cents for each hour in which a unit turns with no net energy.
-#[derive(Drop)]
+#[derive(Clone, Copy)]
 pub struct CentsPerHour(pub u32);
 
 // Whole cents, for the line that is printed.
-#[derive(Drop)]
+#[derive(Clone, Copy)]
 pub struct Cents(pub i64);
 
-#[derive(Drop)]
+#[derive(Clone, Copy)]
 pub enum PriceRead {
     Good(Price),
     Refused(u8),
 }
 
-#[derive(Drop)]
+#[derive(Clone, Copy)]
 pub enum QuantityRead {
     Good(Quantity),
     Refused(u8),
 }
 
 // An amount, or the number of the refusal.
-#[derive(Drop)]
+#[derive(Clone, Copy)]
 pub enum Answer {
     Amount(Ticks),
     Refused(u8),

@@ -1,5 +1,7 @@
 // Lays a day out on pages: reads records back to back from standard input into a book over 65,535 bytes, and prints the statement
 // on pages of 60 lines, or `REF n r` where record n (from 1) is refused with number r.
+#![tactic(auto)]
+
 ghost use Rattle.statement.specs.Pages.{pages_of, longest_pages};
 ghost use Rattle.stdio.specs.Printing.{Shows, Printed};
 

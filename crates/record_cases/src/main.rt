@@ -1,6 +1,8 @@
 // Runs the record layer on the cases of its standard input, each a two-byte length (little-endian) and as many bytes: prints the
 // change in its written form, or the number with which it is refused. The expected output was made by the independent
 // implementation.
+#![tactic(auto)]
+
 use records::marks::Wanted;
 use records::parse::parse_any;
 use records::scan::is_record;

@@ -83,7 +83,7 @@ pub fn failure_charge(s: &[u8], mark: Mark, prices: HourPrices) -> Answer
 
 // ---- what the offset and the day take of a record: number 0 and the value, or the number and zeros throughout
 
-#[derive(Drop)]
+#[derive(Clone, Copy)]
 pub struct EntryAnswer {
     pub number: u8,
     pub entry: Import,
@@ -145,13 +145,13 @@ pub fn offset_entry(s: &[u8], prices: HourPrices) -> EntryAnswer
 }
 
 // What a unit's hour adds to its day: its amount, and its start-up.
-#[derive(Drop)]
+#[derive(Clone, Copy)]
 pub struct UnitPart {
     pub ticks: Ticks,
     pub start: CentsPerStart,
 }
 
-#[derive(Drop)]
+#[derive(Clone, Copy)]
 pub struct PartAnswer {
     pub number: u8,
     pub part: UnitPart,
@@ -191,7 +191,7 @@ pub fn unit_part(s: &[u8], prices: HourPrices) -> PartAnswer
     }
 }
 
-#[derive(Drop)]
+#[derive(Clone, Copy)]
 pub struct TotalsAnswer {
     pub number: u8,
     pub totals: [Quantity; INTERVALS],

@@ -12,7 +12,7 @@ use crate::names::{NameRead, name_field_then, unnamed};
 use money::refusals::{ENDS_EARLY, NAME_FAULT};
 
 // A change that was read: its body stands from `body` to the end.
-#[derive(Drop)]
+#[derive(Clone, Copy)]
 pub struct Read {
     pub end: End,
     pub kind: Kind,

@@ -9,50 +9,50 @@ use money::refusals::{ENDS_EARLY, HOUR_OUTSIDE, NUMBER_OUTSIDE};
 use money::units::{HOURS, Price, PriceRead, Quantity, QuantityRead};
 
 // Where a reader stopped: at a place of the bytes, or with the number of the first fault.
-#[derive(Drop)]
+#[derive(Clone, Copy)]
 pub enum End {
     At(usize),
     No(u8),
 }
 
 // A number and the place after it.
-#[derive(Drop)]
+#[derive(Clone, Copy)]
 pub enum Num {
     Got(u32, usize),
     No(u8),
 }
 
-#[derive(Drop)]
+#[derive(Clone, Copy)]
 pub enum PriceAt {
     Got(Price, usize),
     No(u8),
 }
 
-#[derive(Drop)]
+#[derive(Clone, Copy)]
 pub enum QuantityAt {
     Got(Quantity, usize),
     No(u8),
 }
 
-#[derive(Drop)]
+#[derive(Clone, Copy)]
 pub struct PriceField {
     pub end: End,
     pub price: Price,
 }
 
-#[derive(Drop)]
+#[derive(Clone, Copy)]
 pub struct QuantityField {
     pub end: End,
     pub quantity: Quantity,
 }
 
-#[derive(Drop)]
+#[derive(Clone, Copy)]
 pub struct AmountField {
     pub end: End,
     pub value: u32,
 }
 
-#[derive(Drop)]
+#[derive(Clone, Copy)]
 pub struct HourField {
     pub end: End,
     pub hour: u8,

@@ -34,7 +34,7 @@ pub fn head_key(s: &[u8]) -> KeyAnswer
 }
 
 // The bytes by which the records of a mark and name are told from others of the mark: those behind the hour. Not known of a name that none can have.
-#[derive(Drop)]
+#[derive(Clone, Copy)]
 pub struct NameHead {
     pub known: bool,
     pub len: usize,

@@ -12,7 +12,7 @@ use money::names::{NAME_MAX, Name};
 use money::refusals::{HOUR_OUTSIDE, MARK_UNKNOWN};
 
 // The first of them: its key and the place where it ends, or the number of its first fault.
-#[derive(Drop)]
+#[derive(Clone, Copy)]
 pub struct HourFront {
     pub number: u8,
     pub key: Key,

@@ -11,7 +11,7 @@ use crate::names::{NameRead, decode, no_name, unnamed};
 use money::names::{NAME_MAX, Name, same_name};
 use money::refusals::{HOUR_OUTSIDE, MARK_UNKNOWN, NAME_FAULT};
 
-#[derive(Drop)]
+#[derive(Clone, Copy)]
 pub struct Key {
     pub mark: Mark,
     pub hour: u8,
@@ -19,13 +19,13 @@ pub struct Key {
 }
 
 // A key, or the number of the first fault in what was asked.
-#[derive(Drop)]
+#[derive(Clone, Copy)]
 pub struct KeyAnswer {
     pub number: u8,
     pub key: Key,
 }
 
-#[derive(Drop)]
+#[derive(Clone, Copy)]
 pub struct NameAnswer {
     pub number: u8,
     pub name: Name,

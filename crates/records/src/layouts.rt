@@ -15,48 +15,48 @@ use money::refusals::BEYOND_LIST;
 use money::units::{CentsPerHour, CentsPerStart, INTERVALS, Price, Quantity, within_ok};
 
 // The hour's energy prices, and its pre-dispatch price.
-#[derive(Drop)]
+#[derive(Clone, Copy)]
 pub struct HourPrices {
     pub emp: [Price; INTERVALS],
     pub pd: Price,
 }
 
-#[derive(Drop)]
+#[derive(Clone, Copy)]
 pub struct Import {
     pub mqsi: [Quantity; INTERVALS],
     pub offer: Offer,
 }
 
-#[derive(Drop)]
+#[derive(Clone, Copy)]
 pub struct Export {
     pub mqsw: [Quantity; INTERVALS],
 }
 
-#[derive(Drop)]
+#[derive(Clone, Copy)]
 pub struct HourPricesRead {
     pub end: End,
     pub prices: HourPrices,
 }
 
-#[derive(Drop)]
+#[derive(Clone, Copy)]
 pub struct ImportRead {
     pub end: End,
     pub import: Import,
 }
 
-#[derive(Drop)]
+#[derive(Clone, Copy)]
 pub struct ExportRead {
     pub end: End,
     pub export: Export,
 }
 
-#[derive(Drop)]
+#[derive(Clone, Copy)]
 pub struct FailureRead {
     pub end: End,
     pub failure: Failure,
 }
 
-#[derive(Drop)]
+#[derive(Clone, Copy)]
 pub struct UnitRead {
     pub end: End,
     pub unit: UnitHour,
@@ -64,7 +64,7 @@ pub struct UnitRead {
 
 // ---- the parts of a unit's hour
 
-#[derive(Drop)]
+#[derive(Clone, Copy)]
 pub struct Schedules {
     pub startup: CentsPerStart,
     pub noload: CentsPerHour,
@@ -75,25 +75,25 @@ pub struct Schedules {
     pub capacity: [Quantity; INTERVALS],
 }
 
-#[derive(Drop)]
+#[derive(Clone, Copy)]
 pub struct SchedulesRead {
     pub end: End,
     pub schedules: Schedules,
 }
 
-#[derive(Drop)]
+#[derive(Clone, Copy)]
 pub struct ReserveSeries {
     pub prices: [Price; INTERVALS],
     pub schedules: [Quantity; INTERVALS],
 }
 
-#[derive(Drop)]
+#[derive(Clone, Copy)]
 pub struct ReserveSeriesRead {
     pub end: End,
     pub series: ReserveSeries,
 }
 
-#[derive(Drop)]
+#[derive(Clone, Copy)]
 pub struct Lists {
     pub ahead: Offer,
     pub real: Offer,
@@ -102,7 +102,7 @@ pub struct Lists {
     pub thirty: Offer,
 }
 
-#[derive(Drop)]
+#[derive(Clone, Copy)]
 pub struct ListsRead {
     pub end: End,
     pub lists: Lists,

@@ -1,4 +1,6 @@
 // The record layer: names, the six records and the five changes, read and written.
+#![tactic(auto)]
+
 pub mod amounts;
 pub mod changes;
 pub mod fields;

@@ -10,13 +10,13 @@ use money::offers::{Offer, PAIRS_MAX, offer_fault};
 use money::refusals::LIST_FAULT;
 use money::units::{Price, Quantity};
 
-#[derive(Drop)]
+#[derive(Clone, Copy)]
 pub enum PairAt {
     Got(Price, Quantity, usize),
     No(u8),
 }
 
-#[derive(Drop)]
+#[derive(Clone, Copy)]
 pub struct OfferRead {
     pub end: End,
     pub offer: Offer,

@@ -16,7 +16,7 @@ pub const HOUR_LIMIT: u8 = 16;
 
 pub const UNIT_LIMIT: u8 = 8;
 
-#[derive(Drop)]
+#[derive(Clone, Copy)]
 pub enum Mark {
     Pr,
     Im,
@@ -26,7 +26,7 @@ pub enum Mark {
     Fe,
 }
 
-#[derive(Drop)]
+#[derive(Clone, Copy)]
 pub enum Kind {
     File,
     Correct,
@@ -34,11 +34,11 @@ pub enum Kind {
 }
 
 // The two bytes of a mark.
-#[derive(Drop)]
+#[derive(Clone, Copy)]
 pub(crate) struct MarkBytes(pub(crate) u8, pub(crate) u8);
 
 // What some bytes are: a change of a record, a mark that stands alone, or nothing that is written so.
-#[derive(Drop)]
+#[derive(Clone, Copy)]
 pub enum Act {
     Record(Kind),
     TakeBack,
@@ -47,19 +47,19 @@ pub enum Act {
 }
 
 // What a method asks for: a change of any kind, or of its own only.
-#[derive(Drop)]
+#[derive(Clone, Copy)]
 pub enum Wanted {
     Any,
     Only(Kind),
 }
 
-#[derive(Drop)]
+#[derive(Clone, Copy)]
 pub struct MarkRead {
     pub end: End,
     pub mark: Mark,
 }
 
-#[derive(Drop)]
+#[derive(Clone, Copy)]
 pub struct HeadRead {
     pub end: End,
     pub kind: Kind,

@@ -9,7 +9,7 @@ use crate::fields::{End, Num, read_byte};
 use money::names::{NAME_MAX, Name, name_before, name_ok};
 use money::refusals::{ENDS_EARLY, NAME_FAULT};
 
-#[derive(Drop)]
+#[derive(Clone, Copy)]
 pub struct NameRead {
     pub end: End,
     pub name: Name,
@@ -19,14 +19,14 @@ pub struct NameRead {
 pub const SPELLING_MAX: usize = 36;
 
 // The written spelling of a name: its length, and places for thirty-six bytes; or the number 4 of a name that is none.
-#[derive(Drop)]
+#[derive(Clone, Copy)]
 pub struct Spelling {
     pub number: u8,
     pub len: u8,
     pub bytes: [u8; SPELLING_MAX],
 }
 
-#[derive(Drop)]
+#[derive(Clone, Copy)]
 pub enum Chr {
     Got(u8, usize),
     No(u8),

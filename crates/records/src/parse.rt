@@ -11,21 +11,21 @@ use crate::writing::head_of;
 use money::refusals::{BYTES_LEFT_OVER, ENDS_EARLY, MARK_UNKNOWN};
 
 // What an argument is, or the number of its first fault.
-#[derive(Drop)]
+#[derive(Clone, Copy)]
 pub struct Parsed {
     pub number: u8,
     pub view: View,
 }
 
 // The first of several changes, and the place where it ends.
-#[derive(Drop)]
+#[derive(Clone, Copy)]
 pub struct Front {
     pub number: u8,
     pub view: View,
     pub end: usize,
 }
 
-#[derive(Drop)]
+#[derive(Clone, Copy)]
 pub struct ViewRead {
     pub end: End,
     pub view: View,

@@ -10,7 +10,7 @@ use crate::writing::head_of;
 use money::names::{NAME_MAX, Name};
 
 // A change as the book sees it: what it is, its key, and its written length.
-#[derive(Drop)]
+#[derive(Clone, Copy)]
 pub struct View {
     pub act: Act,
     pub key: Key,

@@ -8,13 +8,13 @@ ghost use Rattle.records.specs.tables.Inner.{shown, EndIn, then};
 use crate::fields::{End, PriceAt, QuantityAt, read_price, read_quantity};
 use money::units::{INTERVALS, Price, Quantity};
 
-#[derive(Drop)]
+#[derive(Clone, Copy)]
 pub struct PriceSeries {
     pub end: End,
     pub values: [Price; INTERVALS],
 }
 
-#[derive(Drop)]
+#[derive(Clone, Copy)]
 pub struct QuantitySeries {
     pub end: End,
     pub values: [Quantity; INTERVALS],

@@ -20,31 +20,31 @@ use money::units::{CentsPerHour, CentsPerStart, INTERVALS, Price, Quantity};
 // What stands in bytes that begin with a record as it was filed: its fields as the money rules take them.
 // Each view answers number 0 and the fields, or the number of the first fault and zeros throughout.
 
-#[derive(Drop)]
+#[derive(Clone, Copy)]
 pub struct PricesAnswer {
     pub number: u8,
     pub prices: HourPrices,
 }
 
-#[derive(Drop)]
+#[derive(Clone, Copy)]
 pub struct ImportAnswer {
     pub number: u8,
     pub import: Import,
 }
 
-#[derive(Drop)]
+#[derive(Clone, Copy)]
 pub struct ExportAnswer {
     pub number: u8,
     pub export: Export,
 }
 
-#[derive(Drop)]
+#[derive(Clone, Copy)]
 pub struct UnitAnswer {
     pub number: u8,
     pub unit: UnitHour,
 }
 
-#[derive(Drop)]
+#[derive(Clone, Copy)]
 pub struct FailureAnswer {
     pub number: u8,
     pub failure: Failure,

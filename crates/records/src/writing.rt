@@ -21,7 +21,7 @@ pub const NAME_HEAD_MAX: usize = 37;
 const HEAD_MAX: usize = 42;
 
 // The bytes of a change before its fields.
-#[derive(Drop)]
+#[derive(Clone, Copy)]
 pub struct HeadOut {
     pub len: usize,
     pub bytes: [u8; HEAD_MAX],

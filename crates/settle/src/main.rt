@@ -1,5 +1,7 @@
 // Settles a day: reads records back to back from standard input into a book over 65,535 bytes, and prints the statement, or
 // `REF n r` where record n (from 1) is refused with number r.
+#![tactic(auto)]
+
 ghost use Rattle.settle.specs.Settle.{Shows, Printed};
 
 use book::book::USED_MAX;
@@ -7,7 +9,7 @@ use statement::day::{STATEMENT_MAX, Written};
 use stdin::{Input, read_input};
 
 // What was written, unless the input could not be read.
-#[derive(Drop)]
+#[derive(Clone, Copy)]
 struct Settled {
     written: Written,
     failed: bool,

@@ -12,7 +12,7 @@ use money::units::Cents;
 pub(crate) const ENTRIES: usize = 57;
 
 // The page that the next entry is written on, counted from 1; how many entries stand on it, and their sum. Page 0: the text has no pages.
-#[derive(Drop)]
+#[derive(Clone, Copy)]
 pub(crate) struct Sheet {
     pub(crate) page: u64,
     pub(crate) entries: usize,
@@ -20,7 +20,7 @@ pub(crate) struct Sheet {
 }
 
 // Where the next line is written, and the sum of the lines before it.
-#[derive(Drop)]
+#[derive(Clone, Copy)]
 pub(crate) struct Cursor {
     pub(crate) at: usize,
     pub(crate) sum: Cents,

@@ -31,7 +31,7 @@ pub(crate) const LINES_MAX: usize = HOUR_LINES_MAX * HOURS + UNIT_LINES_MAX * CH
 pub const STATEMENT_MAX: usize = LINE_MAX * LINES_MAX;
 
 // 0 and how many bytes were written, or the number of a refusal.
-#[derive(Drop)]
+#[derive(Clone, Copy)]
 pub struct Written {
     pub number: u8,
     pub len: usize,

@@ -1,4 +1,6 @@
 // The statement: its lines and their text, the lines of a book's day, as they are or on pages; and the line of a refusal.
+#![tactic(auto)]
+
 mod bytes;
 mod columns;
 mod cursor;

@@ -14,7 +14,7 @@ pub(crate) const FIGURE_MAX: usize = 21;
 
 pub const LINE_MAX: usize = 9 + SPELLING_MAX + FIGURE_MAX;
 
-#[derive(Drop)]
+#[derive(Clone, Copy)]
 pub enum Kind {
     Iog,
     Off,
@@ -27,7 +27,7 @@ pub enum Kind {
 }
 
 // Hour 0 is the day. A name that breaks its rule, as one of no bytes, is none. The cents of an `Err` are its number.
-#[derive(Drop)]
+#[derive(Clone, Copy)]
 pub struct Line {
     pub hour: u8,
     pub kind: Kind,

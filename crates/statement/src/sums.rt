@@ -7,7 +7,7 @@ use crate::lines::Kind;
 use money::units::Cents;
 
 // What becomes of a line's amount in a sum.
-#[derive(Drop)]
+#[derive(Clone, Copy)]
 pub enum Effect {
     Added,
     TakenOff,

@@ -1,4 +1,6 @@
 // Standard input, read to its end into a book.
+#![tactic(auto)]
+
 ghost use Rattle.std.specs.Prelude.{◌≡◌, not, ◌&&◌, ◌≤◌, eqb, length, take};
 ghost use Rattle.stdin.specs.Rounds.{TakesIn, unread, ReadAll, failed};
 
@@ -10,7 +12,7 @@ const READ_MAX: u64 = 65536;
 const READS_MAX: u64 = COUNT_MAX / READ_MAX;
 
 // The reading of all that was read; whether there may be more to read, and whether the last read broke off.
-#[derive(Drop)]
+#[derive(Clone, Copy)]
 pub struct Input {
     pub reading: Reading,
     pub more: bool,

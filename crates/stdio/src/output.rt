@@ -2,7 +2,7 @@
 use statement::day::Written;
 
 // What was written, unless the input could not be read.
-#[derive(Drop)]
+#[derive(Clone, Copy)]
 pub struct Settled {
     pub written: Written,
     pub failed: bool,

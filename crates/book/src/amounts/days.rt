@@ -24,7 +24,7 @@ use records::amounts::{UnitPart, day_of, unit_part};
 use records::keys::{Key, unit_key};
 
 // The amounts of the day's hours and their start-ups, 0 where the unit has no hour.
-#[derive(Drop)]
+#[derive(Clone, Copy)]
 struct DayParts {
     ticks: [Ticks; HOURS],
     starts: [CentsPerStart; HOURS],

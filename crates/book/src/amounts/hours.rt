@@ -15,14 +15,14 @@ use records::marks::key_order;
 use records::scan::starts;
 
 // An hour's record: whether there is one, and where it is written.
-#[derive(Drop)]
+#[derive(Clone, Copy)]
 pub struct HourPlace {
     pub known: bool,
     pub start: usize,
 }
 
 // The record of each hour, the first at 0.
-#[derive(Drop)]
+#[derive(Clone, Copy)]
 pub struct DayPlaces {
     pub hours: [HourPlace; HOURS],
 }

@@ -17,7 +17,7 @@ use records::marks::HOUR_LIMIT;
 use records::names::{comes_before, no_name};
 
 // A standing record's decoded name, and where it is written.
-#[derive(Drop)]
+#[derive(Clone, Copy)]
 pub struct Spot {
     pub name: Name,
     pub start: usize,
@@ -27,7 +27,7 @@ pub struct Spot {
 pub const PLACES_MAX: usize = HOUR_LIMIT as usize;
 
 // Standing records, by decoded name in byte order: the first n of `at`.
-#[derive(Drop)]
+#[derive(Clone, Copy)]
 pub struct Places {
     pub n: usize,
     pub at: [Spot; PLACES_MAX],

@@ -17,14 +17,14 @@ use records::marks::Mark;
 use records::views::prices_of;
 
 // An hour's prices, where they are known.
-#[derive(Drop)]
+#[derive(Clone, Copy)]
 pub(crate) struct HourPrice {
     pub(crate) known: bool,
     pub(crate) prices: HourPrices,
 }
 
 // The price of each hour, the first at 0.
-#[derive(Drop)]
+#[derive(Clone, Copy)]
 pub(crate) struct PriceTable {
     pub(crate) hours: [HourPrice; HOURS],
 }

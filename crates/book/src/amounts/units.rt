@@ -19,21 +19,21 @@ use records::marks::{Mark, key_order};
 use records::names::{comes_before, no_name};
 
 // Decoded names in byte order, each once: the first n of `names`.
-#[derive(Drop)]
+#[derive(Clone, Copy)]
 pub struct Units {
     pub n: usize,
     pub names: [Name; CHANGES_MAX],
 }
 
 // Units, or the number of a refusal.
-#[derive(Drop)]
+#[derive(Clone, Copy)]
 pub struct UnitList {
     pub number: u8,
     pub units: Units,
 }
 
 // A place among names, and whether the name is not yet there.
-#[derive(Drop)]
+#[derive(Clone, Copy)]
 struct Position {
     at: usize,
     new: bool,

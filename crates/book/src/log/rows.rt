@@ -113,7 +113,7 @@ pub(crate) fn written_len(log: &[u8], start: usize) -> usize
 }
 
 // Whether a record of a key stands, which change wrote it, and where it is written.
-#[derive(Drop)]
+#[derive(Clone, Copy)]
 pub(crate) struct Seek {
     pub(crate) found: bool,
     pub(crate) at: usize,
