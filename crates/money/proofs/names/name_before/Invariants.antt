@@ -1,10 +1,13 @@
-use Rattle.std.proofs.Common.{◌-◌, ◌≡◌, min, ℕ, ◌+◌, ◌*◌, ◌<◌, ◌≤◌, length}
-use Rattle.money.specs.Names.{max_name, decoded_bytes, name_before, same_name, name_byte_ok, name_ok}
+use Prim.Native.Nat.{◌-◌}
+use lib.ListN.{length}
+use mathlib.Core.Path.{◌≡◌}
+use borrow.Author.Rules.{rules}
+use native.Mathlib.Omega.{arith}
+use Rattle.money.specs.laws.NameLaws.{Alike, alike-none, alike-short, alike-less, alike-more, alike-on, alike_end, before-used}
 use Rattle.money.proofs.names.name_before.Given as goal
 
 abbrev pub invariant-loop-i : goal.invariant-loop-i
-invariant-loop-i l = ?
+invariant-loop-i l = Alike l.a.bytes l.b.bytes l.m l.n l.i
 
--- proposed from the loop's first test
 abbrev pub decreases-loop-i : goal.decreases-loop-i
 decreases-loop-i l = l.m - l.i

@@ -1,0 +1,35 @@
+use mathlib.Core.Path.{sym, ap, ◌∙◌}
+use lib.IntN.{ℤ, ◌-ℤ◌}
+use borrow.Author.Tests.{not-true, not-false}
+use native.Mathlib.Omega.{arith}
+use borrow.Author.Rules.{rules}
+use Rattle.money.specs.declared.units.Answer.TheVariants.{Amount}
+use Rattle.money.specs.Failure.{dev}
+use Rattle.money.specs.laws.FailureLaws.{sound-of, gap-size, charge-is}
+use Rattle.money.proofs.failure.import_charge.Goals as goal
+
+pub returns-then-not-failure_ok : goal.returns-then-not-failure_ok
+returns-then-not-failure_ok c = rw (sym c.failure_ok.ensures ∙ c.if-not-failure_ok.true)
+
+pub gap-requires : goal.gap-requires
+gap-requires c =
+    let s = sound-of c.args.f c.args.pd (sym c.failure_ok.ensures ∙ c.if-not-failure_ok.false) in
+    record { fact_1 = s.market; fact_2 = s.day-ahead-price }
+
+pub gap-requires-2 : goal.gap-requires-2
+gap-requires-2 c =
+    let s = sound-of c.args.f c.args.pd (sym c.failure_ok.ensures ∙ c.if-not-failure_ok.false) in
+    record { fact_1 = s.pre-dispatch-price; fact_2 = s.day-ahead-price }
+
+pub charge_of-requires : goal.charge_of-requires
+charge_of-requires c =
+    let s = sound-of c.args.f c.args.pd (sym c.failure_ok.ensures ∙ c.if-not-failure_ok.false) in
+    record { fact_1 = gap-size c.args.pd.0 c.args.f.day_ahead_price.0 s.market s.day-ahead-price c.gap.ensures; fact_2 = gap-size
+            c.args.f.pre_dispatch_price.0 c.args.f.day_ahead_price.0 s.pre-dispatch-price s.day-ahead-price
+            c.gap-2.ensures; fact_3 = omega (arith, c.dev_of.ensures) }
+
+pub returns : goal.returns
+returns c =
+    let e = charge-is (c.args.pd.0 -ℤ c.args.f.day_ahead_price.0) (c.args.f.pre_dispatch_price.0 -ℤ c.args.f.day_ahead_price.0)
+    (dev c.args.f) c.gap.ensures c.gap-2.ensures c.dev_of.ensures c.charge_of.ensures in
+    rw (sym c.failure_ok.ensures ∙ c.if-not-failure_ok.false) (ap (λ (z : ℤ). Amount (record { 0 = z })) e)

@@ -1,0 +1,12 @@
+use mathlib.Core.Path.{sym, ◌∙◌}
+use borrow.Author.Rules.{rules}
+use Rattle.money.specs.Offset.{up_to}
+use Rattle.money.proofs.imports.up_to.Goals as goal
+
+pub returns-then-comes_before : goal.returns-then-comes_before
+unfolding up_to
+returns-then-comes_before c = rw (sym c.comes_before.ensures ∙ c.if-comes_before.true)
+
+pub returns : goal.returns
+unfolding up_to
+returns c = rw (sym c.comes_before.ensures ∙ c.if-comes_before.false) c.same_name.ensures

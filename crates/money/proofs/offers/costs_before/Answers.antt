@@ -1,0 +1,29 @@
+use mathlib.Core.Path.{◌≡◌, refl}
+use Prim.Native.Nat.{◌-◌}
+use borrow.Author.Rules.{rules}
+use native.Mathlib.Omega.{arith}
+use Rattle.money.specs.laws.OfferLaws.{Costed, reach, pieces_room, costed-none, costed-more}
+use Rattle.money.proofs.offers.costs_before.Goals as goal
+
+pub loop-i-init : goal.loop-i-init
+loop-i-init c = (refl, costed-none _ _ refl)
+
+pub offset_bounds-costs-i : goal.offset_bounds-costs-i
+offset_bounds-costs-i c = omega (arith, c.requires.most, c.loop-i.invariant.0, c.loop-i-test.true)
+
+pub between-requires : goal.between-requires
+between-requires c = record { fact_1 = c.requires.prices-in _ (omega (arith, c.loop-i.invariant.0, c.loop-i-test.true)); fact_2 = reach _ c.requires _ (omega (arith, c.loop-i.invariant.0, c.loop-i-test.true)) c.loop-i.invariant.1.from; fact_3 = c.requires.quantities-in _ (omega (arith, c.loop-i.invariant.0, c.loop-i-test.true)) }
+
+pub plus-acc-requires : goal.plus-acc-requires
+plus-acc-requires c = record { fact_1 = pieces_room _ c.requires _ (omega (arith, c.loop-i.invariant.0, c.loop-i-test.true)) c.loop-i.invariant.1.sum; fact_2 = omega (arith, c.between.ensures.fact_2) }
+
+pub loop-i-preserved : goal.loop-i-preserved
+loop-i-preserved c =
+    (
+      c.loop-i.invariant.0,
+      costed-more (c.requires) c.loop-i.invariant.1 (omega (arith, c.loop-i.invariant.0, c.loop-i-test.true)) refl
+          c.between.ensures.fact_1 c.plus-acc.ensures,
+    )
+
+pub returns : goal.returns
+returns c = λ j l. c.loop-i.invariant.1.so_far j (omega (arith, c.loop-i.invariant.0, c.loop-i-test.false))

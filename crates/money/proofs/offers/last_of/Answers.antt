@@ -1,0 +1,6 @@
+use borrow.Author.Rules.{rules}
+use Rattle.money.specs.laws.OfferLaws.{last-is}
+use Rattle.money.proofs.offers.last_of.Goals as goal
+
+pub returns : goal.returns
+returns c = last-is c.args.o c.requires.fact_1

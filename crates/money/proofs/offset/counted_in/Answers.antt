@@ -1,0 +1,17 @@
+use mathlib.Core.Path.{sym, ◌∙◌}
+use native.Mathlib.Omega.{arith}
+use borrow.Author.Rules.{rules}
+use Rattle.money.specs.laws.OffsetLaws.{counted-yes, counted-no}
+use Rattle.money.proofs.offset.counted_in.Goals as goal
+
+pub series_sum-requires : goal.series_sum-requires
+series_sum-requires c = c.requires
+
+pub returns-then-up_to : goal.returns-then-up_to
+returns-then-up_to c =
+    let yes = sym c.up_to.ensures ∙ c.if-up_to.true in
+    λ k l. omega (arith, c.series_sum.ensures k l, counted-yes c.args.a c.args.e k yes)
+
+pub returns : goal.returns
+returns c =
+    λ k l. omega (arith, counted-no c.args.a c.args.e k (sym c.up_to.ensures ∙ c.if-up_to.false))

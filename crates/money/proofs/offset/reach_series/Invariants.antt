@@ -1,0 +1,12 @@
+use Prim.Native.Nat.{◌-◌}
+use borrow.Author.Rules.{rules}
+use Rattle.money.specs.laws.UnitLaws.{zeros}
+use Rattle.money.specs.laws.OffsetLaws.{Reached, reached-none, reached-room, reached-more, reached-all}
+use Rattle.money.specs.Units.{intervals}
+use Rattle.money.proofs.offset.reach_series.Given as goal
+
+abbrev pub invariant-loop-j : goal.invariant-loop-j
+invariant-loop-j l = Reached l.n l.entries l.i l.sums l.j
+
+abbrev pub decreases-loop-j : goal.decreases-loop-j
+decreases-loop-j l = l.n - l.j

@@ -1,0 +1,13 @@
+use Prim.Native.Nat.{ℕ, ◌-◌, ◌+◌, min}
+use mathlib.Core.Path.{refl}
+use borrow.Author.Rules.{rules}
+use Rattle.money.specs.Units.{intervals, quantity_at}
+use Rattle.money.specs.laws.UnitLaws.{Filled, filled_none, filled_more, filled-all}
+use Rattle.money.specs.Offset.{max_total, totals_with}
+use Rattle.money.proofs.offset.totals_with.Given as goal
+
+abbrev pub invariant-loop-k : goal.invariant-loop-k
+invariant-loop-k l = Filled l.series (λ (j : ℕ). min (quantity_at l.totals j + quantity_at l.more j) (max_total + 1)) l.k
+
+abbrev pub decreases-loop-k : goal.decreases-loop-k
+decreases-loop-k l = intervals - l.k

@@ -1,0 +1,32 @@
+use mathlib.Core.Path.{◌≡◌}
+use Prim.Native.Nat.{◌≤◌, min}
+use native.Mathlib.Omega.{arith}
+use borrow.Author.Rules.{rules}
+use Rattle.money.specs.Offers.{last_q}
+use Rattle.money.specs.laws.OfferLaws.{in-range, spent-room}
+use Rattle.money.specs.laws.ProductionLaws.{loss-is, loss-room, running-room, shortfall-is}
+use Rattle.money.proofs.production.component_1_of.Goals as goal
+
+pub for_quantity-requires : goal.for_quantity-requires
+for_quantity-requires c =
+    let w : c.lesser-m.result.0 ≤ last_q c.args.da = omega arith in
+    record { fact_1 = c.requires.fact_3; fact_2 = in-range _ _ c.requires.fact_1 w }
+
+pub minus-loss-requires : goal.minus-loss-requires
+minus-loss-requires c =
+    let w : c.lesser-m.result.0 ≤ last_q c.args.da = omega arith in
+    record { fact_1 = spent-room _ _ c.requires.fact_1 w c.cost_of.ensures; fact_2 = omega (arith, c.for_quantity.ensures.fact_2) }
+
+pub plus-requires : goal.plus-requires
+plus-requires c =
+    let w : c.lesser-m.result.0 ≤ last_q c.args.da = omega arith in
+    record { fact_1 = loss-room _ _ c.requires.fact_1 w c.args.emp.0 c.requires.fact_3 c.cost_of.ensures c.for_quantity.ensures.fact_1
+          c.minus-loss.ensures; fact_2 = running-room c.args.noload.0 c.lesser-m.result.0 c.requires.fact_4 c.running_at.ensures }
+
+pub returns : goal.returns
+returns c =
+    let w : c.lesser-m.result.0 ≤ last_q c.args.da = omega arith in
+    let e : c.lesser-m.result.0 ≡ min c.args.d.0 (min c.args.r.0 c.args.a.0) = omega arith in
+    rw (← e) (shortfall-is c.args.da c.args.emp.0 c.args.noload.0 c.lesser-m.result.0 (loss-is _ _ c.requires.fact_1 w
+    c.args.emp.0 c.requires.fact_3 c.cost_of.ensures c.for_quantity.ensures.fact_1 c.minus-loss.ensures)
+    c.running_at.ensures c.plus.ensures)

@@ -1,0 +1,16 @@
+use mathlib.Core.Path.{sym, ◌∙◌}
+use borrow.Author.Rules.{rules}
+use Rattle.money.specs.Production.{C4}
+use Rattle.money.specs.laws.ProductionLaws.{interval-of}
+use Rattle.money.specs.laws.UnitLaws.{answer-fault, answer-amount}
+use Rattle.money.proofs.production.component_4.Goals as goal
+
+pub returns-then-f-ne0 : goal.returns-then-f-ne0
+returns-then-f-ne0 c =
+    answer-fault (C4 c.args.h c.args.prices c.args.k) c.interval_fault-f.ensures c.if-f-ne0.true
+
+pub c4-requires : goal.c4-requires
+c4-requires c = record { fact_1 = (interval-of c.args.h c.args.prices c.args.k (sym c.interval_fault-f.ensures ∙ c.if-f-ne0.false)).0; fact_2 = (interval-of c.args.h c.args.prices c.args.k (sym c.interval_fault-f.ensures ∙ c.if-f-ne0.false)).1 }
+
+pub returns : goal.returns
+returns c = answer-amount (sym c.interval_fault-f.ensures ∙ c.if-f-ne0.false) c.c4.ensures

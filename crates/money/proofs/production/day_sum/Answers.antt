@@ -1,0 +1,27 @@
+use Prim.Native.Nat.{◌-◌}
+use borrow.Author.Rules.{rules}
+use native.Mathlib.Omega.{arith}
+use Rattle.laws.specs.SumLaws.{Summed, summed-none, summed-more, summed-all}
+use Rattle.money.specs.Production.{hour_part, day_sum}
+use Rattle.money.specs.laws.ProductionLaws.{day-room, part-is, part_room, start-room}
+use Rattle.money.specs.Units.{day_hours}
+use Rattle.money.proofs.production.day_sum.Goals as goal
+
+pub loop-i-init : goal.loop-i-init
+loop-i-init c = summed-none _ _
+
+pub plus-requires : goal.plus-requires
+plus-requires c = record { fact_1 = omega (arith, c.requires.amounts c.loop-i.i c.loop-i-test.true); fact_2 = start-room (c.requires) c.loop-i.i c.loop-i-test.true
+          c.ticks.ensures }
+
+pub plus-sum-requires : goal.plus-sum-requires
+plus-sum-requires c = record { fact_1 = day-room (c.requires) c.loop-i.invariant; fact_2 = part_room (c.requires) c.loop-i.i c.loop-i-test.true c.ticks.ensures c.plus.ensures }
+
+pub loop-i-preserved : goal.loop-i-preserved
+loop-i-preserved c =
+    summed-more c.loop-i.invariant c.loop-i-test.true c.plus-sum.ensures
+    (part-is (c.requires) c.loop-i.i c.loop-i-test.true c.ticks.ensures c.plus.ensures)
+
+pub returns : goal.returns
+unfolding day_sum
+returns c = record { fact_1 = summed-all c.loop-i.invariant c.loop-i-test.false; fact_2 = day-room (c.requires) c.loop-i.invariant }

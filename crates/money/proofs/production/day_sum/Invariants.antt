@@ -1,0 +1,14 @@
+use Prim.Native.Nat.{◌-◌}
+use borrow.Author.Rules.{rules}
+use native.Mathlib.Omega.{arith}
+use Rattle.laws.specs.SumLaws.{Summed, summed-none, summed-more, summed-all}
+use Rattle.money.specs.Production.{hour_part, day_sum}
+use Rattle.money.specs.laws.ProductionLaws.{day-room, part-is, part_room, start-room}
+use Rattle.money.specs.Units.{day_hours}
+use Rattle.money.proofs.production.day_sum.Given as goal
+
+abbrev pub invariant-loop-i : goal.invariant-loop-i
+invariant-loop-i l = Summed day_hours (hour_part l.amounts l.starts) l.sum.0 l.i
+
+abbrev pub decreases-loop-i : goal.decreases-loop-i
+decreases-loop-i l = day_hours - l.i

@@ -1,0 +1,13 @@
+use Prim.Native.Nat.{ℕ, ◌-◌}
+use borrow.Author.Rules.{rules}
+use Rattle.laws.specs.SumLaws.{Summed, summed-none, summed-more, summed-all}
+use Rattle.money.specs.Units.{intervals, quantity_at}
+use Rattle.money.specs.tables.Numbers.{running}
+use Rattle.money.specs.laws.ProductionLaws.{running-room, runs-room}
+use Rattle.money.proofs.production.noload_sum.Given as goal
+
+abbrev pub invariant-loop-k : goal.invariant-loop-k
+invariant-loop-k l = Summed intervals (λ (j : ℕ). running l.noload.0 (quantity_at l.m j)) l.sum.0 l.k
+
+abbrev pub decreases-loop-k : goal.decreases-loop-k
+decreases-loop-k l = intervals - l.k

@@ -1,0 +1,17 @@
+use mathlib.Core.Path.{refl}
+use Prim.Native.Nat.{ℕ, ◌-◌}
+use borrow.Author.Rules.{rules}
+use native.Mathlib.Omega.{arith}
+use Rattle.money.specs.Units.{intervals, quantity_at}
+use Rattle.money.specs.tables.Numbers.{pick_of}
+use Rattle.money.specs.laws.UnitLaws.{Filled, filled_none, filled_more}
+use Rattle.money.proofs.production.series_by.Goals as goal
+
+pub loop-k-init : goal.loop-k-init
+loop-k-init c = filled_none _ _ refl
+
+pub loop-k-preserved : goal.loop-k-preserved
+loop-k-preserved c = filled_more c.loop-k.invariant c.loop-k-test.true c.picked.ensures
+
+pub returns : goal.returns
+returns c = λ j l. c.loop-k.invariant.so_far j (omega (arith, c.loop-k-test.false))
