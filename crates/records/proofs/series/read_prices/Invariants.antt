@@ -1,0 +1,15 @@
+use Prim.Native.Nat.{◌≤◌, ◌-◌}
+use mathlib.Core.Path.{◌≡◌, refl, sym, ap, ◌∙◌}
+use lib.ListN.{length}
+use borrow.Author.Rules.{rules}
+use native.Mathlib.Omega.{arith}
+use Rattle.records.specs.Numbers.{price}
+use Rattle.records.specs.tables.Inner.{price_at}
+use Rattle.records.proofs.fields.Lemmas.{Filled, filled_none, filled_more, filled-bad, filled-all}
+use Rattle.records.proofs.series.read_prices.Given as goal
+
+abbrev pub invariant-loop-i : goal.invariant-loop-i
+invariant-loop-i l = (l.i ≤ 12) × (length l.values ≡ 12) × (1 ≤ l.i → l.next ≤ length l.s) × Filled price l.s 12 l.at l.values l.i l.next
+
+abbrev pub decreases-loop-i : goal.decreases-loop-i
+decreases-loop-i l = 12 - l.i
