@@ -1,0 +1,10 @@
+use Prim.Native.Nat.{◌-◌}
+use borrow.Author.Rules.{rules}
+use Rattle.book.proofs.amounts.days.Lemmas.{Filled, filled_none, filled_more, filled-all}
+use Rattle.book.proofs.amounts.days.parts_of.Given as goal
+
+abbrev pub invariant-loop-h : goal.invariant-loop-h
+invariant-loop-h l = Filled l.log l.units l.table l.d.ticks l.d.starts l.h
+
+abbrev pub decreases-loop-h : goal.decreases-loop-h
+decreases-loop-h l = 24 - l.h

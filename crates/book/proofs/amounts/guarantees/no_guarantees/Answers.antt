@@ -1,0 +1,6 @@
+use borrow.Author.Rules.{rules}
+use Rattle.book.proofs.amounts.Handed.{no-credits}
+use Rattle.book.proofs.amounts.guarantees.no_guarantees.Goals as goal
+
+pub returns : goal.returns
+returns c = no-credits c.args.number c.no_credits-credits.result c.no_credits-credits.ensures

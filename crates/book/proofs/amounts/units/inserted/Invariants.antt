@@ -1,0 +1,13 @@
+use lib.ListN.{length}
+use mathlib.Core.Path.{◌≡◌, refl}
+use borrow.Author.Rules.{rules}
+use native.Mathlib.Omega.{arith}
+use Rattle.book.specs.laws.Inserting.{unmapped, Opened, opened-start, opened-next, opened-end}
+use Rattle.book.proofs.amounts.units.Lemmas.{inserted-whole}
+use Rattle.book.proofs.amounts.units.inserted.Given as goal
+
+abbrev pub invariant-loop-i : goal.invariant-loop-i
+invariant-loop-i l = Opened l.u.names l.next.names l.u.n l.j l.i
+
+abbrev pub decreases-loop-i : goal.decreases-loop-i
+decreases-loop-i l = l.i

@@ -1,0 +1,20 @@
+use borrow.Author.Rules.{rules}
+use Rattle.book.proofs.log.checked.Lemmas.{checked-log, back-closed, back_none, above, last-few, back-makes}
+use Rattle.book.proofs.book.Book.checked_take_back.Goals as goal
+
+pub returns-then-self : goal.returns-then-self
+returns-then-self c = λ k. back-closed c.requires c.if-self.true
+
+pub returns-then-self-eq0 : goal.returns-then-self-eq0
+returns-then-self-eq0 c = λ k. back_none c.requires c.if-self.false c.if-self-eq0.true
+
+pub bounds-rows-n : goal.bounds-rows-n
+bounds-rows-n c =
+    last-few c.requires c.if-self.false c.if-self-eq0.false
+
+pub restore-requires : goal.restore-requires
+restore-requires c = record { fact_1 = checked-log c.requires; fact_2 = above c.requires c.if-self.false c.if-self-eq0.false; fact_3 = c.requires.size }
+
+pub returns : goal.returns
+returns c =
+    λ k. back-makes c.requires c.if-self.false c.if-self-eq0.false c.start_in.ensures.0 c.restore.ensures

@@ -1,0 +1,67 @@
+use mathlib.Core.Path.{sym, ◌∙◌}
+use lib.Seq.{length-take-le}
+use native.Mathlib.Omega.{arith}
+use borrow.Author.Rules.{rules}
+use Rattle.book.proofs.log.checked.Restoring.{restored, back-rows, undoing, newest-few, newest-within, wrote-few}
+use Rattle.book.proofs.log.checked.restore.Goals as goal
+
+pub offset_bounds-rows-n : goal.offset_bounds-rows-n
+offset_bounds-rows-n c = omega (arith, newest-few c.requires.fact_1 c.requires.fact_2)
+
+pub bounds-rows-n : goal.bounds-rows-n
+bounds-rows-n c = newest-few c.requires.fact_1 c.requires.fact_2
+
+pub returns-then-is_filing : goal.returns-then-is_filing
+returns-then-is_filing c =
+    ((λ d l g. back-rows g c.kind_in.ensures (sym c.is_filing.ensures ∙ c.if-is_filing.true)), c.requires.fact_3)
+
+pub slice_bounds-head_key-count : goal.slice_bounds-head_key-count
+slice_bounds-head_key-count c =
+    newest-within c.requires.fact_1 c.requires.fact_2 c.start_in-start.ensures.0
+
+pub slice_bounds-head_key-start : goal.slice_bounds-head_key-start
+slice_bounds-head_key-start c =
+    omega (arith, newest-within c.requires.fact_1 c.requires.fact_2 c.start_in-start.ensures.0)
+
+pub slice_bounds-bytes-end : goal.slice_bounds-bytes-end
+slice_bounds-bytes-end c = c.name_head-h.ensures.few
+
+pub slice_bounds-written_before-end : goal.slice_bounds-written_before-end
+slice_bounds-written_before-end c =
+    sym (length-take-le c.name_head-h.result.len c.name_head-h.result.bytes c.name_head-h.ensures.few)
+
+pub offset_bounds-rows-at : goal.offset_bounds-rows-at
+offset_bounds-rows-at c =
+    omega (
+      arith,
+      wrote-few c.requires.fact_1 c.requires.fact_2 (λ d l g. c.written_before-at.ensures d l (undoing g c.kind_in.ensures
+          (sym c.is_filing.ensures ∙ c.if-is_filing.false) c.start_in-start.ensures.0 c.head_key-a.ensures c.hour_slot-slot.ensures.0
+          c.name_head-h.ensures)),
+    )
+
+pub bounds-rows-at : goal.bounds-rows-at
+bounds-rows-at c =
+    wrote-few c.requires.fact_1 c.requires.fact_2 (λ d l g. c.written_before-at.ensures d l (undoing g c.kind_in.ensures
+    (sym c.is_filing.ensures ∙ c.if-is_filing.false) c.start_in-start.ensures.0 c.head_key-a.ensures c.hour_slot-slot.ensures.0
+    c.name_head-h.ensures))
+
+pub offset_bounds-rows-at-2 : goal.offset_bounds-rows-at-2
+offset_bounds-rows-at-2 c =
+    omega (
+      arith,
+      wrote-few c.requires.fact_1 c.requires.fact_2 (λ d l g. c.written_before-at.ensures d l (undoing g c.kind_in.ensures
+          (sym c.is_filing.ensures ∙ c.if-is_filing.false) c.start_in-start.ensures.0 c.head_key-a.ensures c.hour_slot-slot.ensures.0
+          c.name_head-h.ensures)),
+    )
+
+pub bounds-rows-at-2 : goal.bounds-rows-at-2
+bounds-rows-at-2 c =
+    wrote-few c.requires.fact_1 c.requires.fact_2 (λ d l g. c.written_before-at.ensures d l (undoing g c.kind_in.ensures
+    (sym c.is_filing.ensures ∙ c.if-is_filing.false) c.start_in-start.ensures.0 c.head_key-a.ensures c.hour_slot-slot.ensures.0
+    c.name_head-h.ensures))
+
+pub returns : goal.returns
+returns c =
+    restored c.requires.fact_3 c.written_before-at.result (λ d l g. c.written_before-at.ensures d l (undoing g c.kind_in.ensures
+    (sym c.is_filing.ensures ∙ c.if-is_filing.false) c.start_in-start.ensures.0 c.head_key-a.ensures c.hour_slot-slot.ensures.0
+    c.name_head-h.ensures))

@@ -1,0 +1,12 @@
+use Prim.Native.Nat.{◌-◌}
+use mathlib.Core.Path.{subst}
+use borrow.Author.Rules.{rules}
+use native.Mathlib.Omega.{arith}
+use Rattle.book.proofs.log.index.Lemmas.{Hashing, hashing-start, byte-hashes, hashing-next, hashing-end}
+use Rattle.book.proofs.log.index.bucket_of.Given as goal
+
+abbrev pub invariant-loop-i : goal.invariant-loop-i
+invariant-loop-i l = Hashing l.initial.sum l.bytes l.sum l.weight l.i
+
+abbrev pub decreases-loop-i : goal.decreases-loop-i
+decreases-loop-i l = 12 - l.i
