@@ -8,20 +8,14 @@ use Rattle.book.specs.Handed.{max_credits, no_amount, credits_of}
 use Rattle.book.specs.laws.HandedLaws.{pad-none}
 use Rattle.book.specs.declared.answers.NamedAmount.{NamedAmount}
 use Rattle.book.specs.declared.answers.Guarantees.{Guarantees}
-use Rattle.demands.proofs.no_guarantees.Statement.{statement}
-use Rattle.demands.proofs.no_guarantees.Tie as tie
-
-no-name-requires : tie.Need-no-name-requires
-no-name-requires c κs = search rules
+use Rattle.demands.proofs.no_guarantees.Goals as goal
 
 -- an hour's guarantees without credits
+
 abbrev blank : List NamedAmount → Guarantees
 blank l = record { number = 0; credits = record { n = 0; list = l }; offset = record { 0 = pos 0 } }
 
-returns : tie.Need-returns
+pub returns : goal.returns
 unfolding credits_of
 returns c =
-    ap (λ (x : Name). blank (replicate max_credits (record { name = x; ticks = no_ticks }))) c.no_name.ensures ∙ ap blank (pad-none no_amount max_credits)
-
-pub no-guarantees-spec : {M : Type 1} → statement M
-no-guarantees-spec = tie.close (tie.spec no-name-requires returns)
+    ap (λ (x : Name). blank (replicate max_credits (record { name = x; ticks = no_ticks }))) c.no_name-name.ensures ∙ ap blank (pad-none no_amount max_credits)

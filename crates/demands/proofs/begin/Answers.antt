@@ -1,0 +1,9 @@
+use mathlib.Core.Path.{subst⁻¹}
+use mathlib.Core.List.{[]}
+use borrow.Author.Rules.{rules}
+use Rattle.book.specs.declared.book.Book.{Book}
+use Rattle.book.specs.Session.{Session, start}
+use Rattle.demands.proofs.begin.Goals as goal
+
+pub returns : goal.returns
+returns c = subst⁻¹ (λ (b : Book). Session [] [] b []) c.fresh.ensures start

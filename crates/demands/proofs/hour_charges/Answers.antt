@@ -1,0 +1,6 @@
+use borrow.Author.Rules.{rules}
+use Rattle.demands.specs.laws.BesideLaws.{charges-by-key}
+use Rattle.demands.proofs.hour_charges.Goals as goal
+
+pub returns : goal.returns
+returns c = charges-by-key _ _ _ _ _ c.charges.ensures.0

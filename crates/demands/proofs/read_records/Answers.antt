@@ -1,0 +1,6 @@
+use borrow.Author.Rules.{rules}
+use Rattle.demands.specs.laws.BesideLaws.{read-as-calls}
+use Rattle.demands.proofs.read_records.Goals as goal
+
+pub returns : goal.returns
+returns c = read-as-calls _ _ _ _ _ c.feed.ensures

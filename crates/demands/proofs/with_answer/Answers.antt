@@ -1,0 +1,5 @@
+use borrow.Author.Rules.{rules}
+use Rattle.demands.proofs.with_answer.Goals as goal
+
+pub returns : goal.returns
+returns c = rw (c.no_guarantees-guarantees.ensures, c.no_day-day.ensures)
