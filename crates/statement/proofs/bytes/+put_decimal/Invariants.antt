@@ -1,0 +1,9 @@
+use Rattle.std.proofs.Common.{[], ◌∷◌, ◌+◌, ◌≤◌, ◌<◌, length, ◌≡◌, ℕ, ◌-◌, ◌*◌}
+use Rattle.statement.specs.Decimal.{decimal, two_digits}
+use Rattle.statement.specs.Statement.{Fits}
+use Rattle.statement.specs.tables.Inner.{Writes}
+use Rattle.statement.proofs.bytes.+put_decimal.Given as goal
+
+-- proposed from what the function passes where it calls itself
+abbrev pub decreases-put_decimal : goal.decreases-put_decimal
+decreases-put_decimal l = l.n

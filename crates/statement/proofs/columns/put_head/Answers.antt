@@ -1,0 +1,49 @@
+use mathlib.Core.Path.{sym}
+use Prim.Native.Nat.{ℕ}
+use lib.ListN.{length}
+use lib.Seq.{length-take-le}
+use native.Mathlib.Omega.{arith}
+use Rattle.statement.specs.Decimal.{decimal}
+use Rattle.statement.specs.Pages.{number_line, page_head}
+use Rattle.statement.specs.laws.PageLineLaws.{right-length}
+use borrow.Author.Rules.{rules}
+use Rattle.statement.proofs.bytes.Lemmas.{writes_then, writes-size, front_of}
+use Rattle.statement.proofs.refusal.Lemmas.{ordinal-digits}
+use Rattle.statement.proofs.columns.put_head.Goals as goal
+
+pub put_decimal-len-requires : goal.put_decimal-len-requires
+put_decimal-len-requires c =
+    omega (arith, ordinal-digits c.args.page (omega arith))
+
+pub slice_bounds-digits-end : goal.slice_bounds-digits-end
+slice_bounds-digits-end c =
+    omega (arith, c.put_decimal-len.ensures.behind, c.put_decimal-len.ensures.room, writes-size c.put_decimal-len.ensures)
+
+pub slice_bounds-put_right-end : goal.slice_bounds-put_right-end
+slice_bounds-put_right-end c =
+    sym (length-take-le {A = ℕ} c.put_decimal-len.result c.put_decimal-len.new.out (omega (arith, c.put_decimal-len.ensures.behind, c.put_decimal-len.ensures.room, writes-size c.put_decimal-len.ensures)))
+
+pub put_right-end-requires : goal.put_right-end-requires
+put_right-end-requires c =
+    (rw (front_of c.put_decimal-len.ensures) (omega (arith, ordinal-digits c.args.page (omega arith))), omega (arith, c.requires))
+
+pub put_byte-second-requires : goal.put_byte-second-requires
+put_byte-second-requires c =
+    let w = rw (front_of c.put_decimal-len.ensures) at c.put_right-end.ensures in
+    let l = right-length 72 (decimal c.args.page) (omega (arith, ordinal-digits c.args.page (omega arith))) in
+    omega (arith, c.requires, w.behind, writes-size w, l)
+
+pub put_blank_line-requires : goal.put_blank_line-requires
+put_blank_line-requires c =
+    let w = rw (front_of c.put_decimal-len.ensures) at c.put_right-end.ensures in
+    let l = right-length 72 (decimal c.args.page) (omega (arith, ordinal-digits c.args.page (omega arith))) in
+    omega (arith, c.requires, w.behind, writes-size w, l, c.put_byte-second.ensures.behind, writes-size c.put_byte-second.ensures)
+
+pub returns : goal.returns
+unfolding page_head number_line
+returns c =
+    let w = rw (front_of c.put_decimal-len.ensures) at c.put_right-end.ensures in
+    let l = right-length 72 (decimal c.args.page) (omega (arith, ordinal-digits c.args.page (omega arith))) in (
+      writes_then (writes_then w c.put_byte-second.ensures) c.put_blank_line.ensures.0,
+      omega (arith, w.behind, l, c.put_byte-second.ensures.behind, c.put_blank_line.ensures.1),
+    )

@@ -1,0 +1,20 @@
+use mathlib.Core.Path.{◌≡◌, sym}
+use Prim.Native.Nat.{◌≤◌, ◌-◌, ◌*◌}
+use lib.ListN.{length, take}
+use borrow.Author.Rules.{rules}
+use native.Mathlib.Omega.{arith}
+use Rattle.money.specs.laws.UnitLaws.{unmapped}
+use Rattle.book.specs.Register.{max_changes}
+use Rattle.statement.specs.Statement.{max_unit_lines}
+use Rattle.statement.specs.tables.Inner.{lines_of_units, PrintableUnits}
+use Rattle.statement.specs.tables.Cursors.{Room, WritesLines}
+use Rattle.statement.specs.laws.StatementLaws.{units-none, units-more}
+use Rattle.statement.proofs.cursor.Lemmas.{lines_none, lines_then, lines-as, lines-within, lines-size, room-then}
+use Rattle.statement.proofs.day.put_units.Given as goal
+
+abbrev pub invariant-loop-i : goal.invariant-loop-i
+invariant-loop-i l = (l.i ≤ l.n) × (l.n ≤ max_changes) × (length l.units ≡ max_changes) × Room l.initial.out l.initial.next (max_unit_lines * l.n) × PrintableUnits l.n l.units
+    × WritesLines l.initial.out l.initial.next (max_unit_lines * l.i) (lines_of_units (take l.i l.units)) l.out l.next
+
+abbrev pub decreases-loop-i : goal.decreases-loop-i
+decreases-loop-i l = l.n - l.i

@@ -1,0 +1,76 @@
+use mathlib.Core.Path.{sym, ◌∙◌}
+use native.Mathlib.Omega.{arith}
+use borrow.Author.Rules.{rules}
+use Rattle.statement.specs.laws.LineLaws.{figure-number, figure-dollars, sign-length, number_digits, dollar-digits}
+use Rattle.statement.proofs.bytes.Lemmas.{writes_then, writes-size}
+use Rattle.statement.proofs.lines.put_figure.Goals as goal
+
+pub put_decimal-requires : goal.put_decimal-requires
+put_decimal-requires c =
+    omega (
+      arith,
+      c.requires,
+      c.put_sign-first.ensures.behind,
+      writes-size c.put_sign-first.ensures,
+      sign-length c.args.cents.0,
+      number_digits
+          c.magnitude-n.result c.magnitude-n.ensures.fact_2,
+    )
+
+pub returns-then-is_number : goal.returns-then-is_number
+returns-then-is_number c =
+    (
+      rw (figure-number _ _ (sym c.is_number.ensures ∙ c.if-is_number.true), ← c.magnitude-n.ensures.fact_1)
+          (writes_then c.put_sign-first.ensures c.put_decimal.ensures),
+      omega (arith, c.magnitude-n.ensures.fact_1, c.magnitude-n.ensures.fact_2),
+    )
+
+pub put_decimal-point-requires : goal.put_decimal-point-requires
+put_decimal-point-requires c =
+    omega (
+      arith,
+      c.requires,
+      c.put_sign-first.ensures.behind,
+      writes-size c.put_sign-first.ensures,
+      sign-length c.args.cents.0,
+      dollar-digits
+          c.magnitude-n.result c.magnitude-n.ensures.fact_2,
+    )
+
+pub put_byte-decimals-requires : goal.put_byte-decimals-requires
+put_byte-decimals-requires c =
+    omega (
+      arith,
+      c.requires,
+      c.put_sign-first.ensures.behind,
+      writes-size c.put_sign-first.ensures,
+      c.put_decimal-point.ensures.behind,
+      writes-size
+          c.put_decimal-point.ensures,
+      sign-length c.args.cents.0,
+      dollar-digits c.magnitude-n.result c.magnitude-n.ensures.fact_2,
+    )
+
+pub put_two-requires : goal.put_two-requires
+put_two-requires c =
+    omega (
+      arith,
+      c.requires,
+      c.put_sign-first.ensures.behind,
+      writes-size c.put_sign-first.ensures,
+      c.put_decimal-point.ensures.behind,
+      writes-size
+          c.put_decimal-point.ensures,
+      c.put_byte-decimals.ensures.behind,
+      writes-size c.put_byte-decimals.ensures,
+      sign-length c.args.cents.0,
+      dollar-digits c.magnitude-n.result c.magnitude-n.ensures.fact_2,
+    )
+
+pub returns : goal.returns
+returns c =
+    (
+      rw (figure-dollars _ _ (sym c.is_number.ensures ∙ c.if-is_number.false), ← c.magnitude-n.ensures.fact_1)
+          (writes_then (writes_then (writes_then c.put_sign-first.ensures c.put_decimal-point.ensures) c.put_byte-decimals.ensures) c.put_two.ensures),
+      omega (arith, c.magnitude-n.ensures.fact_1, c.magnitude-n.ensures.fact_2),
+    )

@@ -1,0 +1,28 @@
+use mathlib.Core.Path.{ap}
+use mathlib.Core.List.{[], ◌∷◌}
+use borrow.Author.Tests.{ne_eqb}
+use native.Mathlib.Omega.{arith}
+use borrow.Author.Rules.{rules}
+use Rattle.statement.specs.declared.lines.Line.{Line}
+use Rattle.statement.proofs.cursor.Lemmas.{lines_then, lines-as, lines-within, room-less, room-then, countable}
+use Rattle.statement.proofs.units.put_unit.Goals as goal
+
+pub put_error-requires : goal.put_error-requires
+put_error-requires c = room-less (omega arith) c.requires.0
+
+pub returns-then-day-ne0 : goal.returns-then-day-ne0
+returns-then-day-ne0 c =
+    rw (ne_eqb _ 0 c.if-day-ne0.true) (lines-within (omega arith) c.put_error.ensures)
+
+pub put_line-rev-requires : goal.put_line-rev-requires
+put_line-rev-requires c =
+    (room-less (omega arith) c.requires.0, countable _ c.amount_line.ensures c.requires.1.total)
+
+pub put_line-requires : goal.put_line-requires
+put_line-requires c =
+    (room-then (omega arith) c.requires.0 c.put_line-rev.ensures, countable _ c.amount_line-2.ensures c.requires.1.reversal)
+
+pub returns : goal.returns
+returns c =
+    rw c.if-day-ne0.false (lines_then (lines-as (ap (λ (l : Line). l ∷ []) c.amount_line.ensures) c.put_line-rev.ensures)
+    (lines-as (ap (λ (l : Line). l ∷ []) c.amount_line-2.ensures) c.put_line.ensures))
