@@ -1,0 +1,5 @@
+use borrow.Author.Rules.{rules}
+use Rattle.filter.proofs.reading.Reading.ordinal.Goals as goal
+
+pub returns : goal.returns
+returns c = c.plus.ensures

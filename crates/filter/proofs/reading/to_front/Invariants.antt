@@ -1,0 +1,13 @@
+use Prim.Native.Nat.{◌≤◌, ◌<◌, ◌-◌, min}
+use mathlib.Core.Path.{◌≡◌}
+use lib.ListN.{length}
+use native.Mathlib.Omega.{arith}
+use borrow.Author.Rules.{rules}
+use Rattle.filter.proofs.reading.ToFront.{Moving, moving-none, moving-next, moved_all, moved_none}
+use Rattle.filter.proofs.reading.to_front.Given as goal
+
+abbrev pub invariant-loop-i : goal.invariant-loop-i
+invariant-loop-i l = (l.i ≤ l.n) × (l.n ≡ l.stop - l.from) × (l.from < l.stop) × (l.stop ≡ min l.end (length l.initial.bytes)) × Moving l.initial.bytes l.bytes l.from l.stop l.i
+
+abbrev pub decreases-loop-i : goal.decreases-loop-i
+decreases-loop-i l = l.n - l.i
