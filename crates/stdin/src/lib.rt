@@ -5,6 +5,7 @@ ghost use Rattle.std.specs.Prelude.{◌≡◌, not, ◌&&◌, ◌≤◌, eqb, le
 ghost use Rattle.stdin.specs.Rounds.{TakesIn, unread, ReadAll, failed};
 
 use filter::reading::{COUNT_MAX, Reading};
+use std::io::Read;
 
 // The most bytes of a read, and so few reads that all that they bring can be counted.
 const READ_MAX: u64 = 65536;
@@ -66,16 +67,19 @@ impl Input {
     }
 }
 
-// One read of standard input into the bytes behind those that are held. What it answers is handed on as it is; no contract can say what it brings.
-fn read_behind(bytes: &mut [u8], held: usize) -> isize
+// One read of the input into the bytes behind those that are held: how many it brought, or less than 0. No contract can say what it brings.
+fn read_behind<R: Read>(source: &mut R, bytes: &mut [u8], held: usize) -> isize
     requires { held ≤ length bytes.old }
     ensures { (length bytes.new ≡ length bytes.old) × (take held bytes.new ≡ take held bytes.old) }
 {
-    libc::read(0, &mut bytes[held..])
+    match source.read(&mut bytes[held..]) {
+        Ok(n) => n as isize,
+        Err(_) => -1,
+    }
 }
 
-// Reads standard input to its end, over the lent log.
-pub fn read_input(log: &mut [u8]) -> Input
+// Reads an input, as a program's standard input, to its end, over the lent log.
+pub fn read_input<R: Read>(source: &mut R, log: &mut [u8]) -> Input
     ensures { ReadAll result log.new × (length log.new ≡ length log.old) }
 {
     let mut bytes = io::large_buffer();
@@ -83,7 +87,7 @@ pub fn read_input(log: &mut [u8]) -> Input
     let mut left = READS_MAX;
     while 0 < left && input.more {
         let reading = input.reading;
-        let got = read_behind(&mut bytes, reading.held);
+        let got = read_behind(source, &mut bytes, reading.held);
         input = input.take_in(got, log, &mut bytes);
         left = left - 1;
     }
