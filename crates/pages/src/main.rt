@@ -8,8 +8,9 @@ ghost use Rattle.stdio.specs.Printing.{Shows, Printed};
 use book::book::USED_MAX;
 use statement::day::Written;
 use statement::pages::PAGES_MAX;
+use std::io::Read;
 use stdin::{Input, read_input};
-use stdio::output::{Settled, write_out};
+use stdio::output::{Settled, has_argument, say, write_out};
 
 // Puts into the lent bytes all that is printed for an input.
 fn print_input(input: Input, log: &[u8], out: &mut [u8]) -> Settled
@@ -29,20 +30,21 @@ fn print_input(input: Input, log: &[u8], out: &mut [u8]) -> Settled
     }
 }
 
-// Puts into the lent bytes all that is printed for standard input.
-fn page_input(out: &mut [u8]) -> Settled
+// Puts into the lent bytes all that is printed for an input, as standard input.
+fn page_input<R: Read>(source: &mut R, out: &mut [u8]) -> Settled
     ensures { Printed pages_of longest_pages out.old out.new result }
 {
     let mut log = [0u8; USED_MAX];
-    let input = read_input(&mut log);
+    let input = read_input(source, &mut log);
     print_input(input, &log, out)
 }
 
 // Prints what there is for standard input, or says what failed.
-fn run() {
+fn run(rt: &HostRuntime) {
     let mut out = [0u8; PAGES_MAX];
-    let s = page_input(&mut out);
+    let s = page_input(&mut rt.stdin(), &mut out);
     write_out(
+        rt,
         s,
         &out,
         b"pages: the input can't be read\n",
@@ -51,10 +53,10 @@ fn run() {
 }
 
 // It takes no argument: a file that is named here would not be read.
-fn main() {
-    if 1 < os::arg_count() {
-        io::write_all(2, b"usage: pages < records | lpr\n");
+fn main(rt: HostRuntime) {
+    if has_argument(&rt) {
+        say(&rt, b"usage: pages < records | lpr\n");
         return;
     }
-    run();
+    run(&rt);
 }

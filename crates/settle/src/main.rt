@@ -6,7 +6,9 @@ ghost use Rattle.settle.specs.Settle.{Shows, Printed};
 
 use book::book::USED_MAX;
 use statement::day::{STATEMENT_MAX, Written};
+use std::io::{Read, Write};
 use stdin::{Input, read_input};
+use stdio::output::{has_argument, say};
 
 // What was written, unless the input could not be read.
 #[derive(Clone, Copy)]
@@ -33,36 +35,39 @@ fn print_input(input: Input, log: &[u8], out: &mut [u8]) -> Settled
     }
 }
 
-// Puts into the lent bytes all that is printed for standard input.
-fn settle_input(out: &mut [u8]) -> Settled
+// Puts into the lent bytes all that is printed for an input, as standard input.
+fn settle_input<R: Read>(source: &mut R, out: &mut [u8]) -> Settled
     ensures { Printed out.old out.new result }
 {
     let mut log = [0u8; USED_MAX];
-    let input = read_input(&mut log);
+    let input = read_input(source, &mut log);
     print_input(input, &log, out)
 }
 
 // Prints what there is for standard input, or says what failed.
-fn run() {
+fn run(rt: &HostRuntime) {
     let mut out = [0u8; STATEMENT_MAX];
-    let s = settle_input(&mut out);
+    let s = settle_input(&mut rt.stdin(), &mut out);
     if s.failed {
-        io::write_all(2, b"settle: the input can't be read\n");
+        say(rt, b"settle: the input can't be read\n");
         return;
     }
     let written = s.written;
     let len = written.len;
-    if !io::write_all(1, &out[..len]) {
-        io::write_all(2, b"settle: the output can't be written\n");
+    if !rt.stdout().write_all(&out[..len]).is_ok() {
+        say(rt, b"settle: the output can't be written\n");
     }
 }
 
 // It takes no argument: a file that is named here would not be read.
-fn main() {
-    if 1 < os::arg_count() {
-        io::write_all(2, b"usage: settle < records > statement\n");
-        io::write_all(2, b"settle-day takes files, and has an exit status\n");
+fn main(rt: HostRuntime) {
+    if has_argument(&rt) {
+        say(&rt, b"usage: settle < records > statement\n");
+        say(
+            &rt,
+            b"settle-day takes files, and has an exit status\n",
+        );
         return;
     }
-    run();
+    run(&rt);
 }
