@@ -25,7 +25,7 @@ use Rattle.book.specs.Meaning.{load}
 use Rattle.statement.specs.declared.day.Written.{Written}
 use Rattle.statement.specs.Statement.{Outcome, outcome_by, AnswersBy}
 use Rattle.statement.specs.laws.LineLaws.{spells}
-use Rattle.bridge.specs.Bridge.{stored, told, order_of, book_in, credit_sizes, credits_sizes, credits_amounts, answer_fault, ticks_told, text_in}
+use Rattle.bridge.specs.Bridge.{stored, told, order_of, book_in, credit_sizes, credits_sizes, credits_amounts, answer_fault, ticks_told}
 
 -- a refusal: the row stays
 pub told-no : (n x : ℕ) (row : List ℕ) → (n ≡ 0 → ⊥) → row ≡ told n x row
@@ -129,8 +129,7 @@ ticks-if (Refused k) row {n} e = go (eqb n 0)
 -- what a call for the text t promises, told with the number that it gives
 pub text-told : (t : List Change → List ℕ) (state lent out row : List ℕ) {longest : ℕ} {b : Book} → b ≡ book_in state → {left : List ℕ} {w : Written}
     → AnswersBy t longest (load b lent) out left w → {r : ℕ} → r ≡ w.number → {row' : List ℕ} → row' ≡ told r w.len row
-    → (r ≡ (text_in t state lent out).number) × ((left ≡ (text_in t state lent out).bytes) × (row' ≡ told r (text_in t state lent out).len row))
-unfolding text_in
+    → (r ≡ (outcome_by t (load (book_in state) lent) out).number) × ((left ≡ (outcome_by t (load (book_in state) lent) out).bytes) × (row' ≡ told r (outcome_by t (load (book_in state) lent) out).len row))
 text-told t state lent out row f a {r} e g =
     let o = ap (λ (x : Book). outcome_by t (load x lent) out) f in (
       e ∙ a.number ∙ ap (λ (x : Outcome). x.number) o,

@@ -14,9 +14,9 @@ returns-then-bytes-lt2 c = rw (lt-ltb _ _ c.if-bytes-lt2.true)
 pub returns-then-not-marked : goal.returns-then-not-marked
 returns-then-not-marked c =
     rw (le-ltb _ _ c.if-bytes-lt2.false)
-    (sym (ap (λ (b : Bool). cond b (parsed_of (parse (Only File) c.args.bytes.now)).number 2) (not-true c.args.marked c.if-not-marked.true)))
+    (sym (ap (λ (b : Bool). cond b (parsed_of (parse (Only File) c.args.bytes.now)).number 2) c.if-not-marked.true))
 
 pub returns : goal.returns
 returns c =
     rw (le-ltb _ _ c.if-bytes-lt2.false) (ap (λ (x : Parsed). x.number) c.parse_change.ensures ∙ sym
-    (ap (λ (b : Bool). cond b (parsed_of (parse (Only File) c.args.bytes.now)).number 2) (not-false c.args.marked c.if-not-marked.false)))
+    (ap (λ (b : Bool). cond b (parsed_of (parse (Only File) c.args.bytes.now)).number 2) c.if-not-marked.false))

@@ -34,7 +34,7 @@ returns c =
     let e = c.filing_fault-f.ensures ∙ ap (λ (b : Bool). filing_fault c.args.prices.now b) c.begins_with.ensures in
     let f = c.filing_fault-g.ensures ∙ ap (λ (b : Bool). filing_fault c.args.bytes.now b) c.has_amount.ensures in
     let k =
-    c.tell_amount.ensures.value ∙ ap (λ (c.amount_of.ensures : Answer). answer_fault c.amount_of.ensures) c.amount_of.ensures
+    c.tell_amount.ensures.value ∙ ap (λ (x : Answer). answer_fault x) c.amount_of.ensures
     ∙ ap (λ (n : ℕ). or_else n (answer_fault (amount_in c.args.prices.now c.args.bytes.now))) (sym c.if-g-ne0.false ∙ f)
     ∙ ap (λ (n : ℕ). or_else n (or_else (filing_fault c.args.bytes.now (has_amount c.args.bytes.now))
     (answer_fault (amount_in c.args.prices.now c.args.bytes.now)))) (sym c.if-f-ne0.false ∙ e) in

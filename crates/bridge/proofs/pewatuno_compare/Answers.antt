@@ -12,19 +12,13 @@ returns-then-m-ne0 c = record { value = kept (name_fault c.args.b.now) (ap (λ (
           c.if-m-ne0.true }
 
 pub returns-then-n-ne0 : goal.returns-then-n-ne0
-returns-then-n-ne0 c = record { value = (rw (sym (ap (λ (x : NameAnswer). x.number) c.ask_name-m.ensures) ∙ c.if-m-ne0.false)
-    (ap (λ (x : NameAnswer). x.number) c.ask_name-n.ensures, told-no _ _ _ c.if-n-ne0.true)).0; sizes_after = (rw (sym (ap (λ (x : NameAnswer). x.number) c.ask_name-m.ensures) ∙ c.if-m-ne0.false)
-    (ap (λ (x : NameAnswer). x.number) c.ask_name-n.ensures, told-no _ _ _ c.if-n-ne0.true)).1 }
+returns-then-n-ne0 c = rw (sym (ap (λ (x : NameAnswer). x.number) c.ask_name-m.ensures) ∙ c.if-m-ne0.false)
+    (record { value = ap (λ (x : NameAnswer). x.number) c.ask_name-n.ensures; sizes_after = told-no _ _ _ c.if-n-ne0.true })
 
 pub returns : goal.returns
-returns c = record { value = (rw (
+returns c = rw (
       sym (ap (λ (x : NameAnswer). x.number) c.ask_name-m.ensures) ∙ c.if-m-ne0.false,
       sym
           (ap (λ (x : NameAnswer). x.number) c.ask_name-n.ensures) ∙ c.if-n-ne0.false,
     )
-    (refl, c.set.ensures ∙ ap (λ (n : ℕ). stored c.args.sizes.now 0 n) c.order_of.ensures)).0; sizes_after = (rw (
-      sym (ap (λ (x : NameAnswer). x.number) c.ask_name-m.ensures) ∙ c.if-m-ne0.false,
-      sym
-          (ap (λ (x : NameAnswer). x.number) c.ask_name-n.ensures) ∙ c.if-n-ne0.false,
-    )
-    (refl, c.set.ensures ∙ ap (λ (n : ℕ). stored c.args.sizes.now 0 n) c.order_of.ensures)).1 }
+    (record { value = refl; sizes_after = c.set.ensures ∙ ap (λ (n : ℕ). stored c.args.sizes.now 0 n) c.order_of.ensures })

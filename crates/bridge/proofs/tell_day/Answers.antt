@@ -7,9 +7,8 @@ use Rattle.bridge.specs.Bridge.{stored}
 use Rattle.bridge.proofs.tell_day.Goals as goal
 
 pub returns-then-n-ne0 : goal.returns-then-n-ne0
-returns-then-n-ne0 c = record { value = (rw (ne_eqb _ _ c.if-n-ne0.true) (refl, refl)).0; amounts_after = (rw (ne_eqb _ _ c.if-n-ne0.true) (refl, refl)).1 }
+returns-then-n-ne0 c = rw (ne_eqb _ _ c.if-n-ne0.true) (record { value = refl; amounts_after = refl })
 
 pub returns : goal.returns
-returns c = record { value = (rw (eq-eqb _ _ c.if-n-ne0.false)
-    (refl, c.set_amount-2.ensures ∙ ap (λ (s : List ℤ). stored s 1 c.args.d.reversal.0) c.set_amount.ensures)).0; amounts_after = (rw (eq-eqb _ _ c.if-n-ne0.false)
-    (refl, c.set_amount-2.ensures ∙ ap (λ (s : List ℤ). stored s 1 c.args.d.reversal.0) c.set_amount.ensures)).1 }
+returns c = rw (eq-eqb _ _ c.if-n-ne0.false)
+    (record { value = refl; amounts_after = c.set_amount-2.ensures ∙ ap (λ (s : List ℤ). stored s 1 c.args.d.reversal.0) c.set_amount.ensures })

@@ -16,11 +16,11 @@ returns-then-n-ne0 c =
 pub returns-then-not-is_record : goal.returns-then-not-is_record
 returns-then-not-is_record c =
     let z = sym (ap (λ (x : Parsed). x.number) c.parse_any-p.ensures) ∙ c.if-n-ne0.false in
-    let k = sym (ap (λ (x : Parsed). not (is_record x.view.act)) c.parse_any-p.ensures) ∙ sym (ap not c.is_record.ensures) ∙ c.if-not-is_record.true in
-    record { value = (rw (z, k) (c.mark_alone.ensures.value, (refl, c.mark_alone.ensures.sizes_after))).0; out_after = (rw (z, k) (c.mark_alone.ensures.value, (refl, c.mark_alone.ensures.sizes_after))).1.0; sizes_after = (rw (z, k) (c.mark_alone.ensures.value, (refl, c.mark_alone.ensures.sizes_after))).1.1 }
+    let k = sym (ap (λ (x : Parsed). not (is_record x.view.act)) c.parse_any-p.ensures) ∙ sym (ap not c.is_record.ensures) ∙ ap not c.if-not-is_record.true in
+    rw (z, k) (record { value = c.mark_alone.ensures.value; out_after = refl; sizes_after = c.mark_alone.ensures.sizes_after })
 
 pub returns : goal.returns
 returns c =
     let z = sym (ap (λ (x : Parsed). x.number) c.parse_any-p.ensures) ∙ c.if-n-ne0.false in
-    let k = sym (ap (λ (x : Parsed). not (is_record x.view.act)) c.parse_any-p.ensures) ∙ sym (ap not c.is_record.ensures) ∙ c.if-not-is_record.false in
-    record { value = (rw (z, k) (c.write_change.ensures.value, c.write_change.ensures.out_after, c.write_change.ensures.sizes_after)).0; out_after = (rw (z, k) (c.write_change.ensures.value, c.write_change.ensures.out_after, c.write_change.ensures.sizes_after)).1.0; sizes_after = (rw (z, k) (c.write_change.ensures.value, c.write_change.ensures.out_after, c.write_change.ensures.sizes_after)).1.1 }
+    let k = sym (ap (λ (x : Parsed). not (is_record x.view.act)) c.parse_any-p.ensures) ∙ sym (ap not c.is_record.ensures) ∙ ap not c.if-not-is_record.false in
+    rw (z, k) (record { value = c.write_change.ensures.value; out_after = c.write_change.ensures.out_after; sizes_after = c.write_change.ensures.sizes_after })
