@@ -27,8 +27,8 @@ fn dev_of(f: Failure) -> Quantity
 
 // max(0, high - low)
 fn gap(high: Price, low: Price) -> PriceGap
-    requires fact_1 { nat_abs high.0 ≤ 200000 }
-    requires fact_2 { nat_abs low.0 ≤ 200000 }
+    requires high_in { nat_abs high.0 ≤ 200000 }
+    requires low_in { nat_abs low.0 ≤ 200000 }
     ensures { result.0 ≡ maxℤ (pos 0) (high.0 -ℤ low.0) }
 {
     if high.0 < low.0 {
@@ -39,9 +39,9 @@ fn gap(high: Price, low: Price) -> PriceGap
 
 // The lesser of two gaps, for a quantity over a whole hour.
 fn charge_of(a: PriceGap, b: PriceGap, dev: Quantity) -> Ticks
-    requires fact_1 { nat_abs a.0 ≤ max_gap }
-    requires fact_2 { nat_abs b.0 ≤ max_gap }
-    requires fact_3 { dev.0 ≤ 100000 }
+    requires a_in { nat_abs a.0 ≤ max_gap }
+    requires b_in { nat_abs b.0 ≤ max_gap }
+    requires dev_in { dev.0 ≤ 100000 }
     ensures { result.0 ≡ minℤ a.0 b.0 *ℤ pos dev.0 *ℤ pos intervals }
 {
     a.lesser(b).for_an_hour(dev)

@@ -99,8 +99,8 @@ fn fresh(entries: [Import; IMPORTS_MAX], i: usize) -> bool
 
 // What is wrong with entry i in its list: its number, or 0.
 fn nth_fault(entries: [Import; IMPORTS_MAX], prices: [Price; INTERVALS], i: usize) -> u8
-    requires fact_1 { Rates prices }
-    requires fact_2 { i < max_imports }
+    requires rates { Rates prices }
+    requires i_in { i < max_imports }
     ensures { result ≡ nth_fault prices entries i }
 {
     let e = entries[i];
@@ -120,8 +120,8 @@ pub(crate) fn entries_fault(
     entries: [Import; IMPORTS_MAX],
     prices: [Price; INTERVALS],
 ) -> u8
-    requires fact_1 { n ≤ max_imports }
-    requires fact_2 { Rates prices }
+    requires n_in { n ≤ max_imports }
+    requires rates { Rates prices }
     ensures { result ≡ entries_fault n prices entries }
 {
     let mut i: usize = 0;

@@ -52,8 +52,8 @@ fn pair_rises(p: Price, next: Price, q: Quantity, other: Quantity) -> bool
 
 // P never falls, and Q rises strictly from above 0.
 fn order_ok(o: Offer) -> bool
-    requires fact_1 { 1 ≤ o.count }
-    requires fact_2 { o.count ≤ max_pairs }
+    requires not_empty { 1 ≤ o.count }
+    requires count_in { o.count ≤ max_pairs }
     ensures { result ≡ order_ok o }
 {
     let n = o.count as usize;
@@ -97,8 +97,8 @@ pub fn offer_fault(o: Offer) -> u8
 
 // The quantity of the last pair.
 pub(crate) fn last_of(o: Offer) -> Quantity
-    requires fact_1 { 1 ≤ o.count }
-    requires fact_2 { o.count ≤ max_pairs }
+    requires not_empty { 1 ≤ o.count }
+    requires count_in { o.count ≤ max_pairs }
     ensures { result.0 ≡ last_q o }
 {
     let n = o.count as usize;
@@ -107,8 +107,8 @@ pub(crate) fn last_of(o: Offer) -> Quantity
 
 // The cost of a quantity within the offer.
 pub(crate) fn cost_of(o: Offer, q: Quantity) -> Ticks
-    requires fact_1 { Good o }
-    requires fact_2 { q.0 ≤ last_q o }
+    requires o_good { Good o }
+    requires within_o { q.0 ≤ last_q o }
     ensures { result.0 ≡ cost o q.0 }
 {
     let mut acc = Ticks(0);

@@ -78,8 +78,8 @@ fn counted_in(sums: [Quantity; INTERVALS], a: Import, e: Import) -> [Quantity; I
 
 // For twelve intervals, the sum of the quantities up to and including import i.
 fn reach_series(n: usize, entries: [Import; IMPORTS_MAX], i: usize) -> [Quantity; INTERVALS]
-    requires fact_1 { Listed n entries }
-    requires fact_2 { i < n }
+    requires listed { Listed n entries }
+    requires i_in { i < n }
     ensures { (k : ℕ) → k < intervals → quantity_at result k ≡ reach n entries i k }
 {
     let e = entries[i];
@@ -101,8 +101,8 @@ fn adj_series(
     totals: [Quantity; INTERVALS],
     i: usize,
 ) -> [Quantity; INTERVALS]
-    requires fact_1 { Listed n entries }
-    requires fact_2 { i < n }
+    requires listed { Listed n entries }
+    requires i_in { i < n }
     ensures { (k : ℕ) → k < intervals → quantity_at result k ≡ adj n entries totals i k }
 {
     let e = entries[i];
@@ -126,8 +126,8 @@ fn offset_of(
     prices: [Price; INTERVALS],
     totals: [Quantity; INTERVALS],
 ) -> Ticks
-    requires fact_1 { Listed n entries }
-    requires fact_2 { Rates prices }
+    requires listed { Listed n entries }
+    requires rates { Rates prices }
     ensures { result.0 ≡ offset n entries prices totals }
 {
     let mut sum = Ticks(0);

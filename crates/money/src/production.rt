@@ -68,10 +68,10 @@ fn component_1_of(
     r: Quantity,
     a: Quantity,
 ) -> Ticks
-    requires fact_1 { Good da }
-    requires fact_2 { d.0 ≤ last_q da }
-    requires fact_3 { nat_abs emp.0 ≤ 200000 }
-    requires fact_4 { noload.0 ≤ 100000000 }
+    requires da_good { Good da }
+    requires within_da { d.0 ≤ last_q da }
+    requires emp_in { nat_abs emp.0 ≤ 200000 }
+    requires noload_in { noload.0 ≤ 100000000 }
     ensures { result.0 ≡ component1 da emp.0 noload.0 d.0 r.0 a.0 }
 {
     let m = d.lesser(r.lesser(a));
@@ -81,10 +81,10 @@ fn component_1_of(
 
 // C2, between the lesser of D and K and what was dispatched or delivered of it.
 fn component_2_of(da: Offer, rt: Offer, d: Quantity, r: Quantity, a: Quantity, k: Quantity) -> Ticks
-    requires fact_1 { Good da }
-    requires fact_2 { Good rt }
-    requires fact_3 { d.0 ≤ last_q da }
-    requires fact_4 { d.0 ≤ last_q rt }
+    requires da_good { Good da }
+    requires rt_good { Good rt }
+    requires within_da { d.0 ≤ last_q da }
+    requires within_rt { d.0 ≤ last_q rt }
     ensures { result.0 ≡ component2 da rt d.0 r.0 a.0 k.0 }
 {
     let to = d.lesser(k);
@@ -96,9 +96,9 @@ fn component_2_of(da: Offer, rt: Offer, d: Quantity, r: Quantity, a: Quantity, k
 
 // C3, between U and R as far as D goes.
 fn component_3_of(rt: Offer, emp: Price, d: Quantity, r: Quantity, u: Quantity) -> Ticks
-    requires fact_1 { Good rt }
-    requires fact_2 { d.0 ≤ last_q rt }
-    requires fact_3 { nat_abs emp.0 ≤ 200000 }
+    requires rt_good { Good rt }
+    requires within_rt { d.0 ≤ last_q rt }
+    requires emp_in { nat_abs emp.0 ≤ 200000 }
     ensures { result.0 ≡ component3 rt emp.0 d.0 r.0 u.0 }
 {
     let to = r.lesser(d);
@@ -110,9 +110,9 @@ fn component_3_of(rt: Offer, emp: Price, d: Quantity, r: Quantity, u: Quantity) 
 
 // Price × q - cost(q) of one reserve in interval k; nothing for nothing, of an empty list too.
 fn reserve_net(s: Reserve, k: usize, q: Quantity) -> Ticks
-    requires fact_1 { Usable s }
-    requires fact_2 { k < intervals }
-    requires fact_3 { q.0 ≤ last_q s.offer }
+    requires s_usable { Usable s }
+    requires k_in { k < intervals }
+    requires within_offer { q.0 ≤ last_q s.offer }
     ensures { result.0 ≡ reserve_net s k q.0 }
 {
     if q.0 < 1 {
@@ -132,10 +132,10 @@ fn component_4_of(
     d: Quantity,
     u: Quantity,
 ) -> Ticks
-    requires fact_1 { Usable r1 }
-    requires fact_2 { Usable r2 }
-    requires fact_3 { Usable r3 }
-    requires fact_4 { k < intervals }
+    requires r1_usable { Usable r1 }
+    requires r2_usable { Usable r2 }
+    requires r3_usable { Usable r3 }
+    requires k_in { k < intervals }
     ensures { result.0 ≡ component4 r1 r2 r3 k d.0 u.0 }
 {
     let s1 = r1.schedules[k];
@@ -153,8 +153,8 @@ fn component_4_of(
 // ---- the components of a checked hour's interval
 
 fn c1(h: UnitHour, prices: [Price; INTERVALS], k: usize) -> Ticks
-    requires fact_1 { UnitReady h prices }
-    requires fact_2 { k < intervals }
+    requires unit_ready { UnitReady h prices }
+    requires k_in { k < intervals }
     ensures { result.0 ≡ C1 h prices k }
 {
     let emp = prices[k];
@@ -166,8 +166,8 @@ fn c1(h: UnitHour, prices: [Price; INTERVALS], k: usize) -> Ticks
 }
 
 fn c2(h: UnitHour, prices: [Price; INTERVALS], k: usize) -> Ticks
-    requires fact_1 { UnitReady h prices }
-    requires fact_2 { k < intervals }
+    requires unit_ready { UnitReady h prices }
+    requires k_in { k < intervals }
     ensures { result.0 ≡ C2 h prices k }
 {
     let d = h.ahead[k];
@@ -180,8 +180,8 @@ fn c2(h: UnitHour, prices: [Price; INTERVALS], k: usize) -> Ticks
 }
 
 fn c3(h: UnitHour, prices: [Price; INTERVALS], k: usize) -> Ticks
-    requires fact_1 { UnitReady h prices }
-    requires fact_2 { k < intervals }
+    requires unit_ready { UnitReady h prices }
+    requires k_in { k < intervals }
     ensures { result.0 ≡ C3 h prices k }
 {
     let emp = prices[k];
@@ -193,8 +193,8 @@ fn c3(h: UnitHour, prices: [Price; INTERVALS], k: usize) -> Ticks
 }
 
 fn c4(h: UnitHour, prices: [Price; INTERVALS], k: usize) -> Ticks
-    requires fact_1 { UnitReady h prices }
-    requires fact_2 { k < intervals }
+    requires unit_ready { UnitReady h prices }
+    requires k_in { k < intervals }
     ensures { result.0 ≡ C4 h prices k }
 {
     let d = h.ahead[k];
@@ -263,8 +263,8 @@ fn sum_1(
     r: [Quantity; INTERVALS],
     a: [Quantity; INTERVALS],
 ) -> Ticks
-    requires fact_1 { Ready da prices (quantity_at d) }
-    requires fact_2 { noload.0 ≤ 100000000 }
+    requires da_ready { Ready da prices (quantity_at d) }
+    requires noload_in { noload.0 ≤ 100000000 }
     ensures { result.0 ≡ Σℤ intervals (λ (k : ℕ). component1 da (price_at prices k) noload.0 (quantity_at d k) (quantity_at r k) (quantity_at a k)) }
 {
     let ra = series_by(Pick::Lesser, r, a);
@@ -282,8 +282,8 @@ fn sum_2(
     a: [Quantity; INTERVALS],
     cap: [Quantity; INTERVALS],
 ) -> Ticks
-    requires fact_1 { Ready da prices (quantity_at d) }
-    requires fact_2 { Ready rt prices (quantity_at d) }
+    requires da_ready { Ready da prices (quantity_at d) }
+    requires rt_ready { Ready rt prices (quantity_at d) }
     ensures { result.0 ≡ Σℤ intervals (λ (k : ℕ). component2 da rt (quantity_at d k) (quantity_at r k) (quantity_at a k) (quantity_at cap k)) }
 {
     let to = series_by(Pick::Lesser, d, cap);
@@ -333,9 +333,9 @@ fn sum_4(
     d: [Quantity; INTERVALS],
     u: [Quantity; INTERVALS],
 ) -> Ticks
-    requires fact_1 { Usable r1 }
-    requires fact_2 { Usable r2 }
-    requires fact_3 { Usable r3 }
+    requires r1_usable { Usable r1 }
+    requires r2_usable { Usable r2 }
+    requires r3_usable { Usable r3 }
     ensures { result.0 ≡ Σℤ intervals (λ (k : ℕ). component4 r1 r2 r3 k (quantity_at d k) (quantity_at u k)) }
 {
     let s1 = r1.schedules;
@@ -628,8 +628,8 @@ fn hours_ok(amounts: [Ticks; HOURS], starts: [CentsPerStart; HOURS]) -> bool
 
 fn day_sum(amounts: [Ticks; HOURS], starts: [CentsPerStart; HOURS]) -> Ticks
     requires { DayReady amounts starts }
-    ensures fact_1 { result.0 ≡ day_sum amounts starts }
-    ensures fact_2 { Moderate result.0 }
+    ensures value { result.0 ≡ day_sum amounts starts }
+    ensures moderate { Moderate result.0 }
 {
     let mut sum = Ticks(0);
     let mut i: usize = 0;

@@ -87,21 +87,21 @@ impl Price {
 
     // This price for a quantity, in one interval.
     pub(crate) fn for_quantity(self, q: Quantity) -> Ticks
-        requires fact_1 { nat_abs self.0 ≤ 200000 }
-        requires fact_2 { q.0 ≤ 100000 }
-        ensures fact_1 { result.0 ≡ self.0 *ℤ pos q.0 }
-        ensures fact_2 { nat_abs result.0 ≤ 20000000000 }
+        requires self_in { nat_abs self.0 ≤ 200000 }
+        requires q_in { q.0 ≤ 100000 }
+        ensures value { result.0 ≡ self.0 *ℤ pos q.0 }
+        ensures bounded { nat_abs result.0 ≤ 20000000000 }
     {
         Ticks((self.0 as i64) * (q.0 as i64))
     }
 
     // This price for the part of a list from one quantity to another, in one interval.
     pub(crate) fn between(self, from: Quantity, to: Quantity) -> Ticks
-        requires fact_1 { nat_abs self.0 ≤ 200000 }
-        requires fact_2 { from.0 ≤ to.0 }
-        requires fact_3 { to.0 ≤ 100000 }
-        ensures fact_1 { result.0 ≡ self.0 *ℤ pos (to.0 - from.0) }
-        ensures fact_2 { nat_abs result.0 ≤ 20000000000 }
+        requires self_in { nat_abs self.0 ≤ 200000 }
+        requires in_order { from.0 ≤ to.0 }
+        requires to_in { to.0 ≤ 100000 }
+        ensures value { result.0 ≡ self.0 *ℤ pos (to.0 - from.0) }
+        ensures bounded { nat_abs result.0 ≤ 20000000000 }
     {
         let part = to.0 - from.0;
         self.for_quantity(Quantity(part))
@@ -120,8 +120,8 @@ impl PriceGap {
 
     // This gap for a quantity over a whole hour, of twelve intervals.
     pub(crate) fn for_an_hour(self, q: Quantity) -> Ticks
-        requires fact_1 { nat_abs self.0 ≤ max_gap }
-        requires fact_2 { q.0 ≤ 100000 }
+        requires self_in { nat_abs self.0 ≤ max_gap }
+        requires q_in { q.0 ≤ 100000 }
         ensures { result.0 ≡ self.0 *ℤ pos q.0 *ℤ pos intervals }
     {
         Ticks((self.0 as i64) * (q.0 as i64) * (INTERVALS as i64))
@@ -198,16 +198,16 @@ impl CentsPerHour {
 
 impl Ticks {
     pub(crate) fn plus(self, other: Ticks) -> Ticks
-        requires fact_1 { Moderate self.0 }
-        requires fact_2 { Moderate other.0 }
+        requires self_moderate { Moderate self.0 }
+        requires other_moderate { Moderate other.0 }
         ensures { result.0 ≡ self.0 +ℤ other.0 }
     {
         Ticks(self.0 + other.0)
     }
 
     pub(crate) fn minus(self, other: Ticks) -> Ticks
-        requires fact_1 { Moderate self.0 }
-        requires fact_2 { Moderate other.0 }
+        requires self_moderate { Moderate self.0 }
+        requires other_moderate { Moderate other.0 }
         ensures { result.0 ≡ self.0 -ℤ other.0 }
     {
         Ticks(self.0 - other.0)
@@ -247,8 +247,8 @@ impl Ticks {
 
 impl Cents {
     pub fn magnitude(self) -> u64
-        ensures fact_1 { result ≡ nat_abs self.0 }
-        ensures fact_2 { result ≤ 2 ^ 63 }
+        ensures value { result ≡ nat_abs self.0 }
+        ensures bounded { result ≤ 2 ^ 63 }
     {
         magnitude(self.0)
     }
@@ -256,8 +256,8 @@ impl Cents {
 
 // The size of a signed number, of the least one too, which has no negative.
 fn magnitude(n: i64) -> u64
-    ensures fact_1 { result ≡ nat_abs n }
-    ensures fact_2 { result ≤ 2 ^ 63 }
+    ensures value { result ≡ nat_abs n }
+    ensures bounded { result ≤ 2 ^ 63 }
 {
     if n < 0 {
         return (-1 - n) as u64 + 1;

@@ -142,8 +142,8 @@ pub(crate) fn of_unit(
     key: Key,
     table: PriceTable,
 ) -> UnitDay
-    requires fact_1 { Log log.now rows.now n }
-    requires fact_2 { Wellformed key }
+    requires log_rows { Log log.now rows.now n }
+    requires wellformed { Wellformed key }
     ensures { ((l : List Change) → Logged log.now rows.now n l → key.mark ≡ Gh → (price : ℕ → HourPricing) → TableOf price table
         → day_reply result ≡ unit_day_of key (standing l) price) × (result ≡ unit_day_from (day_reply result)) }
 {

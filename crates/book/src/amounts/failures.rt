@@ -42,8 +42,8 @@ pub(crate) fn of_key(
     key: Key,
     price: HourPrice,
 ) -> Answer
-    requires fact_1 { Log log.now rows.now n }
-    requires fact_2 { Wellformed key }
+    requires log_rows { Log log.now rows.now n }
+    requires wellformed { Wellformed key }
     ensures { (l : List Change) → Logged log.now rows.now n l → is_failure key.mark ≡ true → (q : ℕ → HourPricing)
         → PriceIs (q key.hour) price → reply_of result ≡ charge_of key (standing l) q }
 {
@@ -132,8 +132,8 @@ pub(crate) fn of_hour(
     hour: u8,
     price: HourPrice,
 ) -> Charges
-    requires fact_1 { Log log.now rows.now n }
-    requires fact_2 { hour < mark_slots }
+    requires log_rows { Log log.now rows.now n }
+    requires hour_in { hour < mark_slots }
     ensures { ((l : List Change) → Logged log.now rows.now n l → is_failure mark ≡ true → (q : ℕ → HourPricing)
         → PriceIs (q hour) price → charges_reply result ≡ charges_of (hour_key mark hour) (standing l) q) × (result.charges.n ≤ max_charges)
         × (result ≡ charges_from (charges_reply result)) }

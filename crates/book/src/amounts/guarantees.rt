@@ -149,8 +149,8 @@ pub(crate) fn of_hour(
     hour: u8,
     price: HourPrice,
 ) -> Guarantees
-    requires fact_1 { Log log.now rows.now n }
-    requires fact_2 { hour < mark_slots }
+    requires log_rows { Log log.now rows.now n }
+    requires hour_in { hour < mark_slots }
     ensures { ((l : List Change) → Logged log.now rows.now n l → (q : ℕ → HourPricing) → PriceIs (q hour) price
         → guarantees_reply result ≡ guarantees_of (standing l) q hour) × (result.credits.n ≤ max_credits) × (result ≡ guarantees_from (guarantees_reply result)) }
 {

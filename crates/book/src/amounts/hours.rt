@@ -83,8 +83,8 @@ fn day_named(log: &[u8], rows: &[u32; CHANGES_MAX], n: usize, mark: u32, name: &
 
 // By the rows of n changes, for the key's mark and name. The name is spelled once, and no record is read.
 pub(crate) fn day_in(log: &[u8], rows: &[u32; CHANGES_MAX], n: usize, key: Key) -> DayPlaces
-    requires fact_1 { Log log.now rows.now n }
-    requires fact_2 { Wellformed key }
+    requires log_rows { Log log.now rows.now n }
+    requires wellformed { Wellformed key }
     ensures { (l : List Change) → Logged log.now rows.now n l → DayIs key l result }
 {
     let h = name_head(key);

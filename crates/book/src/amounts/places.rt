@@ -124,8 +124,8 @@ fn with_row(log: &[u8], p: Places, row: u32) -> Places
 
 // By the rows of n changes, for the key's mark and hour.
 pub(crate) fn gather_rows(log: &[u8], rows: &[u32; CHANGES_MAX], n: usize, key: Key) -> Places
-    requires fact_1 { Log log.now rows.now n }
-    requires fact_2 { key.hour < mark_slots }
+    requires log_rows { Log log.now rows.now n }
+    requires hour_in { key.hour < mark_slots }
     ensures { ((l : List Change) → Logged log.now rows.now n l → take result.n result.at ≡ map (spot_of l) (by_name key (standing l)))
         × (result.n ≤ max_places) }
 {

@@ -62,8 +62,8 @@ fn price_at(log: &[u8], at: usize) -> HourPrice
 
 // The price of an hour, by the rows of n changes.
 pub(crate) fn price_in(log: &[u8], rows: &[u32; CHANGES_MAX], n: usize, hour: u8) -> HourPrice
-    requires fact_1 { Log log.now rows.now n }
-    requires fact_2 { hour < mark_slots }
+    requires log_rows { Log log.now rows.now n }
+    requires hour_in { hour < mark_slots }
     ensures { (l : List Change) → Logged log.now rows.now n l → PriceIs (price_of (standing l) hour) result }
 {
     let p = find_in(log, rows, n, n, key_of(Mark::Pr, hour));

@@ -47,8 +47,8 @@ fn hour_of(
     hour: u8,
     price: HourPrice,
 ) -> HourAmounts
-    requires fact_1 { Log log.now rows.now n }
-    requires fact_2 { hour < mark_slots }
+    requires log_rows { Log log.now rows.now n }
+    requires hour_in { hour < mark_slots }
     ensures { (l : List Change) → Logged log.now rows.now n l → (q : ℕ → HourPricing) → PriceIs (q hour) price
         → result ≡ hour_from (hour_reply (standing l) q hour) }
 {
@@ -108,8 +108,8 @@ fn units_of(
     u: Units,
     table: PriceTable,
 ) -> [UnitAmounts; CHANGES_MAX]
-    requires fact_1 { Log log.now rows.now n }
-    requires fact_2 { Named u }
+    requires log_rows { Log log.now rows.now n }
+    requires named { Named u }
     ensures { (l : List Change) → Logged log.now rows.now n l → names_in u ≡ names_of gh_key (standing l) → (q : ℕ → HourPricing)
         → TableOf q table → result ≡ (day_from (whole_of (standing l) q)).units }
 {

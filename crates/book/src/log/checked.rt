@@ -38,8 +38,8 @@ fn written_before(
     slot: usize,
     name: &[u8],
 ) -> usize
-    requires fact_1 { Log log.now rows.now n }
-    requires fact_2 { 0 < n }
+    requires log_rows { Log log.now rows.now n }
+    requires some_row { 0 < n }
     ensures { (c : Change) (l : List Change) → Undoing log.now rows.now n slot name.now c l
         → Wrote (length l) (key_of c) result l }
 {
@@ -60,9 +60,9 @@ fn written_before(
 
 // The rows without the last of n changes: the record that it replaced or removed stands again. A filing did neither.
 fn restore(log: &[u8], rows: &mut [u32; CHANGES_MAX], n: usize)
-    requires fact_1 { Log log.now rows.old n }
-    requires fact_2 { 0 < n }
-    requires fact_3 { length rows.old ≡ max_changes }
+    requires log_rows { Log log.now rows.old n }
+    requires some_row { 0 < n }
+    requires rows_whole { length rows.old ≡ max_changes }
     ensures { ((c : Change) (l : List Change) → Logged log.now rows.old n (c ∷ l) → Rows rows.new l l)
         × (length rows.new ≡ max_changes) }
 {
@@ -92,9 +92,9 @@ impl Book {
         view: View,
         rec: &[u8],
     ) -> Done
-        requires fact_1 { Checked self log.old rows.old }
-        requires fact_2 { Since self log.old view.key from }
-        requires fact_3 { Viewing rec.now view }
+        requires checked { Checked self log.old rows.old }
+        requires since { Since self log.old view.key from }
+        requires viewed { Viewing rec.now view }
         ensures { (want : Wanted) → IsChange want rec.now view
             → Makes (listed (parse want rec.now)) self log.old view.key result log.new rows.new }
     {
@@ -182,9 +182,9 @@ impl Book {
         view: View,
         rec: &[u8],
     ) -> Done
-        requires fact_1 { Checked self log.old rows.old }
-        requires fact_2 { Since self log.old view.key from }
-        requires fact_3 { IsEntry rec.now view }
+        requires checked { Checked self log.old rows.old }
+        requires since { Since self log.old view.key from }
+        requires entry_of_view { IsEntry rec.now view }
         ensures { Makes (general rec.now) self log.old view.key result log.new rows.new }
     {
         let act = view.act;

@@ -139,8 +139,8 @@ fn find_named(
     slot: usize,
     name: &[u8],
 ) -> Seek
-    requires fact_1 { Log log.now rows.now n }
-    requires fact_2 { from ≤ n }
+    requires log_rows { Log log.now rows.now n }
+    requires from_in { from ≤ n }
     ensures { (k : Key) (l : List Change) → Search log.now rows.now n from slot name.now k l
         → Sought rows.now n k result l }
 {
@@ -172,8 +172,8 @@ pub(crate) fn find_in(
     from: usize,
     key: Key,
 ) -> Seek
-    requires fact_1 { Log log.now rows.now n }
-    requires fact_2 { from ≤ n }
+    requires log_rows { Log log.now rows.now n }
+    requires from_in { from ≤ n }
     ensures { (l : List Change) → Logged log.now rows.now n l → key.hour < mark_slots → Padded key.name
         → latest_of (bucket key) l ≤ from → Sought rows.now n key result l }
 {

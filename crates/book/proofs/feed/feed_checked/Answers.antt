@@ -44,10 +44,10 @@ slice_bounds-checked_change-end c =
     end-within c.loop-at.invariant c.loop-at-test.true c.first_change-f.ensures c.if-f-ne0.false
 
 pub checked_change-done-requires : goal.checked_change-done-requires
-checked_change-done-requires c = record { fact_1 = c.loop-at.invariant.checked; fact_2 = since
+checked_change-done-requires c = record { checked = c.loop-at.invariant.checked; since = since
         c.loop-at.invariant
         c.bucket_of-bucket.ensures.0 c.bucket_of-bucket.ensures.1
-        c.search_from-from.ensures; fact_3 = read-there
+        c.search_from-from.ensures; entry_of_view = read-there
         c.loop-at.invariant
         c.loop-at-test.true
         c.first_change-f.ensures

@@ -14,19 +14,19 @@ returns-then-not-failure_ok c = rw (sym c.failure_ok.ensures ∙ c.if-not-failur
 pub gap-requires : goal.gap-requires
 gap-requires c =
     let s = sound-of c.args.f c.args.pd (sym c.failure_ok.ensures ∙ c.if-not-failure_ok.false) in
-    record { fact_1 = s.day-ahead-price; fact_2 = s.market }
+    record { high_in = s.day-ahead-price; low_in = s.market }
 
 pub gap-requires-2 : goal.gap-requires-2
 gap-requires-2 c =
     let s = sound-of c.args.f c.args.pd (sym c.failure_ok.ensures ∙ c.if-not-failure_ok.false) in
-    record { fact_1 = s.day-ahead-price; fact_2 = s.pre-dispatch-price }
+    record { high_in = s.day-ahead-price; low_in = s.pre-dispatch-price }
 
 pub charge_of-requires : goal.charge_of-requires
 charge_of-requires c =
     let s = sound-of c.args.f c.args.pd (sym c.failure_ok.ensures ∙ c.if-not-failure_ok.false) in
-    record { fact_1 = gap-size c.args.f.day_ahead_price.0 c.args.pd.0 s.day-ahead-price s.market c.gap.ensures; fact_2 = gap-size
+    record { a_in = gap-size c.args.f.day_ahead_price.0 c.args.pd.0 s.day-ahead-price s.market c.gap.ensures; b_in = gap-size
             c.args.f.day_ahead_price.0 c.args.f.pre_dispatch_price.0 s.day-ahead-price s.pre-dispatch-price
-            c.gap-2.ensures; fact_3 = omega (arith, c.dev_of.ensures) }
+            c.gap-2.ensures; dev_in = omega (arith, c.dev_of.ensures) }
 
 pub returns : goal.returns
 returns c =

@@ -14,19 +14,19 @@ returns-then-not-failure_ok c = rw (sym c.failure_ok.ensures ∙ c.if-not-failur
 pub gap-requires : goal.gap-requires
 gap-requires c =
     let s = sound-of c.args.f c.args.pd (sym c.failure_ok.ensures ∙ c.if-not-failure_ok.false) in
-    record { fact_1 = s.market; fact_2 = s.day-ahead-price }
+    record { high_in = s.market; low_in = s.day-ahead-price }
 
 pub gap-requires-2 : goal.gap-requires-2
 gap-requires-2 c =
     let s = sound-of c.args.f c.args.pd (sym c.failure_ok.ensures ∙ c.if-not-failure_ok.false) in
-    record { fact_1 = s.pre-dispatch-price; fact_2 = s.day-ahead-price }
+    record { high_in = s.pre-dispatch-price; low_in = s.day-ahead-price }
 
 pub charge_of-requires : goal.charge_of-requires
 charge_of-requires c =
     let s = sound-of c.args.f c.args.pd (sym c.failure_ok.ensures ∙ c.if-not-failure_ok.false) in
-    record { fact_1 = gap-size c.args.pd.0 c.args.f.day_ahead_price.0 s.market s.day-ahead-price c.gap.ensures; fact_2 = gap-size
+    record { a_in = gap-size c.args.pd.0 c.args.f.day_ahead_price.0 s.market s.day-ahead-price c.gap.ensures; b_in = gap-size
             c.args.f.pre_dispatch_price.0 c.args.f.day_ahead_price.0 s.pre-dispatch-price s.day-ahead-price
-            c.gap-2.ensures; fact_3 = omega (arith, c.dev_of.ensures) }
+            c.gap-2.ensures; dev_in = omega (arith, c.dev_of.ensures) }
 
 pub returns : goal.returns
 returns c =

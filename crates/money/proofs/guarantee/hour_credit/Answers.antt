@@ -30,7 +30,7 @@ returns-then-f-ne0 c =
 pub last_of-requires : goal.last_of-requires
 last_of-requires c =
     let g = good_of c.args.o (sym c.offer_fault-f.ensures ∙ c.if-f-ne0.false) in
-    record { fact_1 = g.some; fact_2 = g.most }
+    record { not_empty = g.some; count_in = g.most }
 
 pub returns-then-not-within_ok : goal.returns-then-not-within_ok
 unfolding credit_answer

@@ -34,10 +34,10 @@ offset_bounds-costs-i c =
 pub between-requires : goal.between-requires
 between-requires c =
     let m = c.requires.within _ c.intervals-test.true in
-    record { fact_1 = c.requires.good.prices-in _ c.loop-w.invariant.below; fact_2 = short _ _ c.requires.good m _ _ _ c.loop-w.invariant; fact_3 = in-range _ _ c.requires.good m }
+    record { self_in = c.requires.good.prices-in _ c.loop-w.invariant.below; in_order = short _ _ c.requires.good m _ _ _ c.loop-w.invariant; to_in = in-range _ _ c.requires.good m }
 
 pub plus-cost-requires : goal.plus-cost-requires
-plus-cost-requires c = record { fact_1 = pieces_room _ c.requires.good _ c.loop-w.invariant.below (c.costs_before-costs.ensures _ c.loop-w.invariant.below); fact_2 = omega (arith, c.between.ensures.fact_2) }
+plus-cost-requires c = record { self_moderate = pieces_room _ c.requires.good _ c.loop-w.invariant.below (c.costs_before-costs.ensures _ c.loop-w.invariant.below); other_moderate = omega (arith, c.between.ensures.bounded) }
 
 pub loop-w-preserved : goal.loop-w-preserved
 loop-w-preserved c =
@@ -46,28 +46,28 @@ loop-w-preserved c =
 pub for_quantity-requires : goal.for_quantity-requires
 for_quantity-requires c =
     let m = c.requires.within _ c.intervals-test.true in
-    record { fact_1 = c.requires.prices _ c.intervals-test.true; fact_2 = in-range _ _ c.requires.good m }
+    record { self_in = c.requires.prices _ c.intervals-test.true; q_in = in-range _ _ c.requires.good m }
 
 pub minus-requires : goal.minus-requires
 minus-requires c =
     let z = found c.requires.good (c.requires.within _ c.intervals-test.true) c.loop-w.invariant
-    (c.costs_before-costs.ensures _ c.loop-w.invariant.below) c.if-q-w.true c.between.ensures.fact_1 c.plus-cost.ensures in
-    record { fact_1 = omega (arith, c.for_quantity.ensures.fact_2); fact_2 = spent-room _ _ c.requires.good (c.requires.within _ c.intervals-test.true) z }
+    (c.costs_before-costs.ensures _ c.loop-w.invariant.below) c.if-q-w.true c.between.ensures.value c.plus-cost.ensures in
+    record { self_moderate = omega (arith, c.for_quantity.ensures.bounded); other_moderate = spent-room _ _ c.requires.good (c.requires.within _ c.intervals-test.true) z }
 
 pub plus-sum-requires : goal.plus-sum-requires
 plus-sum-requires c =
     let z = found c.requires.good (c.requires.within _ c.intervals-test.true) c.loop-w.invariant
-    (c.costs_before-costs.ensures _ c.loop-w.invariant.below) c.if-q-w.true c.between.ensures.fact_1 c.plus-cost.ensures in
-    record { fact_1 = profits-room (c.requires) c.intervals.invariant; fact_2 = profit-room (c.requires) _ c.intervals-test.true (profit-is c.args.o
-          (price_at c.args.prices c.intervals.k) (quantity_at c.args.qs c.intervals.k) c.for_quantity.ensures.fact_1 z
+    (c.costs_before-costs.ensures _ c.loop-w.invariant.below) c.if-q-w.true c.between.ensures.value c.plus-cost.ensures in
+    record { self_moderate = profits-room (c.requires) c.intervals.invariant; other_moderate = profit-room (c.requires) _ c.intervals-test.true (profit-is c.args.o
+          (price_at c.args.prices c.intervals.k) (quantity_at c.args.qs c.intervals.k) c.for_quantity.ensures.value z
           c.minus.ensures) }
 
 pub intervals-preserved : goal.intervals-preserved
 intervals-preserved c =
     let z = found c.requires.good (c.requires.within _ c.intervals-test.true) c.loop-w.invariant
-    (c.costs_before-costs.ensures _ c.loop-w.invariant.below) c.if-q-w.true c.between.ensures.fact_1 c.plus-cost.ensures in
+    (c.costs_before-costs.ensures _ c.loop-w.invariant.below) c.if-q-w.true c.between.ensures.value c.plus-cost.ensures in
     summed-more c.intervals.invariant c.intervals-test.true c.plus-sum.ensures (profit-is c.args.o
-    (price_at c.args.prices c.intervals.k) (quantity_at c.args.qs c.intervals.k) c.for_quantity.ensures.fact_1 z
+    (price_at c.args.prices c.intervals.k) (quantity_at c.args.qs c.intervals.k) c.for_quantity.ensures.value z
     c.minus.ensures)
 
 pub returns : goal.returns

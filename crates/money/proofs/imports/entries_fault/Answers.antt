@@ -10,7 +10,7 @@ pub loop-i-init : goal.loop-i-init
 loop-i-init c = clean-none _ _
 
 pub nth_fault-f-requires : goal.nth_fault-f-requires
-nth_fault-f-requires c = record { fact_1 = c.requires.fact_2; fact_2 = omega (arith, c.loop-i-test.true, c.requires.fact_1) }
+nth_fault-f-requires c = record { rates = c.requires.rates; i_in = omega (arith, c.loop-i-test.true, c.requires.n_in) }
 
 pub returns-then-f-ne0 : goal.returns-then-f-ne0
 unfolding entries_fault

@@ -12,7 +12,7 @@ returns-then-f-ne0 c =
     kept (unless (fresh_name c.args.entries c.args.i) 10 0) c.entry_fault-f.ensures c.if-f-ne0.true
 
 pub fresh-requires : goal.fresh-requires
-fresh-requires c = c.requires.fact_2
+fresh-requires c = c.requires.i_in
 
 pub returns-then-not-fresh : goal.returns-then-not-fresh
 unfolding nth_fault

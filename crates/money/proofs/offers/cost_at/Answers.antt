@@ -23,7 +23,7 @@ returns-then-f-ne0 c =
 pub last_of-end-requires : goal.last_of-end-requires
 last_of-end-requires c =
     let g = good_of c.args.o (sym c.offer_fault-f.ensures ∙ c.if-f-ne0.false) in
-    record { fact_1 = g.some; fact_2 = g.most }
+    record { not_empty = g.some; count_in = g.most }
 
 pub returns-then-end-q : goal.returns-then-end-q
 unfolding cost_answer
@@ -32,7 +32,7 @@ returns-then-end-q c =
     rw (sym c.in_range.ensures ∙ c.if-not-in_range.false, sym c.offer_fault-f.ensures ∙ c.if-f-ne0.false, lt-leb _ _ m)
 
 pub cost_of-requires : goal.cost_of-requires
-cost_of-requires c = record { fact_1 = good_of c.args.o (sym c.offer_fault-f.ensures ∙ c.if-f-ne0.false); fact_2 = omega (arith, c.last_of-end.ensures, c.if-end-q.false) }
+cost_of-requires c = record { o_good = good_of c.args.o (sym c.offer_fault-f.ensures ∙ c.if-f-ne0.false); within_o = omega (arith, c.last_of-end.ensures, c.if-end-q.false) }
 
 pub returns : goal.returns
 unfolding cost_answer

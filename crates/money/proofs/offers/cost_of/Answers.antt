@@ -6,24 +6,24 @@ use Rattle.money.specs.Offers.{max_pairs}
 use Rattle.money.proofs.offers.cost_of.Goals as goal
 
 pub loop-o-init : goal.loop-o-init
-loop-o-init c = starts _ _ c.requires.fact_1 c.requires.fact_2
+loop-o-init c = starts _ _ c.requires.o_good c.requires.within_o
 
 pub between-requires : goal.between-requires
-between-requires c = record { fact_1 = c.requires.fact_1.prices-in _ c.loop-o.invariant.below; fact_2 = short _ _ c.requires.fact_1 c.requires.fact_2 _ _ _ c.loop-o.invariant; fact_3 = in-range _ _ c.requires.fact_1 c.requires.fact_2 }
+between-requires c = record { self_in = c.requires.o_good.prices-in _ c.loop-o.invariant.below; in_order = short _ _ c.requires.o_good c.requires.within_o _ _ _ c.loop-o.invariant; to_in = in-range _ _ c.requires.o_good c.requires.within_o }
 
 pub plus-c-requires : goal.plus-c-requires
-plus-c-requires c = record { fact_1 = pieces_room _ c.requires.fact_1 _ c.loop-o.invariant.below c.loop-o.invariant.sum; fact_2 = omega (arith, c.between.ensures.fact_2) }
+plus-c-requires c = record { self_moderate = pieces_room _ c.requires.o_good _ c.loop-o.invariant.below c.loop-o.invariant.sum; other_moderate = omega (arith, c.between.ensures.bounded) }
 
 pub between-requires-in-loop-o : goal.between-requires-in-loop-o
-between-requires-in-loop-o c = record { fact_1 = c.requires.fact_1.prices-in _ c.loop-o.invariant.below; fact_2 = reach _ c.requires.fact_1 _ c.loop-o.invariant.below c.loop-o.invariant.from; fact_3 = c.requires.fact_1.quantities-in _ c.loop-o.invariant.below }
+between-requires-in-loop-o c = record { self_in = c.requires.o_good.prices-in _ c.loop-o.invariant.below; in_order = reach _ c.requires.o_good _ c.loop-o.invariant.below c.loop-o.invariant.from; to_in = c.requires.o_good.quantities-in _ c.loop-o.invariant.below }
 
 pub plus-acc-requires : goal.plus-acc-requires
-plus-acc-requires c = record { fact_1 = pieces_room _ c.requires.fact_1 _ c.loop-o.invariant.below c.loop-o.invariant.sum; fact_2 = omega (arith, c.between-in-loop-o.ensures.fact_2) }
+plus-acc-requires c = record { self_moderate = pieces_room _ c.requires.o_good _ c.loop-o.invariant.below c.loop-o.invariant.sum; other_moderate = omega (arith, c.between-in-loop-o.ensures.bounded) }
 
 pub loop-o-preserved : goal.loop-o-preserved
 loop-o-preserved c =
-    walked_on c.requires.fact_1 c.requires.fact_2 c.loop-o.invariant c.if-q-w.false c.between-in-loop-o.ensures.fact_1 c.plus-acc.ensures
+    walked_on c.requires.o_good c.requires.within_o c.loop-o.invariant c.if-q-w.false c.between-in-loop-o.ensures.value c.plus-acc.ensures
 
 pub returns : goal.returns
 returns c =
-    walked c.requires.fact_1 c.requires.fact_2 c.loop-o.invariant c.if-q-w.true c.between.ensures.fact_1 c.plus-c.ensures
+    walked c.requires.o_good c.requires.within_o c.loop-o.invariant c.if-q-w.true c.between.ensures.value c.plus-c.ensures

@@ -3,4 +3,4 @@ use Rattle.money.specs.laws.OfferLaws.{last-is}
 use Rattle.money.proofs.offers.last_of.Goals as goal
 
 pub returns : goal.returns
-returns c = last-is c.args.o c.requires.fact_1
+returns c = last-is c.args.o c.requires.not_empty

@@ -8,7 +8,7 @@ use Rattle.money.specs.laws.UnitLaws.{Filled, filled_none, filled_more}
 use Rattle.money.proofs.offset.adj_series.Goals as goal
 
 pub reach_series-reached-requires : goal.reach_series-reached-requires
-reach_series-reached-requires c = record { fact_1 = c.requires.fact_1; fact_2 = c.requires.fact_2 }
+reach_series-reached-requires c = record { listed = c.requires.listed; i_in = c.requires.i_in }
 
 pub loop-k-init : goal.loop-k-init
 loop-k-init c = filled_none _ _ refl

@@ -17,7 +17,7 @@ unfolding offset_answer
 returns-then-not-rates_ok c = rw (le-leb _ _ c.if-n-gt-IMPORTS_MAX.false, sym c.rates_ok.ensures ∙ c.if-not-rates_ok.true)
 
 pub entries_fault-f-requires : goal.entries_fault-f-requires
-entries_fault-f-requires c = record { fact_1 = c.if-n-gt-IMPORTS_MAX.false; fact_2 = rates-of _ _ (sym c.rates_ok.ensures ∙ c.if-not-rates_ok.false) }
+entries_fault-f-requires c = record { n_in = c.if-n-gt-IMPORTS_MAX.false; rates = rates-of _ _ (sym c.rates_ok.ensures ∙ c.if-not-rates_ok.false) }
 
 pub returns-then-f-ne0 : goal.returns-then-f-ne0
 unfolding offset_answer
@@ -28,7 +28,7 @@ returns-then-f-ne0 c =
 pub offset_of-requires : goal.offset_of-requires
 offset_of-requires c =
     let r = rates-of c.args.prices c.args.totals (sym c.rates_ok.ensures ∙ c.if-not-rates_ok.false) in
-    record { fact_1 = listed_of _ _ _ c.if-n-gt-IMPORTS_MAX.false r (sym c.entries_fault-f.ensures ∙ c.if-f-ne0.false); fact_2 = r }
+    record { listed = listed_of _ _ _ c.if-n-gt-IMPORTS_MAX.false r (sym c.entries_fault-f.ensures ∙ c.if-f-ne0.false); rates = r }
 
 pub returns : goal.returns
 unfolding offset_answer

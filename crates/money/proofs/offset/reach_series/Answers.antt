@@ -9,7 +9,7 @@ pub loop-j-init : goal.loop-j-init
 loop-j-init c = reached-none _ _ _ _ (λ k l. zeros intervals k)
 
 pub counted_in-next-requires : goal.counted_in-next-requires
-counted_in-next-requires c = reached-room c.loop-j.invariant c.loop-j-test.true c.requires.fact_1
+counted_in-next-requires c = reached-room c.loop-j.invariant c.loop-j-test.true c.requires.listed
 
 pub loop-j-preserved : goal.loop-j-preserved
 loop-j-preserved c = reached-more c.loop-j.invariant c.loop-j-test.true c.counted_in-next.ensures

@@ -3,7 +3,7 @@ use Rattle.money.specs.Production.{C2}
 use Rattle.money.proofs.production.c2.Goals as goal
 
 pub component_2_of-requires : goal.component_2_of-requires
-component_2_of-requires c = record { fact_1 = c.requires.fact_1.ahead; fact_2 = c.requires.fact_1.real; fact_3 = c.requires.fact_1.ahead_within c.args.k c.requires.fact_2; fact_4 = c.requires.fact_1.real-within c.args.k c.requires.fact_2 }
+component_2_of-requires c = record { da_good = c.requires.unit_ready.ahead; rt_good = c.requires.unit_ready.real; within_da = c.requires.unit_ready.ahead_within c.args.k c.requires.k_in; within_rt = c.requires.unit_ready.real-within c.args.k c.requires.k_in }
 
 pub returns : goal.returns
 unfolding C2

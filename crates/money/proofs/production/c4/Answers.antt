@@ -3,7 +3,7 @@ use Rattle.money.specs.Production.{C4}
 use Rattle.money.proofs.production.c4.Goals as goal
 
 pub component_4_of-requires : goal.component_4_of-requires
-component_4_of-requires c = record { fact_1 = c.requires.fact_1.spinning; fact_2 = c.requires.fact_1.nonspinning; fact_3 = c.requires.fact_1.thirty; fact_4 = c.requires.fact_2 }
+component_4_of-requires c = record { r1_usable = c.requires.unit_ready.spinning; r2_usable = c.requires.unit_ready.nonspinning; r3_usable = c.requires.unit_ready.thirty; k_in = c.requires.k_in }
 
 pub returns : goal.returns
 unfolding C4

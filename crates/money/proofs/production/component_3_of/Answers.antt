@@ -10,28 +10,28 @@ use Rattle.money.proofs.production.component_3_of.Goals as goal
 pub for_quantity-requires : goal.for_quantity-requires
 for_quantity-requires c =
     let b : c.lesser-to.result.0 ≤ last_q c.args.rt = omega arith in
-    record { fact_1 = c.requires.fact_3; fact_2 = in-range _ _ c.requires.fact_1 b }
+    record { self_in = c.requires.emp_in; q_in = in-range _ _ c.requires.rt_good b }
 
 pub minus-spent-requires : goal.minus-spent-requires
 minus-spent-requires c =
     let b : c.lesser-to.result.0 ≤ last_q c.args.rt = omega arith in
-    record { fact_1 = spent-room _ _ c.requires.fact_1 b c.cost_of.ensures; fact_2 = omega (arith, c.for_quantity.ensures.fact_2) }
+    record { self_moderate = spent-room _ _ c.requires.rt_good b c.cost_of.ensures; other_moderate = omega (arith, c.for_quantity.ensures.bounded) }
 
 pub for_quantity-requires-2 : goal.for_quantity-requires-2
 for_quantity-requires-2 c =
     let a : c.lesser-from.result.0 ≤ last_q c.args.rt = omega arith in
-    record { fact_1 = c.requires.fact_3; fact_2 = in-range _ _ c.requires.fact_1 a }
+    record { self_in = c.requires.emp_in; q_in = in-range _ _ c.requires.rt_good a }
 
 pub minus-saved-requires : goal.minus-saved-requires
 minus-saved-requires c =
     let a : c.lesser-from.result.0 ≤ last_q c.args.rt = omega arith in
-    record { fact_1 = spent-room _ _ c.requires.fact_1 a c.cost_of-2.ensures; fact_2 = omega (arith, c.for_quantity-2.ensures.fact_2) }
+    record { self_moderate = spent-room _ _ c.requires.rt_good a c.cost_of-2.ensures; other_moderate = omega (arith, c.for_quantity-2.ensures.bounded) }
 
 pub minus-requires : goal.minus-requires
 minus-requires c =
     let b : c.lesser-to.result.0 ≤ last_q c.args.rt = omega arith in
     let a : c.lesser-from.result.0 ≤ last_q c.args.rt = omega arith in
-    record { fact_1 = loss-room _ _ c.requires.fact_1 b c.args.emp.0 c.requires.fact_3 c.cost_of.ensures c.for_quantity.ensures.fact_1 c.minus-spent.ensures; fact_2 = loss-room _ _ c.requires.fact_1 a c.args.emp.0 c.requires.fact_3 c.cost_of-2.ensures c.for_quantity-2.ensures.fact_1
+    record { self_moderate = loss-room _ _ c.requires.rt_good b c.args.emp.0 c.requires.emp_in c.cost_of.ensures c.for_quantity.ensures.value c.minus-spent.ensures; other_moderate = loss-room _ _ c.requires.rt_good a c.args.emp.0 c.requires.emp_in c.cost_of-2.ensures c.for_quantity-2.ensures.value
           c.minus-saved.ensures }
 
 pub returns : goal.returns
@@ -40,7 +40,7 @@ returns c =
     let a : c.lesser-from.result.0 ≤ last_q c.args.rt = omega arith in
     let e : c.lesser-to.result.0 ≡ min c.args.r.0 c.args.d.0 = omega arith in
     let f : c.lesser-from.result.0 ≡ min c.args.u.0 c.args.d.0 = omega arith in
-    rw (← e, ← f) (congestion-is c.args.rt c.args.emp.0 c.lesser-to.result.0 c.lesser-from.result.0 (loss-is _ _ c.requires.fact_1 b
-    c.args.emp.0 c.requires.fact_3 c.cost_of.ensures c.for_quantity.ensures.fact_1 c.minus-spent.ensures) (loss-is _ _ c.requires.fact_1 a
-    c.args.emp.0 c.requires.fact_3 c.cost_of-2.ensures c.for_quantity-2.ensures.fact_1 c.minus-saved.ensures)
+    rw (← e, ← f) (congestion-is c.args.rt c.args.emp.0 c.lesser-to.result.0 c.lesser-from.result.0 (loss-is _ _ c.requires.rt_good b
+    c.args.emp.0 c.requires.emp_in c.cost_of.ensures c.for_quantity.ensures.value c.minus-spent.ensures) (loss-is _ _ c.requires.rt_good a
+    c.args.emp.0 c.requires.emp_in c.cost_of-2.ensures c.for_quantity-2.ensures.value c.minus-saved.ensures)
     c.minus.ensures)

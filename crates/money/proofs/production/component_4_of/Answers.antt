@@ -3,24 +3,24 @@ use Rattle.money.specs.laws.ProductionLaws.{room, two-room, net-within, net-smal
 use Rattle.money.proofs.production.component_4_of.Goals as goal
 
 pub reserve_net-one-requires : goal.reserve_net-one-requires
-reserve_net-one-requires c = record { fact_1 = c.requires.fact_1; fact_2 = c.requires.fact_4; fact_3 = net-within c.requires.fact_1 c.above-left1.result.0 c.args.k c.requires.fact_4 c.lesser.ensures }
+reserve_net-one-requires c = record { s_usable = c.requires.r1_usable; k_in = c.requires.k_in; within_offer = net-within c.requires.r1_usable c.above-left1.result.0 c.args.k c.requires.k_in c.lesser.ensures }
 
 pub reserve_net-two-requires : goal.reserve_net-two-requires
-reserve_net-two-requires c = record { fact_1 = c.requires.fact_2; fact_2 = c.requires.fact_4; fact_3 = net-within c.requires.fact_2 c.above-left2.result.0 c.args.k c.requires.fact_4 c.lesser-2.ensures }
+reserve_net-two-requires c = record { s_usable = c.requires.r2_usable; k_in = c.requires.k_in; within_offer = net-within c.requires.r2_usable c.above-left2.result.0 c.args.k c.requires.k_in c.lesser-2.ensures }
 
 pub reserve_net-three-requires : goal.reserve_net-three-requires
-reserve_net-three-requires c = record { fact_1 = c.requires.fact_3; fact_2 = c.requires.fact_4; fact_3 = net-within c.requires.fact_3 c.above-left3.result.0 c.args.k c.requires.fact_4 c.lesser-3.ensures }
+reserve_net-three-requires c = record { s_usable = c.requires.r3_usable; k_in = c.requires.k_in; within_offer = net-within c.requires.r3_usable c.above-left3.result.0 c.args.k c.requires.k_in c.lesser-3.ensures }
 
 pub plus-requires : goal.plus-requires
-plus-requires c = record { fact_1 = room c.reserve_net-one.ensures (net-small c.requires.fact_1 c.above-left1.result.0 c.args.k c.requires.fact_4 c.lesser.ensures); fact_2 = room
-          c.reserve_net-two.ensures (net-small c.requires.fact_2 c.above-left2.result.0 c.args.k c.requires.fact_4 c.lesser-2.ensures) }
+plus-requires c = record { self_moderate = room c.reserve_net-one.ensures (net-small c.requires.r1_usable c.above-left1.result.0 c.args.k c.requires.k_in c.lesser.ensures); other_moderate = room
+          c.reserve_net-two.ensures (net-small c.requires.r2_usable c.above-left2.result.0 c.args.k c.requires.k_in c.lesser-2.ensures) }
 
 pub plus-requires-2 : goal.plus-requires-2
-plus-requires-2 c = record { fact_1 = two-room c.reserve_net-one.ensures c.reserve_net-two.ensures
-          (net-small c.requires.fact_1 c.above-left1.result.0 c.args.k c.requires.fact_4 c.lesser.ensures)
-          (net-small c.requires.fact_2 c.above-left2.result.0 c.args.k c.requires.fact_4 c.lesser-2.ensures) c.plus.ensures; fact_2 = room
+plus-requires-2 c = record { self_moderate = two-room c.reserve_net-one.ensures c.reserve_net-two.ensures
+          (net-small c.requires.r1_usable c.above-left1.result.0 c.args.k c.requires.k_in c.lesser.ensures)
+          (net-small c.requires.r2_usable c.above-left2.result.0 c.args.k c.requires.k_in c.lesser-2.ensures) c.plus.ensures; other_moderate = room
           c.reserve_net-three.ensures
-          (net-small c.requires.fact_3 c.above-left3.result.0 c.args.k c.requires.fact_4 c.lesser-3.ensures) }
+          (net-small c.requires.r3_usable c.above-left3.result.0 c.args.k c.requires.k_in c.lesser-3.ensures) }
 
 pub returns : goal.returns
 returns c =

@@ -11,11 +11,11 @@ pub loop-i-init : goal.loop-i-init
 loop-i-init c = summed-none _ _
 
 pub plus-requires : goal.plus-requires
-plus-requires c = record { fact_1 = omega (arith, c.requires.amounts c.loop-i.i c.loop-i-test.true); fact_2 = start-room (c.requires) c.loop-i.i c.loop-i-test.true
+plus-requires c = record { self_moderate = omega (arith, c.requires.amounts c.loop-i.i c.loop-i-test.true); other_moderate = start-room (c.requires) c.loop-i.i c.loop-i-test.true
           c.ticks.ensures }
 
 pub plus-sum-requires : goal.plus-sum-requires
-plus-sum-requires c = record { fact_1 = day-room (c.requires) c.loop-i.invariant; fact_2 = part_room (c.requires) c.loop-i.i c.loop-i-test.true c.ticks.ensures c.plus.ensures }
+plus-sum-requires c = record { self_moderate = day-room (c.requires) c.loop-i.invariant; other_moderate = part_room (c.requires) c.loop-i.i c.loop-i-test.true c.ticks.ensures c.plus.ensures }
 
 pub loop-i-preserved : goal.loop-i-preserved
 loop-i-preserved c =
@@ -24,4 +24,4 @@ loop-i-preserved c =
 
 pub returns : goal.returns
 unfolding day_sum
-returns c = record { fact_1 = summed-all c.loop-i.invariant c.loop-i-test.false; fact_2 = day-room (c.requires) c.loop-i.invariant }
+returns c = record { value = summed-all c.loop-i.invariant c.loop-i-test.false; moderate = day-room (c.requires) c.loop-i.invariant }

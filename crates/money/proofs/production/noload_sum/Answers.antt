@@ -10,7 +10,7 @@ pub loop-k-init : goal.loop-k-init
 loop-k-init c = summed-none _ _
 
 pub plus-sum-requires : goal.plus-sum-requires
-plus-sum-requires c = record { fact_1 = runs-room c.args.noload.0 (quantity_at c.args.m) (c.requires) c.loop-k.invariant; fact_2 = running-room c.args.noload.0
+plus-sum-requires c = record { self_moderate = runs-room c.args.noload.0 (quantity_at c.args.m) (c.requires) c.loop-k.invariant; other_moderate = running-room c.args.noload.0
           (quantity_at c.args.m c.loop-k.k) (c.requires) c.running_at.ensures }
 
 pub loop-k-preserved : goal.loop-k-preserved

@@ -7,22 +7,22 @@ use Rattle.money.specs.laws.GuaranteeLaws.{profit-is}
 use Rattle.money.proofs.production.reserve_net.Goals as goal
 
 pub returns-then-q-lt1 : goal.returns-then-q-lt1
-returns-then-q-lt1 c = idle c.requires.fact_1 c.args.k c.args.q.0 c.if-q-lt1.true
+returns-then-q-lt1 c = idle c.requires.s_usable c.args.k c.args.q.0 c.if-q-lt1.true
 
 pub for_quantity-requires : goal.for_quantity-requires
 for_quantity-requires c =
-    let g = offered c.requires.fact_1 c.args.q.0 c.if-q-lt1.false c.requires.fact_3 in
-    record { fact_1 = c.requires.fact_1.rates c.args.k c.requires.fact_2; fact_2 = in-range _ _ g c.requires.fact_3 }
+    let g = offered c.requires.s_usable c.args.q.0 c.if-q-lt1.false c.requires.within_offer in
+    record { self_in = c.requires.s_usable.rates c.args.k c.requires.k_in; q_in = in-range _ _ g c.requires.within_offer }
 
 pub cost_of-requires : goal.cost_of-requires
-cost_of-requires c = record { fact_1 = offered c.requires.fact_1 c.args.q.0 c.if-q-lt1.false c.requires.fact_3; fact_2 = c.requires.fact_3 }
+cost_of-requires c = record { o_good = offered c.requires.s_usable c.args.q.0 c.if-q-lt1.false c.requires.within_offer; within_o = c.requires.within_offer }
 
 pub minus-requires : goal.minus-requires
 minus-requires c =
-    let g = offered c.requires.fact_1 c.args.q.0 c.if-q-lt1.false c.requires.fact_3 in
-    record { fact_1 = omega (arith, c.for_quantity.ensures.fact_2); fact_2 = spent-room _ _ g c.requires.fact_3 c.cost_of.ensures }
+    let g = offered c.requires.s_usable c.args.q.0 c.if-q-lt1.false c.requires.within_offer in
+    record { self_moderate = omega (arith, c.for_quantity.ensures.bounded); other_moderate = spent-room _ _ g c.requires.within_offer c.cost_of.ensures }
 
 pub returns : goal.returns
 returns c =
-    profit-is c.args.s.offer (price_at c.args.s.prices c.args.k) c.args.q.0 c.for_quantity.ensures.fact_1
+    profit-is c.args.s.offer (price_at c.args.s.prices c.args.k) c.args.q.0 c.for_quantity.ensures.value
     c.cost_of.ensures c.minus.ensures

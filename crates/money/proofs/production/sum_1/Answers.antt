@@ -8,12 +8,12 @@ use Rattle.money.proofs.production.sum_1.Goals as goal
 
 pub profit_sum-requires : goal.profit_sum-requires
 profit_sum-requires c =
-    ready-less c.requires.fact_1
+    ready-less c.requires.da_ready
     (λ k l. lesser-in (quantity_at c.args.d k) (quantity_at c.series_by-ra.result k) (c.series_by-m.ensures k l) (omega arith))
 
 pub minus-requires : goal.minus-requires
-minus-requires c = record { fact_1 = runs-moderate c.args.noload.0 (quantity_at c.series_by-m.result) c.requires.fact_2 c.noload_sum.ensures; fact_2 = profits-moderate (ready-less
-          c.requires.fact_1 (λ k l. lesser-in (quantity_at c.args.d k) (quantity_at c.series_by-ra.result k) (c.series_by-m.ensures k l) (omega arith)))
+minus-requires c = record { self_moderate = runs-moderate c.args.noload.0 (quantity_at c.series_by-m.result) c.requires.noload_in c.noload_sum.ensures; other_moderate = profits-moderate (ready-less
+          c.requires.da_ready (λ k l. lesser-in (quantity_at c.args.d k) (quantity_at c.series_by-ra.result k) (c.series_by-m.ensures k l) (omega arith)))
           c.profit_sum.ensures }
 
 pub returns : goal.returns

@@ -8,52 +8,52 @@ use Rattle.money.proofs.production.sum_2.Goals as goal
 
 pub profit_sum-requires : goal.profit_sum-requires
 profit_sum-requires c =
-    let to = ready-less c.requires.fact_1
+    let to = ready-less c.requires.da_ready
     (λ k l. lesser-in (quantity_at c.args.d k) (quantity_at c.args.cap k) (c.series_by-to.ensures k l) (omega arith)) in
     ready-less to
     (λ k l. lesser-in (quantity_at c.series_by-to.result k) (quantity_at c.series_by-ra.result k) (c.series_by-from.ensures k l) (omega arith))
 
 pub profit_sum-requires-2 : goal.profit_sum-requires-2
 profit_sum-requires-2 c =
-    ready-less c.requires.fact_1 (λ k l. lesser-in (quantity_at c.args.d k) (quantity_at c.args.cap k) (c.series_by-to.ensures k l) (omega arith))
+    ready-less c.requires.da_ready (λ k l. lesser-in (quantity_at c.args.d k) (quantity_at c.args.cap k) (c.series_by-to.ensures k l) (omega arith))
 
 pub minus-ahead-requires : goal.minus-ahead-requires
 minus-ahead-requires c =
-    let to = ready-less c.requires.fact_1
+    let to = ready-less c.requires.da_ready
     (λ k l. lesser-in (quantity_at c.args.d k) (quantity_at c.args.cap k) (c.series_by-to.ensures k l) (omega arith)) in
     let from = ready-less to
     (λ k l. lesser-in (quantity_at c.series_by-to.result k) (quantity_at c.series_by-ra.result k) (c.series_by-from.ensures k l) (omega arith)) in
-    record { fact_1 = profits-moderate from c.profit_sum.ensures; fact_2 = profits-moderate to c.profit_sum-2.ensures }
+    record { self_moderate = profits-moderate from c.profit_sum.ensures; other_moderate = profits-moderate to c.profit_sum-2.ensures }
 
 pub profit_sum-requires-3 : goal.profit_sum-requires-3
 profit_sum-requires-3 c =
-    let to = ready-less c.requires.fact_2
+    let to = ready-less c.requires.rt_ready
     (λ k l. lesser-in (quantity_at c.args.d k) (quantity_at c.args.cap k) (c.series_by-to.ensures k l) (omega arith)) in
     ready-less to (λ k l. lesser-in (quantity_at c.series_by-to.result k) (quantity_at c.series_by-ra.result k) (c.series_by-from.ensures k l) (omega arith))
 
 pub profit_sum-requires-4 : goal.profit_sum-requires-4
 profit_sum-requires-4 c =
-    ready-less c.requires.fact_2 (λ k l. lesser-in (quantity_at c.args.d k) (quantity_at c.args.cap k) (c.series_by-to.ensures k l) (omega arith))
+    ready-less c.requires.rt_ready (λ k l. lesser-in (quantity_at c.args.d k) (quantity_at c.args.cap k) (c.series_by-to.ensures k l) (omega arith))
 
 pub minus-real-requires : goal.minus-real-requires
 minus-real-requires c =
-    let to = ready-less c.requires.fact_2
+    let to = ready-less c.requires.rt_ready
     (λ k l. lesser-in (quantity_at c.args.d k) (quantity_at c.args.cap k) (c.series_by-to.ensures k l) (omega arith)) in
     let from = ready-less to
     (λ k l. lesser-in (quantity_at c.series_by-to.result k) (quantity_at c.series_by-ra.result k) (c.series_by-from.ensures k l) (omega arith)) in
-    record { fact_1 = profits-moderate from c.profit_sum-3.ensures; fact_2 = profits-moderate to c.profit_sum-4.ensures }
+    record { self_moderate = profits-moderate from c.profit_sum-3.ensures; other_moderate = profits-moderate to c.profit_sum-4.ensures }
 
 pub minus-requires : goal.minus-requires
 minus-requires c =
-    let to = ready-less c.requires.fact_1
+    let to = ready-less c.requires.da_ready
     (λ k l. lesser-in (quantity_at c.args.d k) (quantity_at c.args.cap k) (c.series_by-to.ensures k l) (omega arith)) in
     let from = ready-less to
     (λ k l. lesser-in (quantity_at c.series_by-to.result k) (quantity_at c.series_by-ra.result k) (c.series_by-from.ensures k l) (omega arith)) in
-    let to' = ready-less c.requires.fact_2
+    let to' = ready-less c.requires.rt_ready
     (λ k l. lesser-in (quantity_at c.args.d k) (quantity_at c.args.cap k) (c.series_by-to.ensures k l) (omega arith)) in
     let from' = ready-less to'
     (λ k l. lesser-in (quantity_at c.series_by-to.result k) (quantity_at c.series_by-ra.result k) (c.series_by-from.ensures k l) (omega arith)) in
-    record { fact_1 = two-profits from to c.profit_sum.ensures c.profit_sum-2.ensures c.minus-ahead.ensures; fact_2 = two-profits from' to' c.profit_sum-3.ensures
+    record { self_moderate = two-profits from to c.profit_sum.ensures c.profit_sum-2.ensures c.minus-ahead.ensures; other_moderate = two-profits from' to' c.profit_sum-3.ensures
           c.profit_sum-4.ensures c.minus-real.ensures }
 
 pub returns : goal.returns

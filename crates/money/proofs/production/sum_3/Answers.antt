@@ -12,8 +12,8 @@ profit_sum-requires-2 c =
     ready-less (c.requires) (λ k l. second-in (quantity_at c.args.r k) (quantity_at c.args.d k) (c.series_by-to.ensures k l))
 
 pub minus-requires : goal.minus-requires
-minus-requires c = record { fact_1 = profits-moderate (ready-less (c.requires) (λ k l. second-in (quantity_at c.args.u k) (quantity_at c.args.d k) (c.series_by-from.ensures k l)))
-          c.profit_sum.ensures; fact_2 = profits-moderate (ready-less (c.requires) (λ k l. second-in (quantity_at c.args.r k) (quantity_at c.args.d k) (c.series_by-to.ensures k l)))
+minus-requires c = record { self_moderate = profits-moderate (ready-less (c.requires) (λ k l. second-in (quantity_at c.args.u k) (quantity_at c.args.d k) (c.series_by-from.ensures k l)))
+          c.profit_sum.ensures; other_moderate = profits-moderate (ready-less (c.requires) (λ k l. second-in (quantity_at c.args.r k) (quantity_at c.args.d k) (c.series_by-to.ensures k l)))
           c.profit_sum-2.ensures }
 
 pub returns : goal.returns

@@ -4,12 +4,12 @@ use Rattle.money.specs.laws.ProductionLaws.{reserve-room, two-reserves, sum4-is}
 use Rattle.money.proofs.production.sum_4.Goals as goal
 
 pub plus-requires : goal.plus-requires
-plus-requires c = record { fact_1 = reserve-room c.requires.fact_1 (quantity_at c.series_by-left1.result) c.reserve_sum-one.ensures; fact_2 = reserve-room c.requires.fact_2
+plus-requires c = record { self_moderate = reserve-room c.requires.r1_usable (quantity_at c.series_by-left1.result) c.reserve_sum-one.ensures; other_moderate = reserve-room c.requires.r2_usable
           (quantity_at c.series_by-left2.result) c.reserve_sum-two.ensures }
 
 pub plus-requires-2 : goal.plus-requires-2
-plus-requires-2 c = record { fact_1 = two-reserves c.requires.fact_1 c.requires.fact_2 (quantity_at c.series_by-left1.result) (quantity_at c.series_by-left2.result) c.reserve_sum-one.ensures
-          c.reserve_sum-two.ensures c.plus.ensures; fact_2 = reserve-room c.requires.fact_3 (quantity_at c.series_by-left3.result)
+plus-requires-2 c = record { self_moderate = two-reserves c.requires.r1_usable c.requires.r2_usable (quantity_at c.series_by-left1.result) (quantity_at c.series_by-left2.result) c.reserve_sum-one.ensures
+          c.reserve_sum-two.ensures c.plus.ensures; other_moderate = reserve-room c.requires.r3_usable (quantity_at c.series_by-left3.result)
           c.reserve_sum-three.ensures }
 
 pub returns : goal.returns

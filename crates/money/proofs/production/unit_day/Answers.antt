@@ -15,10 +15,10 @@ day_sum-total-requires c =
     day-of c.args.amounts c.args.starts (sym c.hours_ok.ensures ∙ c.if-not-hours_ok.false)
 
 pub deficit-requires : goal.deficit-requires
-deficit-requires c = c.day_sum-total.ensures.fact_2
+deficit-requires c = c.day_sum-total.ensures.moderate
 
 pub returns : goal.returns
 unfolding day_answer
 returns c =
-    rw (sym c.hours_ok.ensures ∙ c.if-not-hours_ok.false) (λ i. day-variants.Day (record { 0 = c.day_sum-total.ensures.fact_1 i })
-    (record { 0 = reversal-is c.day_sum-total.ensures.fact_1 c.deficit.ensures i }))
+    rw (sym c.hours_ok.ensures ∙ c.if-not-hours_ok.false) (λ i. day-variants.Day (record { 0 = c.day_sum-total.ensures.value i })
+    (record { 0 = reversal-is c.day_sum-total.ensures.value c.deficit.ensures i }))

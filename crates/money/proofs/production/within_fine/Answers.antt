@@ -6,7 +6,7 @@ use Rattle.money.specs.Production.{within_fine}
 use Rattle.money.proofs.production.within_fine.Goals as goal
 
 pub last_of-requires : goal.last_of-requires
-last_of-requires c = record { fact_1 = c.requires.ahead.some; fact_2 = c.requires.ahead.most }
+last_of-requires c = record { not_empty = c.requires.ahead.some; count_in = c.requires.ahead.most }
 
 pub returns-then-not-within_ok : goal.returns-then-not-within_ok
 unfolding within_fine
@@ -16,7 +16,7 @@ returns-then-not-within_ok c =
     rw w
 
 pub last_of-requires-2 : goal.last_of-requires-2
-last_of-requires-2 c = record { fact_1 = c.requires.real.some; fact_2 = c.requires.real.most }
+last_of-requires-2 c = record { not_empty = c.requires.real.some; count_in = c.requires.real.most }
 
 pub returns-then-not-within_ok-2 : goal.returns-then-not-within_ok-2
 unfolding within_fine

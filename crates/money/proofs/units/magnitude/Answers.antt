@@ -37,7 +37,7 @@ returns-then-n-lt0 c =
     let x = h.plain f in
     let l = lt-true _ _ (h.test-lt x (h.lit (pos 0)) c.if-n-lt0.true) in
     let e = ap (λ (z : ℤ). nat_abs z + 1) (h.back (flipped f l) (omega arith)).same ∙ flip-abs _ l in
-    record { fact_1 = e; fact_2 = omega (arith, e, abs-most _ f) }
+    record { value = e; bounded = omega (arith, e, abs-most _ f) }
 
 pub overflow_cast-result-2 : goal.overflow_cast-result-2
 overflow_cast-result-2 c =
@@ -48,4 +48,4 @@ overflow_cast-result-2 c =
 pub returns : goal.returns
 returns c =
     let f : SFits w64 c.args.n = search rules in
-    record { fact_1 = ap nat_abs (h.plain f).same; fact_2 = rw (h.plain f).same (abs-most _ f) }
+    record { value = ap nat_abs (h.plain f).same; bounded = rw (h.plain f).same (abs-most _ f) }

@@ -14,15 +14,15 @@ put_decimal-requires c =
       writes-size c.put_sign-first.ensures,
       sign-length c.args.cents.0,
       number_digits
-          c.magnitude-n.result c.magnitude-n.ensures.fact_2,
+          c.magnitude-n.result c.magnitude-n.ensures.bounded,
     )
 
 pub returns-then-is_number : goal.returns-then-is_number
 returns-then-is_number c =
     (
-      rw (figure-number _ _ (sym c.is_number.ensures ∙ c.if-is_number.true), ← c.magnitude-n.ensures.fact_1)
+      rw (figure-number _ _ (sym c.is_number.ensures ∙ c.if-is_number.true), ← c.magnitude-n.ensures.value)
           (writes_then c.put_sign-first.ensures c.put_decimal.ensures),
-      omega (arith, c.magnitude-n.ensures.fact_1, c.magnitude-n.ensures.fact_2),
+      omega (arith, c.magnitude-n.ensures.value, c.magnitude-n.ensures.bounded),
     )
 
 pub put_decimal-point-requires : goal.put_decimal-point-requires
@@ -34,7 +34,7 @@ put_decimal-point-requires c =
       writes-size c.put_sign-first.ensures,
       sign-length c.args.cents.0,
       dollar-digits
-          c.magnitude-n.result c.magnitude-n.ensures.fact_2,
+          c.magnitude-n.result c.magnitude-n.ensures.bounded,
     )
 
 pub put_byte-decimals-requires : goal.put_byte-decimals-requires
@@ -48,7 +48,7 @@ put_byte-decimals-requires c =
       writes-size
           c.put_decimal-point.ensures,
       sign-length c.args.cents.0,
-      dollar-digits c.magnitude-n.result c.magnitude-n.ensures.fact_2,
+      dollar-digits c.magnitude-n.result c.magnitude-n.ensures.bounded,
     )
 
 pub put_two-requires : goal.put_two-requires
@@ -64,13 +64,13 @@ put_two-requires c =
       c.put_byte-decimals.ensures.behind,
       writes-size c.put_byte-decimals.ensures,
       sign-length c.args.cents.0,
-      dollar-digits c.magnitude-n.result c.magnitude-n.ensures.fact_2,
+      dollar-digits c.magnitude-n.result c.magnitude-n.ensures.bounded,
     )
 
 pub returns : goal.returns
 returns c =
     (
-      rw (figure-dollars _ _ (sym c.is_number.ensures ∙ c.if-is_number.false), ← c.magnitude-n.ensures.fact_1)
+      rw (figure-dollars _ _ (sym c.is_number.ensures ∙ c.if-is_number.false), ← c.magnitude-n.ensures.value)
           (writes_then (writes_then (writes_then c.put_sign-first.ensures c.put_decimal-point.ensures) c.put_byte-decimals.ensures) c.put_two.ensures),
-      omega (arith, c.magnitude-n.ensures.fact_1, c.magnitude-n.ensures.fact_2),
+      omega (arith, c.magnitude-n.ensures.value, c.magnitude-n.ensures.bounded),
     )

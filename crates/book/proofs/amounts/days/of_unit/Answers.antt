@@ -27,7 +27,7 @@ returns-then-not-payable c =
 
 pub parts_of-d-requires : goal.parts_of-d-requires
 parts_of-d-requires c =
-    in-day (begun c.requires.fact_1.logged) c.args.key c.day_in-units.result (c.day_in-units.ensures c.requires.fact_1.list c.requires.fact_1.logged)
+    in-day (begun c.requires.log_rows.logged) c.args.key c.day_in-units.result (c.day_in-units.ensures c.requires.log_rows.list c.requires.log_rows.logged)
 
 pub returns : goal.returns
 returns c =

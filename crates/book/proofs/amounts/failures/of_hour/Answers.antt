@@ -8,7 +8,7 @@ use Rattle.book.proofs.amounts.Handed.{with-charges}
 use Rattle.book.proofs.amounts.failures.of_hour.Goals as goal
 
 pub gather_rows-failures-requires : goal.gather_rows-failures-requires
-gather_rows-failures-requires c = record { fact_1 = c.requires.fact_1; fact_2 = key-low c.key_of.ensures c.requires.fact_2 }
+gather_rows-failures-requires c = record { log_rows = c.requires.log_rows; hour_in = key-low c.key_of.ensures c.requires.hour_in }
 
 pub returns-then-failures-eq0 : goal.returns-then-failures-eq0
 returns-then-failures-eq0 c = let la : length c.gather_rows-failures.result.at ≡ 16 = search
@@ -23,7 +23,7 @@ pub charges_at-ticks-requires : goal.charges_at-ticks-requires
 charges_at-ticks-requires c = let la : length
     c.gather_rows-failures.result.at ≡ 16 = search (rules, unmapped) in passed-inside
     (passed c.key_of.ensures c.gather_rows-failures.ensures la)
-    c.requires.fact_1
+    c.requires.log_rows
 
 pub returns-then-price : goal.returns-then-price
 returns-then-price c = let la : length

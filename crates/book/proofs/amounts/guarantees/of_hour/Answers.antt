@@ -7,7 +7,7 @@ use Rattle.book.proofs.amounts.guarantees.Lemmas.{hour-none, hour-unpriced, hour
 use Rattle.book.proofs.amounts.guarantees.of_hour.Goals as goal
 
 pub gather_rows-imports-requires : goal.gather_rows-imports-requires
-gather_rows-imports-requires c = record { fact_1 = c.requires.fact_1; fact_2 = key-low c.key_of.ensures c.requires.fact_2 }
+gather_rows-imports-requires c = record { log_rows = c.requires.log_rows; hour_in = key-low c.key_of.ensures c.requires.hour_in }
 
 pub returns-then-imports-eq0 : goal.returns-then-imports-eq0
 returns-then-imports-eq0 c = let la : length c.gather_rows-imports.result.at ≡ 16 = search
@@ -19,7 +19,7 @@ returns-then-imports-eq0 c = let la : length c.gather_rows-imports.result.at ≡
     )
 
 pub gather_rows-exports-requires : goal.gather_rows-exports-requires
-gather_rows-exports-requires c = record { fact_1 = c.requires.fact_1; fact_2 = key-low c.key_of-then-price.ensures c.requires.fact_2 }
+gather_rows-exports-requires c = record { log_rows = c.requires.log_rows; hour_in = key-low c.key_of-then-price.ensures c.requires.hour_in }
 
 pub worked-requires : goal.worked-requires
 worked-requires c = c.gather_rows-imports.ensures.1

@@ -14,7 +14,7 @@ slice_bounds-day_named-end c =
 pub returns-then-h : goal.returns-then-h
 returns-then-h c =
     λ l g. c.day_named.ensures c.args.key
-    (named-so c.args.key c.requires.fact_2.padded c.key_order.ensures c.name_head-h.ensures c.if-h.true) l g
+    (named-so c.args.key c.requires.wellformed.padded c.key_order.ensures c.name_head-h.ensures c.if-h.true) l g
 
 pub returns : goal.returns
-returns c = λ l g. day-none c.args.key c.requires.fact_2.padded c.name_head-h.ensures c.if-h.false l g
+returns c = λ l g. day-none c.args.key c.requires.wellformed.padded c.name_head-h.ensures c.if-h.false l g

@@ -13,19 +13,19 @@ loop-i-init c = let z : length c.no_spots-p.result.at ≡ 16 = search (rules, un
     c.no_spots-p.ensures
 
 pub offset_bounds-rows-i : goal.offset_bounds-rows-i
-offset_bounds-rows-i c = omega (arith, gathered-few c.loop-i.invariant c.loop-i-test.true c.requires.fact_1)
+offset_bounds-rows-i c = omega (arith, gathered-few c.loop-i.invariant c.loop-i-test.true c.requires.log_rows)
 
 pub bounds-rows-i : goal.bounds-rows-i
-bounds-rows-i c = gathered-few c.loop-i.invariant c.loop-i-test.true c.requires.fact_1
+bounds-rows-i c = gathered-few c.loop-i.invariant c.loop-i-test.true c.requires.log_rows
 
 pub with_row-p-requires : goal.with_row-p-requires
 with_row-p-requires c =
-    gathered-room c.loop-i.invariant c.loop-i-test.true c.requires.fact_1 c.args.key c.hour_slot-slot.ensures.0 c.requires.fact_2
+    gathered-room c.loop-i.invariant c.loop-i-test.true c.requires.log_rows c.args.key c.hour_slot-slot.ensures.0 c.requires.hour_in
     (sym c.stands_in.ensures ∙ c.if-stands_in.true)
 
 pub overflow_add-i : goal.overflow_add-i
 overflow_add-i c =
-    omega (arith, gathered-few c.loop-i.invariant c.loop-i-test.true c.requires.fact_1)
+    omega (arith, gathered-few c.loop-i.invariant c.loop-i-test.true c.requires.log_rows)
 
 pub loop-i-smaller : goal.loop-i-smaller
 loop-i-smaller c = omega (arith, c.loop-i-test.true)
@@ -42,4 +42,4 @@ loop-i-preserved c =
 
 pub returns : goal.returns
 returns c =
-    (gathered-end c.loop-i.invariant c.loop-i-test.false c.args.key c.hour_slot-slot.ensures.0 c.requires.fact_2, c.loop-i.invariant.few)
+    (gathered-end c.loop-i.invariant c.loop-i-test.false c.args.key c.hour_slot-slot.ensures.0 c.requires.hour_in, c.loop-i.invariant.few)

@@ -13,7 +13,7 @@ pub bounds-table-j : goal.bounds-table-j
 bounds-table-j c = search (rules, unmapped)
 
 pub hour_of-x-requires : goal.hour_of-x-requires
-hour_of-x-requires c = record { fact_1 = c.requires; fact_2 = omega (arith, c.loop-i-test.true) }
+hour_of-x-requires c = record { log_rows = c.requires; hour_in = omega (arith, c.loop-i-test.true) }
 
 pub bounds-hours-j : goal.bounds-hours-j
 bounds-hours-j c = omega (arith, c.loop-i.invariant.long, c.loop-i-test.true)

@@ -12,7 +12,7 @@ returns-then-p-ne0 c =
 pub checked_change-requires : goal.checked_change-requires
 checked_change-requires c =
     let h = checked-from c.args.self c.args.log.now c.check_rows.ensures c.if-check_rows.true in
-    record { fact_1 = h; fact_2 = since-all h _; fact_3 = any-taken c.args.rec.now c.parse_any-p.result c.parse_any-p.ensures c.if-p-ne0.false }
+    record { checked = h; since = since-all h _; entry_of_view = any-taken c.args.rec.now c.parse_any-p.result c.parse_any-p.ensures c.if-p-ne0.false }
 
 pub returns-then-check_rows : goal.returns-then-check_rows
 returns-then-check_rows c = c.checked_change.ensures.leaves

@@ -13,7 +13,7 @@ bounds-rows-n c =
     last-few c.requires c.if-self.false c.if-self-eq0.false
 
 pub restore-requires : goal.restore-requires
-restore-requires c = record { fact_1 = checked-log c.requires; fact_2 = above c.requires c.if-self.false c.if-self-eq0.false; fact_3 = c.requires.size }
+restore-requires c = record { log_rows = checked-log c.requires; some_row = above c.requires c.if-self.false c.if-self-eq0.false; rows_whole = c.requires.size }
 
 pub returns : goal.returns
 returns c =

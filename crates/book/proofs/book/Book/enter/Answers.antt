@@ -12,7 +12,7 @@ returns-then-p-ne0 c =
 pub checked_enter-requires : goal.checked_enter-requires
 checked_enter-requires c =
     let h = checked-from c.args.self c.args.log.now c.check_rows.ensures c.if-check_rows.true in
-    record { fact_1 = h; fact_2 = since-all h _; fact_3 = record {
+    record { checked = h; since = since-all h _; viewed = record {
           want = _;
           change = parse-taken c.args.want c.args.rec.now c.parse_change-p.result c.parse_change-p.ensures c.if-p-ne0.false;
         } }

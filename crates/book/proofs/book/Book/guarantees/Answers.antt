@@ -19,12 +19,12 @@ returns-then-q-ne0 c =
     )
 
 pub price_in-price-requires : goal.price_in-price-requires
-price_in-price-requires c = record { fact_1 = rowed-log c.args.self c.args.log.now c.check_rows.ensures
-          (is-rowed c.args.self c.args.log.now c.check_rows.ensures c.if-check_rows.true); fact_2 = hour-low _ c.args.hour c.hour_key-q.result c.hour_key-q.ensures c.if-q-ne0.false }
+price_in-price-requires c = record { log_rows = rowed-log c.args.self c.args.log.now c.check_rows.ensures
+          (is-rowed c.args.self c.args.log.now c.check_rows.ensures c.if-check_rows.true); hour_in = hour-low _ c.args.hour c.hour_key-q.result c.hour_key-q.ensures c.if-q-ne0.false }
 
 pub of_hour-requires : goal.of_hour-requires
-of_hour-requires c = record { fact_1 = rowed-log c.args.self c.args.log.now c.check_rows.ensures
-          (is-rowed c.args.self c.args.log.now c.check_rows.ensures c.if-check_rows.true); fact_2 = hour-low _ c.args.hour c.hour_key-q.result c.hour_key-q.ensures c.if-q-ne0.false }
+of_hour-requires c = record { log_rows = rowed-log c.args.self c.args.log.now c.check_rows.ensures
+          (is-rowed c.args.self c.args.log.now c.check_rows.ensures c.if-check_rows.true); hour_in = hour-low _ c.args.hour c.hour_key-q.result c.hour_key-q.ensures c.if-q-ne0.false }
 
 pub returns-then-check_rows : goal.returns-then-check_rows
 returns-then-check_rows c =

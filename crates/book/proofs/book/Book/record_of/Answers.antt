@@ -11,8 +11,8 @@ returns-then-q-ne0 c =
     c.ask_key-q.ensures c.if-q-ne0.true
 
 pub find_in-s-requires : goal.find_in-s-requires
-find_in-s-requires c = record { fact_1 = rowed-log c.args.self c.args.log.now c.check_rows.ensures
-          (is-rowed c.args.self c.args.log.now c.check_rows.ensures c.if-check_rows.true); fact_2 = omega arith }
+find_in-s-requires c = record { log_rows = rowed-log c.args.self c.args.log.now c.check_rows.ensures
+          (is-rowed c.args.self c.args.log.now c.check_rows.ensures c.if-check_rows.true); from_in = omega arith }
 
 pub written_len-requires : goal.written_len-requires
 written_len-requires c =

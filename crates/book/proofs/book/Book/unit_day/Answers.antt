@@ -20,8 +20,8 @@ price_table-table-requires c =
     (is-rowed c.args.self c.args.log.now c.check_rows.ensures c.if-check_rows.true)
 
 pub of_unit-requires : goal.of_unit-requires
-of_unit-requires c = record { fact_1 = rowed-log c.args.self c.args.log.now c.check_rows.ensures
-          (is-rowed c.args.self c.args.log.now c.check_rows.ensures c.if-check_rows.true); fact_2 = unit-formed c.args.name.now
+of_unit-requires c = record { log_rows = rowed-log c.args.self c.args.log.now c.check_rows.ensures
+          (is-rowed c.args.self c.args.log.now c.check_rows.ensures c.if-check_rows.true); wellformed = unit-formed c.args.name.now
           c.unit_key-q.result c.unit_key-q.ensures }
 
 pub returns-then-check_rows : goal.returns-then-check_rows

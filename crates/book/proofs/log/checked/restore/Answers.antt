@@ -6,22 +6,22 @@ use Rattle.book.proofs.log.checked.Restoring.{restored, back-rows, undoing, newe
 use Rattle.book.proofs.log.checked.restore.Goals as goal
 
 pub offset_bounds-rows-n : goal.offset_bounds-rows-n
-offset_bounds-rows-n c = omega (arith, newest-few c.requires.fact_1 c.requires.fact_2)
+offset_bounds-rows-n c = omega (arith, newest-few c.requires.log_rows c.requires.some_row)
 
 pub bounds-rows-n : goal.bounds-rows-n
-bounds-rows-n c = newest-few c.requires.fact_1 c.requires.fact_2
+bounds-rows-n c = newest-few c.requires.log_rows c.requires.some_row
 
 pub returns-then-is_filing : goal.returns-then-is_filing
 returns-then-is_filing c =
-    ((λ d l g. back-rows g c.kind_in.ensures (sym c.is_filing.ensures ∙ c.if-is_filing.true)), c.requires.fact_3)
+    ((λ d l g. back-rows g c.kind_in.ensures (sym c.is_filing.ensures ∙ c.if-is_filing.true)), c.requires.rows_whole)
 
 pub slice_bounds-head_key-count : goal.slice_bounds-head_key-count
 slice_bounds-head_key-count c =
-    newest-within c.requires.fact_1 c.requires.fact_2 c.start_in-start.ensures.0
+    newest-within c.requires.log_rows c.requires.some_row c.start_in-start.ensures.0
 
 pub slice_bounds-head_key-start : goal.slice_bounds-head_key-start
 slice_bounds-head_key-start c =
-    omega (arith, newest-within c.requires.fact_1 c.requires.fact_2 c.start_in-start.ensures.0)
+    omega (arith, newest-within c.requires.log_rows c.requires.some_row c.start_in-start.ensures.0)
 
 pub slice_bounds-bytes-end : goal.slice_bounds-bytes-end
 slice_bounds-bytes-end c = c.name_head-h.ensures.few
@@ -34,14 +34,14 @@ pub offset_bounds-rows-at : goal.offset_bounds-rows-at
 offset_bounds-rows-at c =
     omega (
       arith,
-      wrote-few c.requires.fact_1 c.requires.fact_2 (λ d l g. c.written_before-at.ensures d l (undoing g c.kind_in.ensures
+      wrote-few c.requires.log_rows c.requires.some_row (λ d l g. c.written_before-at.ensures d l (undoing g c.kind_in.ensures
           (sym c.is_filing.ensures ∙ c.if-is_filing.false) c.start_in-start.ensures.0 c.head_key-a.ensures c.hour_slot-slot.ensures.0
           c.name_head-h.ensures)),
     )
 
 pub bounds-rows-at : goal.bounds-rows-at
 bounds-rows-at c =
-    wrote-few c.requires.fact_1 c.requires.fact_2 (λ d l g. c.written_before-at.ensures d l (undoing g c.kind_in.ensures
+    wrote-few c.requires.log_rows c.requires.some_row (λ d l g. c.written_before-at.ensures d l (undoing g c.kind_in.ensures
     (sym c.is_filing.ensures ∙ c.if-is_filing.false) c.start_in-start.ensures.0 c.head_key-a.ensures c.hour_slot-slot.ensures.0
     c.name_head-h.ensures))
 
@@ -49,19 +49,19 @@ pub offset_bounds-rows-at-2 : goal.offset_bounds-rows-at-2
 offset_bounds-rows-at-2 c =
     omega (
       arith,
-      wrote-few c.requires.fact_1 c.requires.fact_2 (λ d l g. c.written_before-at.ensures d l (undoing g c.kind_in.ensures
+      wrote-few c.requires.log_rows c.requires.some_row (λ d l g. c.written_before-at.ensures d l (undoing g c.kind_in.ensures
           (sym c.is_filing.ensures ∙ c.if-is_filing.false) c.start_in-start.ensures.0 c.head_key-a.ensures c.hour_slot-slot.ensures.0
           c.name_head-h.ensures)),
     )
 
 pub bounds-rows-at-2 : goal.bounds-rows-at-2
 bounds-rows-at-2 c =
-    wrote-few c.requires.fact_1 c.requires.fact_2 (λ d l g. c.written_before-at.ensures d l (undoing g c.kind_in.ensures
+    wrote-few c.requires.log_rows c.requires.some_row (λ d l g. c.written_before-at.ensures d l (undoing g c.kind_in.ensures
     (sym c.is_filing.ensures ∙ c.if-is_filing.false) c.start_in-start.ensures.0 c.head_key-a.ensures c.hour_slot-slot.ensures.0
     c.name_head-h.ensures))
 
 pub returns : goal.returns
 returns c =
-    restored c.requires.fact_3 c.written_before-at.result (λ d l g. c.written_before-at.ensures d l (undoing g c.kind_in.ensures
+    restored c.requires.rows_whole c.written_before-at.result (λ d l g. c.written_before-at.ensures d l (undoing g c.kind_in.ensures
     (sym c.is_filing.ensures ∙ c.if-is_filing.false) c.start_in-start.ensures.0 c.head_key-a.ensures c.hour_slot-slot.ensures.0
     c.name_head-h.ensures))

@@ -7,30 +7,30 @@ use Rattle.book.proofs.log.checked.Restoring.{Backward, backward-start, backward
 use Rattle.book.proofs.log.checked.written_before.Goals as goal
 
 pub overflow_sub-i : goal.overflow_sub-i
-overflow_sub-i c = omega (arith, c.requires.fact_2)
+overflow_sub-i c = omega (arith, c.requires.some_row)
 
 pub loop-i-init : goal.loop-i-init
-loop-i-init c = backward-start c.requires.fact_2
+loop-i-init c = backward-start c.requires.some_row
 
 pub offset_bounds-rows-j : goal.offset_bounds-rows-j
 offset_bounds-rows-j c =
-    omega (arith, ruled-few c.requires.fact_1.logged.ruled (back_inside c.loop-i.invariant c.loop-i-test.true _ refl))
+    omega (arith, ruled-few c.requires.log_rows.logged.ruled (back_inside c.loop-i.invariant c.loop-i-test.true _ refl))
 
 pub bounds-rows-j : goal.bounds-rows-j
 bounds-rows-j c =
-    ruled-few c.requires.fact_1.logged.ruled (back_inside c.loop-i.invariant c.loop-i-test.true _ refl)
+    ruled-few c.requires.log_rows.logged.ruled (back_inside c.loop-i.invariant c.loop-i-test.true _ refl)
 
 pub slice_bounds-starts-count : goal.slice_bounds-starts-count
 slice_bounds-starts-count c =
     back-within c.loop-i.invariant c.loop-i-test.true _ refl (sym c.wrote_in.ensures ∙ c.if-wrote_in.true) _ c.place_in-at.ensures.0
-    c.requires.fact_1
+    c.requires.log_rows
 
 pub slice_bounds-starts-start : goal.slice_bounds-starts-start
 slice_bounds-starts-start c =
     omega (
       arith,
       back-within c.loop-i.invariant c.loop-i-test.true _ refl (sym c.wrote_in.ensures ∙ c.if-wrote_in.true) _
-          c.place_in-at.ensures.0 c.requires.fact_1,
+          c.place_in-at.ensures.0 c.requires.log_rows,
     )
 
 pub returns-then-starts : goal.returns-then-starts

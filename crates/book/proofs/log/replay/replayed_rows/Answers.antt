@@ -35,7 +35,7 @@ overflow_cast-near c =
     omega (arith, (head_near c.loop-i.invariant c.bucket_of-bucket.result), c.loop-i.invariant.few)
 
 pub find_in-s-requires : goal.find_in-s-requires
-find_in-s-requires c = record { fact_1 = head-log c.loop-i.invariant; fact_2 = (head_near c.loop-i.invariant c.bucket_of-bucket.result) }
+find_in-s-requires c = record { log_rows = head-log c.loop-i.invariant; from_in = (head_near c.loop-i.invariant c.bucket_of-bucket.result) }
 
 pub offset_bounds-counts-hour : goal.offset_bounds-counts-hour
 offset_bounds-counts-hour c = omega (arith, c.hour_slot-hour.ensures.1)

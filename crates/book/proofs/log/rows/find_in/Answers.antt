@@ -9,7 +9,7 @@ use Rattle.book.proofs.log.rows.find_in.Goals as goal
 pub returns-then-from-eq0 : goal.returns-then-from-eq0
 returns-then-from-eq0 c =
     λ l g hk hp few. subst⁻¹ (λ (r : Seek). Sought c.args.rows.now c.args.n c.args.key r l) c.not_found.ensures
-    (seeking-none c.requires.fact_2 c.if-from-eq0.true c.args.key l g hk hp few)
+    (seeking-none c.requires.from_in c.if-from-eq0.true c.args.key l g hk hp few)
 
 pub slice_bounds-bytes-end : goal.slice_bounds-bytes-end
 slice_bounds-bytes-end c = c.name_head-h.ensures.few
@@ -19,7 +19,7 @@ slice_bounds-find_named-end c =
     sym (length-take-le c.name_head-h.result.len c.name_head-h.result.bytes c.name_head-h.ensures.few)
 
 pub find_named-requires : goal.find_named-requires
-find_named-requires c = record { fact_1 = c.requires.fact_1; fact_2 = c.requires.fact_2 }
+find_named-requires c = record { log_rows = c.requires.log_rows; from_in = c.requires.from_in }
 
 pub returns-then-h : goal.returns-then-h
 returns-then-h c =

@@ -8,27 +8,27 @@ use Rattle.book.proofs.log.rows.Lemmas.{Seeking, seeking-start, seeking-end, see
 use Rattle.book.proofs.log.rows.find_named.Goals as goal
 
 pub loop-i-init : goal.loop-i-init
-loop-i-init c = seeking-start _ _ _ _ _ _ c.requires.fact_2
+loop-i-init c = seeking-start _ _ _ _ _ _ c.requires.from_in
 
 pub offset_bounds-rows-j : goal.offset_bounds-rows-j
 offset_bounds-rows-j c =
-    omega (arith, ruled-few c.requires.fact_1.logged.ruled (turn_inside c.loop-i.invariant c.loop-i-test.true _ refl))
+    omega (arith, ruled-few c.requires.log_rows.logged.ruled (turn_inside c.loop-i.invariant c.loop-i-test.true _ refl))
 
 pub bounds-rows-j : goal.bounds-rows-j
 bounds-rows-j c =
-    ruled-few c.requires.fact_1.logged.ruled (turn_inside c.loop-i.invariant c.loop-i-test.true _ refl)
+    ruled-few c.requires.log_rows.logged.ruled (turn_inside c.loop-i.invariant c.loop-i-test.true _ refl)
 
 pub slice_bounds-starts-count : goal.slice_bounds-starts-count
 slice_bounds-starts-count c =
     seeking-within c.loop-i.invariant c.loop-i-test.true _ refl (sym c.stands_in.ensures ∙ c.if-stands_in.true) _ c.place_in-start.ensures.0
-    c.requires.fact_1
+    c.requires.log_rows
 
 pub slice_bounds-starts-start : goal.slice_bounds-starts-start
 slice_bounds-starts-start c =
     omega (
       arith,
       seeking-within c.loop-i.invariant c.loop-i-test.true _ refl (sym c.stands_in.ensures ∙ c.if-stands_in.true) _
-          c.place_in-start.ensures.0 c.requires.fact_1,
+          c.place_in-start.ensures.0 c.requires.log_rows,
     )
 
 pub returns-then-starts : goal.returns-then-starts

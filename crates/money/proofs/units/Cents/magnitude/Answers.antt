@@ -9,4 +9,4 @@ use Rattle.money.proofs.units.Cents.magnitude.Goals as goal
 pub returns : goal.returns
 returns c =
     let f : SFits w64 c.args.self.0 = search rules in
-    record { fact_1 = c.magnitude.ensures.fact_1 ∙ ap nat_abs (h.plain f).same; fact_2 = c.magnitude.ensures.fact_2 }
+    record { value = c.magnitude.ensures.value ∙ ap nat_abs (h.plain f).same; bounded = c.magnitude.ensures.bounded }

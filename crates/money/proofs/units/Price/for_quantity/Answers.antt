@@ -12,4 +12,4 @@ overflow_mul-result c = fits (i32 c.args.self.0 200000 ⊗ u32 c.args.q.0 100000
 pub returns : goal.returns
 returns c =
     let e = i32 c.args.self.0 200000 ⊗ u32 c.args.q.0 100000 in
-    record { fact_1 = same e (omega arith); fact_2 = size e (omega arith) }
+    record { value = same e (omega arith); bounded = size e (omega arith) }
