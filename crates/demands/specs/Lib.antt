@@ -3,4 +3,3 @@ pub mod Checks
 pub mod Formulas
 pub mod Script
 pub mod Beside
-pub mod laws

@@ -1,4 +1,3 @@
 pub mod Output
 pub mod Reading
 pub mod Program
-pub mod laws

@@ -1,3 +1,4 @@
 pub mod Bits
 pub mod Call
 pub mod OffsetOfHour
+pub mod laws

@@ -11,7 +11,7 @@ use Rattle.money.specs.declared.units.Answer.TheVariants.{Refused}
 use Rattle.records.specs.Reading.{Res, bad, got}
 use Rattle.records.specs.Changes.{Rec, Change, filed, key_of, Input, fine, parse}
 use Rattle.records.specs.HourRecord.{hour_record, hour_front_of}
-use Rattle.records.specs.laws.BookLaws.{OfHour, hour-record-got, hour-record-fault, good-hour}
+use Rattle.records.proofs.laws.BookLaws.{OfHour, hour-record-got, hour-record-fault, good-hour}
 use Rattle.records.specs.declared.keys.Key.{Key}
 use Rattle.records.specs.declared.hour_records.HourFront.{HourFront}
 use Rattle.records.specs.declared.marks.Kind.TheVariants.{File}
@@ -19,10 +19,10 @@ use Rattle.records.specs.declared.marks.Wanted.TheVariants.{Only}
 use Rattle.book.specs.Register.{max_used, Reg, file, called, listed, judged, refusal, write_all}
 use Rattle.book.specs.laws.CallLaws.{called-long}
 use Rattle.hour_offset.specs.HourOffset.{record_on, recorded, offset_after, hour_offset, answer_of}
-use Rattle.hour_offset.specs.laws.HourOffsetLaws.{at_none, first_then}
+use Rattle.hour_offset.proofs.laws.HourOffsetLaws.{at_none, first_then}
 use Rattle.hour_offset.specs.tables.Tally.{Sheet, no_sheet, sheet_of, Few, add_fault, adding, end_of}
-use Rattle.hour_offset.specs.laws.TallyLaws.{Stood, Booked, booked-none, booked-few, rebased, added_is, stepped}
-use Rattle.hour_offset.specs.laws.EndLaws.{ended}
+use Rattle.hour_offset.proofs.laws.TallyLaws.{Stood, Booked, booked-none, booked-few, rebased, added_is, stepped}
+use Rattle.hour_offset.proofs.laws.EndLaws.{ended}
 use Rattle.hour_offset.specs.declared.tally.Tally.{Tally}
 use Rattle.hour_offset.specs.declared.tally.Tallied.{Tallied}
 use Rattle.hour_offset.proofs.tally.Lemmas.{Adds}

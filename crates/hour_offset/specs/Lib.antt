@@ -1,3 +1,2 @@
 pub mod HourOffset
 pub mod tables
-pub mod laws

@@ -7,4 +7,3 @@ pub mod Offset
 pub mod Production
 pub mod Failure
 pub mod tables
-pub mod laws

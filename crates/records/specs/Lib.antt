@@ -10,4 +10,3 @@ pub mod HourRecord
 pub mod Views
 pub mod Amounts
 pub mod tables
-pub mod laws

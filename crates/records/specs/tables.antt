@@ -1,3 +1,4 @@
 pub mod Heads
 pub mod Viewed
 pub mod Inner
+pub mod Formed

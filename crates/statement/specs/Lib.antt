@@ -5,4 +5,3 @@ pub mod Statement
 pub mod Pages
 pub mod Refusal
 pub mod tables
-pub mod laws

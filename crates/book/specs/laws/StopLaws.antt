@@ -4,7 +4,7 @@ use Rattle.std.proofs.Common.{sym, ap, ◌∙◌, subst, arith, length-drop, dro
 use Rattle.std.proofs.Math.Path.{subst⁻¹}
 use Rattle.records.specs.Reading.{Res, bad, got}
 use Rattle.records.specs.Changes.{Entry, entry}
-use Rattle.records.specs.laws.BookLaws.{entry-early, unread-early, whole-early}
+use Rattle.records.proofs.laws.BookLaws.{entry-early, unread-early, whole-early}
 use Rattle.book.specs.Register.{Reg, change, Reply, Step, answered, becomes, called}
 use Rattle.book.specs.Replies.{replied}
 use Rattle.book.specs.laws.EarlyLaws.{early}

@@ -2,7 +2,7 @@
 use Rattle.std.specs.Prelude.{ℕ, ◌+◌, ◌<◌, ◌≡◌, true, cond, ◌&&◌, List, length, drop, get_or, ltb}
 use Rattle.money.specs.Units.{day_hours}
 use Rattle.book.specs.Layer.{prices_in}
-use Rattle.book.specs.laws.LayerLaws.{PricesFit}
+use Rattle.book.specs.tables.LayerTables.{PricesFit}
 use Rattle.book.specs.declared.amounts.prices.HourPrice.{HourPrice}
 use Rattle.book.specs.declared.amounts.prices.PriceTable.{PriceTable}
 use Rattle.book.specs.Amounts.{HourPricing, priced, unpriced}

@@ -2,7 +2,7 @@
 use Rattle.std.specs.Prelude.{ℕ, ◌+◌, ◌*◌, ◌/◌, ◌%◌, ◌-◌, ◌≤◌, ◌<◌, ◌≡◌, List, [], ◌∷◌, Bool, true, cond, length, take, drop, get_or, set, leb, eqb}
 use Rattle.book.specs.Layer.{Kind, File, Correct, Withdraw, Key, Change, key_of, kind_of, key_answer, same}
 use Rattle.book.specs.tables.LayerTables.{head_key, nameable, name_head}
-use Rattle.book.specs.laws.LayerLaws.{Padded}
+use Rattle.book.specs.tables.LayerTables.{Padded}
 use Rattle.book.specs.Register.{write_all, max_changes}
 use Rattle.book.specs.Meaning.{Load, belongs, Valid}
 use Rattle.book.specs.tables.Tables.{survey, together}

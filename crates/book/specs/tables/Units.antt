@@ -1,7 +1,7 @@
 -- What the code's list of names holds.
 use Rattle.std.specs.Prelude.{ℕ, ◌≤◌, ◌<◌, get_or}
 use Rattle.book.specs.Layer.{Name}
-use Rattle.book.specs.laws.LayerLaws.{Padded}
+use Rattle.book.specs.tables.LayerTables.{Padded}
 use Rattle.book.specs.declared.amounts.units.Units.{Units}
 use Rattle.book.specs.Register.{max_changes}
 

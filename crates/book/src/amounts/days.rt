@@ -3,7 +3,7 @@ ghost use Rattle.std.specs.Prelude.{◌≡◌, true, not, List, length, ℕ, ◌
 ghost use Rattle.money.specs.Units.{day_hours};
 ghost use Rattle.laws.specs.Sums.{every};
 ghost use Rattle.book.specs.Layer.{Change, Gh};
-ghost use Rattle.book.specs.laws.LayerLaws.{Wellformed};
+ghost use Rattle.book.specs.tables.LayerTables.{Wellformed};
 ghost use Rattle.book.specs.Register.{standing, ask, day_of, refused};
 ghost use Rattle.book.specs.Meaning.{Meets, day_reply};
 ghost use Rattle.book.specs.Amounts.{HourPricing, unit_day_of};

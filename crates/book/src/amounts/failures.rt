@@ -1,7 +1,7 @@
 // Failure charges.
 ghost use Rattle.std.specs.Prelude.{◌≡◌, true, List, [], take, ℕ, ◌≤◌, ◌<◌};
 ghost use Rattle.book.specs.Layer.{Change, is_failure};
-ghost use Rattle.book.specs.laws.LayerLaws.{Wellformed};
+ghost use Rattle.book.specs.tables.LayerTables.{Wellformed};
 ghost use Rattle.book.specs.Register.{standing, ask, failure_charge};
 ghost use Rattle.book.specs.Meaning.{Meets, reply_of, load, charges_reply, hour_charges};
 ghost use Rattle.book.specs.Amounts.{HourPricing, hour_key, charge_of, charges_of};

@@ -1,7 +1,7 @@
 // Where the records of a mark and name are written, in each hour of the day.
 ghost use Rattle.std.specs.Prelude.{◌≡◌, true, ◌&&◌, List, eqb, length, ◌≤◌, ◌+◌, ◌/◌};
 ghost use Rattle.book.specs.Layer.{Change};
-ghost use Rattle.book.specs.laws.LayerLaws.{Wellformed};
+ghost use Rattle.book.specs.tables.LayerTables.{Wellformed};
 ghost use Rattle.book.specs.tables.Rows.{row_live, row_slot, row_place, Log, Logged};
 ghost use Rattle.book.specs.tables.Hours.{mark_hour, name_hour, Written, DayIs};
 ghost use Rattle.book.specs.tables.Index.{mark_slots};

@@ -1,7 +1,7 @@
 // The rows of a checked book: one number for each change, lent and never copied.
 ghost use Rattle.std.specs.Prelude.{◌≡◌, true, false, cond, not, ◌&&◌, List, eqb, length, drop, ◌<◌, ◌≤◌, ◌+◌, ◌%◌, ◌/◌};
 ghost use Rattle.book.specs.Layer.{Key, Change, is_withdrawal, kind_in, scan, view_of};
-ghost use Rattle.book.specs.laws.LayerLaws.{Padded};
+ghost use Rattle.book.specs.tables.LayerTables.{Padded};
 ghost use Rattle.book.specs.Register.{max_changes, standing, count};
 ghost use Rattle.book.specs.tables.Index.{slots, mark_slots, bucket, latest_of};
 ghost use Rattle.book.specs.tables.Rows.{slot_unit, row_slot, row_live, row_place, row_start, row_kind, kind_code, packed, Ruled, Rules, Logged, Log, Search, Sought, cleared};

@@ -1,5 +1,5 @@
 use borrow.Author.Rules.{rules}
-use Rattle.demands.specs.laws.BesideLaws.{charges-by-key}
+use Rattle.demands.proofs.laws.BesideLaws.{charges-by-key}
 use Rattle.demands.proofs.hour_charges.Goals as goal
 
 pub returns : goal.returns

@@ -1,6 +1,6 @@
 use borrow.Author.Tests.{eq-eqb, ne_eqb}
 use borrow.Author.Rules.{rules}
-use Rattle.demands.specs.laws.DemandLaws.{demanded}
+use Rattle.demands.proofs.laws.DemandLaws.{demanded}
 use Rattle.demands.proofs.put_question.Goals as goal
 
 pub returns-then-method-eq7 : goal.returns-then-method-eq7

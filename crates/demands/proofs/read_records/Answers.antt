@@ -1,5 +1,5 @@
 use borrow.Author.Rules.{rules}
-use Rattle.demands.specs.laws.BesideLaws.{read-as-calls}
+use Rattle.demands.proofs.laws.BesideLaws.{read-as-calls}
 use Rattle.demands.proofs.read_records.Goals as goal
 
 pub returns : goal.returns

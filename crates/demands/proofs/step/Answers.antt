@@ -1,7 +1,7 @@
 use mathlib.Core.Path.{refl}
 use borrow.Author.Tests.{lt-ltb, le-ltb, eq-eqb, ne_eqb}
 use borrow.Author.Rules.{rules}
-use Rattle.demands.specs.laws.DemandLaws.{demanded}
+use Rattle.demands.proofs.laws.DemandLaws.{demanded}
 use Rattle.demands.proofs.step.Goals as goal
 
 pub returns-then-method-lt6 : goal.returns-then-method-lt6

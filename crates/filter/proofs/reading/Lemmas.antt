@@ -19,7 +19,7 @@ use Rattle.statement.specs.Statement.{AnswersBy, Fits}
 use Rattle.statement.specs.Refusal.{refusal_line}
 use Rattle.statement.specs.declared.day.Written.{Written}
 use Rattle.filter.specs.Reading.{counted, is_over, part, at_hand, fault, waits, Reads, ReadsOn, ordinal, Prints}
-use Rattle.filter.specs.laws.MoveLaws.{part_left, take-least}
+use Rattle.filter.proofs.laws.MoveLaws.{part_left, take-least}
 use Rattle.filter.specs.declared.reading.Reading.{Reading}
 
 pub over : (r : Reading) (log input : List ℕ) (n : ℕ) → is_over r ≡ true → ReadsOn r log input n r log input

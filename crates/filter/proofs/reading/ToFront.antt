@@ -5,9 +5,9 @@ use Prim.Native.Nat.{ℕ, ◌+◌, ◌-◌, ◌≤◌, ◌<◌, min}
 use native.Mathlib.Omega.{arith}
 use lib.ListN.{length, take, drop, set, get_or}
 use lib.Seq.{take_all, get_or-take, get_or-drop, length-take-le}
-use Rattle.statement.specs.laws.PutLaws.{put, put-none, put_next, put-length}
+use Rattle.statement.proofs.laws.PutLaws.{put, put-none, put_next, put-length}
 use Rattle.filter.specs.Reading.{part}
-use Rattle.filter.specs.laws.MoveLaws.{part-least, part_none, part_length, put-behind}
+use Rattle.filter.proofs.laws.MoveLaws.{part-least, part_none, part_length, put-behind}
 
 -- the first i bytes of the part are moved
 pub record Moving (d e : List ℕ) (from stop i : ℕ) : Type 0 where

@@ -14,7 +14,7 @@ use Rattle.money.specs.declared.imports.Import.{Import}
 use Rattle.money.specs.declared.units.Answer.TheVariants.{Amount, Refused}
 use Rattle.records.specs.Views.{prices_in}
 use Rattle.records.specs.Amounts.{no_import, offset_answer}
-use Rattle.records.specs.laws.BookLaws.{answer-front}
+use Rattle.records.proofs.laws.BookLaws.{answer-front}
 use Rattle.records.specs.declared.layouts.HourPrices.{HourPrices}
 use Rattle.book.specs.tables.Places.{spots}
 use Rattle.book.specs.tables.Worked.{entries_in, totals_in}

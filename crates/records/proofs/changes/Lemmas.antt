@@ -17,7 +17,7 @@ use Rattle.records.specs.declared.marks.Mark.{Mark}
 use Rattle.records.specs.declared.marks.Kind.{Kind}
 use Rattle.records.specs.declared.marks.Kind.TheVariants.{File, Correct, Withdraw}
 use Rattle.records.specs.declared.keys.Key.{Key}
-use Rattle.records.specs.laws.ReaderLaws.{bad-got, Lawful, lawful-got, lawful-layout}
+use Rattle.records.proofs.laws.ReaderLaws.{bad-got, Lawful, lawful-got, lawful-layout}
 use Rattle.records.specs.declared.names.NameRead.{NameRead}
 use Rattle.records.specs.declared.marks.HeadRead.{HeadRead}
 use Rattle.records.specs.declared.marks.Wanted.{Wanted}

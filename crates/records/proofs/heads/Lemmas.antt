@@ -8,7 +8,7 @@ use lib.Dec.{eqb}
 use lib.ListN.{length}
 use borrow.Author.Tests.{eqb-true}
 use Rattle.money.specs.Names.{max_name, name_ok}
-use Rattle.money.specs.laws.NameLaws.{name-most}
+use Rattle.money.proofs.laws.NameLaws.{name-most}
 use Rattle.records.specs.Reading.{got, ◌>>=◌}
 use Rattle.records.specs.Numbers.{hour}
 use Rattle.records.specs.Marks.{has_name}

@@ -16,7 +16,7 @@ use Rattle.records.specs.Numbers.{between, hour}
 use Rattle.records.specs.Names.{stored_name, name_field, empty_name}
 use Rattle.records.specs.Marks.{mark_bytes, is, listing, mark_among, mark, has_name}
 use Rattle.records.specs.Changes.{Head, allowed, inside, head, nameless, name_for, bare}
-use Rattle.records.specs.laws.MarkLaws.{bytes-are}
+use Rattle.records.proofs.laws.MarkLaws.{bytes-are}
 use Rattle.records.specs.tables.Inner.{shown, then}
 use Rattle.records.specs.declared.fields.End.{End}
 use Rattle.records.proofs.fields.Step.{first, last}

@@ -13,7 +13,7 @@ use mathlib.Core.List.{append-nil}
 use Rattle.money.specs.declared.names.Name.{Name}
 use Rattle.records.specs.Reading.{Res, bad, got, ◌>>=◌, from}
 use Rattle.records.specs.Names.{one, up_to, name_from, stored_name}
-use Rattle.records.specs.laws.ReaderLaws.{bad-got}
+use Rattle.records.proofs.laws.ReaderLaws.{bad-got}
 use Rattle.records.proofs.lists.Lemmas.{Padded}
 use Rattle.records.proofs.fields.Lemmas.{before, before-before, before-none}
 

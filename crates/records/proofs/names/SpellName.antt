@@ -7,13 +7,13 @@ use native.Mathlib.Omega.{arith}
 use native.Mathlib.Nat.{not-suc-le-zero, le_of_suc-le-suc, zero-add}
 use lib.ListN.{length, drop, length-take}
 use Rattle.money.specs.Names.{name_ok}
-use Rattle.money.specs.laws.NameLaws.{name-most}
+use Rattle.money.proofs.laws.NameLaws.{name-most}
 use Rattle.money.specs.declared.names.Name.{Name}
 use Rattle.records.specs.Numbers.{pad}
 use Rattle.records.specs.Names.{spell, bytes_of, spelling_of}
 use Rattle.records.specs.tables.Inner.{Wrote}
-use Rattle.records.specs.laws.NameLaws.{spell-length, spelling-full}
-use Rattle.records.specs.laws.PutLaws.{put_whole}
+use Rattle.records.proofs.laws.NameLaws.{spell-length, spelling-full}
+use Rattle.records.proofs.laws.PutLaws.{put_whole}
 use Rattle.records.specs.declared.names.Spelling.{Spelling}
 
 pad-over : (k : ℕ) (xs : List ℕ) → length xs ≤ k → xs ++ drop (length xs) (pad 0 k []) ≡ pad 0 k xs

@@ -8,7 +8,7 @@ use lib.ListN.{length, get_or}
 use Rattle.records.specs.Reading.{Res, bad, got, ◌>>=◌, from}
 use Rattle.records.specs.Marks.{is}
 use Rattle.records.specs.Changes.{Change, Entry, changed, taking_back, closing, change, entry, take_back_bytes, close_bytes, Input, fine, fault, whole, parse, parse_any, seen, unseen, view_of, write, change_view, entry_view, entry_read, parsed_of, entry_of, front_of}
-use Rattle.records.specs.laws.ReaderLaws.{bad-got}
+use Rattle.records.proofs.laws.ReaderLaws.{bad-got}
 use Rattle.records.specs.declared.scan.View.{View}
 use Rattle.records.specs.declared.parse.Parsed.{Parsed}
 use Rattle.records.specs.declared.parse.Front.{Front}

@@ -14,14 +14,14 @@ use Rattle.money.specs.declared.names.Name.{Name}
 use Rattle.records.specs.Reading.{bad, got, ◌>>=◌, from}
 use Rattle.records.specs.Names.{spell, bytes_of}
 use Rattle.records.specs.Marks.{has_name}
-use Rattle.records.specs.laws.MarkLaws.{mark-two}
+use Rattle.records.proofs.laws.MarkLaws.{mark-two}
 use Rattle.records.specs.Changes.{change_view, put, put_number, put_bytes, Change, kind, key_of, body_of, made, lead_bytes, no_name, name_bytes, head_bytes, body_for, change, write, Input, fine, fault, whole, parse, seen, unseen, begins, written, scan, view_of, parsed_of}
 use Rattle.records.specs.tables.Inner.{Wrote, max_head, HeadIs, change_shown, Placed, Stands, ReadIs}
 use Rattle.records.specs.declared.fields.End.TheVariants.{At, No}
 use Rattle.records.proofs.writing.Putting.{wrote_one, wrote_then, wrote-length}
-use Rattle.records.specs.laws.PutLaws.{put_whole}
+use Rattle.records.proofs.laws.PutLaws.{put_whole}
 use Rattle.records.proofs.names.Lemmas.{at-end, at_next}
-use Rattle.records.specs.laws.NameLaws.{spell-length}
+use Rattle.records.proofs.laws.NameLaws.{spell-length}
 use Rattle.records.specs.declared.marks.Mark.{Mark}
 use Rattle.records.specs.declared.marks.Kind.{Kind}
 use Rattle.records.specs.declared.marks.Kind.TheVariants.{File, Correct, Withdraw}
@@ -33,8 +33,8 @@ use Rattle.records.specs.declared.scan.View.{View}
 use Rattle.records.specs.declared.parse.Parsed.{Parsed}
 use Rattle.records.specs.declared.changes.Read.{Read}
 use Rattle.records.specs.declared.writing.HeadOut.{HeadOut}
-use Rattle.records.specs.laws.ReaderLaws.{bind-got}
-use Rattle.records.specs.laws.ChangeLaws.{change-kept, head_read, body-rest, begins-append, begins-true}
+use Rattle.records.proofs.laws.ReaderLaws.{bind-got}
+use Rattle.records.proofs.laws.ChangeLaws.{change-kept, head_read, body-rest, begins-append, begins-true}
 use Rattle.records.proofs.changes.Lemmas.{body_own, length_from}
 
 -- ---- copying

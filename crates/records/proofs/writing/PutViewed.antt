@@ -11,7 +11,7 @@ use borrow.Author.Tests.{le-leb, lt-leb, leb-true}
 use Rattle.records.specs.Changes.{is_record, put}
 use Rattle.records.specs.tables.Viewed.{view_head, view_rest, is_view, view_written, viewed_number, viewed_bytes}
 use Rattle.records.specs.tables.Inner.{Wrote}
-use Rattle.records.specs.laws.ChangeLaws.{and_left, and_right}
+use Rattle.records.proofs.laws.ChangeLaws.{and_left, and_right}
 use Rattle.records.specs.declared.scan.View.{View}
 use Rattle.records.proofs.writing.Putting.{wrote_then}
 

@@ -7,9 +7,9 @@ use native.Mathlib.Nat.{add-suc, suc-add, add-zero}
 use native.Mathlib.Numerals.{towards_suc}
 use lib.ListN.{length, get_or, set, length-append}
 use lib.Seq.{sets}
-use Rattle.records.specs.laws.PutLaws.{put-length}
+use Rattle.records.proofs.laws.PutLaws.{put-length}
 use Rattle.records.specs.Marks.{mark_bytes}
-use Rattle.records.specs.laws.MarkLaws.{bytes-are}
+use Rattle.records.proofs.laws.MarkLaws.{bytes-are}
 use Rattle.records.specs.declared.marks.Mark.{Mark}
 use Rattle.records.specs.Changes.{put}
 use Rattle.records.specs.tables.Inner.{Wrote}

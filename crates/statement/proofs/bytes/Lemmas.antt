@@ -5,7 +5,7 @@ use Prim.Native.Nat.{ℕ, ◌+◌, ◌≤◌, ◌<◌}
 use native.Mathlib.Omega.{arith}
 use lib.ListN.{length, take, set, get_or, length-append, length-set}
 use lib.Seq.{take_all}
-use Rattle.statement.specs.laws.PutLaws.{put, put-none, put_one, put-more, put_next, put-length, put_front}
+use Rattle.statement.proofs.laws.PutLaws.{put, put-none, put_one, put-more, put_next, put-length, put_front}
 use Rattle.statement.specs.tables.Inner.{Writes}
 
 pub writes-size : {d e xs : List ℕ} {at r : ℕ} → Writes d at xs e r → length e ≡ length d

@@ -7,7 +7,7 @@ use lib.ListN.{length, set, get_or, get_or-replicate}
 use native.Mathlib.Numerals.{add-one}
 use Rattle.laws.specs.Text.{char}
 use Rattle.statement.specs.Pages.{blanks, blank_line, blank_lines}
-use Rattle.statement.specs.laws.PageLineLaws.{blanks-length}
+use Rattle.statement.proofs.laws.PageLineLaws.{blanks-length}
 use Rattle.statement.proofs.bytes.Lemmas.{Copied, copied_next}
 
 blank-at : (n i : ℕ) → i < n → get_or (blanks n) i 0 ≡ char " "

@@ -14,7 +14,7 @@ use Rattle.laws.specs.IntLaws.{add-within}
 use Rattle.laws.specs.SumLaws.{on}
 use Rattle.money.specs.Units.{cents_of}
 use Rattle.money.specs.tables.Numbers.{Bounded}
-use Rattle.money.specs.laws.UnitLaws.{cents-bounded}
+use Rattle.money.proofs.laws.UnitLaws.{cents-bounded}
 use Rattle.money.specs.declared.units.Cents.{Cents}
 use Rattle.money.specs.declared.names.Name.{Name}
 use Rattle.book.specs.Amounts.{charged}
@@ -23,7 +23,7 @@ use Rattle.book.specs.declared.answers.NamedAmount.{NamedAmount}
 use Rattle.statement.specs.Lines.{line_bytes, max_line, text_of}
 use Rattle.statement.specs.Total.{effect_of, towards, sum_of}
 use Rattle.statement.specs.Pages.{page_entries, line_size, page_size, page_count, entry_bytes, sum_line, page_head}
-use Rattle.statement.specs.laws.TotalLaws.{signed-size, sum-none, sum_one, sum-append}
+use Rattle.statement.proofs.laws.TotalLaws.{signed-size, sum-none, sum_one, sum-append}
 use Rattle.statement.specs.Statement.{amount_line, line_of, offset_lines, charged_lines, max_hour_lines}
 use Rattle.statement.specs.tables.Inner.{Writes, max_printed}
 use Rattle.statement.specs.tables.Cursors.{fresh_sheet, with_entry, next_sheet, laid, sheet_after, text_from, reach, Countable, Room, WritesLines, Turns, Enters}

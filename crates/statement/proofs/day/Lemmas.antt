@@ -21,7 +21,7 @@ use Rattle.statement.specs.Total.{sum_of, total_of, with_total}
 use Rattle.statement.specs.Statement.{statement_lines, statement_of, max_lines, longest_statement, Fits, AnswersBy}
 use Rattle.statement.specs.tables.Inner.{Writes, lines_of_day, PrintableDay}
 use Rattle.statement.specs.tables.Cursors.{no_sheet, top, Room, WritesLines}
-use Rattle.statement.specs.laws.StatementLaws.{day-lines, day-printable}
+use Rattle.statement.proofs.laws.StatementLaws.{day-lines, day-printable}
 use Rattle.statement.specs.declared.day.Written.{Written}
 use Rattle.statement.specs.declared.cursor.Sheet.{Sheet}
 use Rattle.statement.specs.declared.cursor.Cursor.{Cursor}

@@ -13,7 +13,7 @@ use borrow.Author.Tests.{ltb-true, ltb-false, ne_eqb}
 use Rattle.statement.specs.Total.{towards, sum_of}
 use Rattle.statement.specs.Statement.{max_lines}
 use Rattle.statement.specs.Pages.{page_entries, page_size, entry_bytes, sum_line, blank_lines, entries_bytes, page_head, page_text, page_of, page_count, pages_to, pages_text, longest_pages}
-use Rattle.statement.specs.laws.TotalLaws.{sum-none, sum_one, sum-append}
+use Rattle.statement.proofs.laws.TotalLaws.{sum-none, sum_one, sum-append}
 use Rattle.statement.specs.tables.Inner.{Writes}
 use Rattle.statement.specs.tables.Cursors.{fresh_sheet, with_entry, next_sheet, laid, sheet_after, text_from, first_entry, Placed, Room, WritesLines}
 use Rattle.statement.specs.declared.lines.Line.{Line}

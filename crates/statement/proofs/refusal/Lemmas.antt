@@ -2,7 +2,7 @@
 use Prim.Native.Nat.{ℕ, ◌≤◌, ◌<◌}
 use native.Mathlib.Omega.{arith}
 use lib.ListN.{length, length-append}
-use Rattle.statement.specs.laws.DecimalLaws.{decimal-length}
+use Rattle.statement.proofs.laws.DecimalLaws.{decimal-length}
 use Rattle.statement.specs.Decimal.{decimal}
 use Rattle.statement.specs.Lines.{max_line}
 use Rattle.statement.specs.Refusal.{refusal_line}

@@ -2,7 +2,7 @@ use mathlib.Core.Path.{ap, ◌∙◌}
 use lib.IntN.{ℤ, pos, ◌*ℤ◌}
 use borrow.Author.Rules.{rules}
 use Rattle.money.specs.Units.{intervals}
-use Rattle.money.specs.laws.FailureLaws.{lesser-size}
+use Rattle.money.proofs.laws.FailureLaws.{lesser-size}
 use Rattle.money.proofs.failure.charge_of.Goals as goal
 
 pub for_an_hour-requires : goal.for_an_hour-requires

@@ -5,7 +5,7 @@ use native.Mathlib.Omega.{arith}
 use borrow.Author.Rules.{rules}
 use Rattle.money.specs.declared.units.Answer.TheVariants.{Amount}
 use Rattle.money.specs.Failure.{dev}
-use Rattle.money.specs.laws.FailureLaws.{sound-of, gap-size, charge-is}
+use Rattle.money.proofs.laws.FailureLaws.{sound-of, gap-size, charge-is}
 use Rattle.money.proofs.failure.export_charge.Goals as goal
 
 pub returns-then-not-failure_ok : goal.returns-then-not-failure_ok

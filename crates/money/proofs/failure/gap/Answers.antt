@@ -5,7 +5,7 @@ use mir.Facts.{to_z-of_z}
 use native.Mathlib.Omega.{arith}
 use Rattle.laws.specs.IntLaws.{lt-true, lt-false}
 use Rattle.laws.specs.Carried as h
-use Rattle.money.specs.laws.FailureLaws.{gap-none, gap-some}
+use Rattle.money.proofs.laws.FailureLaws.{gap-none, gap-some}
 use Rattle.money.proofs.failure.gap.Goals as goal
 
 pub returns-then-high-low : goal.returns-then-high-low

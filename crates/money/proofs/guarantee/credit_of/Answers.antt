@@ -3,7 +3,7 @@ use lib.IntN.{ℤ, pos, neg_ℤ}
 use native.Mathlib.Omega.{arith}
 use borrow.Author.Rules.{rules}
 use Rattle.laws.specs.Ints.{minℤ}
-use Rattle.money.specs.laws.GuaranteeLaws.{profits-size}
+use Rattle.money.proofs.laws.GuaranteeLaws.{profits-size}
 use Rattle.money.proofs.guarantee.credit_of.Goals as goal
 
 pub deficit-requires : goal.deficit-requires

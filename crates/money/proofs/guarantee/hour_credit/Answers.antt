@@ -6,9 +6,9 @@ use Rattle.money.specs.declared.units.Answer.TheVariants.{Amount}
 use Rattle.money.specs.Guarantee.{credit_answer, credit}
 use Rattle.money.specs.Units.{within_ok, unless, quantity_at}
 use Rattle.money.specs.Offers.{last_q}
-use Rattle.money.specs.laws.OfferLaws.{good_of}
-use Rattle.money.specs.laws.GuaranteeLaws.{ready_of, within-is}
-use Rattle.money.specs.laws.UnitLaws.{prices-of, kept, answer-fault}
+use Rattle.money.proofs.laws.OfferLaws.{good_of}
+use Rattle.money.proofs.laws.GuaranteeLaws.{ready_of, within-is}
+use Rattle.money.proofs.laws.UnitLaws.{prices-of, kept, answer-fault}
 use Rattle.money.proofs.guarantee.hour_credit.Goals as goal
 
 pub returns-then-not-prices_ok : goal.returns-then-not-prices_ok

@@ -5,8 +5,8 @@ use Rattle.laws.specs.Sums.{Σℤ}
 use Rattle.laws.specs.SumLaws.{Summed, summed-none, summed-more}
 use Rattle.money.specs.Units.{intervals, price_at, quantity_at}
 use Rattle.money.specs.Offers.{max_pairs, piece}
-use Rattle.money.specs.laws.OfferLaws.{Walk, starts, short, in-range, pieces_room, spent-room, found-on, found}
-use Rattle.money.specs.laws.GuaranteeLaws.{interval-profit, profit-is, profit-room, profits-room, profits-all}
+use Rattle.money.proofs.laws.OfferLaws.{Walk, starts, short, in-range, pieces_room, spent-room, found-on, found}
+use Rattle.money.proofs.laws.GuaranteeLaws.{interval-profit, profit-is, profit-room, profits-room, profits-all}
 use Rattle.money.proofs.guarantee.profit_sum.Goals as goal
 
 pub costs_before-costs-requires : goal.costs_before-costs-requires

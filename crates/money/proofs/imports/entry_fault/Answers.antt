@@ -3,9 +3,9 @@ use borrow.Author.Tests.{not-true, not-false}
 use borrow.Author.Rules.{rules}
 use Rattle.money.specs.Offset.{entry_fault, mqsi, schedule_fault}
 use Rattle.money.specs.Guarantee.{credit}
-use Rattle.money.specs.laws.OfferLaws.{good_of}
-use Rattle.money.specs.laws.GuaranteeLaws.{ready_of, within-is}
-use Rattle.money.specs.laws.UnitLaws.{kept, same-as}
+use Rattle.money.proofs.laws.OfferLaws.{good_of}
+use Rattle.money.proofs.laws.GuaranteeLaws.{ready_of, within-is}
+use Rattle.money.proofs.laws.UnitLaws.{kept, same-as}
 use Rattle.money.proofs.imports.entry_fault.Goals as goal
 
 pub returns-then-not-name_ok : goal.returns-then-not-name_ok

@@ -3,7 +3,7 @@ use borrow.Author.Tests.{not-true, not-false}
 use borrow.Author.Rules.{rules}
 use Rattle.money.specs.Offset.{nth_fault, fresh_name}
 use Rattle.money.specs.Units.{unless}
-use Rattle.money.specs.laws.UnitLaws.{kept}
+use Rattle.money.proofs.laws.UnitLaws.{kept}
 use Rattle.money.proofs.imports.nth_fault.Goals as goal
 
 pub returns-then-f-ne0 : goal.returns-then-f-ne0

@@ -6,8 +6,8 @@ use native.Mathlib.Omega.{arith}
 use borrow.Author.Rules.{rules}
 use Rattle.money.specs.Offers.{cost_answer, cost, last_q}
 use Rattle.money.specs.Units.{unless}
-use Rattle.money.specs.laws.OfferLaws.{good_of}
-use Rattle.money.specs.laws.UnitLaws.{kept, answer-fault}
+use Rattle.money.proofs.laws.OfferLaws.{good_of}
+use Rattle.money.proofs.laws.UnitLaws.{kept, answer-fault}
 use Rattle.money.proofs.offers.cost_at.Goals as goal
 
 pub returns-then-not-in_range : goal.returns-then-not-in_range

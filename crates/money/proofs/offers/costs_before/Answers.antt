@@ -2,7 +2,7 @@ use mathlib.Core.Path.{◌≡◌, refl}
 use Prim.Native.Nat.{◌-◌}
 use borrow.Author.Rules.{rules}
 use native.Mathlib.Omega.{arith}
-use Rattle.money.specs.laws.OfferLaws.{Costed, reach, pieces_room, costed-none, costed-more}
+use Rattle.money.proofs.laws.OfferLaws.{Costed, reach, pieces_room, costed-none, costed-more}
 use Rattle.money.proofs.offers.costs_before.Goals as goal
 
 pub loop-i-init : goal.loop-i-init

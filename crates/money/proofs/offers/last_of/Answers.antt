@@ -1,5 +1,5 @@
 use borrow.Author.Rules.{rules}
-use Rattle.money.specs.laws.OfferLaws.{last-is}
+use Rattle.money.proofs.laws.OfferLaws.{last-is}
 use Rattle.money.proofs.offers.last_of.Goals as goal
 
 pub returns : goal.returns

@@ -4,7 +4,7 @@ use borrow.Author.Rules.{rules}
 use native.Mathlib.Omega.{arith}
 use Rattle.money.specs.Units.{intervals, quantity_at}
 use Rattle.money.specs.Offset.{mqsi, entry}
-use Rattle.money.specs.laws.UnitLaws.{Filled, filled_none, filled_more}
+use Rattle.money.proofs.laws.UnitLaws.{Filled, filled_none, filled_more}
 use Rattle.money.proofs.offset.adj_series.Given as goal
 
 abbrev pub invariant-loop-k : goal.invariant-loop-k

@@ -3,7 +3,7 @@ use Rattle.money.specs.declared.imports.Import.{Import}
 use Rattle.money.specs.declared.offset.Taken.{Taken}
 use Rattle.money.specs.Offset.{no_import}
 use Rattle.money.specs.tables.Taken.{add_of, fold_of, finish_of}
-use Rattle.money.specs.laws.LentLaws.{whole}
+use Rattle.money.proofs.laws.LentLaws.{whole}
 use Rattle.money.proofs.offset.offset.Goals as goal
 
 fold_step : (t : Taken) (ys : List Import) (i : ℕ) (d : Import) → i < length ys → fold_of t (drop i ys) ≡ fold_of (add_of t (get_or ys i d)) (drop (i + 1) ys)

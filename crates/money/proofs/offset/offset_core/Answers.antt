@@ -4,8 +4,8 @@ use borrow.Author.Tests.{not-true, not-false, le-leb, lt-leb}
 use borrow.Author.Rules.{rules}
 use Rattle.money.specs.declared.units.Answer.TheVariants.{Amount}
 use Rattle.money.specs.Offset.{offset_answer, offset}
-use Rattle.money.specs.laws.UnitLaws.{answer-fault}
-use Rattle.money.specs.laws.OffsetLaws.{rates-of, listed_of}
+use Rattle.money.proofs.laws.UnitLaws.{answer-fault}
+use Rattle.money.proofs.laws.OffsetLaws.{rates-of, listed_of}
 use Rattle.money.proofs.offset.offset_core.Goals as goal
 
 pub returns-then-n-gt-IMPORTS_MAX : goal.returns-then-n-gt-IMPORTS_MAX

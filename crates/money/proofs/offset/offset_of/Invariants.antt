@@ -2,8 +2,8 @@ use Prim.Native.Nat.{◌-◌}
 use borrow.Author.Rules.{rules}
 use native.Mathlib.Omega.{arith}
 use Rattle.laws.specs.SumLaws.{Summed, summed-none, summed-more}
-use Rattle.money.specs.laws.OffsetLaws.{gives, adj-ready, offsets-room, gives-is, gives-room, offsets-all}
-use Rattle.money.specs.laws.GuaranteeLaws.{credit-room}
+use Rattle.money.proofs.laws.OffsetLaws.{gives, adj-ready, offsets-room, gives-is, gives-room, offsets-all}
+use Rattle.money.proofs.laws.GuaranteeLaws.{credit-room}
 use Rattle.money.specs.Units.{quantity_at}
 use Rattle.money.proofs.offset.offset_of.Given as goal
 

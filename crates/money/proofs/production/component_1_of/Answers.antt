@@ -3,8 +3,8 @@ use Prim.Native.Nat.{◌≤◌, min}
 use native.Mathlib.Omega.{arith}
 use borrow.Author.Rules.{rules}
 use Rattle.money.specs.Offers.{last_q}
-use Rattle.money.specs.laws.OfferLaws.{in-range, spent-room}
-use Rattle.money.specs.laws.ProductionLaws.{loss-is, loss-room, running-room, shortfall-is}
+use Rattle.money.proofs.laws.OfferLaws.{in-range, spent-room}
+use Rattle.money.proofs.laws.ProductionLaws.{loss-is, loss-room, running-room, shortfall-is}
 use Rattle.money.proofs.production.component_1_of.Goals as goal
 
 pub for_quantity-requires : goal.for_quantity-requires

@@ -2,8 +2,8 @@ use mathlib.Core.Path.{◌≡◌, ap, ◌∙◌}
 use Prim.Native.Nat.{ℕ, ◌≤◌, min, max}
 use borrow.Author.Rules.{rules}
 use Rattle.money.specs.Offers.{last_q}
-use Rattle.money.specs.laws.OfferLaws.{spent-room}
-use Rattle.money.specs.laws.ProductionLaws.{lesser-in, step_is, step_room, arranged_is}
+use Rattle.money.proofs.laws.OfferLaws.{spent-room}
+use Rattle.money.proofs.laws.ProductionLaws.{lesser-in, step_is, step_room, arranged_is}
 use Rattle.money.proofs.production.component_2_of.Goals as goal
 
 pub minus-ahead-requires : goal.minus-ahead-requires

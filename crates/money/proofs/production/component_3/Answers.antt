@@ -1,8 +1,8 @@
 use mathlib.Core.Path.{sym, ◌∙◌}
 use borrow.Author.Rules.{rules}
 use Rattle.money.specs.Production.{C3}
-use Rattle.money.specs.laws.ProductionLaws.{interval-of}
-use Rattle.money.specs.laws.UnitLaws.{answer-fault, answer-amount}
+use Rattle.money.proofs.laws.ProductionLaws.{interval-of}
+use Rattle.money.proofs.laws.UnitLaws.{answer-fault, answer-amount}
 use Rattle.money.proofs.production.component_3.Goals as goal
 
 pub returns-then-f-ne0 : goal.returns-then-f-ne0

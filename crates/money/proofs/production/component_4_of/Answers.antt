@@ -1,5 +1,5 @@
 use borrow.Author.Rules.{rules}
-use Rattle.money.specs.laws.ProductionLaws.{room, two-room, net-within, net-small, component4-is}
+use Rattle.money.proofs.laws.ProductionLaws.{room, two-room, net-within, net-small, component4-is}
 use Rattle.money.proofs.production.component_4_of.Goals as goal
 
 pub reserve_net-one-requires : goal.reserve_net-one-requires

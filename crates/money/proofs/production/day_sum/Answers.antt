@@ -3,7 +3,7 @@ use borrow.Author.Rules.{rules}
 use native.Mathlib.Omega.{arith}
 use Rattle.laws.specs.SumLaws.{Summed, summed-none, summed-more, summed-all}
 use Rattle.money.specs.Production.{hour_part, day_sum}
-use Rattle.money.specs.laws.ProductionLaws.{day-room, part-is, part_room, start-room}
+use Rattle.money.proofs.laws.ProductionLaws.{day-room, part-is, part_room, start-room}
 use Rattle.money.specs.Units.{day_hours}
 use Rattle.money.proofs.production.day_sum.Goals as goal
 

@@ -1,6 +1,6 @@
 use borrow.Author.Rules.{rules}
 use Rattle.money.specs.Production.{C1, C2, C3, C4}
-use Rattle.money.specs.laws.ProductionLaws.{C1-small, C2-small, C3-small, C4-small, sum_room, two-sums, hour-is}
+use Rattle.money.proofs.laws.ProductionLaws.{C1-small, C2-small, C3-small, C4-small, sum_room, two-sums, hour-is}
 use Rattle.money.proofs.production.hour_sum.Goals as goal
 
 pub plus-requires : goal.plus-requires

@@ -4,7 +4,7 @@ use borrow.Author.Tests.{lt-ltb, le-ltb}
 use borrow.Author.Rules.{rules}
 use Rattle.money.specs.Units.{intervals, unless}
 use Rattle.money.specs.Production.{interval_fault}
-use Rattle.money.specs.laws.UnitLaws.{kept}
+use Rattle.money.proofs.laws.UnitLaws.{kept}
 use Rattle.money.proofs.production.interval_fault.Goals as goal
 
 pub returns-then-f-ne0 : goal.returns-then-f-ne0

@@ -3,7 +3,7 @@ use borrow.Author.Rules.{rules}
 use Rattle.laws.specs.Sums.{or_else}
 use Rattle.money.specs.Offers.{offer_fault}
 use Rattle.money.specs.Production.{reserve_fault, lists_fault}
-use Rattle.money.specs.laws.UnitLaws.{kept}
+use Rattle.money.proofs.laws.UnitLaws.{kept}
 use Rattle.money.proofs.production.lists_fault.Goals as goal
 
 pub returns-then-f1-ne0 : goal.returns-then-f1-ne0

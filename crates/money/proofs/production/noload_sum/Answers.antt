@@ -3,7 +3,7 @@ use borrow.Author.Rules.{rules}
 use Rattle.laws.specs.SumLaws.{Summed, summed-none, summed-more, summed-all}
 use Rattle.money.specs.Units.{intervals, quantity_at}
 use Rattle.money.specs.tables.Numbers.{running}
-use Rattle.money.specs.laws.ProductionLaws.{running-room, runs-room}
+use Rattle.money.proofs.laws.ProductionLaws.{running-room, runs-room}
 use Rattle.money.proofs.production.noload_sum.Goals as goal
 
 pub loop-k-init : goal.loop-k-init

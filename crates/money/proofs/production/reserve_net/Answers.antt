@@ -1,9 +1,9 @@
 use native.Mathlib.Omega.{arith}
 use borrow.Author.Rules.{rules}
 use Rattle.money.specs.Units.{price_at}
-use Rattle.money.specs.laws.OfferLaws.{in-range, spent-room}
-use Rattle.money.specs.laws.ProductionLaws.{offered, idle}
-use Rattle.money.specs.laws.GuaranteeLaws.{profit-is}
+use Rattle.money.proofs.laws.OfferLaws.{in-range, spent-room}
+use Rattle.money.proofs.laws.ProductionLaws.{offered, idle}
+use Rattle.money.proofs.laws.GuaranteeLaws.{profit-is}
 use Rattle.money.proofs.production.reserve_net.Goals as goal
 
 pub returns-then-q-lt1 : goal.returns-then-q-lt1

@@ -1,7 +1,7 @@
 use native.Mathlib.Omega.{arith}
 use borrow.Author.Rules.{rules}
 use Rattle.money.specs.Units.{quantity_at}
-use Rattle.money.specs.laws.ProductionLaws.{reserve-none, reserve-ready, reserve-is}
+use Rattle.money.proofs.laws.ProductionLaws.{reserve-none, reserve-ready, reserve-is}
 use Rattle.money.proofs.production.reserve_sum.Goals as goal
 
 pub returns-then-o-lt1 : goal.returns-then-o-lt1

@@ -2,7 +2,7 @@ use mathlib.Core.Path.{sym, ap, ◌∙◌}
 use Prim.Native.Nat.{ℕ}
 use borrow.Author.Rules.{rules}
 use Rattle.money.specs.Units.{within_ok}
-use Rattle.money.specs.laws.ProductionLaws.{last_none}
+use Rattle.money.proofs.laws.ProductionLaws.{last_none}
 use Rattle.money.proofs.production.reserve_within_ok.Goals as goal
 
 pub returns-then-o-lt1 : goal.returns-then-o-lt1

@@ -1,6 +1,6 @@
 use native.Mathlib.Omega.{arith}
 use borrow.Author.Rules.{rules}
-use Rattle.money.specs.laws.ProductionLaws.{running_none, running-some}
+use Rattle.money.proofs.laws.ProductionLaws.{running_none, running-some}
 use Rattle.money.proofs.production.running_at.Goals as goal
 
 pub returns-then-m-lt1 : goal.returns-then-m-lt1

@@ -3,7 +3,7 @@ use Prim.Native.Nat.{ℕ, min}
 use native.Mathlib.Omega.{arith}
 use borrow.Author.Rules.{rules}
 use Rattle.money.specs.Units.{quantity_at}
-use Rattle.money.specs.laws.ProductionLaws.{ready-less, profits-moderate, two-profits, sum2-is, lesser-in}
+use Rattle.money.proofs.laws.ProductionLaws.{ready-less, profits-moderate, two-profits, sum2-is, lesser-in}
 use Rattle.money.proofs.production.sum_2.Goals as goal
 
 pub profit_sum-requires : goal.profit_sum-requires

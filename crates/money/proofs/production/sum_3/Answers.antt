@@ -1,6 +1,6 @@
 use borrow.Author.Rules.{rules}
 use Rattle.money.specs.Units.{quantity_at}
-use Rattle.money.specs.laws.ProductionLaws.{ready-less, profits-moderate, sum3-is, second-in}
+use Rattle.money.proofs.laws.ProductionLaws.{ready-less, profits-moderate, sum3-is, second-in}
 use Rattle.money.proofs.production.sum_3.Goals as goal
 
 pub profit_sum-requires : goal.profit_sum-requires

@@ -1,6 +1,6 @@
 use borrow.Author.Rules.{rules}
 use Rattle.money.specs.Units.{quantity_at}
-use Rattle.money.specs.laws.ProductionLaws.{reserve-room, two-reserves, sum4-is}
+use Rattle.money.proofs.laws.ProductionLaws.{reserve-room, two-reserves, sum4-is}
 use Rattle.money.proofs.production.sum_4.Goals as goal
 
 pub plus-requires : goal.plus-requires

@@ -3,7 +3,7 @@ use borrow.Author.Tests.{not-true, not-false}
 use borrow.Author.Rules.{rules}
 use Rattle.money.specs.declared.production.DayAnswer.TheVariants as day-variants
 use Rattle.money.specs.Production.{day_answer}
-use Rattle.money.specs.laws.ProductionLaws.{day-of, reversal-is}
+use Rattle.money.proofs.laws.ProductionLaws.{day-of, reversal-is}
 use Rattle.money.proofs.production.unit_day.Goals as goal
 
 pub returns-then-not-hours_ok : goal.returns-then-not-hours_ok

@@ -3,8 +3,8 @@ use borrow.Author.Tests.{not-true, not-false}
 use borrow.Author.Rules.{rules}
 use Rattle.money.specs.Units.{unless}
 use Rattle.money.specs.Production.{within_fine, unit_fault}
-use Rattle.money.specs.laws.ProductionLaws.{lists_of}
-use Rattle.money.specs.laws.UnitLaws.{kept}
+use Rattle.money.proofs.laws.ProductionLaws.{lists_of}
+use Rattle.money.proofs.laws.UnitLaws.{kept}
 use Rattle.money.proofs.production.unit_fault.Goals as goal
 
 pub returns-then-not-prices_ok : goal.returns-then-not-prices_ok

@@ -1,8 +1,8 @@
 use mathlib.Core.Path.{sym, ◌∙◌}
 use borrow.Author.Rules.{rules}
 use Rattle.money.specs.Production.{hour_amount}
-use Rattle.money.specs.laws.ProductionLaws.{unit-of}
-use Rattle.money.specs.laws.UnitLaws.{answer-fault, answer-amount}
+use Rattle.money.proofs.laws.ProductionLaws.{unit-of}
+use Rattle.money.proofs.laws.UnitLaws.{answer-fault, answer-amount}
 use Rattle.money.proofs.production.unit_hour.Goals as goal
 
 pub returns-then-f-ne0 : goal.returns-then-f-ne0

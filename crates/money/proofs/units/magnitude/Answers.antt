@@ -8,7 +8,7 @@ use borrow.Author.Rules.{rules}
 use native.Mathlib.Omega.{arith}
 use Rattle.laws.specs.Carried as h
 use Rattle.laws.specs.IntLaws.{lt-true, lt-false}
-use Rattle.money.specs.laws.UnitLaws.{flip-abs, flip-above, abs-most, flipped}
+use Rattle.money.proofs.laws.UnitLaws.{flip-abs, flip-above, abs-most, flipped}
 use Rattle.money.proofs.units.magnitude.Goals as goal
 
 pub overflow_sub-result : goal.overflow_sub-result

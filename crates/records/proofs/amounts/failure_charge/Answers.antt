@@ -4,7 +4,7 @@ use Rattle.money.specs.declared.failure.Failure.{Failure}
 use Rattle.records.specs.Reading.{Res}
 use Rattle.records.specs.Views.{viewed_failure, no_failure}
 use Rattle.records.specs.Amounts.{amount_from, charge_for}
-use Rattle.records.specs.laws.ViewLaws.{counted-failure}
+use Rattle.records.proofs.laws.ViewLaws.{counted-failure}
 use Rattle.records.specs.declared.views.FailureAnswer.{FailureAnswer}
 use Rattle.records.proofs.views.Lemmas.{faulty, had}
 use Rattle.records.proofs.amounts.failure_charge.Goals as goal

@@ -4,8 +4,8 @@ use Rattle.records.specs.Reading.{Res}
 use Rattle.records.specs.Layouts.{import}
 use Rattle.records.specs.Views.{viewed, no_import}
 use Rattle.records.specs.Amounts.{amount_from, credit_for}
-use Rattle.records.specs.laws.ReaderLaws.{lawful-import}
-use Rattle.records.specs.laws.ViewLaws.{counted-viewed}
+use Rattle.records.proofs.laws.ReaderLaws.{lawful-import}
+use Rattle.records.proofs.laws.ViewLaws.{counted-viewed}
 use Rattle.records.specs.declared.layouts.Import.{Import}
 use Rattle.records.specs.declared.marks.Mark.TheVariants.{Im}
 use Rattle.records.specs.declared.views.ImportAnswer.{ImportAnswer}

@@ -5,8 +5,8 @@ use Rattle.records.specs.Reading.{Res, got, ◌>>=◌}
 use Rattle.records.specs.Layouts.{export}
 use Rattle.records.specs.Views.{viewed, no_export}
 use Rattle.records.specs.Amounts.{totals_answer}
-use Rattle.records.specs.laws.ReaderLaws.{lawful-export}
-use Rattle.records.specs.laws.ViewLaws.{counted-viewed}
+use Rattle.records.proofs.laws.ReaderLaws.{lawful-export}
+use Rattle.records.proofs.laws.ViewLaws.{counted-viewed}
 use Rattle.records.specs.declared.layouts.Export.{Export}
 use Rattle.records.specs.declared.marks.Mark.TheVariants.{Ex}
 use Rattle.records.specs.declared.views.ExportAnswer.{ExportAnswer}

@@ -7,8 +7,8 @@ use Rattle.records.specs.Reading.{Res, ◌>>=◌}
 use Rattle.records.specs.Layouts.{unit}
 use Rattle.records.specs.Views.{viewed, no_unit}
 use Rattle.records.specs.Amounts.{given, part_answer}
-use Rattle.records.specs.laws.ReaderLaws.{lawful-unit}
-use Rattle.records.specs.laws.ViewLaws.{counted-viewed}
+use Rattle.records.proofs.laws.ReaderLaws.{lawful-unit}
+use Rattle.records.proofs.laws.ViewLaws.{counted-viewed}
 use Rattle.records.specs.declared.marks.Mark.TheVariants.{Gh}
 use Rattle.records.specs.declared.views.UnitAnswer.{UnitAnswer}
 use Rattle.records.proofs.views.Lemmas.{faulty, had}

@@ -1,6 +1,6 @@
 use native.Mathlib.Omega.{arith}
 use borrow.Author.Rules.{rules}
-use Rattle.money.specs.laws.OfferLaws.{last-is}
+use Rattle.money.proofs.laws.OfferLaws.{last-is}
 use Rattle.records.proofs.lists.last_quantity.Goals as goal
 
 pub returns : goal.returns

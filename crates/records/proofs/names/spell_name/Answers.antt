@@ -2,8 +2,8 @@ use mathlib.Core.Path.{sym, ◌∙◌}
 use borrow.Author.Tests.{not-true, not-false}
 use native.Mathlib.Omega.{arith}
 use borrow.Author.Rules.{rules}
-use Rattle.money.specs.laws.NameLaws.{name-most}
-use Rattle.records.specs.laws.NameLaws.{spelling-none}
+use Rattle.money.proofs.laws.NameLaws.{name-most}
+use Rattle.records.proofs.laws.NameLaws.{spelling-none}
 use Rattle.records.proofs.names.SpellName.{spell-most, spelled-in}
 use Rattle.records.proofs.names.spell_name.Goals as goal
 

@@ -4,7 +4,7 @@ use lib.ListN.{length, take, length-append}
 use borrow.Author.Rules.{rules}
 use native.Mathlib.Omega.{arith}
 use Rattle.records.specs.Names.{spell}
-use Rattle.records.specs.laws.NameLaws.{spell-more}
+use Rattle.records.proofs.laws.NameLaws.{spell-more}
 use Rattle.records.proofs.names.spelled_len.Given as goal
 
 abbrev pub invariant-loop-i : goal.invariant-loop-i

@@ -4,7 +4,7 @@ use lib.ListN.{length, take, get_or}
 use borrow.Author.Rules.{rules}
 use native.Mathlib.Omega.{arith}
 use Rattle.records.specs.Names.{spell}
-use Rattle.records.specs.laws.NameLaws.{spell-more, spell_byte-length}
+use Rattle.records.proofs.laws.NameLaws.{spell-more, spell_byte-length}
 use Rattle.records.specs.tables.Inner.{Wrote}
 use Rattle.records.proofs.writing.Putting.{wrote_none, wrote_then, wrote-length}
 use Rattle.records.proofs.names.write_name.Goals as goal

@@ -1,5 +1,5 @@
 use Rattle.std.proofs.Common.{◌≡◌, ap, length, arith}
-use Rattle.statement.specs.laws.DecimalLaws.{decimal-one, decimal-more, decimal-longer}
+use Rattle.statement.proofs.laws.DecimalLaws.{decimal-one, decimal-more, decimal-longer}
 use Rattle.statement.proofs.bytes.Lemmas.{writes_then, writes-size}
 use Rattle.statement.proofs.bytes.+put_decimal.Goals as goal
 

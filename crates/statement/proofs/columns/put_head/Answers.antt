@@ -5,7 +5,7 @@ use lib.Seq.{length-take-le}
 use native.Mathlib.Omega.{arith}
 use Rattle.statement.specs.Decimal.{decimal}
 use Rattle.statement.specs.Pages.{number_line, page_head}
-use Rattle.statement.specs.laws.PageLineLaws.{right-length}
+use Rattle.statement.proofs.laws.PageLineLaws.{right-length}
 use borrow.Author.Rules.{rules}
 use Rattle.statement.proofs.bytes.Lemmas.{writes_then, writes-size, front_of}
 use Rattle.statement.proofs.refusal.Lemmas.{ordinal-digits}

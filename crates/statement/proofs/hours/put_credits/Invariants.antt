@@ -5,7 +5,7 @@ use Prim.Native.Nat.{◌≤◌, ◌-◌}
 use lib.ListN.{length, take}
 use borrow.Author.Rules.{rules}
 use native.Mathlib.Omega.{arith}
-use Rattle.money.specs.laws.UnitLaws.{unmapped}
+use Rattle.money.proofs.laws.UnitLaws.{unmapped}
 use Rattle.book.specs.Handed.{max_credits}
 use Rattle.book.specs.tables.Sizes.{AllBounded}
 use Rattle.statement.specs.declared.lines.Kind.TheVariants.{Iog}

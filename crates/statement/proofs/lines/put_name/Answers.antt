@@ -1,6 +1,6 @@
 use native.Mathlib.Omega.{arith}
 use borrow.Author.Rules.{rules}
-use Rattle.statement.specs.laws.LineLaws.{name-unspelled, name-spelled, spells}
+use Rattle.statement.proofs.laws.LineLaws.{name-unspelled, name-spelled, spells}
 use Rattle.statement.proofs.lines.put_name.Goals as goal
 
 pub returns-then-s-ne0 : goal.returns-then-s-ne0

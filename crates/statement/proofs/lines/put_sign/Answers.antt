@@ -5,7 +5,7 @@ use native.Mathlib.Omega.{arith}
 use borrow.Author.Rules.{rules}
 use Rattle.laws.specs.Carried as h
 use Rattle.laws.specs.IntLaws.{lt-true, lt-false}
-use Rattle.statement.specs.laws.LineLaws.{sign_below, sign_above}
+use Rattle.statement.proofs.laws.LineLaws.{sign_below, sign_above}
 use Rattle.statement.proofs.bytes.Lemmas.{writes-none}
 use Rattle.statement.proofs.lines.put_sign.Goals as goal
 

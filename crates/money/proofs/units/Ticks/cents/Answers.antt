@@ -8,7 +8,7 @@ use borrow.Author.Rules.{rules}
 use Rattle.laws.specs.Carried as h
 use Rattle.laws.specs.IntLaws.{lt-true, lt-false}
 use Rattle.laws.specs.Exp.{u32, neg, fits, same}
-use Rattle.money.specs.laws.UnitLaws.{cents-below, cents-above}
+use Rattle.money.proofs.laws.UnitLaws.{cents-below, cents-above}
 use Rattle.money.proofs.units.Ticks.cents.Goals as goal
 
 pub overflow_add-whole : goal.overflow_add-whole

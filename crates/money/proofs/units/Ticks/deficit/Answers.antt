@@ -4,7 +4,7 @@ use native.Mathlib.Omega.{arith}
 use Rattle.laws.specs.IntLaws.{lt-true, lt-false}
 use Rattle.laws.specs.Carried as h
 use Rattle.laws.specs.Exp.{i64, neg, fits, same, carried}
-use Rattle.money.specs.laws.UnitLaws.{lacks, lacks-none}
+use Rattle.money.proofs.laws.UnitLaws.{lacks, lacks-none}
 use Rattle.money.proofs.units.Ticks.deficit.Goals as goal
 
 pub overflow_sub-result : goal.overflow_sub-result

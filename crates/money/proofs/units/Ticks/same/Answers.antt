@@ -4,7 +4,7 @@ use mir.Syntax.{w64}
 use mir.Val.{SFits, of_z}
 use borrow.Author.Rules.{rules}
 use Rattle.laws.specs.Carried as h
-use Rattle.money.specs.laws.UnitLaws.{same_true, same_false}
+use Rattle.money.proofs.laws.UnitLaws.{same_true, same_false}
 use Rattle.money.proofs.units.Ticks.same.Goals as goal
 
 pub returns-then-self-other : goal.returns-then-self-other
