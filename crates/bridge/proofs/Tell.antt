@@ -14,7 +14,7 @@ use Rattle.money.specs.declared.names.Name.{Name}
 use Rattle.money.specs.declared.units.Answer.{Answer}
 use Rattle.money.specs.declared.units.Answer.TheVariants.{Amount, Refused}
 use Rattle.records.specs.Names.{decode_name, stored_name, spelling_of}
-use Rattle.records.specs.laws.BookLaws.{spelling-none}
+use Rattle.records.proofs.laws.BookLaws.{spelling-none}
 use Rattle.records.specs.declared.names.Spelling.{Spelling}
 use Rattle.records.specs.Keys.{name_answer}
 use Rattle.records.specs.declared.keys.NameAnswer.{NameAnswer}
@@ -24,7 +24,7 @@ use Rattle.book.specs.Layer.{Change}
 use Rattle.book.specs.Meaning.{load}
 use Rattle.statement.specs.declared.day.Written.{Written}
 use Rattle.statement.specs.Statement.{Outcome, outcome_by, AnswersBy}
-use Rattle.statement.specs.laws.LineLaws.{spells}
+use Rattle.statement.proofs.laws.LineLaws.{spells}
 use Rattle.bridge.specs.Bridge.{stored, told, order_of, book_in, credit_sizes, credits_sizes, credits_amounts, answer_fault, ticks_told}
 
 -- a refusal: the row stays

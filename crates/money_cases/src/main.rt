@@ -1,5 +1,5 @@
 // Runs 01's money cases through the compiled code and prints each answer in ticks and in cents. The same cases stand, of the
-// definitions, in specs/laws/Examples.antt of money.
+// definitions, in proofs/laws/Examples.antt of money.
 #![tactic(auto)]
 
 ghost use Rattle.std.specs.Prelude.{◌≡◌, ◌≤◌, take};

@@ -3,7 +3,7 @@ use mathlib.Core.Bool.{Bool}
 use Prim.Native.Nat.{ℕ}
 use borrow.Author.Rules.{rules}
 use Rattle.laws.specs.Sums.{or_else}
-use Rattle.money.specs.laws.UnitLaws.{kept}
+use Rattle.money.proofs.laws.UnitLaws.{kept}
 use Rattle.money.specs.declared.units.Answer.{Answer}
 use Rattle.bridge.specs.Bridge.{filing_fault, has_amount, amount_in, answer_fault, amount_fault, ticks_told}
 use Rattle.bridge.proofs.Tell.{if_no, ticks-if}

@@ -1,7 +1,7 @@
 use mathlib.Core.Path.{refl, sym, ap, ◌∙◌}
 use Prim.Native.Nat.{ℕ}
 use borrow.Author.Rules.{rules}
-use Rattle.money.specs.laws.UnitLaws.{kept}
+use Rattle.money.proofs.laws.UnitLaws.{kept}
 use Rattle.records.specs.declared.keys.NameAnswer.{NameAnswer}
 use Rattle.bridge.specs.Bridge.{stored, name_fault}
 use Rattle.bridge.proofs.Tell.{told-no}

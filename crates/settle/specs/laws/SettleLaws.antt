@@ -2,13 +2,13 @@
 use Rattle.std.specs.Prelude.{◌≡◌, refl, Bool, true, false, List, ℕ, ◌≤◌, leb, length}
 use Rattle.std.proofs.Common.{sym, ap, ◌∙◌, arith, leb-true}
 use Rattle.records.specs.Changes.{put}
-use Rattle.records.specs.laws.BookLaws.{put-length}
+use Rattle.records.proofs.laws.BookLaws.{put-length}
 use Rattle.book.specs.Register.{max_used}
 use Rattle.statement.specs.Statement.{Fits, statement_of, longest_statement}
 use Rattle.statement.specs.declared.day.Written.{Written}
 use Rattle.filter.specs.Program.{input_of}
 use Rattle.filter.specs.Output.{output_of}
-use Rattle.filter.specs.laws.OutputLaws.{every-input}
+use Rattle.filter.proofs.laws.OutputLaws.{every-input}
 use Rattle.stdin.specs.Rounds.{ReadAll, failed}
 use Rattle.stdin.specs.laws.RoundLaws.{read-run, read-few, apart}
 use Rattle.stdin.specs.declared.Input.{Input}

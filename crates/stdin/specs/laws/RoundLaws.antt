@@ -3,7 +3,7 @@ use Rattle.std.specs.Prelude.{◌≡◌, refl, Bool, true, false, not, ◌&&◌,
 use Rattle.std.proofs.Common.{sym, ap, ◌∙◌, subst, arith, length-drop, length-append, take-add, length-take-le}
 use Rattle.filter.specs.Reading.{max_count, is_over, ReadsOn}
 use Rattle.filter.specs.Program.{input_of, Run, start, next}
-use Rattle.filter.specs.laws.OutputLaws.{held-short}
+use Rattle.filter.proofs.laws.OutputLaws.{held-short}
 use Rattle.filter.specs.declared.reading.Reading.{Reading}
 use Rattle.stdin.specs.Rounds.{max_read, brought, Rounds, none, round, ReadAll}
 use Rattle.stdin.specs.declared.Input.{Input}

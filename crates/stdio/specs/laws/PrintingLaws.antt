@@ -2,7 +2,7 @@
 use Rattle.std.specs.Prelude.{◌≡◌, refl, Bool, true, false, List, ℕ, ◌≤◌, leb, length}
 use Rattle.std.proofs.Common.{sym, ap, ◌∙◌, subst, arith, leb-true}
 use Rattle.records.specs.Changes.{Change, put}
-use Rattle.records.specs.laws.BookLaws.{put-length}
+use Rattle.records.proofs.laws.BookLaws.{put-length}
 use Rattle.book.specs.Register.{max_used}
 use Rattle.book.specs.Meaning.{load}
 use Rattle.statement.specs.Statement.{Fits}
@@ -10,7 +10,7 @@ use Rattle.statement.specs.declared.day.Written.{Written}
 use Rattle.filter.specs.Reading.{Prints}
 use Rattle.filter.specs.Program.{input_of}
 use Rattle.filter.specs.Output.{output_by}
-use Rattle.filter.specs.laws.OutputLaws.{every-input}
+use Rattle.filter.proofs.laws.OutputLaws.{every-input}
 use Rattle.stdin.specs.Rounds.{ReadAll, failed}
 use Rattle.stdio.specs.Printing.{Writes, Shows, Outputs, Printed}
 use Rattle.stdin.specs.laws.RoundLaws.{read-run, read-few, apart}
