@@ -1,5 +1,5 @@
 -- 01, "Production cost guarantee". The letters are 01's; hours and intervals are counted from 0.
-use Rattle.std.specs.Prelude.{Bool, cond, ◌&&◌, List, ℕ, ◌+◌, ◌-◌, ◌*◌, min, max, ℤ, pos, neg_ℤ, ◌+ℤ◌, ◌-ℤ◌, ◌*ℤ◌, leb, ltb, get_or}
+use Rattle.std.specs.Prelude.{Bool, cond, ◌&&◌, List, ℕ, ◌-◌, ◌*◌, min, max, ℤ, pos, neg_ℤ, ◌+ℤ◌, ◌-ℤ◌, ◌*ℤ◌, leb, ltb, get_or}
 use Rattle.std.specs.Int.Signed.{le_z}
 use Rattle.laws.specs.Ints.{maxℤ}
 use Rattle.laws.specs.Sums.{Σℤ, every, or_else}

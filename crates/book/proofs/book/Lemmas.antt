@@ -9,7 +9,7 @@ use lib.Seq.{take-length}
 use Rattle.book.specs.Layer.{Key, KeyAnswer, Asked, got, bad, key_asked, ask_hour, key_answer}
 use Rattle.book.specs.laws.LayerLaws.{ask-fault, ask_hour-fault}
 use Rattle.book.specs.declared.book.Book.{Book}
-use Rattle.book.specs.Register.{Reg, ask, record_of, count_of, free_bytes, Reply, refused, accepted, place, number, Step, answered, becomes, step_of, unless-closed, keyed, answer, place_of, write_all, capped, count, standing}
+use Rattle.book.specs.Register.{Reg, ask, record_of, count_of, free_bytes, Reply, refused, accepted, place, number, Step, answered, becomes, step_of, unless-closed, keyed, place_of, write_all, capped, count, standing}
 use Rattle.book.specs.Meaning.{mismatched, load, After, book_of, leaving, stepped, outcome, Leaves, Meets}
 use Rattle.book.specs.tables.Tables.{Survey, survey}
 use Rattle.book.specs.laws.LoadLaws.{Loaded}

@@ -7,7 +7,7 @@ use Rattle.std.proofs.Math.Seq.{take-length}
 use Rattle.book.specs.Layer.{Change, take_back_bytes}
 use Rattle.book.specs.laws.LayerLaws.{bare-exact}
 use Rattle.book.specs.declared.book.Book.{Book}
-use Rattle.book.specs.Register.{Reg, Call, take_back, ask, answer, place_of, standing, Step, answered, becomes, refused, accepted, step_of, called, shorter, unless-closed, after, write_all, Reply, reply, Turn, run, replies_of}
+use Rattle.book.specs.Register.{Reg, Call, take_back, ask, place_of, standing, Step, answered, becomes, refused, accepted, step_of, called, shorter, unless-closed, after, write_all, Reply, reply, Turn, run, replies_of}
 use Rattle.book.specs.Meaning.{After, book_of, leaving, Meets, Valid}
 use Rattle.book.specs.Amounts.{pick}
 use Rattle.book.specs.Session.{Session, start, next, Undo, undone, undo, Shows, Agrees, Restored, Holds, Throughout}

@@ -3,7 +3,7 @@ use Rattle.std.specs.Prelude.{ℕ, ◌≤◌, ◌<◌, ◌≡◌, refl, List, []
 use Rattle.std.proofs.Common.{sym, ap, ◌∙◌, subst, arith, get_or-take, length-take-le}
 use Rattle.std.proofs.lemmas.List.{length-map}
 use Rattle.laws.specs.Lists.{All}
-use Rattle.book.specs.Layer.{Key, Rec, Change, HourPrices, Im, Ex, totals_with_in, entry, offset_entry, offset_entry_in, EntryAnswer, TotalsAnswer, same_hour}
+use Rattle.book.specs.Layer.{Key, Rec, Change, HourPrices, Im, Ex, totals_with_in, offset_entry, offset_entry_in, EntryAnswer, TotalsAnswer, same_hour}
 use Rattle.book.specs.laws.LayerLaws.{PricesFit, totals-written, entry-view, hour-mark}
 use Rattle.book.specs.declared.answers.NamedAmount.{NamedAmount}
 use Rattle.book.specs.declared.amounts.places.Spot.{Spot}

@@ -1,4 +1,3 @@
-use borrow.Author.Rules.{rules}
 use Rattle.demands.proofs.laws.BesideLaws.{charges-by-key}
 use Rattle.demands.proofs.hour_charges.Goals as goal
 

@@ -1,5 +1,4 @@
 use borrow.Author.Tests.{eq-eqb, ne_eqb}
-use borrow.Author.Rules.{rules}
 use Rattle.demands.proofs.laws.DemandLaws.{demanded}
 use Rattle.demands.proofs.make_change.Goals as goal
 

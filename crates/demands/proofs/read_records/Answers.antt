@@ -1,4 +1,3 @@
-use borrow.Author.Rules.{rules}
 use Rattle.demands.proofs.laws.BesideLaws.{read-as-calls}
 use Rattle.demands.proofs.read_records.Goals as goal
 

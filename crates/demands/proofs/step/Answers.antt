@@ -1,6 +1,5 @@
 use mathlib.Core.Path.{refl}
 use borrow.Author.Tests.{lt-ltb, le-ltb, eq-eqb, ne_eqb}
-use borrow.Author.Rules.{rules}
 use Rattle.demands.proofs.laws.DemandLaws.{demanded}
 use Rattle.demands.proofs.step.Goals as goal
 

@@ -1,4 +1,3 @@
-use borrow.Author.Rules.{rules}
 use Rattle.demands.proofs.with_answer.Goals as goal
 
 pub returns : goal.returns

@@ -20,7 +20,7 @@ use Rattle.records.specs.declared.marks.Mark.TheVariants.{Pr, Im, Ex}
 use Rattle.book.specs.declared.amounts.places.Spot.{Spot}
 use Rattle.book.specs.tables.Places.{max_places}
 use Rattle.book.specs.Register.{max_used, standing, Reply, refused, guarantees, keyed, hour_guarantees, answer}
-use Rattle.book.specs.Amounts.{Pick, is, nil, pick, HourPricing, priced, unpriced, hour_key, price_from, price_of, totals_of, guarantees_at, guarantees_of}
+use Rattle.book.specs.Amounts.{Pick, is, nil, pick, HourPricing, unpriced, hour_key, price_from, price_of, totals_of, guarantees_at, guarantees_of}
 use Rattle.book.specs.ByName.{by_name}
 use Rattle.book.specs.laws.FilingLaws.{none_named}
 use Rattle.book.specs.laws.OffsetLaws.{All, all-pick, pick-key, standing-good, Each, each-length, each-with, entries_at, Adds, totals-at, InHour, in-hour, offset-given, priced-some, guarantees-hour}

@@ -1,9 +1,6 @@
 use native.Mathlib.Omega.{arith}
 use mathlib.Core.Path.{◌∙◌}
-use Prim.Native.Nat.{◌-◌}
-use lib.ListN.{length}
-use borrow.Author.Rules.{rules}
-use Rattle.hour_offset.proofs.OffsetOfHour.{Going, started, finished, faulty, end-within, end_after, stops, continues}
+use Rattle.hour_offset.proofs.OffsetOfHour.{started, finished, faulty, end-within, end_after, stops, continues}
 use Rattle.hour_offset.proofs.offset_of_hour.Goals as goal
 
 pub loop-at-init : goal.loop-at-init

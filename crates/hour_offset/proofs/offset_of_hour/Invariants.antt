@@ -1,9 +1,6 @@
-use native.Mathlib.Omega.{arith}
-use mathlib.Core.Path.{◌∙◌}
 use Prim.Native.Nat.{◌-◌}
 use lib.ListN.{length}
-use borrow.Author.Rules.{rules}
-use Rattle.hour_offset.proofs.OffsetOfHour.{Going, started, finished, faulty, end-within, end_after, stops, continues}
+use Rattle.hour_offset.proofs.OffsetOfHour.{Going}
 use Rattle.hour_offset.proofs.offset_of_hour.Given as goal
 
 abbrev pub invariant-loop-at : goal.invariant-loop-at

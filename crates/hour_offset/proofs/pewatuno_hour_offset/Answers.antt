@@ -1,5 +1,4 @@
 use mathlib.Core.Path.{sym, ◌∙◌}
-use borrow.Author.Rules.{rules}
 use Rattle.hour_offset.proofs.Call.{call-other, call-with, call-no}
 use Rattle.hour_offset.proofs.pewatuno_hour_offset.Goals as goal
 

@@ -1,10 +1,8 @@
 use mathlib.Core.Path.{◌≡◌, ap, ◌∙◌}
-use native.Mathlib.Omega.{arith}
-use Prim.Native.Nat.{◌-◌}
 use mir.Syntax.{w64}
 use mir.Val.{to_z, of_z}
 use borrow.Author.Rules.{rules}
-use Rattle.hour_offset.proofs.Bits.{Put, put-none, put-more, put_all}
+use Rattle.hour_offset.proofs.Bits.{put-none, put-more, put_all}
 use Rattle.hour_offset.proofs.put_ticks.Goals as goal
 
 pub loop-i-init : goal.loop-i-init

@@ -1,10 +1,5 @@
-use mathlib.Core.Path.{◌≡◌, ap, ◌∙◌}
-use native.Mathlib.Omega.{arith}
 use Prim.Native.Nat.{◌-◌}
-use mir.Syntax.{w64}
-use mir.Val.{to_z, of_z}
-use borrow.Author.Rules.{rules}
-use Rattle.hour_offset.proofs.Bits.{Put, put-none, put-more, put_all}
+use Rattle.hour_offset.proofs.Bits.{Put}
 use Rattle.hour_offset.proofs.put_ticks.Given as goal
 
 abbrev pub invariant-loop-i : goal.invariant-loop-i

@@ -1,5 +1,5 @@
 -- Lists of imports, what their checks tell, and the loops over them. Assumes nothing.
-use Rattle.std.specs.Prelude.{◌≡◌, refl, Bool, true, false, cond, not, List, ℕ, ◌+◌, ◌-◌, ◌≤◌, ◌<◌, min, ℤ, nat_abs, ◌-ℤ◌, get_or}
+use Rattle.std.specs.Prelude.{◌≡◌, refl, Bool, true, false, cond, not, List, ℕ, ◌+◌, ◌≤◌, ◌<◌, min, ℤ, nat_abs, ◌-ℤ◌, get_or}
 use Rattle.std.proofs.Common.{ap, ◌∙◌, zero-le, arith, le-leb}
 use Rattle.laws.specs.IntLaws.{sub_within}
 use Rattle.laws.specs.Sums.{Σℕ, or_else}

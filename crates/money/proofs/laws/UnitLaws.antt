@@ -7,7 +7,7 @@ use Rattle.std.specs.Int.{w64}
 use Rattle.laws.specs.Carried.{Carried}
 use Rattle.laws.specs.Ints.{minℤ}
 use Rattle.laws.specs.IntLaws.{ints, by₁, by₂, dif, dif-abs, pos-dif, abs_neg, neg-*, le-true, ≤ℤ-antisym}
-use Rattle.laws.specs.Sums.{every, or_else}
+use Rattle.laws.specs.Sums.{or_else}
 use Rattle.laws.specs.SumLaws.{every-yes, every-at, and-true, last_or}
 use Rattle.money.specs.declared.units.Price.{Price}
 use Rattle.money.specs.declared.units.Quantity.{Quantity}

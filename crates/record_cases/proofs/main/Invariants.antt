@@ -1,4 +1,3 @@
-use borrow.Author.Rules.{rules}
 use Rattle.record_cases.proofs.main.Given as goal
 
 abbrev pub invariant-loop-left : goal.invariant-loop-left

@@ -2,7 +2,6 @@ use mathlib.Core.Path.{sym}
 use Prim.Native.Nat.{ℕ}
 use lib.ListN.{replicate, length-replicate}
 use lib.Seq.{length-take-le}
-use borrow.Author.Rules.{rules}
 use Rattle.record_cases.proofs.next_case.Goals as goal
 
 pub slice_bounds-case_in-end : goal.slice_bounds-case_in-end

@@ -1,6 +1,5 @@
 use mathlib.Core.Path.{sym}
 use lib.Seq.{length-take-le}
-use borrow.Author.Rules.{rules}
 use Rattle.record_cases.proofs.print_written.Goals as goal
 
 pub slice_bounds-print_bytes-end : goal.slice_bounds-print_bytes-end

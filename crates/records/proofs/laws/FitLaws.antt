@@ -19,7 +19,6 @@ use Rattle.records.proofs.laws.ReaderLaws.{bad-got, bind-got}
 use Rattle.records.proofs.laws.ViewLaws.{own-fields, view-prices, view-import, view-export, view-unit, view-failed-import, view-failed-export}
 use Rattle.records.specs.declared.marks.Mark.TheVariants.{Pr, Im, Ex, Gh, Fi, Fe}
 use Rattle.records.proofs.laws.ChangeLaws.{and_left, and_right}
-use Rattle.records.specs.declared.layouts.HourPrices.{HourPrices}
 use Rattle.records.specs.declared.layouts.Import.{Import}
 use Rattle.records.specs.declared.layouts.Schedules.{Schedules}
 use Rattle.records.specs.declared.layouts.ReserveSeries.{ReserveSeries}

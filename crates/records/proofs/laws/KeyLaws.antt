@@ -5,7 +5,7 @@ use Rattle.money.specs.declared.names.Name.{Name}
 use Rattle.money.specs.Names.{same_name}
 use Rattle.money.proofs.laws.NameLaws.{same_of, same_names}
 use Rattle.records.specs.Reading.{Res, bad, got, ◌>>=◌, check, byte}
-use Rattle.records.specs.Numbers.{between, hour}
+use Rattle.records.specs.Numbers.{between}
 use Rattle.records.specs.Names.{decode_name, name_field, spell, name_from, empty_name, bytes_of, stored_name}
 use Rattle.records.specs.Marks.{mark_bytes, mark_among, mark, has_name, is_failure, order, same_mark, key_mark}
 use Rattle.records.proofs.laws.MarkLaws.{order_same, sole, sole-is}

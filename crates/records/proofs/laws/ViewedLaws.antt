@@ -3,7 +3,6 @@ use Rattle.std.specs.Prelude.{◌≡◌, refl, List, [], ◌∷◌, ◌++◌, Bo
 use Rattle.std.proofs.Common.{ap, ap₂, ◌∙◌, subst, append-nil, arith, length-append, drop_at, le-leb}
 use Rattle.money.specs.Refusals.{mark_unknown, no_space}
 use Rattle.records.specs.Reading.{Res, bad, got}
-use Rattle.records.specs.Marks.{is}
 use Rattle.records.specs.Changes.{Change, kind, key_of, body_of, head_bytes, change, write, put, put_number, put_bytes, Input, fine, fault, whole, parse, view_of, seen, parsed_of}
 use Rattle.records.specs.tables.Viewed.{is_view, view_written, viewed_number, viewed_bytes}
 use Rattle.records.proofs.laws.ChangeLaws.{change-good, parse-fault}

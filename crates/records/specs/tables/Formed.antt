@@ -1,5 +1,5 @@
 -- What a name, a key and an hour's prices are as reading makes them: the contracts of the book ask it of them. Assumes nothing.
-use Rattle.std.specs.Prelude.{◌≡◌, true, ℕ, ◌<◌}
+use Rattle.std.specs.Prelude.{◌≡◌, true, ◌<◌}
 use Rattle.money.specs.Units.{price_ok, prices_ok}
 use Rattle.money.specs.declared.names.Name.{Name}
 use Rattle.records.specs.Names.{name_from, bytes_of}

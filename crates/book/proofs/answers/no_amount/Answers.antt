@@ -1,5 +1,4 @@
 use mathlib.Core.Path.{ap}
-use borrow.Author.Rules.{rules}
 use Rattle.book.specs.Layer.{Name, no_ticks}
 use Rattle.book.proofs.answers.no_amount.Goals as goal
 

@@ -1,4 +1,3 @@
-use borrow.Author.Rules.{rules}
 use Rattle.book.proofs.book.Rows.{not-rowed}
 use Rattle.book.proofs.log.checked.Lemmas.{checked-from}
 use Rattle.book.proofs.feed.Lemmas.{fed-none, fed-checked, fed-mismatched, feeds-by}

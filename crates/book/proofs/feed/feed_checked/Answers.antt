@@ -1,9 +1,6 @@
 use mathlib.Core.Path.{◌∙◌}
-use Prim.Native.Nat.{◌-◌}
-use lib.ListN.{length}
 use native.Mathlib.Omega.{arith}
-use borrow.Author.Rules.{rules}
-use Rattle.book.proofs.feed.Lemmas.{Going, started, finished, since, unread, end-within, end_after, read-there, stops, continues, ends_by}
+use Rattle.book.proofs.feed.Lemmas.{started, finished, since, unread, end-within, end_after, read-there, stops, continues, ends_by}
 use Rattle.book.proofs.feed.feed_checked.Goals as goal
 
 pub loop-at-init : goal.loop-at-init
@@ -44,14 +41,18 @@ slice_bounds-checked_change-end c =
     end-within c.loop-at.invariant c.loop-at-test.true c.first_change-f.ensures c.if-f-ne0.false
 
 pub checked_change-done-requires : goal.checked_change-done-requires
-checked_change-done-requires c = record { checked = c.loop-at.invariant.checked; since = since
-        c.loop-at.invariant
-        c.bucket_of-bucket.ensures.0 c.bucket_of-bucket.ensures.1
-        c.search_from-from.ensures; entry_of_view = read-there
-        c.loop-at.invariant
-        c.loop-at-test.true
-        c.first_change-f.ensures
-        c.if-f-ne0.false }
+checked_change-done-requires c = record {
+  checked = c.loop-at.invariant.checked;
+  since = since
+      c.loop-at.invariant
+      c.bucket_of-bucket.ensures.0 c.bucket_of-bucket.ensures.1
+      c.search_from-from.ensures;
+  entry_of_view = read-there
+      c.loop-at.invariant
+      c.loop-at-test.true
+      c.first_change-f.ensures
+      c.if-f-ne0.false;
+}
 
 pub shape_of-log-then-number-ne0 : goal.shape_of-log-then-number-ne0
 shape_of-log-then-number-ne0 c =

@@ -1,9 +1,6 @@
-use mathlib.Core.Path.{◌∙◌}
 use Prim.Native.Nat.{◌-◌}
 use lib.ListN.{length}
-use native.Mathlib.Omega.{arith}
-use borrow.Author.Rules.{rules}
-use Rattle.book.proofs.feed.Lemmas.{Going, started, finished, since, unread, end-within, end_after, read-there, stops, continues, ends_by}
+use Rattle.book.proofs.feed.Lemmas.{Going}
 use Rattle.book.proofs.feed.feed_checked.Given as goal
 
 abbrev pub invariant-loop-at : goal.invariant-loop-at

@@ -1,10 +1,5 @@
 use Prim.Native.Nat.{◌-◌}
-use lib.ListN.{length}
-use mathlib.Core.Path.{◌≡◌}
-use borrow.Author.Rules.{rules}
-use native.Mathlib.Omega.{arith}
-use Rattle.book.specs.laws.Inserting.{unmapped}
-use Rattle.hour_offset.proofs.tally.Lemmas.{Passed, passed_start, passed-found, passed_on, passed-all}
+use Rattle.hour_offset.proofs.tally.Lemmas.{Passed}
 use Rattle.hour_offset.proofs.tally.holds.Given as goal
 
 abbrev pub invariant-loop-i : goal.invariant-loop-i

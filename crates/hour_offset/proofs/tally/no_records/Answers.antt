@@ -1,5 +1,4 @@
 use mathlib.Core.Path.{refl}
-use borrow.Author.Rules.{rules}
 use Rattle.hour_offset.proofs.tally.Lemmas.{none-tallied}
 use Rattle.hour_offset.proofs.tally.no_records.Goals as goal
 

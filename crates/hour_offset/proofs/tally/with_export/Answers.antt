@@ -1,4 +1,3 @@
-use borrow.Author.Rules.{rules}
 use Rattle.hour_offset.proofs.tally.Lemmas.{adds-export}
 use Rattle.hour_offset.proofs.tally.with_export.Goals as goal
 

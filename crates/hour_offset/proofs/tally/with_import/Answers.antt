@@ -1,4 +1,3 @@
-use borrow.Author.Rules.{rules}
 use Rattle.hour_offset.proofs.tally.Lemmas.{adds-import}
 use Rattle.hour_offset.proofs.tally.with_import.Goals as goal
 

@@ -1,7 +1,6 @@
 use mathlib.Core.Path.{sym, ap}
 use mathlib.Core.Bool.{Bool, cond}
 use native.Mathlib.Omega.{arith}
-use borrow.Author.Rules.{rules}
 use Rattle.hour_offset.proofs.tally.Lemmas.{adds-no, adds-price}
 use Rattle.hour_offset.proofs.tally.with_price.Goals as goal
 

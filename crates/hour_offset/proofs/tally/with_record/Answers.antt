@@ -1,6 +1,5 @@
 use mathlib.Core.Path.{refl}
 use native.Mathlib.Omega.{arith}
-use borrow.Author.Rules.{rules}
 use Rattle.hour_offset.proofs.tally.Lemmas.{adds-no}
 use Rattle.hour_offset.proofs.tally.with_record.Goals as goal
 

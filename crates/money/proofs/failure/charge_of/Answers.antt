@@ -1,13 +1,15 @@
 use mathlib.Core.Path.{ap, ◌∙◌}
 use lib.IntN.{ℤ, pos, ◌*ℤ◌}
-use borrow.Author.Rules.{rules}
 use Rattle.money.specs.Units.{intervals}
 use Rattle.money.proofs.laws.FailureLaws.{lesser-size}
 use Rattle.money.proofs.failure.charge_of.Goals as goal
 
 pub for_an_hour-requires : goal.for_an_hour-requires
-for_an_hour-requires c = record { self_in = lesser-size c.args.a.0 c.args.b.0 c.requires.a_in c.requires.b_in
-      c.lesser.ensures; q_in = c.requires.dev_in }
+for_an_hour-requires c = record {
+  self_in = lesser-size c.args.a.0 c.args.b.0 c.requires.a_in c.requires.b_in
+      c.lesser.ensures;
+  q_in = c.requires.dev_in;
+}
 
 pub returns : goal.returns
 returns c = c.for_an_hour.ensures ∙ ap (λ (z : ℤ). z *ℤ pos c.args.dev.0 *ℤ pos intervals) c.lesser.ensures

@@ -1,6 +1,4 @@
 use mathlib.Core.Path.{sym, ◌∙◌}
-use borrow.Author.Tests.{not-true, not-false}
-use borrow.Author.Rules.{rules}
 use Rattle.money.specs.Failure.{failure_ok}
 use Rattle.money.proofs.failure.failure_ok.Goals as goal
 

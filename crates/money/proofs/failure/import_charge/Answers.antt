@@ -1,8 +1,6 @@
 use mathlib.Core.Path.{sym, ap, ◌∙◌}
 use lib.IntN.{ℤ, ◌-ℤ◌}
-use borrow.Author.Tests.{not-true, not-false}
 use native.Mathlib.Omega.{arith}
-use borrow.Author.Rules.{rules}
 use Rattle.money.specs.declared.units.Answer.TheVariants.{Amount}
 use Rattle.money.specs.Failure.{dev}
 use Rattle.money.proofs.laws.FailureLaws.{sound-of, gap-size, charge-is}
@@ -24,9 +22,13 @@ gap-requires-2 c =
 pub charge_of-requires : goal.charge_of-requires
 charge_of-requires c =
     let s = sound-of c.args.f c.args.pd (sym c.failure_ok.ensures ∙ c.if-not-failure_ok.false) in
-    record { a_in = gap-size c.args.pd.0 c.args.f.day_ahead_price.0 s.market s.day-ahead-price c.gap.ensures; b_in = gap-size
-            c.args.f.pre_dispatch_price.0 c.args.f.day_ahead_price.0 s.pre-dispatch-price s.day-ahead-price
-            c.gap-2.ensures; dev_in = omega (arith, c.dev_of.ensures) }
+    record {
+      a_in = gap-size c.args.pd.0 c.args.f.day_ahead_price.0 s.market s.day-ahead-price c.gap.ensures;
+      b_in = gap-size
+          c.args.f.pre_dispatch_price.0 c.args.f.day_ahead_price.0 s.pre-dispatch-price s.day-ahead-price
+          c.gap-2.ensures;
+      dev_in = omega (arith, c.dev_of.ensures);
+    }
 
 pub returns : goal.returns
 returns c =

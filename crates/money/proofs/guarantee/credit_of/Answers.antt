@@ -1,7 +1,6 @@
 use mathlib.Core.Path.{ap, ◌∙◌}
 use lib.IntN.{ℤ, pos, neg_ℤ}
 use native.Mathlib.Omega.{arith}
-use borrow.Author.Rules.{rules}
 use Rattle.laws.specs.Ints.{minℤ}
 use Rattle.money.proofs.laws.GuaranteeLaws.{profits-size}
 use Rattle.money.proofs.guarantee.credit_of.Goals as goal

@@ -1,7 +1,5 @@
 use mathlib.Core.Path.{sym, ◌∙◌, ap}
 use lib.IntN.{ℤ}
-use borrow.Author.Tests.{not-true, not-false}
-use borrow.Author.Rules.{rules}
 use Rattle.money.specs.declared.units.Answer.TheVariants.{Amount}
 use Rattle.money.specs.Guarantee.{credit_answer, credit}
 use Rattle.money.specs.Units.{within_ok, unless, quantity_at}

@@ -1,12 +1,9 @@
-use Prim.Native.Nat.{◌-◌}
-use borrow.Author.Rules.{rules}
 use native.Mathlib.Omega.{arith}
 use Rattle.laws.specs.Sums.{Σℤ}
-use Rattle.laws.specs.SumLaws.{Summed, summed-none, summed-more}
-use Rattle.money.specs.Units.{intervals, price_at, quantity_at}
-use Rattle.money.specs.Offers.{max_pairs, piece}
-use Rattle.money.proofs.laws.OfferLaws.{Walk, starts, short, in-range, pieces_room, spent-room, found-on, found}
-use Rattle.money.proofs.laws.GuaranteeLaws.{interval-profit, profit-is, profit-room, profits-room, profits-all}
+use Rattle.laws.specs.SumLaws.{summed-none, summed-more}
+use Rattle.money.specs.Units.{price_at, quantity_at}
+use Rattle.money.proofs.laws.OfferLaws.{starts, short, in-range, pieces_room, spent-room, found-on, found}
+use Rattle.money.proofs.laws.GuaranteeLaws.{profit-is, profit-room, profits-room, profits-all}
 use Rattle.money.proofs.guarantee.profit_sum.Goals as goal
 
 pub costs_before-costs-requires : goal.costs_before-costs-requires
@@ -58,9 +55,12 @@ pub plus-sum-requires : goal.plus-sum-requires
 plus-sum-requires c =
     let z = found c.requires.good (c.requires.within _ c.intervals-test.true) c.loop-w.invariant
     (c.costs_before-costs.ensures _ c.loop-w.invariant.below) c.if-q-w.true c.between.ensures.value c.plus-cost.ensures in
-    record { self_moderate = profits-room (c.requires) c.intervals.invariant; other_moderate = profit-room (c.requires) _ c.intervals-test.true (profit-is c.args.o
+    record {
+      self_moderate = profits-room (c.requires) c.intervals.invariant;
+      other_moderate = profit-room (c.requires) _ c.intervals-test.true (profit-is c.args.o
           (price_at c.args.prices c.intervals.k) (quantity_at c.args.qs c.intervals.k) c.for_quantity.ensures.value z
-          c.minus.ensures) }
+          c.minus.ensures);
+    }
 
 pub intervals-preserved : goal.intervals-preserved
 intervals-preserved c =

@@ -1,12 +1,10 @@
 use Prim.Native.Nat.{◌-◌}
-use borrow.Author.Rules.{rules}
-use native.Mathlib.Omega.{arith}
 use Rattle.laws.specs.Sums.{Σℤ}
-use Rattle.laws.specs.SumLaws.{Summed, summed-none, summed-more}
-use Rattle.money.specs.Units.{intervals, price_at, quantity_at}
+use Rattle.laws.specs.SumLaws.{Summed}
+use Rattle.money.specs.Units.{intervals, quantity_at}
 use Rattle.money.specs.Offers.{max_pairs, piece}
-use Rattle.money.proofs.laws.OfferLaws.{Walk, starts, short, in-range, pieces_room, spent-room, found-on, found}
-use Rattle.money.proofs.laws.GuaranteeLaws.{interval-profit, profit-is, profit-room, profits-room, profits-all}
+use Rattle.money.proofs.laws.OfferLaws.{Walk}
+use Rattle.money.proofs.laws.GuaranteeLaws.{interval-profit}
 use Rattle.money.proofs.guarantee.profit_sum.Given as goal
 
 abbrev pub invariant-loop-w : goal.invariant-loop-w

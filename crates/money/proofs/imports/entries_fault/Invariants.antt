@@ -1,9 +1,6 @@
-use mathlib.Core.Path.{sym, ◌∙◌}
 use Prim.Native.Nat.{◌-◌}
-use borrow.Author.Rules.{rules}
-use native.Mathlib.Omega.{arith}
-use Rattle.laws.specs.SumLaws.{Clean, clean-none, clean-more, clean_all, clean-no}
-use Rattle.money.specs.Offset.{nth_fault, entries_fault}
+use Rattle.laws.specs.SumLaws.{Clean}
+use Rattle.money.specs.Offset.{nth_fault}
 use Rattle.money.proofs.imports.entries_fault.Given as goal
 
 abbrev pub invariant-loop-i : goal.invariant-loop-i

@@ -1,6 +1,4 @@
 use mathlib.Core.Path.{sym, ◌∙◌}
-use borrow.Author.Tests.{not-true, not-false}
-use borrow.Author.Rules.{rules}
 use Rattle.money.specs.Offset.{entry_fault, mqsi, schedule_fault}
 use Rattle.money.specs.Guarantee.{credit}
 use Rattle.money.proofs.laws.OfferLaws.{good_of}

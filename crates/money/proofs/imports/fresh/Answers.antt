@@ -1,8 +1,6 @@
 use mathlib.Core.Path.{sym, ◌∙◌, ap}
 use mathlib.Core.Bool.{Bool, not}
-use Prim.Native.Nat.{◌-◌}
-use borrow.Author.Rules.{rules}
-use Rattle.laws.specs.SumLaws.{Passed, passed_none, passed-more, passed-all, every-no}
+use Rattle.laws.specs.SumLaws.{passed_none, passed-more, passed-all, every-no}
 use Rattle.money.specs.Names.{same_name}
 use Rattle.money.specs.Offset.{entry, fresh_name}
 use Rattle.money.proofs.imports.fresh.Goals as goal

@@ -1,10 +1,8 @@
-use mathlib.Core.Path.{sym, ◌∙◌, ap}
-use mathlib.Core.Bool.{Bool, not}
+use mathlib.Core.Bool.{not}
 use Prim.Native.Nat.{◌-◌}
-use borrow.Author.Rules.{rules}
-use Rattle.laws.specs.SumLaws.{Passed, passed_none, passed-more, passed-all, every-no}
+use Rattle.laws.specs.SumLaws.{Passed}
 use Rattle.money.specs.Names.{same_name}
-use Rattle.money.specs.Offset.{entry, fresh_name}
+use Rattle.money.specs.Offset.{entry}
 use Rattle.money.proofs.imports.fresh.Given as goal
 
 abbrev pub invariant-loop-j : goal.invariant-loop-j

@@ -1,6 +1,4 @@
 use mathlib.Core.Path.{sym, ◌∙◌}
-use borrow.Author.Tests.{not-true, not-false}
-use borrow.Author.Rules.{rules}
 use Rattle.money.specs.Offset.{nth_fault, fresh_name}
 use Rattle.money.specs.Units.{unless}
 use Rattle.money.proofs.laws.UnitLaws.{kept}

@@ -1,5 +1,4 @@
 use mathlib.Core.Path.{sym, ◌∙◌}
-use borrow.Author.Rules.{rules}
 use Rattle.money.specs.Offset.{up_to}
 use Rattle.money.proofs.imports.up_to.Goals as goal
 

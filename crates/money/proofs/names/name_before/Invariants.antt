@@ -1,9 +1,5 @@
 use Prim.Native.Nat.{◌-◌}
-use lib.ListN.{length}
-use mathlib.Core.Path.{◌≡◌}
-use borrow.Author.Rules.{rules}
-use native.Mathlib.Omega.{arith}
-use Rattle.money.proofs.laws.NameLaws.{Alike, alike-none, alike-short, alike-less, alike-more, alike-on, alike_end, before-used}
+use Rattle.money.proofs.laws.NameLaws.{Alike}
 use Rattle.money.proofs.names.name_before.Given as goal
 
 abbrev pub invariant-loop-i : goal.invariant-loop-i

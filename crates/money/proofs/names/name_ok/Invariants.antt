@@ -1,10 +1,7 @@
-use mathlib.Core.Path.{sym, ◌∙◌}
 use Prim.Native.Nat.{◌-◌}
 use lib.ListN.{get_or}
-use borrow.Author.Tests.{not-true, not-false, le-leb, lt-leb}
-use borrow.Author.Rules.{rules}
-use Rattle.laws.specs.SumLaws.{Passed, passed_none, passed-more, passed-all, every-no}
-use Rattle.money.specs.Names.{name_ok, name_byte_ok}
+use Rattle.laws.specs.SumLaws.{Passed}
+use Rattle.money.specs.Names.{name_byte_ok}
 use Rattle.money.proofs.names.name_ok.Given as goal
 
 abbrev pub invariant-loop-i : goal.invariant-loop-i

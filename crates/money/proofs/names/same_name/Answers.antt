@@ -1,9 +1,8 @@
-use Prim.Native.Nat.{◌-◌}
 use lib.ListN.{length}
 use mathlib.Core.Path.{◌≡◌}
 use borrow.Author.Rules.{rules}
 use native.Mathlib.Omega.{arith}
-use Rattle.money.proofs.laws.NameLaws.{Equal, equal-none, equal-no, equal-on, equal-all, same-used, differ-used}
+use Rattle.money.proofs.laws.NameLaws.{equal-none, equal-no, equal-on, equal-all, same-used, differ-used}
 use Rattle.money.proofs.names.same_name.Goals as goal
 
 pub returns-then-m-n : goal.returns-then-m-n

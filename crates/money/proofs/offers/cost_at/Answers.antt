@@ -1,9 +1,8 @@
 use mathlib.Core.Path.{sym, ◌∙◌}
 use Prim.Native.Nat.{◌≤◌, ◌<◌}
 use lib.Dec.{leb}
-use borrow.Author.Tests.{le-leb, lt-leb, not-true, not-false}
+use borrow.Author.Tests.{le-leb, lt-leb}
 use native.Mathlib.Omega.{arith}
-use borrow.Author.Rules.{rules}
 use Rattle.money.specs.Offers.{cost_answer, cost, last_q}
 use Rattle.money.specs.Units.{unless}
 use Rattle.money.proofs.laws.OfferLaws.{good_of}

@@ -1,7 +1,5 @@
 use Prim.Native.Nat.{◌-◌}
-use borrow.Author.Rules.{rules}
-use native.Mathlib.Omega.{arith}
-use Rattle.money.proofs.laws.OfferLaws.{Walk, starts, reach, short, in-range, pieces_room, walked_on, walked}
+use Rattle.money.proofs.laws.OfferLaws.{Walk}
 use Rattle.money.specs.Offers.{max_pairs}
 use Rattle.money.proofs.offers.cost_of.Given as goal
 

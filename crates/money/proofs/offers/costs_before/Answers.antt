@@ -1,8 +1,6 @@
-use mathlib.Core.Path.{◌≡◌, refl}
-use Prim.Native.Nat.{◌-◌}
-use borrow.Author.Rules.{rules}
+use mathlib.Core.Path.{refl}
 use native.Mathlib.Omega.{arith}
-use Rattle.money.proofs.laws.OfferLaws.{Costed, reach, pieces_room, costed-none, costed-more}
+use Rattle.money.proofs.laws.OfferLaws.{reach, pieces_room, costed-none, costed-more}
 use Rattle.money.proofs.offers.costs_before.Goals as goal
 
 pub loop-i-init : goal.loop-i-init
@@ -18,12 +16,11 @@ pub plus-acc-requires : goal.plus-acc-requires
 plus-acc-requires c = record { self_moderate = pieces_room _ c.requires _ (omega (arith, c.loop-i.invariant.0, c.loop-i-test.true)) c.loop-i.invariant.1.sum; other_moderate = omega (arith, c.between.ensures.bounded) }
 
 pub loop-i-preserved : goal.loop-i-preserved
-loop-i-preserved c =
-    (
-      c.loop-i.invariant.0,
-      costed-more (c.requires) c.loop-i.invariant.1 (omega (arith, c.loop-i.invariant.0, c.loop-i-test.true)) refl
-          c.between.ensures.value c.plus-acc.ensures,
-    )
+loop-i-preserved c = (
+  c.loop-i.invariant.0,
+  costed-more (c.requires) c.loop-i.invariant.1 (omega (arith, c.loop-i.invariant.0, c.loop-i-test.true)) refl
+      c.between.ensures.value c.plus-acc.ensures,
+)
 
 pub returns : goal.returns
 returns c = λ j l. c.loop-i.invariant.1.so_far j (omega (arith, c.loop-i.invariant.0, c.loop-i-test.false))

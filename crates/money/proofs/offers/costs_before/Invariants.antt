@@ -1,8 +1,6 @@
-use mathlib.Core.Path.{◌≡◌, refl}
+use mathlib.Core.Path.{◌≡◌}
 use Prim.Native.Nat.{◌-◌}
-use borrow.Author.Rules.{rules}
-use native.Mathlib.Omega.{arith}
-use Rattle.money.proofs.laws.OfferLaws.{Costed, reach, pieces_room, costed-none, costed-more}
+use Rattle.money.proofs.laws.OfferLaws.{Costed}
 use Rattle.money.proofs.offers.costs_before.Given as goal
 
 abbrev pub invariant-loop-i : goal.invariant-loop-i

@@ -1,4 +1,3 @@
-use borrow.Author.Rules.{rules}
 use Rattle.money.proofs.laws.OfferLaws.{last-is}
 use Rattle.money.proofs.offers.last_of.Goals as goal
 

@@ -1,8 +1,5 @@
 use mathlib.Core.Path.{sym, ◌∙◌}
-use Prim.Native.Nat.{◌-◌}
-use borrow.Author.Tests.{not-true, not-false}
-use borrow.Author.Rules.{rules}
-use Rattle.laws.specs.SumLaws.{Passed, passed_none, passed-more, passed-all, every-no}
+use Rattle.laws.specs.SumLaws.{passed_none, passed-more, passed-all, every-no}
 use Rattle.money.specs.Offers.{number_ok, numbers_ok}
 use Rattle.money.proofs.offers.numbers_ok.Goals as goal
 

@@ -1,8 +1,6 @@
 use mathlib.Core.Path.{sym, ◌∙◌}
-use Prim.Native.Nat.{◌-◌}
-use borrow.Author.Tests.{not-true, not-false, le-leb, lt-leb}
-use borrow.Author.Rules.{rules}
-use Rattle.laws.specs.SumLaws.{Passed, passed_none, passed-more, passed-all, every-no}
+use borrow.Author.Tests.{le-leb, lt-leb}
+use Rattle.laws.specs.SumLaws.{passed_none, passed-more, passed-all, every-no}
 use Rattle.money.specs.Offers.{rises_at, order_ok}
 use Rattle.money.proofs.offers.order_ok.Goals as goal
 

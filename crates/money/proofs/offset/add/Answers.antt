@@ -1,5 +1,4 @@
 use borrow.Author.Tests.{lt-ltb, le-ltb}
-use borrow.Author.Rules.{rules}
 use Rattle.money.proofs.offset.add.Goals as goal
 
 pub returns-then-n-lt-IMPORTS_MAX : goal.returns-then-n-lt-IMPORTS_MAX

@@ -1,10 +1,9 @@
 use Prim.Native.Nat.{ℕ, ◌-◌, min}
 use mathlib.Core.Path.{refl, ◌∙◌, ap}
-use borrow.Author.Rules.{rules}
 use native.Mathlib.Omega.{arith}
-use Rattle.money.specs.Units.{intervals, quantity_at}
+use Rattle.money.specs.Units.{quantity_at}
 use Rattle.money.specs.Offset.{mqsi, entry}
-use Rattle.money.proofs.laws.UnitLaws.{Filled, filled_none, filled_more}
+use Rattle.money.proofs.laws.UnitLaws.{filled_none, filled_more}
 use Rattle.money.proofs.offset.adj_series.Goals as goal
 
 pub reach_series-reached-requires : goal.reach_series-reached-requires

@@ -1,10 +1,7 @@
-use Prim.Native.Nat.{ℕ, ◌-◌, min}
-use mathlib.Core.Path.{refl, ◌∙◌, ap}
-use borrow.Author.Rules.{rules}
-use native.Mathlib.Omega.{arith}
+use Prim.Native.Nat.{◌-◌, min}
 use Rattle.money.specs.Units.{intervals, quantity_at}
-use Rattle.money.specs.Offset.{mqsi, entry}
-use Rattle.money.proofs.laws.UnitLaws.{Filled, filled_none, filled_more}
+use Rattle.money.specs.Offset.{mqsi}
+use Rattle.money.proofs.laws.UnitLaws.{Filled}
 use Rattle.money.proofs.offset.adj_series.Given as goal
 
 abbrev pub invariant-loop-k : goal.invariant-loop-k

@@ -1,6 +1,5 @@
 use mathlib.Core.Path.{sym, ◌∙◌}
 use native.Mathlib.Omega.{arith}
-use borrow.Author.Rules.{rules}
 use Rattle.money.proofs.laws.OffsetLaws.{counted-yes, counted-no}
 use Rattle.money.proofs.offset.counted_in.Goals as goal
 

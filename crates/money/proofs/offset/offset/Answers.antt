@@ -1,7 +1,6 @@
-use Rattle.std.proofs.Common.{◌≡◌, ℕ, ◌+◌, ◌<◌, ◌≤◌, ◌∙◌, List, length, drop, get_or, sym, ap, refl, arith, add-one, drop-cons, drop_of_length-le}
+use Rattle.std.proofs.Common.{◌≡◌, ℕ, ◌+◌, ◌<◌, ◌≤◌, ◌∙◌, List, length, drop, get_or, sym, ap, arith, add-one, drop-cons, drop_of_length-le}
 use Rattle.money.specs.declared.imports.Import.{Import}
 use Rattle.money.specs.declared.offset.Taken.{Taken}
-use Rattle.money.specs.Offset.{no_import}
 use Rattle.money.specs.tables.Taken.{add_of, fold_of, finish_of}
 use Rattle.money.proofs.laws.LentLaws.{whole}
 use Rattle.money.proofs.offset.offset.Goals as goal

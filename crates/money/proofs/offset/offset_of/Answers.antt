@@ -1,8 +1,6 @@
-use Prim.Native.Nat.{◌-◌}
-use borrow.Author.Rules.{rules}
 use native.Mathlib.Omega.{arith}
-use Rattle.laws.specs.SumLaws.{Summed, summed-none, summed-more}
-use Rattle.money.proofs.laws.OffsetLaws.{gives, adj-ready, offsets-room, gives-is, gives-room, offsets-all}
+use Rattle.laws.specs.SumLaws.{summed-none, summed-more}
+use Rattle.money.proofs.laws.OffsetLaws.{adj-ready, offsets-room, gives-is, gives-room, offsets-all}
 use Rattle.money.proofs.laws.GuaranteeLaws.{credit-room}
 use Rattle.money.specs.Units.{quantity_at}
 use Rattle.money.proofs.offset.offset_of.Goals as goal
@@ -25,9 +23,12 @@ minus-requires c =
     record { self_moderate = omega (arith, (c.requires.listed.each c.loop-i.i c.loop-i-test.true).small); other_moderate = credit-room r c.credit_of.ensures }
 
 pub plus-sum-requires : goal.plus-sum-requires
-plus-sum-requires c = record { self_moderate = offsets-room c.args.prices c.args.totals c.requires.listed c.requires.rates c.loop-i.invariant; other_moderate = gives-room c.args.prices
-          c.args.totals c.requires.listed c.requires.rates c.loop-i.invariant c.loop-i-test.true c.adj_series-series.ensures c.credit_of.ensures
-          c.minus.ensures }
+plus-sum-requires c = record {
+  self_moderate = offsets-room c.args.prices c.args.totals c.requires.listed c.requires.rates c.loop-i.invariant;
+  other_moderate = gives-room c.args.prices
+      c.args.totals c.requires.listed c.requires.rates c.loop-i.invariant c.loop-i-test.true c.adj_series-series.ensures c.credit_of.ensures
+      c.minus.ensures;
+}
 
 pub loop-i-preserved : goal.loop-i-preserved
 loop-i-preserved c =

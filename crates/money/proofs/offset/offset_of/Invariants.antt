@@ -1,10 +1,6 @@
 use Prim.Native.Nat.{◌-◌}
-use borrow.Author.Rules.{rules}
-use native.Mathlib.Omega.{arith}
-use Rattle.laws.specs.SumLaws.{Summed, summed-none, summed-more}
-use Rattle.money.proofs.laws.OffsetLaws.{gives, adj-ready, offsets-room, gives-is, gives-room, offsets-all}
-use Rattle.money.proofs.laws.GuaranteeLaws.{credit-room}
-use Rattle.money.specs.Units.{quantity_at}
+use Rattle.laws.specs.SumLaws.{Summed}
+use Rattle.money.proofs.laws.OffsetLaws.{gives}
 use Rattle.money.proofs.offset.offset_of.Given as goal
 
 abbrev pub invariant-loop-i : goal.invariant-loop-i

@@ -1,9 +1,6 @@
-use mathlib.Core.Path.{sym, ◌∙◌}
 use Prim.Native.Nat.{◌-◌}
-use borrow.Author.Tests.{not-true, not-false}
-use borrow.Author.Rules.{rules}
-use Rattle.laws.specs.SumLaws.{Passed, passed_none, passed-more, passed-all, every-no}
-use Rattle.money.specs.Offset.{rate_ok, rates_ok}
+use Rattle.laws.specs.SumLaws.{Passed}
+use Rattle.money.specs.Offset.{rate_ok}
 use Rattle.money.specs.Units.{intervals}
 use Rattle.money.proofs.offset.rates_ok.Given as goal
 

@@ -1,7 +1,5 @@
-use Prim.Native.Nat.{◌-◌}
-use borrow.Author.Rules.{rules}
 use Rattle.money.proofs.laws.UnitLaws.{zeros}
-use Rattle.money.proofs.laws.OffsetLaws.{Reached, reached-none, reached-room, reached-more, reached-all}
+use Rattle.money.proofs.laws.OffsetLaws.{reached-none, reached-room, reached-more, reached-all}
 use Rattle.money.specs.Units.{intervals}
 use Rattle.money.proofs.offset.reach_series.Goals as goal
 

@@ -1,9 +1,6 @@
-use mathlib.Core.Path.{refl}
 use Prim.Native.Nat.{ℕ, ◌+◌, ◌-◌}
-use native.Mathlib.Omega.{arith}
-use borrow.Author.Rules.{rules}
 use Rattle.money.specs.Units.{intervals, quantity_at}
-use Rattle.money.proofs.laws.UnitLaws.{Filled, filled_none, filled_more}
+use Rattle.money.proofs.laws.UnitLaws.{Filled}
 use Rattle.money.proofs.offset.series_sum.Given as goal
 
 abbrev pub invariant-loop-k : goal.invariant-loop-k

@@ -1,9 +1,6 @@
-use Prim.Native.Nat.{ℕ, ◌-◌, ◌+◌, min}
 use mathlib.Core.Path.{refl}
-use borrow.Author.Rules.{rules}
-use Rattle.money.specs.Units.{intervals, quantity_at}
-use Rattle.money.proofs.laws.UnitLaws.{Filled, filled_none, filled_more, filled-all}
-use Rattle.money.specs.Offset.{max_total, totals_with}
+use Rattle.money.proofs.laws.UnitLaws.{filled_none, filled_more, filled-all}
+use Rattle.money.specs.Offset.{totals_with}
 use Rattle.money.proofs.offset.totals_with.Goals as goal
 
 pub loop-k-init : goal.loop-k-init

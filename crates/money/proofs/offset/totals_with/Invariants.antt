@@ -1,9 +1,7 @@
 use Prim.Native.Nat.{ℕ, ◌-◌, ◌+◌, min}
-use mathlib.Core.Path.{refl}
-use borrow.Author.Rules.{rules}
 use Rattle.money.specs.Units.{intervals, quantity_at}
-use Rattle.money.proofs.laws.UnitLaws.{Filled, filled_none, filled_more, filled-all}
-use Rattle.money.specs.Offset.{max_total, totals_with}
+use Rattle.money.proofs.laws.UnitLaws.{Filled}
+use Rattle.money.specs.Offset.{max_total}
 use Rattle.money.proofs.offset.totals_with.Given as goal
 
 abbrev pub invariant-loop-k : goal.invariant-loop-k

@@ -1,4 +1,3 @@
-use borrow.Author.Rules.{rules}
 use Rattle.money.specs.Production.{C1}
 use Rattle.money.proofs.production.c1.Goals as goal
 

@@ -1,4 +1,3 @@
-use borrow.Author.Rules.{rules}
 use Rattle.money.specs.Production.{C2}
 use Rattle.money.proofs.production.c2.Goals as goal
 

@@ -1,4 +1,3 @@
-use borrow.Author.Rules.{rules}
 use Rattle.money.specs.Production.{C3}
 use Rattle.money.proofs.production.c3.Goals as goal
 

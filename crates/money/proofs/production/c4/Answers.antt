@@ -1,4 +1,3 @@
-use borrow.Author.Rules.{rules}
 use Rattle.money.specs.Production.{C4}
 use Rattle.money.proofs.production.c4.Goals as goal
 

@@ -1,7 +1,6 @@
 use mathlib.Core.Path.{◌≡◌}
 use Prim.Native.Nat.{◌≤◌, min}
 use native.Mathlib.Omega.{arith}
-use borrow.Author.Rules.{rules}
 use Rattle.money.specs.Offers.{last_q}
 use Rattle.money.proofs.laws.OfferLaws.{in-range, spent-room}
 use Rattle.money.proofs.laws.ProductionLaws.{loss-is, loss-room, running-room, shortfall-is}
@@ -20,8 +19,11 @@ minus-loss-requires c =
 pub plus-requires : goal.plus-requires
 plus-requires c =
     let w : c.lesser-m.result.0 ≤ last_q c.args.da = omega arith in
-    record { self_moderate = loss-room _ _ c.requires.da_good w c.args.emp.0 c.requires.emp_in c.cost_of.ensures c.for_quantity.ensures.value
-          c.minus-loss.ensures; other_moderate = running-room c.args.noload.0 c.lesser-m.result.0 c.requires.noload_in c.running_at.ensures }
+    record {
+      self_moderate = loss-room _ _ c.requires.da_good w c.args.emp.0 c.requires.emp_in c.cost_of.ensures c.for_quantity.ensures.value
+          c.minus-loss.ensures;
+      other_moderate = running-room c.args.noload.0 c.lesser-m.result.0 c.requires.noload_in c.running_at.ensures;
+    }
 
 pub returns : goal.returns
 returns c =

@@ -1,6 +1,5 @@
 use mathlib.Core.Path.{◌≡◌, ap, ◌∙◌}
 use Prim.Native.Nat.{ℕ, ◌≤◌, min, max}
-use borrow.Author.Rules.{rules}
 use Rattle.money.specs.Offers.{last_q}
 use Rattle.money.proofs.laws.OfferLaws.{spent-room}
 use Rattle.money.proofs.laws.ProductionLaws.{lesser-in, step_is, step_room, arranged_is}
@@ -24,8 +23,11 @@ minus-requires c =
     let a : c.lesser-from.result.0 ≤ last_q c.args.da = lesser-in c.lesser-to.result.0 c.greater.result.0 c.lesser-from.ensures b in
     let b' : c.lesser-to.result.0 ≤ last_q c.args.rt = lesser-in c.args.d.0 c.args.k.0 c.lesser-to.ensures c.requires.within_rt in
     let a' : c.lesser-from.result.0 ≤ last_q c.args.rt = lesser-in c.lesser-to.result.0 c.greater.result.0 c.lesser-from.ensures b' in
-    record { self_moderate = step_room _ _ _ c.requires.da_good b a c.cost_of.ensures c.cost_of-2.ensures c.minus-ahead.ensures; other_moderate = step_room _ _ _ c.requires.rt_good b' a'
-          c.cost_of-3.ensures c.cost_of-4.ensures c.minus-real.ensures }
+    record {
+      self_moderate = step_room _ _ _ c.requires.da_good b a c.cost_of.ensures c.cost_of-2.ensures c.minus-ahead.ensures;
+      other_moderate = step_room _ _ _ c.requires.rt_good b' a'
+          c.cost_of-3.ensures c.cost_of-4.ensures c.minus-real.ensures;
+    }
 
 pub returns : goal.returns
 returns c =

@@ -1,5 +1,4 @@
 use mathlib.Core.Path.{sym, ◌∙◌}
-use borrow.Author.Rules.{rules}
 use Rattle.money.specs.Production.{C3}
 use Rattle.money.proofs.laws.ProductionLaws.{interval-of}
 use Rattle.money.proofs.laws.UnitLaws.{answer-fault, answer-amount}

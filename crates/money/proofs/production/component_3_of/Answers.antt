@@ -1,7 +1,6 @@
 use mathlib.Core.Path.{◌≡◌}
 use Prim.Native.Nat.{◌≤◌, min}
 use native.Mathlib.Omega.{arith}
-use borrow.Author.Rules.{rules}
 use Rattle.money.specs.Offers.{last_q}
 use Rattle.money.proofs.laws.OfferLaws.{in-range, spent-room}
 use Rattle.money.proofs.laws.ProductionLaws.{loss-is, loss-room, congestion-is}
@@ -31,8 +30,11 @@ pub minus-requires : goal.minus-requires
 minus-requires c =
     let b : c.lesser-to.result.0 ≤ last_q c.args.rt = omega arith in
     let a : c.lesser-from.result.0 ≤ last_q c.args.rt = omega arith in
-    record { self_moderate = loss-room _ _ c.requires.rt_good b c.args.emp.0 c.requires.emp_in c.cost_of.ensures c.for_quantity.ensures.value c.minus-spent.ensures; other_moderate = loss-room _ _ c.requires.rt_good a c.args.emp.0 c.requires.emp_in c.cost_of-2.ensures c.for_quantity-2.ensures.value
-          c.minus-saved.ensures }
+    record {
+      self_moderate = loss-room _ _ c.requires.rt_good b c.args.emp.0 c.requires.emp_in c.cost_of.ensures c.for_quantity.ensures.value c.minus-spent.ensures;
+      other_moderate = loss-room _ _ c.requires.rt_good a c.args.emp.0 c.requires.emp_in c.cost_of-2.ensures c.for_quantity-2.ensures.value
+          c.minus-saved.ensures;
+    }
 
 pub returns : goal.returns
 returns c =

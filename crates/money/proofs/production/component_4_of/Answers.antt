@@ -1,4 +1,3 @@
-use borrow.Author.Rules.{rules}
 use Rattle.money.proofs.laws.ProductionLaws.{room, two-room, net-within, net-small, component4-is}
 use Rattle.money.proofs.production.component_4_of.Goals as goal
 
@@ -12,15 +11,21 @@ pub reserve_net-three-requires : goal.reserve_net-three-requires
 reserve_net-three-requires c = record { s_usable = c.requires.r3_usable; k_in = c.requires.k_in; within_offer = net-within c.requires.r3_usable c.above-left3.result.0 c.args.k c.requires.k_in c.lesser-3.ensures }
 
 pub plus-requires : goal.plus-requires
-plus-requires c = record { self_moderate = room c.reserve_net-one.ensures (net-small c.requires.r1_usable c.above-left1.result.0 c.args.k c.requires.k_in c.lesser.ensures); other_moderate = room
-          c.reserve_net-two.ensures (net-small c.requires.r2_usable c.above-left2.result.0 c.args.k c.requires.k_in c.lesser-2.ensures) }
+plus-requires c = record {
+  self_moderate = room c.reserve_net-one.ensures (net-small c.requires.r1_usable c.above-left1.result.0 c.args.k c.requires.k_in c.lesser.ensures);
+  other_moderate = room
+      c.reserve_net-two.ensures (net-small c.requires.r2_usable c.above-left2.result.0 c.args.k c.requires.k_in c.lesser-2.ensures);
+}
 
 pub plus-requires-2 : goal.plus-requires-2
-plus-requires-2 c = record { self_moderate = two-room c.reserve_net-one.ensures c.reserve_net-two.ensures
-          (net-small c.requires.r1_usable c.above-left1.result.0 c.args.k c.requires.k_in c.lesser.ensures)
-          (net-small c.requires.r2_usable c.above-left2.result.0 c.args.k c.requires.k_in c.lesser-2.ensures) c.plus.ensures; other_moderate = room
-          c.reserve_net-three.ensures
-          (net-small c.requires.r3_usable c.above-left3.result.0 c.args.k c.requires.k_in c.lesser-3.ensures) }
+plus-requires-2 c = record {
+  self_moderate = two-room c.reserve_net-one.ensures c.reserve_net-two.ensures
+      (net-small c.requires.r1_usable c.above-left1.result.0 c.args.k c.requires.k_in c.lesser.ensures)
+      (net-small c.requires.r2_usable c.above-left2.result.0 c.args.k c.requires.k_in c.lesser-2.ensures) c.plus.ensures;
+  other_moderate = room
+      c.reserve_net-three.ensures
+      (net-small c.requires.r3_usable c.above-left3.result.0 c.args.k c.requires.k_in c.lesser-3.ensures);
+}
 
 pub returns : goal.returns
 returns c =

@@ -1,18 +1,18 @@
-use Prim.Native.Nat.{◌-◌}
-use borrow.Author.Rules.{rules}
 use native.Mathlib.Omega.{arith}
-use Rattle.laws.specs.SumLaws.{Summed, summed-none, summed-more, summed-all}
-use Rattle.money.specs.Production.{hour_part, day_sum}
+use Rattle.laws.specs.SumLaws.{summed-none, summed-more, summed-all}
+use Rattle.money.specs.Production.{day_sum}
 use Rattle.money.proofs.laws.ProductionLaws.{day-room, part-is, part_room, start-room}
-use Rattle.money.specs.Units.{day_hours}
 use Rattle.money.proofs.production.day_sum.Goals as goal
 
 pub loop-i-init : goal.loop-i-init
 loop-i-init c = summed-none _ _
 
 pub plus-requires : goal.plus-requires
-plus-requires c = record { self_moderate = omega (arith, c.requires.amounts c.loop-i.i c.loop-i-test.true); other_moderate = start-room (c.requires) c.loop-i.i c.loop-i-test.true
-          c.ticks.ensures }
+plus-requires c = record {
+  self_moderate = omega (arith, c.requires.amounts c.loop-i.i c.loop-i-test.true);
+  other_moderate = start-room (c.requires) c.loop-i.i c.loop-i-test.true
+      c.ticks.ensures;
+}
 
 pub plus-sum-requires : goal.plus-sum-requires
 plus-sum-requires c = record { self_moderate = day-room (c.requires) c.loop-i.invariant; other_moderate = part_room (c.requires) c.loop-i.i c.loop-i-test.true c.ticks.ensures c.plus.ensures }

@@ -1,9 +1,6 @@
 use Prim.Native.Nat.{◌-◌}
-use borrow.Author.Rules.{rules}
-use native.Mathlib.Omega.{arith}
-use Rattle.laws.specs.SumLaws.{Summed, summed-none, summed-more, summed-all}
-use Rattle.money.specs.Production.{hour_part, day_sum}
-use Rattle.money.proofs.laws.ProductionLaws.{day-room, part-is, part_room, start-room}
+use Rattle.laws.specs.SumLaws.{Summed}
+use Rattle.money.specs.Production.{hour_part}
 use Rattle.money.specs.Units.{day_hours}
 use Rattle.money.proofs.production.day_sum.Given as goal
 

@@ -1,11 +1,7 @@
 use mathlib.Core.Path.{sym, ◌∙◌}
-use Prim.Native.Nat.{◌-◌}
 use lib.ListN.{get_or}
-use borrow.Author.Tests.{not-true, not-false}
-use borrow.Author.Rules.{rules}
-use Rattle.laws.specs.SumLaws.{Passed, passed_none, passed-more, passed-all, every-no}
+use Rattle.laws.specs.SumLaws.{passed_none, passed-more, passed-all, every-no}
 use Rattle.money.specs.Production.{amount_ok, hours_ok, no_ticks, no_start}
-use Rattle.money.specs.Units.{day_hours}
 use Rattle.money.proofs.production.hours_ok.Goals as goal
 
 pub loop-i-init : goal.loop-i-init

@@ -1,7 +1,6 @@
 use mathlib.Core.Path.{sym, ◌∙◌}
 use lib.Dec.{ltb}
 use borrow.Author.Tests.{lt-ltb, le-ltb}
-use borrow.Author.Rules.{rules}
 use Rattle.money.specs.Units.{intervals, unless}
 use Rattle.money.specs.Production.{interval_fault}
 use Rattle.money.proofs.laws.UnitLaws.{kept}

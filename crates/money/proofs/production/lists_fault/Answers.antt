@@ -1,5 +1,4 @@
 use mathlib.Core.Path.{sym, ◌∙◌}
-use borrow.Author.Rules.{rules}
 use Rattle.laws.specs.Sums.{or_else}
 use Rattle.money.specs.Offers.{offer_fault}
 use Rattle.money.specs.Production.{reserve_fault, lists_fault}

@@ -1,9 +1,7 @@
 use Prim.Native.Nat.{ℕ, ◌-◌}
-use borrow.Author.Rules.{rules}
-use Rattle.laws.specs.SumLaws.{Summed, summed-none, summed-more, summed-all}
+use Rattle.laws.specs.SumLaws.{Summed}
 use Rattle.money.specs.Units.{intervals, quantity_at}
 use Rattle.money.specs.tables.Numbers.{running}
-use Rattle.money.proofs.laws.ProductionLaws.{running-room, runs-room}
 use Rattle.money.proofs.production.noload_sum.Given as goal
 
 abbrev pub invariant-loop-k : goal.invariant-loop-k

@@ -1,6 +1,5 @@
 use mathlib.Core.Path.{sym, ◌∙◌}
-use borrow.Author.Tests.{not-true, not-false, lt-leb, le-leb}
-use borrow.Author.Rules.{rules}
+use borrow.Author.Tests.{lt-leb, le-leb}
 use Rattle.money.specs.Production.{numbers_fine}
 use Rattle.money.proofs.production.numbers_fine.Goals as goal
 

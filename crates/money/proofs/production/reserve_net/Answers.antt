@@ -1,5 +1,4 @@
 use native.Mathlib.Omega.{arith}
-use borrow.Author.Rules.{rules}
 use Rattle.money.specs.Units.{price_at}
 use Rattle.money.proofs.laws.OfferLaws.{in-range, spent-room}
 use Rattle.money.proofs.laws.ProductionLaws.{offered, idle}

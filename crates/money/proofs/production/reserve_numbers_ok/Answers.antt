@@ -1,5 +1,4 @@
 use mathlib.Core.Path.{sym, ◌∙◌}
-use borrow.Author.Rules.{rules}
 use Rattle.money.proofs.production.reserve_numbers_ok.Goals as goal
 
 pub returns-then-prices_ok : goal.returns-then-prices_ok

@@ -1,5 +1,4 @@
 use native.Mathlib.Omega.{arith}
-use borrow.Author.Rules.{rules}
 use Rattle.money.specs.Units.{quantity_at}
 use Rattle.money.proofs.laws.ProductionLaws.{reserve-none, reserve-ready, reserve-is}
 use Rattle.money.proofs.production.reserve_sum.Goals as goal

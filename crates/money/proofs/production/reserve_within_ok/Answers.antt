@@ -1,6 +1,5 @@
 use mathlib.Core.Path.{sym, ap, ◌∙◌}
 use Prim.Native.Nat.{ℕ}
-use borrow.Author.Rules.{rules}
 use Rattle.money.specs.Units.{within_ok}
 use Rattle.money.proofs.laws.ProductionLaws.{last_none}
 use Rattle.money.proofs.production.reserve_within_ok.Goals as goal

@@ -1,6 +1,4 @@
 use mathlib.Core.Path.{sym, ◌∙◌}
-use borrow.Author.Tests.{not-true, not-false}
-use borrow.Author.Rules.{rules}
 use Rattle.money.specs.Production.{reserves_numbers_ok}
 use Rattle.money.proofs.production.reserves_numbers_ok.Goals as goal
 

@@ -1,5 +1,4 @@
 use native.Mathlib.Omega.{arith}
-use borrow.Author.Rules.{rules}
 use Rattle.money.proofs.laws.ProductionLaws.{running_none, running-some}
 use Rattle.money.proofs.production.running_at.Goals as goal
 

@@ -1,10 +1,6 @@
 use mathlib.Core.Path.{refl}
-use Prim.Native.Nat.{ℕ, ◌-◌}
-use borrow.Author.Rules.{rules}
 use native.Mathlib.Omega.{arith}
-use Rattle.money.specs.Units.{intervals, quantity_at}
-use Rattle.money.specs.tables.Numbers.{pick_of}
-use Rattle.money.proofs.laws.UnitLaws.{Filled, filled_none, filled_more}
+use Rattle.money.proofs.laws.UnitLaws.{filled_none, filled_more}
 use Rattle.money.proofs.production.series_by.Goals as goal
 
 pub loop-k-init : goal.loop-k-init

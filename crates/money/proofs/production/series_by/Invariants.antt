@@ -1,10 +1,7 @@
-use mathlib.Core.Path.{refl}
 use Prim.Native.Nat.{ℕ, ◌-◌}
-use borrow.Author.Rules.{rules}
-use native.Mathlib.Omega.{arith}
 use Rattle.money.specs.Units.{intervals, quantity_at}
 use Rattle.money.specs.tables.Numbers.{pick_of}
-use Rattle.money.proofs.laws.UnitLaws.{Filled, filled_none, filled_more}
+use Rattle.money.proofs.laws.UnitLaws.{Filled}
 use Rattle.money.proofs.production.series_by.Given as goal
 
 abbrev pub invariant-loop-k : goal.invariant-loop-k

@@ -1,7 +1,6 @@
 use mathlib.Core.Path.{ap, ◌∙◌}
 use Prim.Native.Nat.{ℕ, min}
 use native.Mathlib.Omega.{arith}
-use borrow.Author.Rules.{rules}
 use Rattle.money.specs.Units.{quantity_at}
 use Rattle.money.proofs.laws.ProductionLaws.{ready-less, profits-moderate, runs-moderate, sum1-is, lesser-in}
 use Rattle.money.proofs.production.sum_1.Goals as goal
@@ -12,9 +11,12 @@ profit_sum-requires c =
     (λ k l. lesser-in (quantity_at c.args.d k) (quantity_at c.series_by-ra.result k) (c.series_by-m.ensures k l) (omega arith))
 
 pub minus-requires : goal.minus-requires
-minus-requires c = record { self_moderate = runs-moderate c.args.noload.0 (quantity_at c.series_by-m.result) c.requires.noload_in c.noload_sum.ensures; other_moderate = profits-moderate (ready-less
-          c.requires.da_ready (λ k l. lesser-in (quantity_at c.args.d k) (quantity_at c.series_by-ra.result k) (c.series_by-m.ensures k l) (omega arith)))
-          c.profit_sum.ensures }
+minus-requires c = record {
+  self_moderate = runs-moderate c.args.noload.0 (quantity_at c.series_by-m.result) c.requires.noload_in c.noload_sum.ensures;
+  other_moderate = profits-moderate (ready-less
+      c.requires.da_ready (λ k l. lesser-in (quantity_at c.args.d k) (quantity_at c.series_by-ra.result k) (c.series_by-m.ensures k l) (omega arith)))
+      c.profit_sum.ensures;
+}
 
 pub returns : goal.returns
 returns c =

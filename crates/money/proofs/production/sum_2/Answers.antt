@@ -1,7 +1,6 @@
 use mathlib.Core.Path.{ap, ◌∙◌}
 use Prim.Native.Nat.{ℕ, min}
 use native.Mathlib.Omega.{arith}
-use borrow.Author.Rules.{rules}
 use Rattle.money.specs.Units.{quantity_at}
 use Rattle.money.proofs.laws.ProductionLaws.{ready-less, profits-moderate, two-profits, sum2-is, lesser-in}
 use Rattle.money.proofs.production.sum_2.Goals as goal
@@ -53,8 +52,11 @@ minus-requires c =
     (λ k l. lesser-in (quantity_at c.args.d k) (quantity_at c.args.cap k) (c.series_by-to.ensures k l) (omega arith)) in
     let from' = ready-less to'
     (λ k l. lesser-in (quantity_at c.series_by-to.result k) (quantity_at c.series_by-ra.result k) (c.series_by-from.ensures k l) (omega arith)) in
-    record { self_moderate = two-profits from to c.profit_sum.ensures c.profit_sum-2.ensures c.minus-ahead.ensures; other_moderate = two-profits from' to' c.profit_sum-3.ensures
-          c.profit_sum-4.ensures c.minus-real.ensures }
+    record {
+      self_moderate = two-profits from to c.profit_sum.ensures c.profit_sum-2.ensures c.minus-ahead.ensures;
+      other_moderate = two-profits from' to' c.profit_sum-3.ensures
+          c.profit_sum-4.ensures c.minus-real.ensures;
+    }
 
 pub returns : goal.returns
 returns c =

@@ -1,16 +1,21 @@
-use borrow.Author.Rules.{rules}
 use Rattle.money.specs.Units.{quantity_at}
 use Rattle.money.proofs.laws.ProductionLaws.{reserve-room, two-reserves, sum4-is}
 use Rattle.money.proofs.production.sum_4.Goals as goal
 
 pub plus-requires : goal.plus-requires
-plus-requires c = record { self_moderate = reserve-room c.requires.r1_usable (quantity_at c.series_by-left1.result) c.reserve_sum-one.ensures; other_moderate = reserve-room c.requires.r2_usable
-          (quantity_at c.series_by-left2.result) c.reserve_sum-two.ensures }
+plus-requires c = record {
+  self_moderate = reserve-room c.requires.r1_usable (quantity_at c.series_by-left1.result) c.reserve_sum-one.ensures;
+  other_moderate = reserve-room c.requires.r2_usable
+      (quantity_at c.series_by-left2.result) c.reserve_sum-two.ensures;
+}
 
 pub plus-requires-2 : goal.plus-requires-2
-plus-requires-2 c = record { self_moderate = two-reserves c.requires.r1_usable c.requires.r2_usable (quantity_at c.series_by-left1.result) (quantity_at c.series_by-left2.result) c.reserve_sum-one.ensures
-          c.reserve_sum-two.ensures c.plus.ensures; other_moderate = reserve-room c.requires.r3_usable (quantity_at c.series_by-left3.result)
-          c.reserve_sum-three.ensures }
+plus-requires-2 c = record {
+  self_moderate = two-reserves c.requires.r1_usable c.requires.r2_usable (quantity_at c.series_by-left1.result) (quantity_at c.series_by-left2.result) c.reserve_sum-one.ensures
+      c.reserve_sum-two.ensures c.plus.ensures;
+  other_moderate = reserve-room c.requires.r3_usable (quantity_at c.series_by-left3.result)
+      c.reserve_sum-three.ensures;
+}
 
 pub returns : goal.returns
 returns c =

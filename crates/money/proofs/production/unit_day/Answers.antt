@@ -1,6 +1,4 @@
 use mathlib.Core.Path.{sym, ◌∙◌}
-use borrow.Author.Tests.{not-true, not-false}
-use borrow.Author.Rules.{rules}
 use Rattle.money.specs.declared.production.DayAnswer.TheVariants as day-variants
 use Rattle.money.specs.Production.{day_answer}
 use Rattle.money.proofs.laws.ProductionLaws.{day-of, reversal-is}

@@ -1,6 +1,4 @@
 use mathlib.Core.Path.{sym, ◌∙◌}
-use borrow.Author.Tests.{not-true, not-false}
-use borrow.Author.Rules.{rules}
 use Rattle.money.specs.Units.{unless}
 use Rattle.money.specs.Production.{within_fine, unit_fault}
 use Rattle.money.proofs.laws.ProductionLaws.{lists_of}

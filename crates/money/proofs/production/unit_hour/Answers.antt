@@ -1,5 +1,4 @@
 use mathlib.Core.Path.{sym, ◌∙◌}
-use borrow.Author.Rules.{rules}
 use Rattle.money.specs.Production.{hour_amount}
 use Rattle.money.proofs.laws.ProductionLaws.{unit-of}
 use Rattle.money.proofs.laws.UnitLaws.{answer-fault, answer-amount}

@@ -1,6 +1,4 @@
 use mathlib.Core.Path.{sym, ◌∙◌}
-use borrow.Author.Tests.{not-true, not-false}
-use borrow.Author.Rules.{rules}
 use Rattle.money.proofs.laws.GuaranteeLaws.{within-is}
 use Rattle.money.specs.Production.{within_fine}
 use Rattle.money.proofs.production.within_fine.Goals as goal

@@ -1,10 +1,7 @@
 use mathlib.Core.Path.{sym, ◌∙◌}
-use Prim.Native.Nat.{◌-◌}
 use lib.ListN.{get_or}
-use borrow.Author.Tests.{not-true, not-false}
-use borrow.Author.Rules.{rules}
-use Rattle.laws.specs.SumLaws.{Passed, passed_none, passed-more, passed-all, every-no}
-use Rattle.money.specs.Units.{intervals, prices_ok, price_ok, no_price}
+use Rattle.laws.specs.SumLaws.{passed_none, passed-more, passed-all, every-no}
+use Rattle.money.specs.Units.{prices_ok, price_ok, no_price}
 use Rattle.money.proofs.units.prices_ok.Goals as goal
 
 pub loop-k-init : goal.loop-k-init

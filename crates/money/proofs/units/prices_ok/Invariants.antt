@@ -1,10 +1,7 @@
-use mathlib.Core.Path.{sym, ◌∙◌}
 use Prim.Native.Nat.{◌-◌}
 use lib.ListN.{get_or}
-use borrow.Author.Tests.{not-true, not-false}
-use borrow.Author.Rules.{rules}
-use Rattle.laws.specs.SumLaws.{Passed, passed_none, passed-more, passed-all, every-no}
-use Rattle.money.specs.Units.{intervals, prices_ok, price_ok, no_price}
+use Rattle.laws.specs.SumLaws.{Passed}
+use Rattle.money.specs.Units.{intervals, price_ok, no_price}
 use Rattle.money.proofs.units.prices_ok.Given as goal
 
 abbrev pub invariant-loop-k : goal.invariant-loop-k

@@ -1,10 +1,7 @@
 use mathlib.Core.Path.{sym, ◌∙◌}
-use Prim.Native.Nat.{◌-◌}
 use lib.ListN.{get_or}
-use borrow.Author.Tests.{not-true, not-false}
-use borrow.Author.Rules.{rules}
-use Rattle.laws.specs.SumLaws.{Passed, passed_none, passed-more, passed-all, every-no}
-use Rattle.money.specs.Units.{intervals, quantities_ok, quantity_ok, no_quantity}
+use Rattle.laws.specs.SumLaws.{passed_none, passed-more, passed-all, every-no}
+use Rattle.money.specs.Units.{quantities_ok, quantity_ok, no_quantity}
 use Rattle.money.proofs.units.quantities_ok.Goals as goal
 
 pub loop-k-init : goal.loop-k-init

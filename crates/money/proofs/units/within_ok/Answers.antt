@@ -1,10 +1,8 @@
 use mathlib.Core.Path.{sym}
-use Prim.Native.Nat.{◌-◌}
 use lib.Dec.{leb}
 use borrow.Author.Tests.{le-leb, lt-leb}
-use borrow.Author.Rules.{rules}
-use Rattle.laws.specs.SumLaws.{Passed, passed_none, passed-more, passed-all, every-no}
-use Rattle.money.specs.Units.{intervals, within_ok, quantity_at}
+use Rattle.laws.specs.SumLaws.{passed_none, passed-more, passed-all, every-no}
+use Rattle.money.specs.Units.{within_ok, quantity_at}
 use Rattle.money.proofs.units.within_ok.Goals as goal
 
 pub loop-k-init : goal.loop-k-init

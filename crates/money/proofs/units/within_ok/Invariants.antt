@@ -1,10 +1,7 @@
-use mathlib.Core.Path.{sym}
 use Prim.Native.Nat.{◌-◌}
 use lib.Dec.{leb}
-use borrow.Author.Tests.{le-leb, lt-leb}
-use borrow.Author.Rules.{rules}
-use Rattle.laws.specs.SumLaws.{Passed, passed_none, passed-more, passed-all, every-no}
-use Rattle.money.specs.Units.{intervals, within_ok, quantity_at}
+use Rattle.laws.specs.SumLaws.{Passed}
+use Rattle.money.specs.Units.{intervals, quantity_at}
 use Rattle.money.proofs.units.within_ok.Given as goal
 
 abbrev pub invariant-loop-k : goal.invariant-loop-k

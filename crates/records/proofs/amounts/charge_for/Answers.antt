@@ -1,4 +1,3 @@
-use borrow.Author.Rules.{rules}
 use Rattle.records.proofs.amounts.charge_for.Goals as goal
 
 pub returns-in-Fi : goal.returns-in-Fi

@@ -1,6 +1,5 @@
 use mathlib.Core.Path.{sym, ap, ◌∙◌}
 use mathlib.Core.List.{[]}
-use borrow.Author.Rules.{rules}
 use Rattle.money.specs.declared.units.Answer.{Answer}
 use Rattle.records.specs.Amounts.{given, entry_from, entry_answer}
 use Rattle.records.proofs.amounts.entry_for.Goals as goal

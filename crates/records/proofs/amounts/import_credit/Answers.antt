@@ -1,5 +1,4 @@
 use mathlib.Core.Path.{sym, ap, ◌∙◌}
-use borrow.Author.Rules.{rules}
 use Rattle.records.specs.Reading.{Res}
 use Rattle.records.specs.Layouts.{import}
 use Rattle.records.specs.Views.{viewed, no_import}

@@ -1,5 +1,4 @@
 use mathlib.Core.Path.{◌∙◌}
-use borrow.Author.Rules.{rules}
 use Rattle.records.proofs.views.Lemmas.{entry_at, entry-no}
 use Rattle.records.proofs.amounts.offset_entry.Goals as goal
 

@@ -1,5 +1,4 @@
 use mathlib.Core.Path.{sym, ap, ◌∙◌}
-use borrow.Author.Rules.{rules}
 use Rattle.money.specs.Offset.{totals_with}
 use Rattle.records.specs.Reading.{Res, got, ◌>>=◌}
 use Rattle.records.specs.Layouts.{export}

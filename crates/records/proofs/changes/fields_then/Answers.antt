@@ -1,5 +1,4 @@
 use mathlib.Core.Path.{sym}
-use borrow.Author.Rules.{rules}
 use Rattle.records.specs.tables.Inner.{layout_for}
 use Rattle.records.proofs.fields.Step.{last}
 use Rattle.records.proofs.changes.fields_then.Goals as goal

@@ -1,5 +1,4 @@
 use mathlib.Core.Path.{sym, ◌∙◌}
-use borrow.Author.Rules.{rules}
 use Rattle.records.proofs.marks.Lemmas.{name-named, name-less}
 use Rattle.records.proofs.changes.name_then.Goals as goal
 

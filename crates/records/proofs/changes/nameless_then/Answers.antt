@@ -1,6 +1,5 @@
 use mathlib.Core.Path.{sym}
 use native.Mathlib.Omega.{arith}
-use borrow.Author.Rules.{rules}
 use Rattle.records.specs.Names.{empty_name}
 use Rattle.records.proofs.fields.Step.{last}
 use Rattle.records.proofs.changes.nameless_then.Goals as goal

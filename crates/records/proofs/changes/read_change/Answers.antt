@@ -1,4 +1,3 @@
-use borrow.Author.Rules.{rules}
 use Rattle.records.proofs.changes.Lemmas.{change-is}
 use Rattle.records.proofs.changes.read_change.Goals as goal
 

@@ -1,4 +1,3 @@
-use borrow.Author.Rules.{rules}
 use Rattle.records.proofs.fields.amount_then.Goals as goal
 
 pub returns-in-Got : goal.returns-in-Got

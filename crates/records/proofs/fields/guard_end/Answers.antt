@@ -1,4 +1,3 @@
-use borrow.Author.Rules.{rules}
 use Rattle.records.proofs.fields.Step.{guard-yes}
 use Rattle.records.proofs.fields.guard_end.Goals as goal
 

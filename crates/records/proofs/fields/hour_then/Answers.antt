@@ -12,12 +12,11 @@ returns-then-hour_ok c =
     (rw c.in-At.is (hour-here c.args.s.now _ c.if-s-at.false (sym c.hour_ok.ensures ∙ c.if-hour_ok.true)), search rules)
 
 pub returns-else-hour_ok : goal.returns-else-hour_ok
-returns-else-hour_ok c =
-    (
-      rw (c.hour_no-in-At.ensures, c.in-At.is)
-          (hour-outside c.args.s.now _ c.if-s-at.false (sym c.hour_ok.ensures ∙ c.if-hour_ok.false)),
-      rw c.hour_no-in-At.ensures tt,
-    )
+returns-else-hour_ok c = (
+  rw (c.hour_no-in-At.ensures, c.in-At.is)
+      (hour-outside c.args.s.now _ c.if-s-at.false (sym c.hour_ok.ensures ∙ c.if-hour_ok.false)),
+  rw c.hour_no-in-At.ensures tt,
+)
 
 pub returns-in-No : goal.returns-in-No
 returns-in-No c = (rw (c.hour_no-in-No.ensures, c.in-No.is), rw c.hour_no-in-No.ensures tt)

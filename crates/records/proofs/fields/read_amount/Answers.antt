@@ -1,5 +1,4 @@
 use borrow.Author.Tests.{le-leb, lt-leb}
-use borrow.Author.Rules.{rules}
 use Rattle.records.specs.Numbers.{amount}
 use Rattle.records.proofs.fields.read_amount.Goals as goal
 

@@ -8,17 +8,16 @@ use Rattle.records.proofs.fields.Lemmas.{price-good, price-refused, price-bad}
 use Rattle.records.proofs.fields.read_price.Goals as goal
 
 pub returns-in-Good : goal.returns-in-Good
-returns-in-Good c =
-    (
-      price-good c.args.s.now
-          c.args.at
-          c.in-Got.u c.in-Got.next (sym
-          c.read_word-w.ensures.0 ∙ ap (num _)
-          c.in-Got.is) _ (ap price_read (sym c.signed_of.ensures) ∙ ap
-          price_read (sym (to_z-of_z w32 c.signed_of.result (search rules))) ∙ sym c.new-p.ensures
-          ∙ c.in-Good.is),
-      rw c.in-Got.is at c.read_word-w.ensures.1,
-    )
+returns-in-Good c = (
+  price-good c.args.s.now
+      c.args.at
+      c.in-Got.u c.in-Got.next (sym
+      c.read_word-w.ensures.0 ∙ ap (num _)
+      c.in-Got.is) _ (ap price_read (sym c.signed_of.ensures) ∙ ap
+      price_read (sym (to_z-of_z w32 c.signed_of.result (search rules))) ∙ sym c.new-p.ensures
+      ∙ c.in-Good.is),
+  rw c.in-Got.is at c.read_word-w.ensures.1,
+)
 
 pub returns-in-Refused : goal.returns-in-Refused
 returns-in-Refused c = (

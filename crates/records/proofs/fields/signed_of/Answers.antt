@@ -3,7 +3,6 @@ use lib.IntN.{negsuc}
 use mathlib.Core.Path.{◌≡◌, ap}
 use borrow.Author.Tests.{lt-ltb, le-ltb}
 use native.Mathlib.Omega.{arith}
-use borrow.Author.Rules.{rules}
 use Rattle.records.proofs.fields.signed_of.Goals as goal
 
 pub returns-then-u-lt2147483648 : goal.returns-then-u-lt2147483648

@@ -1,5 +1,4 @@
 use mathlib.Core.Path.{sym, ◌∙◌}
-use borrow.Author.Rules.{rules}
 use Rattle.records.proofs.heads.Lemmas.{able-named, able-unnamed}
 use Rattle.records.proofs.heads.nameable.Goals as goal
 

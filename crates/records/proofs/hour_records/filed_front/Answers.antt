@@ -1,5 +1,4 @@
 use mathlib.Core.Path.{◌∙◌}
-use borrow.Author.Rules.{rules}
 use Rattle.records.proofs.hour_records.Lemmas.{filed-at, filed-no}
 use Rattle.records.proofs.hour_records.filed_front.Goals as goal
 

@@ -1,5 +1,4 @@
 use mathlib.Core.Path.{◌∙◌}
-use borrow.Author.Rules.{rules}
 use Rattle.records.proofs.hour_records.Lemmas.{front-filed, front-not}
 use Rattle.records.proofs.hour_records.first_of_hour.Goals as goal
 

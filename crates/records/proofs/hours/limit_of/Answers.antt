@@ -1,4 +1,3 @@
-use borrow.Author.Rules.{rules}
 use Rattle.records.specs.Hours.{limit_of}
 use Rattle.records.proofs.hours.limit_of.Goals as goal
 

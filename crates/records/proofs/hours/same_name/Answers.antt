@@ -1,4 +1,3 @@
-use borrow.Author.Rules.{rules}
 use Rattle.records.specs.Hours.{same_name, at_hour}
 use Rattle.records.proofs.hours.same_name.Goals as goal
 

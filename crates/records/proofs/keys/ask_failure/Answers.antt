@@ -1,5 +1,4 @@
 use mathlib.Core.Path.{ap, ◌∙◌}
-use borrow.Author.Rules.{rules}
 use Rattle.records.specs.Keys.{key_answer, ask_from}
 use Rattle.records.proofs.keys.ask_failure.Goals as goal
 

@@ -1,5 +1,4 @@
 use mathlib.Core.Path.{sym, ap, ◌∙◌}
-use borrow.Author.Rules.{rules}
 use Rattle.records.specs.Keys.{name_answer}
 use Rattle.records.specs.tables.Inner.{shown}
 use Rattle.records.proofs.keys.ask_name.Goals as goal

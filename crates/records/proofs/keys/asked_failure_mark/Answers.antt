@@ -1,5 +1,4 @@
 use mathlib.Core.Path.{sym, ◌∙◌}
-use borrow.Author.Rules.{rules}
 use Rattle.records.specs.Marks.{is_failure}
 use Rattle.records.specs.Keys.{ask_mark, ask_failure_mark}
 use Rattle.records.specs.tables.Inner.{guarded}

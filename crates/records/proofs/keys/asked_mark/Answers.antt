@@ -1,5 +1,4 @@
 use mathlib.Core.Path.{◌∙◌}
-use borrow.Author.Rules.{rules}
 use Rattle.records.proofs.keys.Lemmas.{mark-two, mark-other}
 use Rattle.records.proofs.keys.asked_mark.Goals as goal
 

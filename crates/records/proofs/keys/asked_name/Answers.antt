@@ -1,6 +1,5 @@
 use mathlib.Core.Path.{sym, ◌∙◌}
 use native.Mathlib.Omega.{arith}
-use borrow.Author.Rules.{rules}
 use Rattle.records.proofs.keys.Lemmas.{name-asked, name-none, name-some}
 use Rattle.records.proofs.keys.asked_name.Goals as goal
 

@@ -1,5 +1,4 @@
 use mathlib.Core.Path.{sym, ap, ◌∙◌}
-use borrow.Author.Rules.{rules}
 use Rattle.records.specs.Keys.{key_answer}
 use Rattle.records.proofs.keys.Lemmas.{hour-out, hour-got}
 use Rattle.records.proofs.keys.hour_key.Goals as goal

@@ -1,5 +1,4 @@
 use mathlib.Core.Path.{sym, ap, ◌∙◌}
-use borrow.Author.Rules.{rules}
 use Rattle.records.specs.Reading.{from}
 use Rattle.records.specs.Keys.{key_answer, ask_from}
 use Rattle.records.specs.tables.Inner.{shown}

@@ -1,5 +1,4 @@
 use mathlib.Core.Path.{sym, ap₂, ◌∙◌}
-use borrow.Author.Rules.{rules}
 use Rattle.records.specs.Marks.{same_mark}
 use Rattle.records.proofs.keys.Lemmas.{other-mark, by-hour}
 use Rattle.records.proofs.keys.same_hour.Goals as goal

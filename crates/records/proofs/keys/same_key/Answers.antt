@@ -1,5 +1,4 @@
 use mathlib.Core.Path.{sym, ◌∙◌}
-use borrow.Author.Rules.{rules}
 use Rattle.records.proofs.keys.Lemmas.{other-hour, by_name}
 use Rattle.records.proofs.keys.same_key.Goals as goal
 

@@ -1,5 +1,4 @@
 use mathlib.Core.Path.{sym, ◌∙◌}
-use borrow.Author.Rules.{rules}
 use Rattle.records.proofs.marks.Lemmas.{and-go, and-stop}
 use Rattle.records.proofs.layouts.all_inside.Goals as goal
 

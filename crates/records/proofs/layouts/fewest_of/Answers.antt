@@ -1,5 +1,4 @@
 use mathlib.Core.Path.{sym, ◌∙◌}
-use borrow.Author.Rules.{rules}
 use Rattle.records.proofs.marks.Lemmas.{least-yes, least-no}
 use Rattle.records.proofs.layouts.fewest_of.Goals as goal
 

@@ -1,5 +1,4 @@
 use mathlib.Core.Path.{sym, ◌∙◌}
-use borrow.Author.Rules.{rules}
 use Rattle.records.specs.Reading.{many}
 use Rattle.records.specs.Numbers.{quantity, list_from}
 use Rattle.records.specs.Layouts.{import, within}

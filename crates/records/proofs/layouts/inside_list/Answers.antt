@@ -1,5 +1,4 @@
 use mathlib.Core.Path.{ap, ◌∙◌}
-use borrow.Author.Rules.{rules}
 use Rattle.money.specs.Units.{within_ok}
 use Rattle.records.proofs.layouts.inside_list.Goals as goal
 

@@ -1,5 +1,4 @@
 use mathlib.Core.Path.{sym, ap, ◌∙◌}
-use borrow.Author.Rules.{rules}
 use Rattle.records.specs.Numbers.{list_from}
 use Rattle.records.specs.Layouts.{lists, fewest}
 use Rattle.records.specs.tables.Inner.{then}

@@ -1,5 +1,4 @@
 use mathlib.Core.Path.{sym, ◌∙◌}
-use borrow.Author.Rules.{rules}
 use Rattle.records.specs.Reading.{many}
 use Rattle.records.specs.Numbers.{price, quantity}
 use Rattle.records.specs.Layouts.{reserve_series}
@@ -8,10 +7,9 @@ use Rattle.records.proofs.layouts.reserve_series_then.Goals as goal
 
 pub returns : goal.returns
 unfolding reserve_series
-returns c =
-    (
-      sym (next c.args.s.now c.args.e c.prices_then-p.result.end c.prices_then-p.result.values (many 12 price) _ c.prices_then-p.ensures.0
-          ∙ next c.args.s.now c.prices_then-p.result.end c.quantities_then-q.result.end c.quantities_then-q.result.values (many 12 quantity) _ c.quantities_then-q.ensures.0
-          ∙ last c.args.s.now c.quantities_then-q.result.end _),
-      c.quantities_then-q.ensures.1,
-    )
+returns c = (
+  sym (next c.args.s.now c.args.e c.prices_then-p.result.end c.prices_then-p.result.values (many 12 price) _ c.prices_then-p.ensures.0
+      ∙ next c.args.s.now c.prices_then-p.result.end c.quantities_then-q.result.end c.quantities_then-q.result.values (many 12 quantity) _ c.quantities_then-q.ensures.0
+      ∙ last c.args.s.now c.quantities_then-q.result.end _),
+  c.quantities_then-q.ensures.1,
+)

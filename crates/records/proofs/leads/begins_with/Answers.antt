@@ -1,5 +1,4 @@
 use mathlib.Core.Path.{◌∙◌}
-use borrow.Author.Rules.{rules}
 use Rattle.records.proofs.leads.Lemmas.{begins-early, begins-is}
 use Rattle.records.proofs.leads.begins_with.Goals as goal
 

@@ -1,5 +1,4 @@
 use native.Mathlib.Omega.{arith}
-use borrow.Author.Rules.{rules}
 use Rattle.money.proofs.laws.OfferLaws.{last-is}
 use Rattle.records.proofs.lists.last_quantity.Goals as goal
 

@@ -1,5 +1,4 @@
 use borrow.Author.Tests.{eq-eqb, ne_eqb}
-use borrow.Author.Rules.{rules}
 use Rattle.records.proofs.lists.list_ok.Goals as goal
 
 pub returns-then-o-eq0 : goal.returns-then-o-eq0

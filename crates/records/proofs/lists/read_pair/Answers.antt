@@ -1,4 +1,3 @@
-use borrow.Author.Rules.{rules}
 use Rattle.records.specs.Numbers.{pair}
 use Rattle.records.proofs.lists.read_pair.Goals as goal
 

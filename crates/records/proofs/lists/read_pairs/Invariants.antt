@@ -1,13 +1,10 @@
 use Prim.Native.Nat.{◌≤◌, ◌-◌}
-use mathlib.Core.Path.{◌≡◌, refl, sym, ap, ◌∙◌}
+use mathlib.Core.Path.{◌≡◌}
 use lib.ListN.{length}
-use borrow.Author.Rules.{rules}
-use native.Mathlib.Omega.{arith}
 use Rattle.money.specs.Units.{no_price, no_quantity}
 use Rattle.records.specs.Numbers.{pair}
-use Rattle.records.specs.tables.Inner.{pair_at}
-use Rattle.records.proofs.fields.Lemmas.{Filled, filled_none, filled_more}
-use Rattle.records.proofs.lists.Lemmas.{Padded, padded-more, zip, zip-set, length-zip, pairs-all, pairs-bad}
+use Rattle.records.proofs.fields.Lemmas.{Filled}
+use Rattle.records.proofs.lists.Lemmas.{Padded, zip}
 use Rattle.records.proofs.lists.read_pairs.Given as goal
 
 abbrev pub invariant-loop-i : goal.invariant-loop-i

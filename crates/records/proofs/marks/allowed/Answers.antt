@@ -1,5 +1,4 @@
 use mathlib.Core.Path.{sym, ap, ◌∙◌}
-use borrow.Author.Rules.{rules}
 use Rattle.records.specs.Changes.{allowed}
 use Rattle.records.specs.declared.marks.Wanted.{Wanted}
 use Rattle.records.proofs.marks.allowed.Goals as goal

@@ -1,11 +1,7 @@
-use mathlib.Core.Path.{◌≡◌, sym, ◌∙◌}
+use mathlib.Core.Path.{sym, ◌∙◌}
 use mathlib.Core.Bool.{true, false}
-use Prim.Native.Nat.{◌+◌, ◌-◌}
 use native.Mathlib.Omega.{arith}
-use borrow.Author.Rules.{rules}
-use lib.ListN.{length, drop}
-use Rattle.records.specs.Reading.{from}
-use Rattle.records.specs.Marks.{listing, mark_among, mark}
+use Rattle.records.specs.Marks.{listing}
 use Rattle.records.proofs.marks.Lemmas.{mark-past, mark-short, mark-here, among-test, among_none}
 use Rattle.records.proofs.marks.mark_at.Goals as goal
 
@@ -22,11 +18,10 @@ loop-i-init c =
     mark-here c.args.s.now c.args.at c.if-s-at.false c.if-s-at-lt2.false
 
 pub returns-then-is : goal.returns-then-is
-returns-then-is c =
-    (
-      rw c.marked.ensures (sym (c.loop-i.invariant ∙ among-test listing _ _ _ c.loop-i.i c.loop-i-test.true c.listed-mark.result c.listed-mark.ensures _ _ c.bytes_of-bytes.ensures c.is.result c.is.ensures true c.if-is.true)),
-      rw c.marked.ensures (omega arith),
-    )
+returns-then-is c = (
+  rw c.marked.ensures (sym (c.loop-i.invariant ∙ among-test listing _ _ _ c.loop-i.i c.loop-i-test.true c.listed-mark.result c.listed-mark.ensures _ _ c.bytes_of-bytes.ensures c.is.result c.is.ensures true c.if-is.true)),
+  rw c.marked.ensures (omega arith),
+)
 
 pub loop-i-preserved : goal.loop-i-preserved
 loop-i-preserved c =

@@ -1,12 +1,8 @@
-use mathlib.Core.Path.{◌≡◌, sym, ◌∙◌}
-use mathlib.Core.Bool.{true, false}
+use mathlib.Core.Path.{◌≡◌}
 use Prim.Native.Nat.{◌+◌, ◌-◌}
-use native.Mathlib.Omega.{arith}
-use borrow.Author.Rules.{rules}
 use lib.ListN.{length, drop}
 use Rattle.records.specs.Reading.{from}
 use Rattle.records.specs.Marks.{listing, mark_among, mark}
-use Rattle.records.proofs.marks.Lemmas.{mark-past, mark-short, mark-here, among-test, among_none}
 use Rattle.records.proofs.marks.mark_at.Given as goal
 
 abbrev pub invariant-loop-i : goal.invariant-loop-i

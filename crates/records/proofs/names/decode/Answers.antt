@@ -1,14 +1,12 @@
-use Prim.Native.Nat.{◌≤◌, ◌-◌}
-use mathlib.Core.Path.{◌≡◌, refl, sym, ap, ◌∙◌}
-use lib.ListN.{length}
+use mathlib.Core.Path.{refl, sym, ap, ◌∙◌}
 use borrow.Author.Tests.{le-leb, lt-leb}
 use borrow.Author.Rules.{rules}
 use native.Mathlib.Omega.{arith}
 use Rattle.records.specs.Reading.{from}
 use Rattle.records.specs.Names.{decode_name, stored_name}
 use Rattle.records.specs.tables.Inner.{chr}
-use Rattle.records.proofs.lists.Lemmas.{Padded, padded-more}
-use Rattle.records.proofs.names.Lemmas.{Spelled, spelled_none, spelled-more, spelled-bad, spelled-full, name-all}
+use Rattle.records.proofs.lists.Lemmas.{padded-more}
+use Rattle.records.proofs.names.Lemmas.{spelled_none, spelled-more, spelled-bad, spelled-full, name-all}
 use Rattle.records.proofs.names.decode.Goals as goal
 
 pub returns-then-spelled-lt1 : goal.returns-then-spelled-lt1
@@ -44,17 +42,16 @@ returns-then-n-ge-NAME_MAX c =
     }
 
 pub loop-at-preserved : goal.loop-at-preserved
-loop-at-preserved c =
-    (
-      search rules,
-      search rules,
-      rw c.in-Got.is at c.one_at-b.ensures.1,
-      spelled-more c.loop-at.invariant.3
-          c.loop-at-test.true c.if-n-ge-NAME_MAX.false (omega arith)
-          (sym c.one_at-b.ensures.0 ∙ ap (chr _) c.in-Got.is),
-      padded-more _
-          c.loop-at.invariant.4 (omega arith),
-    )
+loop-at-preserved c = (
+  search rules,
+  search rules,
+  rw c.in-Got.is at c.one_at-b.ensures.1,
+  spelled-more c.loop-at.invariant.3
+      c.loop-at-test.true c.if-n-ge-NAME_MAX.false (omega arith)
+      (sym c.one_at-b.ensures.0 ∙ ap (chr _) c.in-Got.is),
+  padded-more _
+      c.loop-at.invariant.4 (omega arith),
+)
 
 pub returns-in-No : goal.returns-in-No
 unfolding decode_name from

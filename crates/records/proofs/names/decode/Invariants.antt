@@ -1,14 +1,8 @@
 use Prim.Native.Nat.{◌≤◌, ◌-◌}
-use mathlib.Core.Path.{◌≡◌, refl, sym, ap, ◌∙◌}
+use mathlib.Core.Path.{◌≡◌}
 use lib.ListN.{length}
-use borrow.Author.Tests.{le-leb, lt-leb}
-use borrow.Author.Rules.{rules}
-use native.Mathlib.Omega.{arith}
-use Rattle.records.specs.Reading.{from}
-use Rattle.records.specs.Names.{decode_name, stored_name}
-use Rattle.records.specs.tables.Inner.{chr}
-use Rattle.records.proofs.lists.Lemmas.{Padded, padded-more}
-use Rattle.records.proofs.names.Lemmas.{Spelled, spelled_none, spelled-more, spelled-bad, spelled-full, name-all}
+use Rattle.records.proofs.lists.Lemmas.{Padded}
+use Rattle.records.proofs.names.Lemmas.{Spelled}
 use Rattle.records.proofs.names.decode.Given as goal
 
 abbrev pub invariant-loop-at : goal.invariant-loop-at

@@ -1,5 +1,4 @@
 use borrow.Author.Tests.{lt-ltb, le-ltb}
-use borrow.Author.Rules.{rules}
 use Rattle.records.specs.Names.{digit}
 use Rattle.records.proofs.names.digit.Goals as goal
 

@@ -20,17 +20,16 @@ returns-then-h-ge16 c =
 
 pub returns-then-l-ge16 : goal.returns-then-l-ge16
 unfolding escaped
-returns-then-l-ge16 c =
-    (
-      rw (
-        at-two c.args.s.now c.args.at (omega arith) (omega arith),
-        ← c.hex-h.ensures,
-        lt-ltb _ _ c.if-h-ge16.false,
-        ← c.hex-l.ensures,
-        le-ltb _ _ c.if-l-ge16.true,
-      ),
-      tt,
-    )
+returns-then-l-ge16 c = (
+  rw (
+    at-two c.args.s.now c.args.at (omega arith) (omega arith),
+    ← c.hex-h.ensures,
+    lt-ltb _ _ c.if-h-ge16.false,
+    ← c.hex-l.ensures,
+    le-ltb _ _ c.if-l-ge16.true,
+  ),
+  tt,
+)
 
 pub returns-then-visible : goal.returns-then-visible
 unfolding escaped
@@ -52,16 +51,15 @@ returns-then-visible c = (
 
 pub returns-else-visible : goal.returns-else-visible
 unfolding escaped
-returns-else-visible c =
-    (
-      rw (
-        at-two c.args.s.now c.args.at (omega arith) (omega arith),
-        ← c.hex-h.ensures,
-        lt-ltb _ _ c.if-h-ge16.false,
-        ← c.hex-l.ensures,
-        lt-ltb _ _ c.if-l-ge16.false,
-        ← c.visible.ensures,
-        c.if-visible.false,
-      ),
-      tt,
-    )
+returns-else-visible c = (
+  rw (
+    at-two c.args.s.now c.args.at (omega arith) (omega arith),
+    ← c.hex-h.ensures,
+    lt-ltb _ _ c.if-h-ge16.false,
+    ← c.hex-l.ensures,
+    lt-ltb _ _ c.if-l-ge16.false,
+    ← c.visible.ensures,
+    c.if-visible.false,
+  ),
+  tt,
+)

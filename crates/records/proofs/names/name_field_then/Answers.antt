@@ -1,5 +1,4 @@
 use native.Mathlib.Omega.{arith}
-use borrow.Author.Rules.{rules}
 use Rattle.records.proofs.names.name_field_then.Goals as goal
 
 pub returns-in-At : goal.returns-in-At

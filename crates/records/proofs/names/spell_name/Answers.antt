@@ -1,7 +1,5 @@
 use mathlib.Core.Path.{sym, ◌∙◌}
-use borrow.Author.Tests.{not-true, not-false}
 use native.Mathlib.Omega.{arith}
-use borrow.Author.Rules.{rules}
 use Rattle.money.proofs.laws.NameLaws.{name-most}
 use Rattle.records.proofs.laws.NameLaws.{spelling-none}
 use Rattle.records.proofs.names.SpellName.{spell-most, spelled-in}

@@ -1,10 +1,7 @@
 use Prim.Native.Nat.{◌≤◌, ◌-◌, ◌*◌}
-use mathlib.Core.Path.{◌≡◌, refl}
-use lib.ListN.{length, take, length-append}
-use borrow.Author.Rules.{rules}
-use native.Mathlib.Omega.{arith}
+use mathlib.Core.Path.{◌≡◌}
+use lib.ListN.{length, take}
 use Rattle.records.specs.Names.{spell}
-use Rattle.records.proofs.laws.NameLaws.{spell-more}
 use Rattle.records.proofs.names.spelled_len.Given as goal
 
 abbrev pub invariant-loop-i : goal.invariant-loop-i

@@ -1,6 +1,5 @@
 use lib.ListN.{length-set}
 use native.Mathlib.Omega.{arith}
-use borrow.Author.Rules.{rules}
 use Rattle.records.specs.Names.{spell_byte}
 use Rattle.records.proofs.writing.Putting.{wrote_one, wrote-three}
 use Rattle.records.proofs.names.write_byte.Goals as goal

@@ -1,12 +1,8 @@
 use Prim.Native.Nat.{◌≤◌, ◌+◌, ◌-◌, ◌*◌}
-use mathlib.Core.Path.{◌≡◌, ◌∙◌}
-use lib.ListN.{length, take, get_or}
-use borrow.Author.Rules.{rules}
-use native.Mathlib.Omega.{arith}
+use mathlib.Core.Path.{◌≡◌}
+use lib.ListN.{length, take}
 use Rattle.records.specs.Names.{spell}
-use Rattle.records.proofs.laws.NameLaws.{spell-more, spell_byte-length}
 use Rattle.records.specs.tables.Inner.{Wrote}
-use Rattle.records.proofs.writing.Putting.{wrote_none, wrote_then, wrote-length}
 use Rattle.records.proofs.names.write_name.Given as goal
 
 abbrev pub invariant-loop-i : goal.invariant-loop-i

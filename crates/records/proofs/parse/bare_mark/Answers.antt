@@ -1,7 +1,6 @@
 use mathlib.Core.Bool.{true, false}
 use mathlib.Core.Path.{refl, sym, ◌∙◌}
 use borrow.Author.Tests.{eq-eqb, ne_eqb}
-use borrow.Author.Rules.{rules}
 use Rattle.records.proofs.marks.Lemmas.{bare-short, bare-is}
 use Rattle.records.proofs.parse.bare_mark.Goals as goal
 

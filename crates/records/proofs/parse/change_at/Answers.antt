@@ -1,5 +1,4 @@
 use mathlib.Core.Path.{sym, ap}
-use borrow.Author.Rules.{rules}
 use native.Mathlib.Omega.{arith}
 use Rattle.records.specs.Changes.{change_view}
 use Rattle.records.proofs.writing.Lemmas.{full, read-bad, view-full}

@@ -1,6 +1,5 @@
 use mathlib.Core.Path.{refl, sym, ◌∙◌}
 use mathlib.Core.Bool.{true, false}
-use borrow.Author.Rules.{rules}
 use Rattle.records.proofs.parse.Lemmas.{entry-short, entry-is}
 use Rattle.records.proofs.parse.entry_at.Goals as goal
 

@@ -1,5 +1,4 @@
 use mathlib.Core.Path.{sym, ap, subst, ◌∙◌}
-use borrow.Author.Rules.{rules}
 use Rattle.records.specs.tables.Inner.{shown, EndIn}
 use Rattle.records.proofs.parse.Lemmas.{front_at, front-no}
 use Rattle.records.proofs.parse.first_change.Goals as goal

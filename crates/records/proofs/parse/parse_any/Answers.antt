@@ -1,5 +1,4 @@
 use mathlib.Core.Path.{sym, ap, ◌∙◌}
-use borrow.Author.Rules.{rules}
 use Rattle.records.specs.tables.Inner.{shown}
 use Rattle.records.proofs.parse.Lemmas.{any-faulted, any-bad, any-8, any-fine}
 use Rattle.records.proofs.parse.parse_any.Goals as goal

@@ -1,5 +1,4 @@
 use mathlib.Core.Path.{sym, ap, ◌∙◌}
-use borrow.Author.Rules.{rules}
 use Rattle.records.specs.tables.Inner.{shown}
 use Rattle.records.proofs.writing.Lemmas.{faulted}
 use Rattle.records.proofs.parse.Lemmas.{parsed-bad, parsed-8, parsed-fine}

@@ -1,6 +1,5 @@
 use mathlib.Core.Path.{sym, ap, ◌∙◌}
 use native.Mathlib.Omega.{arith}
-use borrow.Author.Rules.{rules}
 use Rattle.records.specs.Changes.{begins}
 use Rattle.records.specs.declared.marks.Wanted.TheVariants.{Any}
 use Rattle.records.proofs.writing.Lemmas.{full, read-bad, peek-yes, peek-no, peek-bad, head-part, head-fits}

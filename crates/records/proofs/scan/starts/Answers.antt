@@ -1,8 +1,6 @@
-use Prim.Native.Nat.{◌≤◌, ◌-◌}
-use mathlib.Core.Path.{◌≡◌, refl}
-use lib.ListN.{length}
+use mathlib.Core.Path.{refl}
 use borrow.Author.Rules.{rules}
-use Rattle.records.proofs.writing.Lemmas.{starts-short, Started, started-more, started-not, started-all}
+use Rattle.records.proofs.writing.Lemmas.{starts-short, started-more, started-not, started-all}
 use Rattle.records.proofs.scan.starts.Goals as goal
 
 pub returns-then-s-n : goal.returns-then-s-n

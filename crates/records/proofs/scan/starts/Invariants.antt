@@ -1,8 +1,7 @@
 use Prim.Native.Nat.{◌≤◌, ◌-◌}
-use mathlib.Core.Path.{◌≡◌, refl}
+use mathlib.Core.Path.{◌≡◌}
 use lib.ListN.{length}
-use borrow.Author.Rules.{rules}
-use Rattle.records.proofs.writing.Lemmas.{starts-short, Started, started-more, started-not, started-all}
+use Rattle.records.proofs.writing.Lemmas.{Started}
 use Rattle.records.proofs.scan.starts.Given as goal
 
 abbrev pub invariant-loop-i : goal.invariant-loop-i

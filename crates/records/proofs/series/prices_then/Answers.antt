@@ -1,4 +1,3 @@
-use borrow.Author.Rules.{rules}
 use Rattle.records.proofs.series.prices_then.Goals as goal
 
 pub returns-in-At : goal.returns-in-At

@@ -1,11 +1,8 @@
 use Prim.Native.Nat.{◌≤◌, ◌-◌}
-use mathlib.Core.Path.{◌≡◌, refl, sym, ap, ◌∙◌}
+use mathlib.Core.Path.{◌≡◌}
 use lib.ListN.{length}
-use borrow.Author.Rules.{rules}
-use native.Mathlib.Omega.{arith}
 use Rattle.records.specs.Numbers.{price}
-use Rattle.records.specs.tables.Inner.{price_at}
-use Rattle.records.proofs.fields.Lemmas.{Filled, filled_none, filled_more, filled-bad, filled-all}
+use Rattle.records.proofs.fields.Lemmas.{Filled}
 use Rattle.records.proofs.series.read_prices.Given as goal
 
 abbrev pub invariant-loop-i : goal.invariant-loop-i

@@ -1,11 +1,8 @@
 use Prim.Native.Nat.{◌≤◌, ◌-◌}
-use mathlib.Core.Path.{◌≡◌, refl, sym, ap, ◌∙◌}
+use mathlib.Core.Path.{◌≡◌}
 use lib.ListN.{length}
-use borrow.Author.Rules.{rules}
-use native.Mathlib.Omega.{arith}
 use Rattle.records.specs.Numbers.{quantity}
-use Rattle.records.specs.tables.Inner.{quantity_at}
-use Rattle.records.proofs.fields.Lemmas.{Filled, filled_none, filled_more, filled-bad, filled-all}
+use Rattle.records.proofs.fields.Lemmas.{Filled}
 use Rattle.records.proofs.series.read_quantities.Given as goal
 
 abbrev pub invariant-loop-i : goal.invariant-loop-i

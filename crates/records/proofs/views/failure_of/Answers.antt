@@ -1,7 +1,5 @@
 use mathlib.Core.Path.{sym, ap, ◌∙◌}
 use mathlib.Core.Bool.{Bool}
-use borrow.Author.Tests.{not-true, not-false}
-use borrow.Author.Rules.{rules}
 use Rattle.records.specs.Reading.{check}
 use Rattle.records.specs.Layouts.{failure}
 use Rattle.records.specs.Views.{viewed, failure_answer}

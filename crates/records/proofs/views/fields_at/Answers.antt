@@ -1,5 +1,4 @@
 use mathlib.Core.Path.{sym, ap, ◌∙◌}
-use borrow.Author.Rules.{rules}
 use Rattle.records.specs.Numbers.{hour}
 use Rattle.records.specs.Changes.{head}
 use Rattle.records.specs.tables.Inner.{then, guarded}

@@ -1,5 +1,4 @@
 use mathlib.Core.Path.{ap, ◌∙◌}
-use borrow.Author.Rules.{rules}
 use Rattle.records.specs.Layouts.{import}
 use Rattle.records.specs.Views.{import_answer}
 use Rattle.records.specs.declared.marks.Mark.TheVariants.{Im}

@@ -1,4 +1,3 @@
-use borrow.Author.Rules.{rules}
 use Rattle.records.proofs.views.no_reserve.Goals as goal
 
 pub returns : goal.returns

@@ -1,4 +1,3 @@
-use borrow.Author.Rules.{rules}
 use Rattle.records.proofs.views.no_unit.Goals as goal
 
 pub returns : goal.returns

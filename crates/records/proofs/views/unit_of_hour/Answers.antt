@@ -1,5 +1,4 @@
 use mathlib.Core.Path.{ap, ◌∙◌}
-use borrow.Author.Rules.{rules}
 use Rattle.records.specs.Layouts.{unit}
 use Rattle.records.specs.Views.{unit_answer}
 use Rattle.records.specs.declared.marks.Mark.TheVariants.{Gh}

@@ -1,8 +1,5 @@
-use Prim.Native.Nat.{◌≤◌, ◌+◌, ◌-◌}
-use mathlib.Core.Path.{◌≡◌}
-use lib.ListN.{length, take, length-set}
+use lib.ListN.{length-set}
 use borrow.Author.Rules.{rules}
-use Rattle.records.specs.tables.Inner.{Wrote}
 use Rattle.records.proofs.writing.Lemmas.{copy_more, copy-none, copy-all}
 use Rattle.records.proofs.writing.copy.Goals as goal
 

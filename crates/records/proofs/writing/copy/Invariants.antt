@@ -1,9 +1,7 @@
 use Prim.Native.Nat.{◌≤◌, ◌+◌, ◌-◌}
 use mathlib.Core.Path.{◌≡◌}
-use lib.ListN.{length, take, length-set}
-use borrow.Author.Rules.{rules}
+use lib.ListN.{length, take}
 use Rattle.records.specs.tables.Inner.{Wrote}
-use Rattle.records.proofs.writing.Lemmas.{copy_more, copy-none, copy-all}
 use Rattle.records.proofs.writing.copy.Given as goal
 
 abbrev pub invariant-loop-i : goal.invariant-loop-i

@@ -1,10 +1,8 @@
 use mathlib.Core.Path.{◌≡◌, sym, ap, ◌∙◌}
 use Prim.Native.Nat.{ℕ, ◌-◌}
 use lib.Dec.{leb}
-use borrow.Author.Tests.{not-true, not-false}
 use lib.ListN.{length}
 use native.Mathlib.Omega.{arith}
-use borrow.Author.Rules.{rules}
 use Rattle.records.specs.Changes.{head_bytes}
 use Rattle.records.specs.tables.Viewed.{view_head}
 use Rattle.records.proofs.writing.PutViewed.{no_record, long-name, long-head, by-rest}

@@ -1,7 +1,6 @@
 use mathlib.Core.Path.{sym, ◌∙◌}
 use lib.ListN.{take}
 use native.Mathlib.Omega.{arith}
-use borrow.Author.Rules.{rules}
 use Rattle.records.proofs.writing.Putting.{wrote-length}
 use Rattle.records.specs.Changes.{parse}
 use Rattle.records.proofs.writing.Lemmas.{full, read-bad, parse-8, parse-bad, parse-fine, full-length, put-fault, put_full, put-done, read_of, head-part, head-fits, first_fits, rest-fits, both-put}

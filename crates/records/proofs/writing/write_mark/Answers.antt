@@ -1,6 +1,5 @@
 use lib.ListN.{length-set}
 use native.Mathlib.Omega.{arith}
-use borrow.Author.Rules.{rules}
 use Rattle.records.proofs.writing.Putting.{wrote-mark}
 use Rattle.records.proofs.writing.write_mark.Goals as goal
 

@@ -1,4 +1,3 @@
-use borrow.Author.Rules.{rules}
 use Rattle.records.proofs.writing.Putting.{wrote_none, wrote_one}
 use Rattle.records.proofs.writing.write_none.Goals as goal
 

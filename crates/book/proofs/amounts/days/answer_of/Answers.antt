@@ -1,5 +1,4 @@
 use mathlib.Core.Path.{sym, ap, ◌∙◌}
-use borrow.Author.Rules.{rules}
 use Rattle.book.specs.tables.Worked.{total_reply}
 use Rattle.book.specs.Handed.{unit_day_from}
 use Rattle.book.proofs.amounts.days.answer_of.Goals as goal

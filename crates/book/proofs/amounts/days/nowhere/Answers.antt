@@ -1,8 +1,7 @@
 use mathlib.Core.Path.{sym, ap}
 use mathlib.Core.Bool.{not}
-use Prim.Native.Nat.{ℕ, ◌-◌}
-use borrow.Author.Rules.{rules}
-use Rattle.laws.specs.SumLaws.{Passed, passed_none, passed-more, passed-all, every-no}
+use Prim.Native.Nat.{ℕ}
+use Rattle.laws.specs.SumLaws.{passed_none, passed-more, passed-all, every-no}
 use Rattle.book.specs.tables.Worked.{place_in}
 use Rattle.book.proofs.amounts.days.nowhere.Goals as goal
 

@@ -1,8 +1,6 @@
-use mathlib.Core.Path.{sym, ap}
 use mathlib.Core.Bool.{not}
 use Prim.Native.Nat.{ℕ, ◌-◌}
-use borrow.Author.Rules.{rules}
-use Rattle.laws.specs.SumLaws.{Passed, passed_none, passed-more, passed-all, every-no}
+use Rattle.laws.specs.SumLaws.{Passed}
 use Rattle.book.specs.tables.Worked.{place_in}
 use Rattle.book.proofs.amounts.days.nowhere.Given as goal
 

@@ -1,4 +1,3 @@
-use borrow.Author.Rules.{rules}
 use Rattle.book.proofs.amounts.days.Lemmas.{part-empty, part-there}
 use Rattle.book.proofs.amounts.days.part_at.Goals as goal
 

@@ -1,6 +1,4 @@
-use Prim.Native.Nat.{◌-◌}
-use borrow.Author.Rules.{rules}
-use Rattle.book.proofs.amounts.days.Lemmas.{Filled, filled_none, filled_more, filled-all}
+use Rattle.book.proofs.amounts.days.Lemmas.{filled_none, filled_more, filled-all}
 use Rattle.book.proofs.amounts.days.parts_of.Goals as goal
 
 pub loop-h-init : goal.loop-h-init

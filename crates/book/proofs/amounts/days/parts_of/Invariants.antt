@@ -1,6 +1,5 @@
 use Prim.Native.Nat.{◌-◌}
-use borrow.Author.Rules.{rules}
-use Rattle.book.proofs.amounts.days.Lemmas.{Filled, filled_none, filled_more, filled-all}
+use Rattle.book.proofs.amounts.days.Lemmas.{Filled}
 use Rattle.book.proofs.amounts.days.parts_of.Given as goal
 
 abbrev pub invariant-loop-h : goal.invariant-loop-h

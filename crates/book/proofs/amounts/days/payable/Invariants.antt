@@ -1,8 +1,5 @@
-use mathlib.Core.Path.{sym, ◌∙◌}
 use Prim.Native.Nat.{ℕ, ◌-◌}
-use borrow.Author.Rules.{rules}
-use borrow.Author.Tests.{not-true, not-false}
-use Rattle.laws.specs.SumLaws.{Passed, passed_none, passed-more, passed-all, every-no}
+use Rattle.laws.specs.SumLaws.{Passed}
 use Rattle.book.specs.tables.Worked.{place_in, price_for, paid}
 use Rattle.book.proofs.amounts.days.payable.Given as goal
 

@@ -1,5 +1,4 @@
 use mathlib.Core.Path.{sym, ap}
-use borrow.Author.Rules.{rules}
 use Rattle.book.specs.tables.Worked.{charge_reply}
 use Rattle.book.proofs.amounts.failures.answer_of.Goals as goal
 

@@ -1,4 +1,4 @@
-use Prim.Native.Nat.{ℕ, ◌-◌, ◌≤◌}
+use Prim.Native.Nat.{ℕ, ◌≤◌}
 use mathlib.Core.Path.{refl, ap, ◌∙◌}
 use mathlib.Core.List.{List}
 use lib.ListN.{get_or, length}
@@ -8,7 +8,7 @@ use Rattle.book.specs.Layer.{charge_in}
 use Rattle.book.specs.tables.Worked.{ticks_of, no_spot}
 use Rattle.book.specs.laws.Inserting.{unmapped}
 use Rattle.book.proofs.log.Survey.{to_end}
-use Rattle.book.proofs.amounts.failures.Lemmas.{spot-inside, Charging, charging-start, charging-more, charging-end}
+use Rattle.book.proofs.amounts.failures.Lemmas.{spot-inside, charging-start, charging-more, charging-end}
 use Rattle.book.proofs.amounts.failures.charges_at.Goals as goal
 
 pub loop-i-init : goal.loop-i-init

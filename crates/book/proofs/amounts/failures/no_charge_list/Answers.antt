@@ -1,4 +1,3 @@
-use borrow.Author.Rules.{rules}
 use Rattle.book.proofs.amounts.Handed.{charges-none}
 use Rattle.book.proofs.amounts.failures.no_charge_list.Goals as goal
 

@@ -1,4 +1,3 @@
-use borrow.Author.Rules.{rules}
 use Rattle.book.proofs.amounts.Handed.{no-charges}
 use Rattle.book.proofs.amounts.failures.no_charges.Goals as goal
 

@@ -2,7 +2,6 @@ use Prim.Native.Nat.{ℕ}
 use mathlib.Core.Path.{ap, ◌∙◌}
 use mathlib.Core.List.{List}
 use native.Mathlib.Omega.{arith}
-use borrow.Author.Rules.{rules}
 use Rattle.book.specs.Layer.{charge_in}
 use Rattle.book.proofs.log.Survey.{to_end}
 use Rattle.book.proofs.amounts.prices.Lemmas.{sought-inside}

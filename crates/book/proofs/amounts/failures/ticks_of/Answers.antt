@@ -1,5 +1,4 @@
 use mathlib.Core.Path.{sym, ap}
-use borrow.Author.Rules.{rules}
 use Rattle.book.specs.tables.Worked.{ticks_of}
 use Rattle.book.proofs.amounts.failures.ticks_of.Goals as goal
 

@@ -1,12 +1,8 @@
 use Prim.Native.Nat.{◌-◌}
-use native.Mathlib.Omega.{arith}
-use mathlib.Core.Path.{refl}
-use borrow.Author.Rules.{rules}
 use Rattle.records.specs.Amounts.{no_import}
-use Rattle.book.specs.laws.Built.{Filling, fill_start, fill_more, fill-all}
+use Rattle.book.specs.laws.Built.{Filling}
 use Rattle.book.specs.tables.Worked.{entry_credit}
 use Rattle.book.specs.Layer.{no_ticks}
-use Rattle.book.specs.laws.Inserting.{unmapped}
 use Rattle.book.proofs.amounts.guarantees.credits_of.Given as goal
 
 abbrev pub invariant-loop-i : goal.invariant-loop-i

@@ -1,11 +1,10 @@
-use Prim.Native.Nat.{ℕ, ◌-◌}
+use Prim.Native.Nat.{ℕ}
 use mathlib.Core.Path.{◌≡◌, refl, sym, ap, ◌∙◌}
 use mathlib.Core.List.{List, map}
 use lib.ListN.{length, get_or}
 use borrow.Author.Rules.{rules}
 use native.Mathlib.Omega.{arith}
-use Rattle.records.specs.Amounts.{no_import}
-use Rattle.book.specs.laws.Built.{Filling, fill_start, fill_more, fill-all}
+use Rattle.book.specs.laws.Built.{fill_start, fill_more, fill-all}
 use Rattle.book.specs.Layer.{EntryAnswer, offset_entry_in}
 use Rattle.book.specs.tables.Worked.{entry_at, entries_in, no_spot}
 use Rattle.book.specs.laws.Inserting.{unmapped}

@@ -1,15 +1,7 @@
-use Prim.Native.Nat.{ℕ, ◌-◌}
-use mathlib.Core.Path.{◌≡◌, refl, sym, ap, ◌∙◌}
-use mathlib.Core.List.{List, map}
-use lib.ListN.{length, get_or}
-use borrow.Author.Rules.{rules}
-use native.Mathlib.Omega.{arith}
+use Prim.Native.Nat.{◌-◌}
 use Rattle.records.specs.Amounts.{no_import}
-use Rattle.book.specs.laws.Built.{Filling, fill_start, fill_more, fill-all}
-use Rattle.book.specs.Layer.{EntryAnswer, offset_entry_in}
-use Rattle.book.specs.tables.Worked.{entry_at, entries_in, no_spot}
-use Rattle.book.specs.laws.Inserting.{unmapped}
-use Rattle.book.proofs.amounts.Least.{take-least, from-least}
+use Rattle.book.specs.laws.Built.{Filling}
+use Rattle.book.specs.tables.Worked.{entry_at, no_spot}
 use Rattle.book.proofs.amounts.guarantees.entries_at.Given as goal
 
 abbrev pub invariant-loop-i : goal.invariant-loop-i

@@ -1,4 +1,3 @@
-use borrow.Author.Rules.{rules}
 use Rattle.book.proofs.amounts.Handed.{credits-none}
 use Rattle.book.proofs.amounts.guarantees.no_credits.Goals as goal
 

@@ -1,4 +1,3 @@
-use borrow.Author.Rules.{rules}
 use Rattle.book.proofs.amounts.Handed.{no-credits}
 use Rattle.book.proofs.amounts.guarantees.no_guarantees.Goals as goal
 

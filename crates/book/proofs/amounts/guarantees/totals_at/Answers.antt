@@ -1,4 +1,4 @@
-use Prim.Native.Nat.{ℕ, ◌-◌}
+use Prim.Native.Nat.{ℕ}
 use mathlib.Core.Path.{◌≡◌, ap, ◌∙◌}
 use mathlib.Core.List.{List}
 use lib.ListN.{length, get_or}
@@ -6,7 +6,7 @@ use borrow.Author.Rules.{rules}
 use native.Mathlib.Omega.{arith}
 use Rattle.book.specs.Layer.{TotalsAnswer, totals_with_in}
 use Rattle.book.specs.tables.Worked.{totals_in, no_spot}
-use Rattle.book.specs.laws.Totalling.{Totalling, totalling-start, totalling-more, totalling-all}
+use Rattle.book.specs.laws.Totalling.{totalling-start, totalling-more, totalling-all}
 use Rattle.book.specs.laws.Inserting.{unmapped}
 use Rattle.book.proofs.amounts.Least.{take-least, from-least}
 use Rattle.book.proofs.amounts.guarantees.totals_at.Goals as goal

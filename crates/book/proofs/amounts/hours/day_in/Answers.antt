@@ -1,6 +1,5 @@
 use mathlib.Core.Path.{sym}
 use lib.Seq.{length-take-le}
-use borrow.Author.Rules.{rules}
 use Rattle.book.proofs.amounts.hours.Lemmas.{named-so, day-none}
 use Rattle.book.proofs.amounts.hours.day_in.Goals as goal
 

@@ -1,6 +1,4 @@
 use mathlib.Core.Path.{subst⁻¹}
-use Prim.Native.Nat.{◌-◌}
-use borrow.Author.Rules.{rules}
 use native.Mathlib.Omega.{arith}
 use Rattle.book.proofs.amounts.hours.Lemmas.{Dayed, dayed-start, dayed-few, dayed-within, dayed-hour, dayed-put, dayed-skip, dayed-end}
 use Rattle.book.proofs.amounts.hours.day_named.Goals as goal
@@ -36,8 +34,8 @@ loop-i-smaller c = omega (arith, c.loop-i-test.true)
 pub loop-i-preserved : goal.loop-i-preserved
 loop-i-preserved c =
     elim c.if-hour-ne0.branch [
-      then-hour-ne0 w ↦ subst⁻¹ (Dayed _ _ _ _ _ _) w.hours-is
-        (dayed-put c.loop-i.invariant c.loop-i-test.true c.hour_for-hour.ensures w.if-hour-ne0.true w.place_in-start.ensures.0)
+      | then-hour-ne0 w ↦ subst⁻¹ (Dayed _ _ _ _ _ _) w.hours-is
+          (dayed-put c.loop-i.invariant c.loop-i-test.true c.hour_for-hour.ensures w.if-hour-ne0.true w.place_in-start.ensures.0)
       | else-hour-ne0 w ↦ subst⁻¹ (Dayed _ _ _ _ _ _) w.hours-is (dayed-skip c.loop-i.invariant c.loop-i-test.true c.hour_for-hour.ensures w.if-hour-ne0.false)
     ]
 

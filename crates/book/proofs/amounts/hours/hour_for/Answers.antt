@@ -3,7 +3,6 @@ use mathlib.Core.Path.{ap, ◌∙◌}
 use mathlib.Core.Bool.{true, false}
 use native.Mathlib.Omega.{arith}
 use lib.ListN.{drop}
-use borrow.Author.Rules.{rules}
 use Rattle.book.specs.Layer.{begins}
 use Rattle.book.proofs.log.Survey.{to_end}
 use Rattle.book.proofs.amounts.hours.Lemmas.{hour-marked, name-hourless, name-starts}

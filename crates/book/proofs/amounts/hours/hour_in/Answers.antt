@@ -1,4 +1,3 @@
-use borrow.Author.Rules.{rules}
 use Rattle.book.proofs.amounts.hours.Lemmas.{hour-below, hour-other, hour-own}
 use Rattle.book.proofs.amounts.hours.hour_in.Goals as goal
 

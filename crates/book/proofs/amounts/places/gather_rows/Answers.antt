@@ -1,4 +1,3 @@
-use Prim.Native.Nat.{◌-◌}
 use mathlib.Core.Path.{◌≡◌, sym, subst⁻¹, ◌∙◌}
 use native.Mathlib.Omega.{arith}
 use lib.ListN.{length}
@@ -33,11 +32,11 @@ loop-i-smaller c = omega (arith, c.loop-i-test.true)
 pub loop-i-preserved : goal.loop-i-preserved
 loop-i-preserved c =
     elim c.if-stands_in.branch [
-      then-stands_in w ↦ let z : length w.with_row-p.result.at ≡ 16 = search (rules, unmapped) in
-        subst⁻¹ (Gathered _ _ _ _ _) w.p-is (gathered-with c.loop-i.invariant c.loop-i-test.true
-        (sym c.stands_in.ensures ∙ w.if-stands_in.true) w.with_row-p.result z w.with_row-p.ensures)
+      | then-stands_in w ↦ let z : length w.with_row-p.result.at ≡ 16 = search (rules, unmapped) in
+          subst⁻¹ (Gathered _ _ _ _ _) w.p-is (gathered-with c.loop-i.invariant c.loop-i-test.true
+          (sym c.stands_in.ensures ∙ w.if-stands_in.true) w.with_row-p.result z w.with_row-p.ensures)
       | else-stands_in w ↦ subst⁻¹ (Gathered _ _ _ _ _) w.p-is (gathered-on c.loop-i.invariant c.loop-i-test.true
-        (sym c.stands_in.ensures ∙ w.if-stands_in.false))
+          (sym c.stands_in.ensures ∙ w.if-stands_in.false))
     ]
 
 pub returns : goal.returns

@@ -1,5 +1,4 @@
 use mathlib.Core.Path.{◌∙◌, ap}
-use borrow.Author.Rules.{rules}
 use Rattle.book.specs.Layer.{KeyAnswer, key_answer}
 use Rattle.book.specs.tables.LayerTables.{head_key}
 use Rattle.book.proofs.log.Survey.{to_end}

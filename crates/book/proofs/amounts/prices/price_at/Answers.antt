@@ -1,6 +1,5 @@
 use mathlib.Core.Path.{ap}
 use mathlib.Core.Bool.{true}
-use borrow.Author.Rules.{rules}
 use Rattle.book.specs.Layer.{HourPrices}
 use Rattle.book.proofs.amounts.prices.price_at.Goals as goal
 

@@ -1,4 +1,3 @@
-use borrow.Author.Rules.{rules}
 use Rattle.book.proofs.amounts.prices.Lemmas.{hour-below, hour-other, hour-own}
 use Rattle.book.proofs.amounts.prices.price_hour.Goals as goal
 

@@ -1,4 +1,3 @@
-use borrow.Author.Rules.{rules}
 use Rattle.book.proofs.amounts.prices.Lemmas.{sought-inside, price-formed, price-there, price-missing}
 use Rattle.book.proofs.amounts.prices.price_in.Goals as goal
 

@@ -1,6 +1,4 @@
 use mathlib.Core.Path.{refl, subst⁻¹}
-use Prim.Native.Nat.{◌-◌}
-use borrow.Author.Rules.{rules}
 use native.Mathlib.Omega.{arith}
 use Rattle.book.proofs.amounts.prices.Lemmas.{Tabling, tabling-start, tabling-few, tabling-within, tabling-hour, tabling-put, tabling-skip, tabling-end}
 use Rattle.book.proofs.amounts.prices.price_table.Goals as goal
@@ -37,8 +35,8 @@ loop-i-smaller c = omega (arith, c.loop-i-test.true)
 pub loop-i-preserved : goal.loop-i-preserved
 loop-i-preserved c =
     elim c.if-hour-ne0.branch [
-      then-hour-ne0 w ↦ subst⁻¹ (Tabling _ _ _ _ _) w.hours-is
-        (tabling-put c.loop-i.invariant c.loop-i-test.true c.price_hour-hour.ensures w.if-hour-ne0.true w.place_in.ensures.0 _ w.price_at-p.ensures)
+      | then-hour-ne0 w ↦ subst⁻¹ (Tabling _ _ _ _ _) w.hours-is
+          (tabling-put c.loop-i.invariant c.loop-i-test.true c.price_hour-hour.ensures w.if-hour-ne0.true w.place_in.ensures.0 _ w.price_at-p.ensures)
       | else-hour-ne0 w ↦ subst⁻¹ (Tabling _ _ _ _ _) w.hours-is (tabling-skip c.loop-i.invariant c.loop-i-test.true c.price_hour-hour.ensures w.if-hour-ne0.false)
     ]
 

@@ -1,9 +1,5 @@
-use mathlib.Core.Path.{refl, subst⁻¹}
-use mathlib.Core.Logic.{⊎_elim}
 use Prim.Native.Nat.{◌-◌}
-use borrow.Author.Rules.{rules}
-use native.Mathlib.Omega.{arith}
-use Rattle.book.proofs.amounts.prices.Lemmas.{Tabling, tabling-start, tabling-few, tabling-within, tabling-hour, tabling-put, tabling-skip, tabling-end}
+use Rattle.book.proofs.amounts.prices.Lemmas.{Tabling}
 use Rattle.book.proofs.amounts.prices.price_table.Given as goal
 
 abbrev pub invariant-loop-i : goal.invariant-loop-i

@@ -1,5 +1,4 @@
 use mathlib.Core.Path.{ap, ◌∙◌}
-use borrow.Author.Rules.{rules}
 use Rattle.book.specs.Layer.{PricesAnswer, prices_in}
 use Rattle.book.proofs.amounts.Least.{from-least}
 use Rattle.book.proofs.amounts.prices.prices_at.Goals as goal

@@ -2,7 +2,7 @@ use lib.ListN.{length}
 use mathlib.Core.Path.{◌≡◌, refl}
 use borrow.Author.Rules.{rules}
 use native.Mathlib.Omega.{arith}
-use Rattle.book.specs.laws.Inserting.{unmapped, Opened, opened-start, opened-next, opened-end}
+use Rattle.book.specs.laws.Inserting.{unmapped, opened-start, opened-next, opened-end}
 use Rattle.book.proofs.amounts.units.Lemmas.{inserted-whole}
 use Rattle.book.proofs.amounts.units.inserted.Goals as goal
 

@@ -1,4 +1,3 @@
-use Prim.Native.Nat.{◌-◌}
 use lib.ListN.{length}
 use mathlib.Core.Path.{◌≡◌, sym, ap, ◌∙◌, subst⁻¹}
 use borrow.Author.Rules.{rules}
@@ -45,18 +44,17 @@ loop-i-smaller c = omega (arith, c.loop-i-test.true)
 pub loop-i-preserved : goal.loop-i-preserved
 loop-i-preserved c =
     elim c.if-of_mark.branch [
-      then-of_mark w ↦ let z : length w.with_name-u.result.names ≡ 512 = search (rules, unmapped) in
-        subst⁻¹ (Listed _ _ _ _ _) w.u-is (listed_next c.loop-i.invariant c.loop-i-test.true
-        (sym c.of_mark.ensures ∙ w.if-of_mark.true)
-        w.name_at-name.result (w.name_at-name.ensures ∙ ap (λ y. (key_at _ y).name) w.place_in.ensures.0) w.with_name-u.result z w.with_name-u.ensures)
+      | then-of_mark w ↦ let z : length w.with_name-u.result.names ≡ 512 = search (rules, unmapped) in
+          subst⁻¹ (Listed _ _ _ _ _) w.u-is (listed_next c.loop-i.invariant c.loop-i-test.true
+          (sym c.of_mark.ensures ∙ w.if-of_mark.true)
+          w.name_at-name.result (w.name_at-name.ensures ∙ ap (λ y. (key_at _ y).name) w.place_in.ensures.0) w.with_name-u.result z w.with_name-u.ensures)
       | else-of_mark w ↦ subst⁻¹ (Listed _ _ _ _ _) w.u-is (listed-skip c.loop-i.invariant c.loop-i-test.true
-        (sym c.of_mark.ensures ∙ w.if-of_mark.false))
+          (sym c.of_mark.ensures ∙ w.if-of_mark.false))
     ]
 
 pub returns : goal.returns
-returns c =
-    (
-      listed-end c.loop-i.invariant c.loop-i-test.false c.args.key c.key_order-mark.ensures,
-      listed-few c.loop-i.invariant c.requires,
-      c.loop-i.invariant.whole,
-    )
+returns c = (
+  listed-end c.loop-i.invariant c.loop-i-test.false c.args.key c.key_order-mark.ensures,
+  listed-few c.loop-i.invariant c.requires,
+  c.loop-i.invariant.whole,
+)

@@ -1,4 +1,3 @@
-use borrow.Author.Rules.{rules}
 use Rattle.book.proofs.amounts.Handed.{names-none}
 use Rattle.book.proofs.amounts.units.no_names.Goals as goal
 

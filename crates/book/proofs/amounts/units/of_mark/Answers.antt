@@ -1,5 +1,4 @@
 use borrow.Author.Tests.{lt-leb, le-leb}
-use borrow.Author.Rules.{rules}
 use Rattle.book.proofs.amounts.units.of_mark.Goals as goal
 
 pub returns-then-row-lt-LIVE_UNIT : goal.returns-then-row-lt-LIVE_UNIT

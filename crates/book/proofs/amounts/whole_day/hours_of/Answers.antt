@@ -1,9 +1,8 @@
-use Prim.Native.Nat.{◌-◌}
 use native.Mathlib.Omega.{arith}
 use borrow.Author.Rules.{rules}
 use mathlib.Core.Path.{refl}
 use Rattle.book.specs.laws.Inserting.{unmapped}
-use Rattle.book.proofs.amounts.whole_day.Lemmas.{Hours, hours-start, hours-more, hours-end}
+use Rattle.book.proofs.amounts.whole_day.Lemmas.{hours-start, hours-more, hours-end}
 use Rattle.book.proofs.amounts.whole_day.hours_of.Goals as goal
 
 pub loop-i-init : goal.loop-i-init

@@ -1,4 +1,3 @@
-use borrow.Author.Rules.{rules}
 use Rattle.book.proofs.amounts.whole_day.Lemmas.{hour-blank}
 use Rattle.book.proofs.amounts.whole_day.no_hour.Goals as goal
 

@@ -1,10 +1,9 @@
-use Prim.Native.Nat.{◌-◌}
 use native.Mathlib.Omega.{arith}
 use borrow.Author.Rules.{rules}
 use lib.ListN.{length}
 use mathlib.Core.Path.{◌≡◌, refl}
 use Rattle.book.specs.laws.Inserting.{unmapped}
-use Rattle.book.proofs.amounts.whole_day.Lemmas.{Dealt, dealt-start, dealt-more, dealt-end, unit-keyed}
+use Rattle.book.proofs.amounts.whole_day.Lemmas.{dealt-start, dealt-more, dealt-end, unit-keyed}
 use Rattle.book.proofs.amounts.whole_day.units_of.Goals as goal
 
 pub loop-i-init : goal.loop-i-init

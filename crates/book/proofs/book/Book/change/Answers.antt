@@ -1,4 +1,3 @@
-use borrow.Author.Rules.{rules}
 use Rattle.book.proofs.book.Lemmas.{leaves-16}
 use Rattle.book.proofs.book.Rows.{is-rowed, not-rowed}
 use Rattle.book.proofs.log.checked.Lemmas.{checked-from, since-all, any-refused, any-taken}

@@ -1,6 +1,4 @@
 use mathlib.Core.Path.{sym, ◌∙◌}
-use borrow.Author.Tests.{not-true, not-false}
-use borrow.Author.Rules.{rules}
 use Rattle.book.specs.Register.{standing}
 use Rattle.book.specs.Amounts.{price_of}
 use Rattle.book.specs.Meaning.{load}
@@ -28,12 +26,18 @@ returns-then-q-ne0 c =
     )
 
 pub price_in-price-requires : goal.price_in-price-requires
-price_in-price-requires c = record { log_rows = rowed-log c.args.self c.args.log.now c.check_rows.ensures
-          (is-rowed c.args.self c.args.log.now c.check_rows.ensures c.if-check_rows.true); hour_in = hour-low c.args.mark c.args.hour c.hour_key-q.result c.hour_key-q.ensures c.if-q-ne0.false }
+price_in-price-requires c = record {
+  log_rows = rowed-log c.args.self c.args.log.now c.check_rows.ensures
+      (is-rowed c.args.self c.args.log.now c.check_rows.ensures c.if-check_rows.true);
+  hour_in = hour-low c.args.mark c.args.hour c.hour_key-q.result c.hour_key-q.ensures c.if-q-ne0.false;
+}
 
 pub of_hour-requires : goal.of_hour-requires
-of_hour-requires c = record { log_rows = rowed-log c.args.self c.args.log.now c.check_rows.ensures
-          (is-rowed c.args.self c.args.log.now c.check_rows.ensures c.if-check_rows.true); hour_in = hour-low c.args.mark c.args.hour c.hour_key-q.result c.hour_key-q.ensures c.if-q-ne0.false }
+of_hour-requires c = record {
+  log_rows = rowed-log c.args.self c.args.log.now c.check_rows.ensures
+      (is-rowed c.args.self c.args.log.now c.check_rows.ensures c.if-check_rows.true);
+  hour_in = hour-low c.args.mark c.args.hour c.hour_key-q.result c.hour_key-q.ensures c.if-q-ne0.false;
+}
 
 pub returns-then-check_rows : goal.returns-then-check_rows
 returns-then-check_rows c =
@@ -48,10 +52,9 @@ returns-then-check_rows c =
     )
 
 pub returns : goal.returns
-returns c =
-    (
-      charges-mismatched c.args.mark c.args.hour (load c.args.self c.args.log.now) _ c.no_charges-2.ensures.0
-          (not-rowed c.args.self c.args.log.now c.check_rows.ensures c.if-check_rows.false),
-      c.no_charges-2.ensures.1,
-      c.no_charges-2.ensures.2,
-    )
+returns c = (
+  charges-mismatched c.args.mark c.args.hour (load c.args.self c.args.log.now) _ c.no_charges-2.ensures.0
+      (not-rowed c.args.self c.args.log.now c.check_rows.ensures c.if-check_rows.false),
+  c.no_charges-2.ensures.1,
+  c.no_charges-2.ensures.2,
+)

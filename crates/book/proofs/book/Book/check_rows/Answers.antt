@@ -1,6 +1,5 @@
 use mathlib.Core.Path.{sym}
 use lib.Seq.{length-take-le}
-use borrow.Author.Rules.{rules}
 use Rattle.book.proofs.book.Rows.{rowed-by}
 use Rattle.book.specs.laws.LoadLaws.{load-short, load-long}
 use Rattle.book.proofs.log.replay.Lemmas.{mismatched-rowed}

@@ -1,4 +1,3 @@
-use borrow.Author.Rules.{rules}
 use Rattle.book.specs.Layer.{Any}
 use Rattle.book.proofs.log.checked.Lemmas.{only-back, only-close, only-record, only_none, makes-by}
 use Rattle.book.proofs.book.Book.checked_change.Goals as goal

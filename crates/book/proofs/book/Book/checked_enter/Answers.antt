@@ -1,5 +1,4 @@
 use native.Mathlib.Omega.{arith}
-use borrow.Author.Rules.{rules}
 use Rattle.book.proofs.log.checked.Lemmas.{checked-log, checked-rules, listed-closed, listed-refused, listed-few, listed-clear, listed-row, makes-listed}
 use Rattle.book.proofs.book.Book.checked_enter.Goals as goal
 

@@ -1,4 +1,3 @@
-use borrow.Author.Rules.{rules}
 use Rattle.book.proofs.log.checked.Lemmas.{checked-log, back-closed, back_none, above, last-few, back-makes}
 use Rattle.book.proofs.book.Book.checked_take_back.Goals as goal
 

@@ -1,4 +1,3 @@
-use borrow.Author.Rules.{rules}
 use Rattle.book.proofs.book.Lemmas.{leaves-16, count-wrong}
 use Rattle.book.proofs.book.Rows.{is-rowed, not-rowed, rowed-logged, rowed-rules, count-rowed}
 use Rattle.book.proofs.book.Book.count_of.Goals as goal

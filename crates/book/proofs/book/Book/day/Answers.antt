@@ -37,10 +37,13 @@ units_of-units-requires c =
     c.check_rows.ensures x in
     let size : length c.names_in-u.result.names ≡ 512 = search (rules, unmapped) in
     let named = c.names_in-u.ensures.0 x.list g ∙ ap (λ (y : Key). names_of y (standing x.list)) c.key_of.ensures in
-    record { log_rows = rowed-log c.args.self
+    record {
+      log_rows = rowed-log c.args.self
           c.args.log.now
-          c.check_rows.ensures x; named = names-formed
-          c.names_in-u.result c.names_in-u.ensures.1 size x.list x.valid named }
+          c.check_rows.ensures x;
+      named = names-formed
+          c.names_in-u.result c.names_in-u.ensures.1 size x.list x.valid named;
+    }
 
 pub returns-then-check_rows : goal.returns-then-check_rows
 returns-then-check_rows c =

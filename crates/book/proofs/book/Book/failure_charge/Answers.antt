@@ -1,4 +1,3 @@
-use borrow.Author.Rules.{rules}
 use Rattle.book.specs.laws.LayerLaws.{failure-formed}
 use Rattle.book.specs.Register.{standing}
 use Rattle.book.specs.Amounts.{price_of}
@@ -14,12 +13,18 @@ returns-then-q-ne0 c =
     c.ask_failure-q.ensures c.if-q-ne0.true
 
 pub price_in-price-requires : goal.price_in-price-requires
-price_in-price-requires c = record { log_rows = rowed-log c.args.self c.args.log.now c.check_rows.ensures
-          (is-rowed c.args.self c.args.log.now c.check_rows.ensures c.if-check_rows.true); hour_in = (failure-formed c.args.mark.now c.args.hour c.args.name.now c.ask_failure-q.result c.ask_failure-q.ensures).low }
+price_in-price-requires c = record {
+  log_rows = rowed-log c.args.self c.args.log.now c.check_rows.ensures
+      (is-rowed c.args.self c.args.log.now c.check_rows.ensures c.if-check_rows.true);
+  hour_in = (failure-formed c.args.mark.now c.args.hour c.args.name.now c.ask_failure-q.result c.ask_failure-q.ensures).low;
+}
 
 pub of_key-requires : goal.of_key-requires
-of_key-requires c = record { log_rows = rowed-log c.args.self c.args.log.now c.check_rows.ensures
-          (is-rowed c.args.self c.args.log.now c.check_rows.ensures c.if-check_rows.true); wellformed = failure-formed c.args.mark.now c.args.hour c.args.name.now c.ask_failure-q.result c.ask_failure-q.ensures }
+of_key-requires c = record {
+  log_rows = rowed-log c.args.self c.args.log.now c.check_rows.ensures
+      (is-rowed c.args.self c.args.log.now c.check_rows.ensures c.if-check_rows.true);
+  wellformed = failure-formed c.args.mark.now c.args.hour c.args.name.now c.ask_failure-q.result c.ask_failure-q.ensures;
+}
 
 pub returns-then-check_rows : goal.returns-then-check_rows
 returns-then-check_rows c =

@@ -1,6 +1,5 @@
 use mathlib.Core.Path.{refl}
 use native.Mathlib.Omega.{arith}
-use borrow.Author.Rules.{rules}
 use Rattle.book.proofs.book.Lemmas.{leaves-16, free-is}
 use Rattle.book.proofs.book.Rows.{is-rowed, not-rowed}
 use Rattle.book.proofs.book.Book.free_bytes.Goals as goal

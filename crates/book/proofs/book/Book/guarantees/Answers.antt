@@ -1,5 +1,4 @@
 use mathlib.Core.Path.{subst, sym}
-use borrow.Author.Rules.{rules}
 use Rattle.book.specs.Register.{Reply, ask, hour_guarantees, standing}
 use Rattle.book.specs.Amounts.{price_of}
 use Rattle.book.specs.Meaning.{Meets}
@@ -19,12 +18,18 @@ returns-then-q-ne0 c =
     )
 
 pub price_in-price-requires : goal.price_in-price-requires
-price_in-price-requires c = record { log_rows = rowed-log c.args.self c.args.log.now c.check_rows.ensures
-          (is-rowed c.args.self c.args.log.now c.check_rows.ensures c.if-check_rows.true); hour_in = hour-low _ c.args.hour c.hour_key-q.result c.hour_key-q.ensures c.if-q-ne0.false }
+price_in-price-requires c = record {
+  log_rows = rowed-log c.args.self c.args.log.now c.check_rows.ensures
+      (is-rowed c.args.self c.args.log.now c.check_rows.ensures c.if-check_rows.true);
+  hour_in = hour-low _ c.args.hour c.hour_key-q.result c.hour_key-q.ensures c.if-q-ne0.false;
+}
 
 pub of_hour-requires : goal.of_hour-requires
-of_hour-requires c = record { log_rows = rowed-log c.args.self c.args.log.now c.check_rows.ensures
-          (is-rowed c.args.self c.args.log.now c.check_rows.ensures c.if-check_rows.true); hour_in = hour-low _ c.args.hour c.hour_key-q.result c.hour_key-q.ensures c.if-q-ne0.false }
+of_hour-requires c = record {
+  log_rows = rowed-log c.args.self c.args.log.now c.check_rows.ensures
+      (is-rowed c.args.self c.args.log.now c.check_rows.ensures c.if-check_rows.true);
+  hour_in = hour-low _ c.args.hour c.hour_key-q.result c.hour_key-q.ensures c.if-q-ne0.false;
+}
 
 pub returns-then-check_rows : goal.returns-then-check_rows
 returns-then-check_rows c =
@@ -37,12 +42,11 @@ returns-then-check_rows c =
     )
 
 pub returns : goal.returns
-returns c =
-    (
-      subst (λ (y : Reply). Meets (ask (hour_guarantees c.args.hour)) c.args.self c.args.log.now c.args.self y c.args.log.now)
-          (sym c.no_guarantees-2.ensures.0)
-          (leaves-16 _ c.args.self c.args.log.now
-          (not-rowed c.args.self c.args.log.now c.check_rows.ensures c.if-check_rows.false)),
-      c.no_guarantees-2.ensures.1,
-      c.no_guarantees-2.ensures.2,
-    )
+returns c = (
+  subst (λ (y : Reply). Meets (ask (hour_guarantees c.args.hour)) c.args.self c.args.log.now c.args.self y c.args.log.now)
+      (sym c.no_guarantees-2.ensures.0)
+      (leaves-16 _ c.args.self c.args.log.now
+      (not-rowed c.args.self c.args.log.now c.check_rows.ensures c.if-check_rows.false)),
+  c.no_guarantees-2.ensures.1,
+  c.no_guarantees-2.ensures.2,
+)

@@ -1,5 +1,4 @@
 use native.Mathlib.Omega.{arith}
-use borrow.Author.Rules.{rules}
 use Rattle.book.proofs.book.Lemmas.{leaves-16, record-wrong}
 use Rattle.book.proofs.book.Rows.{is-rowed, not-rowed, rowed-logged, rowed-log, place-within, record-rowed, record-unrowed}
 use Rattle.book.proofs.book.Book.record_of.Goals as goal
@@ -11,8 +10,11 @@ returns-then-q-ne0 c =
     c.ask_key-q.ensures c.if-q-ne0.true
 
 pub find_in-s-requires : goal.find_in-s-requires
-find_in-s-requires c = record { log_rows = rowed-log c.args.self c.args.log.now c.check_rows.ensures
-          (is-rowed c.args.self c.args.log.now c.check_rows.ensures c.if-check_rows.true); from_in = omega arith }
+find_in-s-requires c = record {
+  log_rows = rowed-log c.args.self c.args.log.now c.check_rows.ensures
+      (is-rowed c.args.self c.args.log.now c.check_rows.ensures c.if-check_rows.true);
+  from_in = omega arith;
+}
 
 pub written_len-requires : goal.written_len-requires
 written_len-requires c =

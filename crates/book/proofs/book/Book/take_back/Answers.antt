@@ -1,5 +1,4 @@
 use mathlib.Core.Path.{sym, ap, ◌∙◌}
-use borrow.Author.Rules.{rules}
 use Rattle.records.specs.Changes.{no_key}
 use Rattle.book.specs.Register.{taken_back}
 use Rattle.book.proofs.book.Lemmas.{leaves-16}

@@ -1,4 +1,3 @@
-use borrow.Author.Rules.{rules}
 use Rattle.book.specs.Register.{refused, standing}
 use Rattle.book.specs.Amounts.{price_of}
 use Rattle.book.specs.laws.LayerLaws.{unit-formed}
@@ -20,9 +19,12 @@ price_table-table-requires c =
     (is-rowed c.args.self c.args.log.now c.check_rows.ensures c.if-check_rows.true)
 
 pub of_unit-requires : goal.of_unit-requires
-of_unit-requires c = record { log_rows = rowed-log c.args.self c.args.log.now c.check_rows.ensures
-          (is-rowed c.args.self c.args.log.now c.check_rows.ensures c.if-check_rows.true); wellformed = unit-formed c.args.name.now
-          c.unit_key-q.result c.unit_key-q.ensures }
+of_unit-requires c = record {
+  log_rows = rowed-log c.args.self c.args.log.now c.check_rows.ensures
+      (is-rowed c.args.self c.args.log.now c.check_rows.ensures c.if-check_rows.true);
+  wellformed = unit-formed c.args.name.now
+      c.unit_key-q.result c.unit_key-q.ensures;
+}
 
 pub returns-then-check_rows : goal.returns-then-check_rows
 returns-then-check_rows c =
@@ -34,10 +36,9 @@ returns-then-check_rows c =
     )
 
 pub returns : goal.returns
-returns c =
-    (
-      unit-mismatched c.args.self c.args.log.now c.args.name.now
-          (not-rowed c.args.self c.args.log.now c.check_rows.ensures c.if-check_rows.false) c.refused_day-2.result
-          c.refused_day-2.ensures,
-      handed-whole (refused 16) _ c.refused_day-2.ensures,
-    )
+returns c = (
+  unit-mismatched c.args.self c.args.log.now c.args.name.now
+      (not-rowed c.args.self c.args.log.now c.check_rows.ensures c.if-check_rows.false) c.refused_day-2.result
+      c.refused_day-2.ensures,
+  handed-whole (refused 16) _ c.refused_day-2.ensures,
+)

@@ -1,6 +1,5 @@
 use mathlib.Core.List.{[]}
 use mathlib.Core.Path.{sym, ap}
-use borrow.Author.Rules.{rules}
 use Rattle.book.proofs.book.Rows.{is-rowed, not-rowed, rowed-log, rowed-logged}
 use Rattle.book.specs.Meaning.{load}
 use Rattle.book.specs.UnitNames.{unit_names, names_in}
@@ -14,8 +13,7 @@ names_in-units-requires c =
 
 pub returns-then-check_rows : goal.returns-then-check_rows
 returns-then-check_rows c =
-    let x = is-rowed c.args.self c.args.log.now c.check_rows.ensures c.if-check_rows.true in
-    (
+    let x = is-rowed c.args.self c.args.log.now c.check_rows.ensures c.if-check_rows.true in (
       units-at (load c.args.self c.args.log.now) x.list x.is c.key_of.result c.key_of.ensures c.names_in-units.result
           (c.names_in-units.ensures.0 x.list (rowed-logged c.args.self c.args.log.now c.check_rows.ensures x)),
       c.names_in-units.ensures.1,
@@ -23,9 +21,8 @@ returns-then-check_rows c =
     )
 
 pub returns : goal.returns
-returns c =
-    (
-      sym (ap unit_names (not-rowed c.args.self c.args.log.now c.check_rows.ensures c.if-check_rows.false)),
-      no-names-few c.no_names-units.result c.no_names-units.ensures,
-      with-units 16 c.no_names-units.result [] c.no_names-units.ensures,
-    )
+returns c = (
+  sym (ap unit_names (not-rowed c.args.self c.args.log.now c.check_rows.ensures c.if-check_rows.false)),
+  no-names-few c.no_names-units.result c.no_names-units.ensures,
+  with-units 16 c.no_names-units.result [] c.no_names-units.ensures,
+)

@@ -1,7 +1,6 @@
 use mathlib.Core.Path.{sym, ◌∙◌}
 use lib.Seq.{length-take-le}
 use native.Mathlib.Omega.{arith}
-use borrow.Author.Rules.{rules}
 use Rattle.book.proofs.log.checked.Restoring.{restored, back-rows, undoing, newest-few, newest-within, wrote-few}
 use Rattle.book.proofs.log.checked.restore.Goals as goal
 

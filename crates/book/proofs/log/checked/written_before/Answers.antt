@@ -1,9 +1,8 @@
 use Prim.Native.Nat.{◌+◌}
 use mathlib.Core.Path.{refl, sym, ◌∙◌}
 use native.Mathlib.Omega.{arith}
-use borrow.Author.Rules.{rules}
 use Rattle.book.proofs.log.rows.Lemmas.{ruled-few, begins-there}
-use Rattle.book.proofs.log.checked.Restoring.{Backward, backward-start, backward-end, back_inside, back-skip, back-within, back-other, back-hit}
+use Rattle.book.proofs.log.checked.Restoring.{backward-start, backward-end, back_inside, back-skip, back-within, back-other, back-hit}
 use Rattle.book.proofs.log.checked.written_before.Goals as goal
 
 pub overflow_sub-i : goal.overflow_sub-i

@@ -1,4 +1,3 @@
-use borrow.Author.Rules.{rules}
 use Rattle.book.proofs.log.refusal.Lemmas.{withdrawal-by}
 use Rattle.book.proofs.log.checked.wrote_in.Goals as goal
 

@@ -1,8 +1,5 @@
 use Prim.Native.Nat.{◌-◌}
-use mathlib.Core.Path.{subst}
-use borrow.Author.Rules.{rules}
-use native.Mathlib.Omega.{arith}
-use Rattle.book.proofs.log.index.Lemmas.{Hashing, hashing-start, byte-hashes, hashing-next, hashing-end}
+use Rattle.book.proofs.log.index.Lemmas.{Hashing}
 use Rattle.book.proofs.log.index.bucket_of.Given as goal
 
 abbrev pub invariant-loop-i : goal.invariant-loop-i

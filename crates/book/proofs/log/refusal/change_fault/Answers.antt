@@ -1,5 +1,4 @@
 use mathlib.Core.Path.{◌∙◌}
-use borrow.Author.Rules.{rules}
 use Rattle.book.specs.Layer.{kind_in}
 use Rattle.book.proofs.log.refusal.Lemmas.{filing-by, judge-10, judge-12, judge-filed, judge-other, judge-11}
 use Rattle.book.proofs.log.refusal.change_fault.Goals as goal

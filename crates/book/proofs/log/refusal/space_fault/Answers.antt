@@ -1,5 +1,4 @@
 use native.Mathlib.Omega.{arith}
-use borrow.Author.Rules.{rules}
 use Rattle.book.proofs.log.refusal.Lemmas.{room-many, room-short, room-enough}
 use Rattle.book.proofs.log.refusal.space_fault.Goals as goal
 

@@ -1,6 +1,5 @@
 use mathlib.Core.Path.{refl}
 use native.Mathlib.Omega.{arith}
-use borrow.Author.Rules.{rules}
 use Rattle.book.proofs.log.refusal.Lemmas.{filing-by, withdrawal-by, count-1, count-2, count-3}
 use Rattle.book.specs.Layer.{kind_in}
 use Rattle.book.proofs.log.replay.count_with.Goals as goal

@@ -1,6 +1,5 @@
 use mathlib.Core.Path.{refl}
 use native.Mathlib.Omega.{arith}
-use borrow.Author.Rules.{rules}
 use Rattle.book.proofs.log.rows.code_of.Goals as goal
 
 pub returns-in-File : goal.returns-in-File

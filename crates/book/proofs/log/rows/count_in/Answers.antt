@@ -1,7 +1,5 @@
-use Prim.Native.Nat.{◌-◌}
 use native.Mathlib.Omega.{arith}
-use borrow.Author.Rules.{rules}
-use Rattle.book.proofs.log.rows.Lemmas.{Counting, counting-start, counting-room, counting-next, counting-end}
+use Rattle.book.proofs.log.rows.Lemmas.{counting-start, counting-room, counting-next, counting-end}
 use Rattle.book.proofs.log.rows.count_in.Goals as goal
 
 pub loop-i-init : goal.loop-i-init

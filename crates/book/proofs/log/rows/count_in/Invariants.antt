@@ -1,7 +1,5 @@
 use Prim.Native.Nat.{◌-◌}
-use native.Mathlib.Omega.{arith}
-use borrow.Author.Rules.{rules}
-use Rattle.book.proofs.log.rows.Lemmas.{Counting, counting-start, counting-room, counting-next, counting-end}
+use Rattle.book.proofs.log.rows.Lemmas.{Counting}
 use Rattle.book.proofs.log.rows.count_in.Given as goal
 
 abbrev pub invariant-loop-i : goal.invariant-loop-i

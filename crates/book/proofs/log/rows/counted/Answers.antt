@@ -1,5 +1,4 @@
 use mathlib.Core.Path.{sym, ◌∙◌}
-use borrow.Author.Rules.{rules}
 use Rattle.book.proofs.amounts.places.Lemmas.{taken-up, left_out}
 use Rattle.book.proofs.log.rows.counted.Goals as goal
 

@@ -1,6 +1,5 @@
 use mathlib.Core.Path.{sym, subst⁻¹, ◌∙◌}
 use lib.Seq.{length-take-le}
-use borrow.Author.Rules.{rules}
 use Rattle.book.specs.tables.Rows.{Sought}
 use Rattle.book.specs.declared.log.rows.Seek.{Seek}
 use Rattle.book.proofs.log.rows.Lemmas.{seeking-none, seeking-untold}

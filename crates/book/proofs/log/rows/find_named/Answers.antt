@@ -1,10 +1,9 @@
 use Prim.Native.Nat.{◌+◌}
 use mathlib.Core.Path.{refl, sym, subst⁻¹, ◌∙◌}
 use native.Mathlib.Omega.{arith}
-use borrow.Author.Rules.{rules}
 use Rattle.book.specs.tables.Rows.{Sought}
 use Rattle.book.specs.declared.log.rows.Seek.{Seek}
-use Rattle.book.proofs.log.rows.Lemmas.{Seeking, seeking-start, seeking-end, seeking-skip, seeking-other, seeking-hit, seeking-within, turn_inside, ruled-few, begins-there}
+use Rattle.book.proofs.log.rows.Lemmas.{seeking-start, seeking-end, seeking-skip, seeking-other, seeking-hit, seeking-within, turn_inside, ruled-few, begins-there}
 use Rattle.book.proofs.log.rows.find_named.Goals as goal
 
 pub loop-i-init : goal.loop-i-init

@@ -1,5 +1,4 @@
 use native.Mathlib.Omega.{arith}
-use borrow.Author.Rules.{rules}
 use mathlib.Core.Path.{◌∙◌, ap}
 use Rattle.book.specs.Layer.{kind_in}
 use Rattle.book.specs.tables.Rows.{kind_code}

@@ -1,5 +1,4 @@
 use mathlib.Core.Path.{◌∙◌, ap}
-use borrow.Author.Rules.{rules}
 use Rattle.book.specs.Layer.{View, scan, view_of}
 use Rattle.book.proofs.log.Survey.{to_end}
 use Rattle.book.proofs.log.rows.written_len.Goals as goal

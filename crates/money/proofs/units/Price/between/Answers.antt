@@ -1,5 +1,4 @@
 use native.Mathlib.Omega.{arith}
-use borrow.Author.Rules.{rules}
 use Rattle.money.proofs.units.Price.between.Goals as goal
 
 pub for_quantity-requires : goal.for_quantity-requires

@@ -1,5 +1,4 @@
 use native.Mathlib.Omega.{arith}
-use borrow.Author.Rules.{rules}
 use Rattle.laws.specs.Exp.{i32, u32, ◌⊗◌, fits, same}
 use Rattle.money.proofs.units.PriceGap.for_an_hour.Goals as goal
 

@@ -1,5 +1,4 @@
 use mathlib.Core.Path.{sym, ◌∙◌}
-use borrow.Author.Rules.{rules}
 use Rattle.money.proofs.units.Quantity.new.Goals as goal
 
 pub returns-then-in_range : goal.returns-then-in_range
