@@ -1,17 +1,18 @@
 // The statement of the day that a book holds.
-ghost use Rattle.std.specs.Prelude.{◌≡◌, [], ◌∷◌, ◌*◌, ◌≤◌, pos, take};
+ghost use Rattle.std.specs.Prelude.{◌≡◌, [], ◌∷◌, ◌+◌, ◌*◌, ◌≤◌, pos, length, take};
 ghost use Rattle.money.specs.Units.{day_hours};
 ghost use Rattle.book.specs.Register.{max_changes};
 ghost use Rattle.book.specs.Meaning.{load};
+ghost use Rattle.statement.specs.Lines.{line_bytes, text_of, max_line};
 ghost use Rattle.statement.specs.Total.{total_of, with_total};
-ghost use Rattle.statement.specs.Statement.{max_hour_lines, max_unit_lines, max_lines, Answers};
-ghost use Rattle.statement.specs.tables.Inner.{PrintableHours, PrintableUnits, PrintableDay, lines_of_hours, lines_of_units, lines_of_day};
+ghost use Rattle.statement.specs.Statement.{max_hour_lines, max_unit_lines, max_lines, longest_statement, Answers};
+ghost use Rattle.statement.specs.tables.Inner.{Writes, PrintableHours, PrintableUnits, PrintableDay, lines_of_hours, lines_of_units, lines_of_day};
 ghost use Rattle.statement.specs.tables.Cursors.{top, Room, WritesLines};
 
 use crate::bytes::write_front;
 use crate::cursor::{Cursor, Sheet, put_line};
 use crate::hours::put_hour;
-use crate::lines::{Kind, LINE_MAX, Line};
+use crate::lines::{Kind, LINE_MAX, Line, put_text};
 use crate::units::put_unit;
 use book::answers::{CHARGES_MAX, CREDITS_MAX, DayAmounts, HourAmounts, UnitAmounts};
 use book::book::{Book, CHANGES_MAX};
@@ -67,24 +68,43 @@ fn put_units(out: &mut [u8], c: Cursor, units: [UnitAmounts; CHANGES_MAX], n: us
     next
 }
 
-// Writes the line of the total, which counts nothing.
-fn put_total(out: &mut [u8], c: Cursor) -> Cursor
-    requires { Room out.old c 1 }
-    ensures { WritesLines out.old c 1 (total_of c.sum.0 ∷ []) out.new result }
+// The line of the total.
+fn total_line(cents: Cents) -> Line
+    ensures { result ≡ total_of cents.0 }
 {
     let name = no_name();
-    let cents = c.sum;
-    let line = Line {
+    Line {
         hour: 0,
         kind: Kind::Tot,
         name,
         cents,
-    };
-    put_line(out, c, line)
+    }
 }
 
-// Writes all lines of a day and their total.
-pub(crate) fn put_day(out: &mut [u8], c: Cursor, day: DayAmounts) -> Cursor
+// Writes the line of the total, which no sum counts.
+fn put_total(out: &mut [u8], at: usize, cents: Cents) -> usize
+    requires { at + max_line ≤ length out.old }
+    ensures { Writes out.old at (line_bytes (total_of cents.0)) out.new result × (length (line_bytes (total_of cents.0)) ≤ max_line) }
+{
+    put_text(out, at, total_line(cents))
+}
+
+// The same behind a cursor, on pages or without.
+fn put_foot(out: &mut [u8], c: Cursor) -> Cursor
+    requires { Room out.old c 1 }
+    ensures { WritesLines out.old c 1 (total_of c.sum.0 ∷ []) out.new result }
+{
+    let sum = c.sum;
+    let sheet = c.sheet;
+    if sheet.page == 0 {
+        let at = put_total(out, c.at, sum);
+        return Cursor { at, sum, sheet };
+    }
+    put_line(out, c, total_line(sum))
+}
+
+// Writes all lines of a day and their total from a cursor on.
+pub(crate) fn put_lines(out: &mut [u8], c: Cursor, day: DayAmounts) -> Cursor
     requires { PrintableDay day × Room out.old c max_lines × (c.sum.0 ≡ pos 0) }
     ensures { WritesLines out.old c max_lines (with_total (lines_of_day day)) out.new result }
 {
@@ -92,7 +112,7 @@ pub(crate) fn put_day(out: &mut [u8], c: Cursor, day: DayAmounts) -> Cursor
     let units = day.units;
     let d = put_hours(out, c, hours);
     let e = put_units(out, d, units, day.n);
-    put_total(out, e)
+    put_foot(out, e)
 }
 
 // Where a text without pages begins.
@@ -110,6 +130,15 @@ fn top() -> Cursor
     }
 }
 
+// Writes all lines of a day and their total from the first byte on, and answers the place behind them.
+fn put_day(out: &mut [u8], day: DayAmounts) -> usize
+    requires { PrintableDay day × (longest_statement ≤ length out.old) }
+    ensures { Writes out.old 0 (text_of (with_total (lines_of_day day))) out.new result × (result ≤ longest_statement) }
+{
+    let end = put_lines(out, top(), day);
+    end.at
+}
+
 // Writes the statement from the first lent byte on: 13 where it is longer than what is lent, 16 where book and log don't
 // belong together. No statement is longer than STATEMENT_MAX: where less is lent it is written aside first.
 pub fn statement(book: Book, log: &[u8], out: &mut [u8]) -> Written
@@ -123,14 +152,10 @@ pub fn statement(book: Book, log: &[u8], out: &mut [u8]) -> Written
         };
     }
     if STATEMENT_MAX <= out.len() {
-        let end = put_day(out, top(), day);
-        return Written {
-            number: 0,
-            len: end.at,
-        };
+        let len = put_day(out, day);
+        return Written { number: 0, len };
     }
     let mut aside = [0u8; STATEMENT_MAX];
-    let end = put_day(&mut aside, top(), day);
-    let len = end.at;
+    let len = put_day(&mut aside, day);
     write_front(out, &aside[..len])
 }

@@ -10,7 +10,7 @@ ghost use Rattle.statement.specs.tables.Cursors.{first_entry, Placed};
 use crate::bytes::write_front;
 use crate::columns::{COLUMNS, put_blank_lines, put_head, put_sum};
 use crate::cursor::{Cursor, ENTRIES, Sheet};
-use crate::day::{LINES_MAX, Written, put_day};
+use crate::day::{LINES_MAX, Written, put_lines};
 use book::answers::DayAmounts;
 use book::book::Book;
 use money::refusals::NOT_TOGETHER;
@@ -59,7 +59,7 @@ fn put_pages(out: &mut [u8], day: DayAmounts) -> usize
     ensures { Writes out.old 0 (pages_text (with_total (lines_of_day day))) out.new result × (result ≤ longest_pages) }
 {
     let first = open_first(out);
-    let last = put_day(out, first, day);
+    let last = put_lines(out, first, day);
     close_last(out, last)
 }
 

@@ -94,10 +94,10 @@ told {b} {s} {d} {e} {day} {r} t x w =
     subst (λ (ls : List Line). Writes d 0 (t (with_total ls)) e r) same w
 
 -- the statement
-pub stated : {b : Book} {s d e : List ℕ} {day : DayAmounts} {r : Cursor} (x : Loaded b s day) → WritesLines d top max_lines (with_total (lines_of_day day)) e r
-    → Writes d 0 (statement_of x.list) e r.at
+pub stated : {b : Book} {s d e : List ℕ} {day : DayAmounts} {r : ℕ} (x : Loaded b s day) → Writes d 0 (text_of (with_total (lines_of_day day))) e r
+    → Writes d 0 (statement_of x.list) e r
 unfolding statement_of
-stated x w = told text_of x (plainly w)
+stated x w = told text_of x w
 
 pub stated-short : {d e : List ℕ} {r : Cursor} {ls : List Line} → WritesLines d top max_lines ls e r → r.at ≤ longest_statement
 stated-short {r = r} w = let z : r.sheet.page ≡ 0 = ap (λ (s : Sheet). s.page) (w.sheet ∙ after-plain no_sheet refl _) in omega (arith, rw z at (w.short 0))

@@ -24,8 +24,7 @@ put_byte-requires c =
 
 pub returns : goal.returns
 unfolding entry_bytes
-returns c =
-    (
-      writes_then (writes_then (writes_then c.put_label-a.ensures.0 c.put_name_left-b.ensures.0) c.put_figure_right-d.ensures.0) c.put_byte.ensures,
-      omega (arith, c.put_label-a.ensures.1, c.put_name_left-b.ensures.1, c.put_figure_right-d.ensures.1, c.put_byte.ensures.behind),
-    )
+returns c = (
+  writes_then (writes_then (writes_then c.put_label-a.ensures.0 c.put_name_left-b.ensures.0) c.put_figure_right-d.ensures.0) c.put_byte.ensures,
+  omega (arith, c.put_label-a.ensures.1, c.put_name_left-b.ensures.1, c.put_figure_right-d.ensures.1, c.put_byte.ensures.behind),
+)

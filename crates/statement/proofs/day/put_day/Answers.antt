@@ -1,21 +1,13 @@
-use native.Mathlib.Omega.{arith}
-use Rattle.statement.proofs.cursor.Lemmas.{lines_then, lines-within, room-less, room-then}
-use Rattle.statement.proofs.day.Lemmas.{with-total}
-use borrow.Author.Rules.{rules}
+use mathlib.Core.Path.{ap}
+use Rattle.statement.specs.declared.cursor.Cursor.{Cursor}
+use Rattle.statement.proofs.cursor.Lemmas.{lines_from, room-from}
+use Rattle.statement.proofs.day.Lemmas.{room-top, plainly, stated-short}
 use Rattle.statement.proofs.day.put_day.Goals as goal
 
-pub put_hours-d-requires : goal.put_hours-d-requires
-put_hours-d-requires c =
-    (room-less (omega arith) c.requires.1, c.requires.0.hours)
-
-pub put_units-e-requires : goal.put_units-e-requires
-put_units-e-requires c =
-    (c.requires.0.few, room-then (omega (arith, c.requires.0.few)) c.requires.1 c.put_hours-d.ensures, c.requires.0.units)
-
-pub put_total-requires : goal.put_total-requires
-put_total-requires c =
-    room-then (omega (arith, c.requires.0.few)) c.requires.1 (lines_then c.put_hours-d.ensures c.put_units-e.ensures)
+pub put_lines-end-requires : goal.put_lines-end-requires
+put_lines-end-requires c = (c.requires.0, room-from c.top.ensures (room-top _ c.requires.1), ap (λ (c : Cursor). c.sum.0) c.top.ensures)
 
 pub returns : goal.returns
 returns c =
-    lines-within (omega (arith, c.requires.0.few)) (with-total c.requires.2 (lines_then c.put_hours-d.ensures c.put_units-e.ensures) c.put_total.ensures)
+    let w = lines_from c.top.ensures c.put_lines-end.ensures in
+    (plainly w, stated-short w)

@@ -13,14 +13,13 @@ use Rattle.statement.proofs.cursor.Lemmas.{lines_none, lines_then, lines-as, lin
 use Rattle.statement.proofs.day.put_hours.Goals as goal
 
 pub loop-h-init : goal.loop-h-init
-loop-h-init c =
-    (
-      search rules,
-      search (rules, unmapped),
-      c.requires.0,
-      c.requires.1,
-      lines-as (sym (hours-none c.args.hours)) (lines_none c.args.out.now c.args.c c.requires.0.here),
-    )
+loop-h-init c = (
+  search rules,
+  search (rules, unmapped),
+  c.requires.0,
+  c.requires.1,
+  lines-as (sym (hours-none c.args.hours)) (lines_none c.args.out.now c.args.c c.requires.0.here),
+)
 
 pub put_hour-next-requires : goal.put_hour-next-requires
 put_hour-next-requires c =

@@ -18,12 +18,11 @@ put_decimal-requires c =
     )
 
 pub returns-then-is_number : goal.returns-then-is_number
-returns-then-is_number c =
-    (
-      rw (figure-number _ _ (sym c.is_number.ensures ∙ c.if-is_number.true), ← c.magnitude-n.ensures.value)
-          (writes_then c.put_sign-first.ensures c.put_decimal.ensures),
-      omega (arith, c.magnitude-n.ensures.value, c.magnitude-n.ensures.bounded),
-    )
+returns-then-is_number c = (
+  rw (figure-number _ _ (sym c.is_number.ensures ∙ c.if-is_number.true), ← c.magnitude-n.ensures.value)
+      (writes_then c.put_sign-first.ensures c.put_decimal.ensures),
+  omega (arith, c.magnitude-n.ensures.value, c.magnitude-n.ensures.bounded),
+)
 
 pub put_decimal-point-requires : goal.put_decimal-point-requires
 put_decimal-point-requires c =
@@ -68,9 +67,8 @@ put_two-requires c =
     )
 
 pub returns : goal.returns
-returns c =
-    (
-      rw (figure-dollars _ _ (sym c.is_number.ensures ∙ c.if-is_number.false), ← c.magnitude-n.ensures.value)
-          (writes_then (writes_then (writes_then c.put_sign-first.ensures c.put_decimal-point.ensures) c.put_byte-decimals.ensures) c.put_two.ensures),
-      omega (arith, c.magnitude-n.ensures.value, c.magnitude-n.ensures.bounded),
-    )
+returns c = (
+  rw (figure-dollars _ _ (sym c.is_number.ensures ∙ c.if-is_number.false), ← c.magnitude-n.ensures.value)
+      (writes_then (writes_then (writes_then c.put_sign-first.ensures c.put_decimal-point.ensures) c.put_byte-decimals.ensures) c.put_two.ensures),
+  omega (arith, c.magnitude-n.ensures.value, c.magnitude-n.ensures.bounded),
+)

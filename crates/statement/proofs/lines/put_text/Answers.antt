@@ -32,8 +32,7 @@ put_byte-requires c =
 
 pub returns : goal.returns
 unfolding line_bytes
-returns c =
-    (
-      writes_then (writes_then (writes_then (writes_then c.put_label-a.ensures.0 c.put_name-b.ensures) c.put_byte-d.ensures) c.put_figure-e.ensures.0) c.put_byte.ensures,
-      line-length c.args.line c.put_figure-e.ensures.1,
-    )
+returns c = (
+  writes_then (writes_then (writes_then (writes_then c.put_label-a.ensures.0 c.put_name-b.ensures) c.put_byte-d.ensures) c.put_figure-e.ensures.0) c.put_byte.ensures,
+  line-length c.args.line c.put_figure-e.ensures.1,
+)

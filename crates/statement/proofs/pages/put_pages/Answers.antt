@@ -13,14 +13,14 @@ pub open_first-first-requires : goal.open_first-first-requires
 open_first-first-requires c =
     omega (arith, c.requires.1)
 
-pub put_day-last-requires : goal.put_day-last-requires
-put_day-last-requires c =
+pub put_lines-last-requires : goal.put_lines-last-requires
+put_lines-last-requires c =
     (c.requires.0, room-from c.open_first-first.ensures.1 (room-first _ (omega (arith, c.requires.1, writes-size c.open_first-first.ensures.0))), ap (λ (c : Cursor). c.sum.0) c.open_first-first.ensures.1)
 
 pub close_last-requires : goal.close_last-requires
 close_last-requires c =
     let ls = lines_of_day c.args.day in
-    let w = lines_from c.open_first-first.ensures.1 c.put_day-last.ensures in
+    let w = lines_from c.open_first-first.ensures.1 c.put_lines-last.ensures in
     let x = last-page ls (total_of (sum_of ls)) (omega (arith, c.requires.1, writes-size c.open_first-first.ensures.0)) w in
     (x.placed, x.paged, omega (arith, x.within, c.requires.1, writes-size c.open_first-first.ensures.0, lines-size w))
 
@@ -28,6 +28,6 @@ pub returns : goal.returns
 returns c =
     let ls = lines_of_day c.args.day in
     let total = total_of (sum_of ls) in
-    let w = lines_from c.open_first-first.ensures.1 c.put_day-last.ensures in
+    let w = lines_from c.open_first-first.ensures.1 c.put_lines-last.ensures in
     let x = last-page ls total (omega (arith, c.requires.1, writes-size c.open_first-first.ensures.0)) w in
-    (paged-text ls total c.open_first-first.ensures.1 c.open_first-first.ensures.0 c.put_day-last.ensures c.close_last.ensures.0, omega (arith, c.close_last.ensures.1, x.within))
+    (paged-text ls total c.open_first-first.ensures.1 c.open_first-first.ensures.0 c.put_lines-last.ensures c.close_last.ensures.0, omega (arith, c.close_last.ensures.1, x.within))

@@ -13,9 +13,8 @@ slice_bounds-write_front-end c =
     (omega (arith, c.put_refusal-len.ensures.behind, c.put_refusal-len.ensures.room)))
 
 pub returns : goal.returns
-returns c =
-    (
-      fits-front c.put_refusal-len.ensures c.write_front.ensures,
-      refusal-length c.args.ordinal c.args.number (omega arith)
-          (omega arith),
-    )
+returns c = (
+  fits-front c.put_refusal-len.ensures c.write_front.ensures,
+  refusal-length c.args.ordinal c.args.number (omega arith)
+      (omega arith),
+)
