@@ -63,10 +63,7 @@ fn run(rt: &HostRuntime) {
 fn main(rt: HostRuntime) {
     if has_argument(&rt) {
         say(&rt, b"usage: settle < records > statement\n");
-        say(
-            &rt,
-            b"settle-day takes files, and has an exit status\n",
-        );
+        say(&rt, b"settle-day takes files, and has an exit status\n");
         return;
     }
     run(&rt);

@@ -1,5 +1,4 @@
 use mathlib.Core.Path.{sym, ap, ◌∙◌}
-use borrow.Author.Rules.{rules}
 use Rattle.records.specs.declared.layouts.HourPrices.{HourPrices}
 use Rattle.records.specs.declared.views.PricesAnswer.{PricesAnswer}
 use Rattle.records.specs.declared.marks.Mark.TheVariants.{Fi, Fe}

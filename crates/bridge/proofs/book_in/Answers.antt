@@ -1,5 +1,4 @@
 use borrow.Author.Tests.{lt-ltb, le-ltb}
-use borrow.Author.Rules.{rules}
 use Rattle.bridge.specs.Bridge.{book_in}
 use Rattle.bridge.proofs.book_in.Goals as goal
 

@@ -1,5 +1,4 @@
 use borrow.Author.Tests.{lt-ltb, le-ltb}
-use borrow.Author.Rules.{rules}
 use Rattle.bridge.proofs.book_of.Goals as goal
 
 pub returns-then-changes-gt-U16_MAX : goal.returns-then-changes-gt-U16_MAX

@@ -1,5 +1,4 @@
 use mathlib.Core.Path.{sym, ◌∙◌}
-use borrow.Author.Rules.{rules}
 use Rattle.bridge.proofs.has_amount.Goals as goal
 
 pub returns-then-begins_with : goal.returns-then-begins_with

@@ -1,5 +1,4 @@
 use borrow.Author.Tests.{lt-ltb, le-ltb}
-use borrow.Author.Rules.{rules}
 use Rattle.bridge.proofs.hour_of.Goals as goal
 
 pub returns-then-hour-gt-U8_MAX : goal.returns-then-hour-gt-U8_MAX

@@ -1,5 +1,4 @@
 use mathlib.Core.Path.{refl}
-use borrow.Author.Rules.{rules}
 use Rattle.bridge.proofs.Tell.{told-no}
 use Rattle.bridge.proofs.mark_alone.Goals as goal
 

@@ -1,5 +1,4 @@
 use borrow.Author.Tests.{lt-ltb, le-ltb}
-use borrow.Author.Rules.{rules}
 use Rattle.bridge.proofs.method_of.Goals as goal
 
 pub returns-then-method-gt5 : goal.returns-then-method-gt5

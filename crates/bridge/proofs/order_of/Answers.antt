@@ -1,6 +1,5 @@
 use mathlib.Core.Path.{sym, ap}
 use mathlib.Core.Bool.{Bool, cond}
-use borrow.Author.Rules.{rules}
 use Rattle.bridge.proofs.Tell.{order-before, order-rest}
 use Rattle.bridge.proofs.order_of.Goals as goal
 

@@ -1,7 +1,6 @@
 use mathlib.Core.Path.{sym, ap, ◌∙◌}
 use mathlib.Core.Bool.{Bool}
 use Prim.Native.Nat.{ℕ}
-use borrow.Author.Rules.{rules}
 use Rattle.laws.specs.Sums.{or_else}
 use Rattle.money.proofs.laws.UnitLaws.{kept}
 use Rattle.money.specs.declared.units.Answer.{Answer}
@@ -38,6 +37,9 @@ returns c =
     ∙ ap (λ (n : ℕ). or_else n (answer_fault (amount_in c.args.prices.now c.args.bytes.now))) (sym c.if-g-ne0.false ∙ f)
     ∙ ap (λ (n : ℕ). or_else n (or_else (filing_fault c.args.bytes.now (has_amount c.args.bytes.now))
     (answer_fault (amount_in c.args.prices.now c.args.bytes.now)))) (sym c.if-f-ne0.false ∙ e) in
-    record { value = k; amounts_after = c.tell_amount.ensures.amounts_after ∙ ap (λ (x : Answer). ticks_told x c.args.amounts.now) c.amount_of.ensures
+    record {
+      value = k;
+      amounts_after = c.tell_amount.ensures.amounts_after ∙ ap (λ (x : Answer). ticks_told x c.args.amounts.now) c.amount_of.ensures
           ∙ ticks-if (amount_in c.args.prices.now c.args.bytes.now) c.args.amounts.now
-          (sym k ∙ c.tell_amount.ensures.value ∙ ap (λ (x : Answer). answer_fault x) c.amount_of.ensures) }
+          (sym k ∙ c.tell_amount.ensures.value ∙ ap (λ (x : Answer). answer_fault x) c.amount_of.ensures);
+    }

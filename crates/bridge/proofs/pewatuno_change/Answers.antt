@@ -1,4 +1,3 @@
-use borrow.Author.Rules.{rules}
 use Rattle.bridge.proofs.Changes.{change-refused, change-accepted}
 use Rattle.bridge.proofs.pewatuno_change.Goals as goal
 

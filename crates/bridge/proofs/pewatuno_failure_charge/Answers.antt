@@ -1,5 +1,4 @@
 use mathlib.Core.Path.{ap, ◌∙◌}
-use borrow.Author.Rules.{rules}
 use Rattle.book.specs.Register.{Reply, ask, failure_charge, step_of}
 use Rattle.book.specs.Meaning.{outcome}
 use Rattle.book.specs.Replies.{replied}
@@ -12,5 +11,8 @@ returns c =
     let p = c.failure_charge.ensures.answer ∙ (λ i. (outcome
     (step_of (ask (failure_charge c.args.mark.now (c.hour_of.ensures i) c.args.name.now))) (c.book_in-b.ensures i)
     c.args.lent.now).answer) in
-    record { value = c.tell_amounts.ensures.value ∙ ap (λ (r : Reply). replied r) p; amounts_after = c.tell_amounts.ensures.amounts_after ∙ ap
-          (λ (r : Reply). amounts_told r c.args.amounts.now) p }
+    record {
+      value = c.tell_amounts.ensures.value ∙ ap (λ (r : Reply). replied r) p;
+      amounts_after = c.tell_amounts.ensures.amounts_after ∙ ap
+          (λ (r : Reply). amounts_told r c.args.amounts.now) p;
+    }

@@ -1,4 +1,3 @@
-use borrow.Author.Rules.{rules}
 use Rattle.bridge.specs.Bridge.{pages_in}
 use Rattle.bridge.proofs.Tell.{text-told}
 use Rattle.bridge.proofs.pewatuno_pages.Goals as goal

@@ -1,4 +1,3 @@
-use borrow.Author.Rules.{rules}
 use Rattle.bridge.specs.Bridge.{statement_in}
 use Rattle.bridge.proofs.Tell.{text-told}
 use Rattle.bridge.proofs.pewatuno_statement.Goals as goal

@@ -1,5 +1,4 @@
 use mathlib.Core.Path.{ap, ◌∙◌}
-use borrow.Author.Rules.{rules}
 use Rattle.book.specs.Register.{Reply, ask, day_of, step_of}
 use Rattle.book.specs.Meaning.{outcome}
 use Rattle.book.specs.Replies.{replied}
@@ -11,5 +10,8 @@ unfolding asked
 returns c =
     let p = c.unit_day.ensures.0.answer ∙
     (λ i. (outcome (step_of (ask (day_of c.args.name.now))) (c.book_in-b.ensures i) c.args.lent.now).answer) in
-    record { value = c.tell_day.ensures.value ∙ ap (λ (r : Reply). replied r) p; amounts_after = c.tell_day.ensures.amounts_after ∙ ap
-          (λ (r : Reply). amounts_told r c.args.amounts.now) p }
+    record {
+      value = c.tell_day.ensures.value ∙ ap (λ (r : Reply). replied r) p;
+      amounts_after = c.tell_day.ensures.amounts_after ∙ ap
+          (λ (r : Reply). amounts_told r c.args.amounts.now) p;
+    }

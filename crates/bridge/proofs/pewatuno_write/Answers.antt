@@ -1,6 +1,5 @@
 use mathlib.Core.Path.{refl, ◌∙◌}
 use borrow.Author.Tests.{eq-eqb, ne_eqb}
-use borrow.Author.Rules.{rules}
 use Rattle.bridge.proofs.pewatuno_write.Goals as goal
 
 pub returns-then-method-eq0 : goal.returns-then-method-eq0

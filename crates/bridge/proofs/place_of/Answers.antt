@@ -1,6 +1,5 @@
 use mathlib.Core.Path.{ap, ◌∙◌}
 use lib.ListN.{take}
-use borrow.Author.Rules.{rules}
 use Rattle.records.specs.Marks.{mark_bytes}
 use Rattle.records.specs.declared.marks.Mark.TheVariants.{Im}
 use Rattle.records.specs.declared.names.Spelling.{Spelling}

@@ -1,6 +1,5 @@
 use mathlib.Core.Path.{sym}
 use lib.Seq.{set_out}
-use borrow.Author.Rules.{rules}
 use Rattle.bridge.proofs.set.Goals as goal
 
 pub returns-else-i-numbers : goal.returns-else-i-numbers

@@ -1,6 +1,5 @@
 use mathlib.Core.Path.{sym}
 use lib.Seq.{set_out}
-use borrow.Author.Rules.{rules}
 use Rattle.bridge.proofs.set_amount.Goals as goal
 
 pub returns-else-i-amounts : goal.returns-else-i-amounts

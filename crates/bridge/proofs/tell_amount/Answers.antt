@@ -1,5 +1,4 @@
 use mathlib.Core.Path.{refl}
-use borrow.Author.Rules.{rules}
 use Rattle.bridge.proofs.tell_amount.Goals as goal
 
 pub returns-in-Amount : goal.returns-in-Amount

@@ -1,5 +1,4 @@
 use mathlib.Core.Path.{refl}
-use borrow.Author.Rules.{rules}
 use Rattle.bridge.proofs.tell_amounts.Goals as goal
 
 pub returns-in-Charge : goal.returns-in-Charge

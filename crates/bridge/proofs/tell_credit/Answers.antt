@@ -1,5 +1,4 @@
 use mathlib.Core.Path.{ap, ◌∙◌}
-use borrow.Author.Rules.{rules}
 use Rattle.book.specs.Register.{Reply}
 use Rattle.bridge.specs.Bridge.{place_told}
 use Rattle.bridge.proofs.tell_credit.Goals as goal

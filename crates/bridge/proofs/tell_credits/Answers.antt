@@ -1,11 +1,10 @@
 use mathlib.Core.Path.{◌≡◌, refl, ap, ◌∙◌}
-use Prim.Native.Nat.{◌-◌, ◌≤◌}
 use lib.ListN.{length, take}
 use borrow.Author.Rules.{rules}
 use native.Mathlib.Omega.{arith}
 use Rattle.book.specs.Handed.{max_credits}
 use Rattle.bridge.specs.Bridge.{credits_sizes}
-use Rattle.bridge.proofs.Tell.{Telling, none_told, one_told, all_told, unmapped}
+use Rattle.bridge.proofs.Tell.{none_told, one_told, all_told, unmapped}
 use Rattle.bridge.proofs.tell_credits.Goals as goal
 
 pub loop-i-init : goal.loop-i-init

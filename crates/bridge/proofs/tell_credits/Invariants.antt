@@ -1,11 +1,8 @@
-use mathlib.Core.Path.{◌≡◌, refl, ap, ◌∙◌}
+use mathlib.Core.Path.{◌≡◌}
 use Prim.Native.Nat.{◌-◌, ◌≤◌}
-use lib.ListN.{length, take}
-use borrow.Author.Rules.{rules}
-use native.Mathlib.Omega.{arith}
+use lib.ListN.{length}
 use Rattle.book.specs.Handed.{max_credits}
-use Rattle.bridge.specs.Bridge.{credits_sizes}
-use Rattle.bridge.proofs.Tell.{Telling, none_told, one_told, all_told, unmapped}
+use Rattle.bridge.proofs.Tell.{Telling}
 use Rattle.bridge.proofs.tell_credits.Given as goal
 
 abbrev pub invariant-loop-i : goal.invariant-loop-i

@@ -2,7 +2,6 @@ use mathlib.Core.Path.{refl, ap, ◌∙◌}
 use mathlib.Core.List.{List}
 use lib.IntN.{ℤ}
 use borrow.Author.Tests.{eq-eqb, ne_eqb}
-use borrow.Author.Rules.{rules}
 use Rattle.bridge.specs.Bridge.{stored}
 use Rattle.bridge.proofs.tell_day.Goals as goal
 

@@ -19,6 +19,10 @@ pub returns : goal.returns
 returns c =
     let long : length c.args.g.credits.list ≡ max_credits = search (rules, unmapped) in
     let n : length (take c.args.g.credits.n c.args.g.credits.list) ≡ c.args.g.credits.n = length-take-le c.args.g.credits.n c.args.g.credits.list (omega (arith, c.requires)) in
-    rw (eq-eqb _ _ c.if-n-ne0.false) (record { value = refl; sizes_after = c.tell_credits.ensures.sizes_after
-            ∙ ap (λ (k : ℕ). credits_sizes c.args.b c.args.lent.now c.args.hour 0 (take c.args.g.credits.n c.args.g.credits.list) (stored c.args.sizes.now 0 k)) (sym n); amounts_after = c.tell_credits.ensures.amounts_after ∙ ap (λ (s : List ℤ). credits_amounts 0 (take c.args.g.credits.n c.args.g.credits.list) s)
-            c.set_amount.ensures })
+    rw (eq-eqb _ _ c.if-n-ne0.false) (record {
+      value = refl;
+      sizes_after = c.tell_credits.ensures.sizes_after
+          ∙ ap (λ (k : ℕ). credits_sizes c.args.b c.args.lent.now c.args.hour 0 (take c.args.g.credits.n c.args.g.credits.list) (stored c.args.sizes.now 0 k)) (sym n);
+      amounts_after = c.tell_credits.ensures.amounts_after ∙ ap (λ (s : List ℤ). credits_amounts 0 (take c.args.g.credits.n c.args.g.credits.list) s)
+          c.set_amount.ensures;
+    })

@@ -1,5 +1,4 @@
 use mathlib.Core.Path.{refl, sym}
-use borrow.Author.Rules.{rules}
 use Rattle.bridge.proofs.Tell.{told-no}
 use Rattle.bridge.proofs.tell_written.Goals as goal
 

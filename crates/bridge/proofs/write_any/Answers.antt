@@ -1,6 +1,5 @@
 use mathlib.Core.Path.{refl, sym, ap, ◌∙◌}
 use mathlib.Core.Bool.{cond, not}
-use borrow.Author.Rules.{rules}
 use Rattle.money.proofs.laws.UnitLaws.{kept}
 use Rattle.records.specs.Changes.{is_record, parse, parse_any, entry_of, put_number}
 use Rattle.records.specs.declared.parse.Parsed.{Parsed}

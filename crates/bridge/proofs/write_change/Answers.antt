@@ -1,5 +1,4 @@
 use mathlib.Core.Path.{sym, ap, ◌∙◌}
-use borrow.Author.Rules.{rules}
 use Rattle.records.specs.declared.parse.Parsed.{Parsed}
 use Rattle.bridge.specs.Bridge.{stored}
 use Rattle.bridge.proofs.Tell.{told-no}

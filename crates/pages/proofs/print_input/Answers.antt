@@ -1,4 +1,3 @@
-use borrow.Author.Rules.{rules}
 use Rattle.stdio.specs.laws.PrintingLaws.{shows-none, shows-output}
 use Rattle.pages.proofs.print_input.Goals as goal
 

@@ -1,4 +1,3 @@
-use borrow.Author.Rules.{rules}
 use Rattle.settle.proofs.PrintInput.{shows-none, shows-output}
 use Rattle.settle.proofs.print_input.Goals as goal
 

@@ -1,6 +1,6 @@
 -- A text without pages: what room and lines are there, as was said of them before there were pages, and that `Room` and `WritesLines` say the same of it.
 use Rattle.std.specs.Prelude.{◌≡◌, List, ℕ, ◌+◌, ◌*◌, ◌≤◌, nat_abs, ◌+ℤ◌, length}
-use Rattle.std.proofs.Common.{refl, sym, subst, arith}
+use Rattle.std.proofs.Common.{subst, arith}
 use Rattle.money.specs.tables.Numbers.{max_moderate}
 use Rattle.statement.specs.Lines.{max_line, text_of}
 use Rattle.statement.specs.Total.{sum_of}

@@ -1,10 +1,7 @@
-use mathlib.Core.Path.{◌≡◌, refl, sym, ◌∙◌}
-use native.Mathlib.Omega.{arith}
+use mathlib.Core.Path.{◌≡◌}
 use lib.ListN.{length}
-use borrow.Author.Rules.{rules}
 use Rattle.stdin.specs.Rounds.{max_read}
-use Rattle.stdin.specs.laws.RoundLaws.{room, apart}
-use Rattle.stdin.proofs.Rounds.{Reached, reached-none, reached-more, all_read}
+use Rattle.stdin.proofs.Rounds.{Reached}
 use Rattle.stdin.proofs.read_input.Given as goal
 
 abbrev pub invariant-loop-left : goal.invariant-loop-left

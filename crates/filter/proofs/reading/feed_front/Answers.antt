@@ -1,7 +1,6 @@
 use mathlib.Core.Path.{sym}
 use Prim.Native.Nat.{ℕ}
 use lib.Seq.{length-take-le}
-use borrow.Author.Rules.{rules}
 use Rattle.filter.proofs.reading.feed_front.Goals as goal
 
 pub slice_bounds-feed-end : goal.slice_bounds-feed-end

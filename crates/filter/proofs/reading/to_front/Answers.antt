@@ -1,9 +1,6 @@
-use Prim.Native.Nat.{◌≤◌, ◌<◌, ◌-◌, min}
-use mathlib.Core.Path.{◌≡◌}
-use lib.ListN.{length}
 use native.Mathlib.Omega.{arith}
 use borrow.Author.Rules.{rules}
-use Rattle.filter.proofs.reading.ToFront.{Moving, moving-none, moving-next, moved_all, moved_none}
+use Rattle.filter.proofs.reading.ToFront.{moving-none, moving-next, moved_all, moved_none}
 use Rattle.filter.proofs.reading.to_front.Goals as goal
 
 pub returns-then-stop-from : goal.returns-then-stop-from

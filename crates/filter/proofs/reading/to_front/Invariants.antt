@@ -1,9 +1,7 @@
 use Prim.Native.Nat.{◌≤◌, ◌<◌, ◌-◌, min}
 use mathlib.Core.Path.{◌≡◌}
 use lib.ListN.{length}
-use native.Mathlib.Omega.{arith}
-use borrow.Author.Rules.{rules}
-use Rattle.filter.proofs.reading.ToFront.{Moving, moving-none, moving-next, moved_all, moved_none}
+use Rattle.filter.proofs.reading.ToFront.{Moving}
 use Rattle.filter.proofs.reading.to_front.Given as goal
 
 abbrev pub invariant-loop-i : goal.invariant-loop-i

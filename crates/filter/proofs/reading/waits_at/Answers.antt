@@ -1,7 +1,6 @@
 use Prim.Native.Nat.{ℕ}
 use mathlib.Core.Path.{sym}
 use lib.Seq.{length-take-le}
-use borrow.Author.Rules.{rules}
 use Rattle.filter.proofs.reading.Lemmas.{none-waits, some-waits}
 use Rattle.filter.proofs.reading.waits_at.Goals as goal
 

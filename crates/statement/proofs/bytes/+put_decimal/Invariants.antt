@@ -1,7 +1,3 @@
-use Rattle.std.proofs.Common.{[], ◌∷◌, ◌+◌, ◌≤◌, ◌<◌, length, ◌≡◌, ℕ, ◌-◌, ◌*◌}
-use Rattle.statement.specs.Decimal.{decimal, two_digits}
-use Rattle.statement.specs.Statement.{Fits}
-use Rattle.statement.specs.tables.Inner.{Writes}
 use Rattle.statement.proofs.bytes.+put_decimal.Given as goal
 
 -- proposed from what the function passes where it calls itself

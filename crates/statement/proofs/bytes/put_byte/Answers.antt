@@ -1,4 +1,3 @@
-use borrow.Author.Rules.{rules}
 use Rattle.statement.proofs.bytes.Lemmas.{writes_one}
 use Rattle.statement.proofs.bytes.put_byte.Goals as goal
 

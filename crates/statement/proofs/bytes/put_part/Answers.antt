@@ -1,9 +1,6 @@
-use mathlib.Core.Path.{◌≡◌}
-use Prim.Native.Nat.{◌≤◌, ◌+◌, ◌-◌}
-use lib.ListN.{length}
 use borrow.Author.Rules.{rules}
 use native.Mathlib.Omega.{arith}
-use Rattle.statement.proofs.bytes.Lemmas.{Copied, copied_none, copied_next, copied_all}
+use Rattle.statement.proofs.bytes.Lemmas.{copied_none, copied_next, copied_all}
 use Rattle.statement.proofs.bytes.put_part.Goals as goal
 
 pub loop-i-init : goal.loop-i-init

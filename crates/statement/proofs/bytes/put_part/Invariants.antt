@@ -1,9 +1,7 @@
 use mathlib.Core.Path.{◌≡◌}
 use Prim.Native.Nat.{◌≤◌, ◌+◌, ◌-◌}
 use lib.ListN.{length}
-use borrow.Author.Rules.{rules}
-use native.Mathlib.Omega.{arith}
-use Rattle.statement.proofs.bytes.Lemmas.{Copied, copied_none, copied_next, copied_all}
+use Rattle.statement.proofs.bytes.Lemmas.{Copied}
 use Rattle.statement.proofs.bytes.put_part.Given as goal
 
 abbrev pub invariant-loop-i : goal.invariant-loop-i

@@ -1,4 +1,3 @@
-use borrow.Author.Rules.{rules}
 use Rattle.statement.proofs.bytes.Lemmas.{writes_then}
 use Rattle.statement.proofs.bytes.put_three.Goals as goal
 

@@ -1,4 +1,3 @@
-use borrow.Author.Rules.{rules}
 use Rattle.statement.specs.Decimal.{two_digits}
 use Rattle.statement.proofs.bytes.Lemmas.{writes_then}
 use Rattle.statement.proofs.bytes.put_two.Goals as goal

@@ -1,4 +1,3 @@
-use borrow.Author.Rules.{rules}
 use Rattle.statement.proofs.day.Lemmas.{fits_refused, fits-written}
 use Rattle.statement.proofs.bytes.write_front.Goals as goal
 

@@ -1,7 +1,6 @@
 use native.Mathlib.Omega.{arith}
 use Rattle.statement.specs.Pages.{blank_line}
 use Rattle.statement.proofs.laws.PageLineLaws.{blanks-length}
-use borrow.Author.Rules.{rules}
 use Rattle.statement.proofs.bytes.Lemmas.{writes_then, writes-size}
 use Rattle.statement.proofs.columns.put_blank_line.Goals as goal
 

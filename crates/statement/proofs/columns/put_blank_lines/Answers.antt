@@ -1,9 +1,5 @@
 use mathlib.Core.Path.{◌≡◌}
-use Prim.Native.Nat.{◌≤◌, ◌+◌, ◌-◌, ◌*◌}
-use lib.ListN.{length}
 use native.Mathlib.Omega.{arith}
-use Rattle.statement.specs.Pages.{line_size, blank_lines}
-use Rattle.statement.specs.tables.Inner.{Writes}
 use borrow.Author.Rules.{rules}
 use Rattle.statement.proofs.bytes.Lemmas.{writes-none, writes_then, writes-size}
 use Rattle.statement.proofs.columns.Lemmas.{blank_none, blank-more}

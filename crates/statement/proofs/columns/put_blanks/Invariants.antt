@@ -1,12 +1,7 @@
-use mathlib.Core.Path.{sym}
 use Prim.Native.Nat.{◌≤◌, ◌+◌, ◌-◌}
 use lib.ListN.{length}
-use borrow.Author.Rules.{rules}
-use native.Mathlib.Omega.{arith}
 use Rattle.statement.specs.Pages.{blanks}
-use Rattle.statement.proofs.laws.PageLineLaws.{blanks-length}
-use Rattle.statement.proofs.bytes.Lemmas.{Copied, copied_none, copied_all}
-use Rattle.statement.proofs.columns.Lemmas.{blanked-next}
+use Rattle.statement.proofs.bytes.Lemmas.{Copied}
 use Rattle.statement.proofs.columns.put_blanks.Given as goal
 
 abbrev pub invariant-loop-i : goal.invariant-loop-i

@@ -1,6 +1,5 @@
 use native.Mathlib.Omega.{arith}
 use Rattle.statement.specs.Pages.{entry_bytes}
-use borrow.Author.Rules.{rules}
 use Rattle.statement.proofs.bytes.Lemmas.{writes_then, writes-size}
 use Rattle.statement.proofs.columns.put_entry.Goals as goal
 

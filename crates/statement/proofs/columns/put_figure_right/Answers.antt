@@ -1,12 +1,10 @@
 use mathlib.Core.Path.{sym}
 use Prim.Native.Nat.{ℕ}
-use lib.ListN.{length}
 use lib.Seq.{length-take-le}
 use native.Mathlib.Omega.{arith}
 use Rattle.statement.specs.Lines.{figure}
 use Rattle.statement.proofs.laws.LineLaws.{figure-length}
 use Rattle.statement.proofs.laws.PageLineLaws.{right-length}
-use borrow.Author.Rules.{rules}
 use Rattle.statement.proofs.bytes.Lemmas.{writes-size, front_of}
 use Rattle.statement.proofs.columns.put_figure_right.Goals as goal
 

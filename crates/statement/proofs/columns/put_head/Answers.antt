@@ -1,12 +1,10 @@
 use mathlib.Core.Path.{sym}
 use Prim.Native.Nat.{ℕ}
-use lib.ListN.{length}
 use lib.Seq.{length-take-le}
 use native.Mathlib.Omega.{arith}
 use Rattle.statement.specs.Decimal.{decimal}
 use Rattle.statement.specs.Pages.{number_line, page_head}
 use Rattle.statement.proofs.laws.PageLineLaws.{right-length}
-use borrow.Author.Rules.{rules}
 use Rattle.statement.proofs.bytes.Lemmas.{writes_then, writes-size, front_of}
 use Rattle.statement.proofs.refusal.Lemmas.{ordinal-digits}
 use Rattle.statement.proofs.columns.put_head.Goals as goal

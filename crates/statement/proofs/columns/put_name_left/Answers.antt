@@ -4,10 +4,9 @@ use lib.ListN.{length}
 use native.Mathlib.Omega.{arith}
 use Rattle.records.specs.Names.{max_spelling}
 use Rattle.statement.specs.Lines.{name_bytes}
-use Rattle.statement.specs.Pages.{blanks, left_in}
+use Rattle.statement.specs.Pages.{left_in}
 use Rattle.statement.proofs.laws.LineLaws.{name-length}
 use Rattle.statement.proofs.laws.PageLineLaws.{blanks-length}
-use borrow.Author.Rules.{rules}
 use Rattle.statement.proofs.bytes.Lemmas.{writes_then, writes-size}
 use Rattle.statement.proofs.columns.put_name_left.Goals as goal
 

@@ -3,7 +3,6 @@ use lib.ListN.{length}
 use native.Mathlib.Omega.{arith}
 use Rattle.statement.specs.Pages.{right_in}
 use Rattle.statement.proofs.laws.PageLineLaws.{blanks-length}
-use borrow.Author.Rules.{rules}
 use Rattle.statement.proofs.bytes.Lemmas.{writes_then, writes-size}
 use Rattle.statement.proofs.columns.put_right.Goals as goal
 

@@ -1,7 +1,6 @@
 use native.Mathlib.Omega.{arith}
 use Rattle.statement.specs.Lines.{figure}
 use Rattle.statement.specs.Pages.{sum_line}
-use borrow.Author.Rules.{rules}
 use Rattle.statement.proofs.bytes.Lemmas.{writes_then}
 use Rattle.statement.proofs.columns.put_sum.Goals as goal
 

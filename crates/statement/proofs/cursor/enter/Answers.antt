@@ -5,7 +5,6 @@ use Rattle.money.specs.tables.Numbers.{Moderate}
 use Rattle.statement.specs.Total.{signed, towards}
 use Rattle.statement.specs.declared.sums.Effect.{Effect}
 use Rattle.statement.proofs.cursor.Lemmas.{enters, entry-room}
-use borrow.Author.Rules.{rules}
 use Rattle.statement.proofs.cursor.enter.Goals as goal
 
 pub counted-sum-requires : goal.counted-sum-requires

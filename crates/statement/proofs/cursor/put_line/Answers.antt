@@ -1,5 +1,4 @@
 use Rattle.statement.proofs.cursor.Lemmas.{lines-entered}
-use borrow.Author.Rules.{rules}
 use Rattle.statement.proofs.cursor.put_line.Goals as goal
 
 pub put_plain-requires : goal.put_plain-requires

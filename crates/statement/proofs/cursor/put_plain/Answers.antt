@@ -1,7 +1,6 @@
 use mathlib.Core.Path.{sym, ap, ◌∙◌, subst}
 use lib.IntN.{◌+ℤ◌}
 use native.Mathlib.Omega.{arith}
-use borrow.Author.Rules.{rules}
 use Rattle.money.specs.tables.Numbers.{Moderate}
 use Rattle.statement.specs.Total.{signed, towards}
 use Rattle.statement.specs.declared.sums.Effect.{Effect}

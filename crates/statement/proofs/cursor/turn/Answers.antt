@@ -1,7 +1,6 @@
 use native.Mathlib.Omega.{arith}
 use Rattle.statement.proofs.bytes.Lemmas.{writes-size}
 use Rattle.statement.proofs.cursor.Lemmas.{turns-none, turns-full, full-room}
-use borrow.Author.Rules.{rules}
 use Rattle.statement.proofs.cursor.turn.Goals as goal
 
 pub returns-then-sheet-lt-ENTRIES : goal.returns-then-sheet-lt-ENTRIES

@@ -1,13 +1,8 @@
 use mathlib.Core.Path.{◌≡◌, sym}
-use Prim.Native.Nat.{◌≤◌, ◌-◌, ◌*◌}
-use lib.ListN.{length}
 use borrow.Author.Rules.{rules}
 use native.Mathlib.Omega.{arith}
 use Rattle.money.specs.Units.{day_hours}
 use Rattle.money.proofs.laws.UnitLaws.{unmapped}
-use Rattle.statement.specs.Statement.{max_hour_lines}
-use Rattle.statement.specs.tables.Inner.{lines_of_hours, PrintableHours}
-use Rattle.statement.specs.tables.Cursors.{Room, WritesLines}
 use Rattle.statement.proofs.laws.StatementLaws.{hours-none, hours-more}
 use Rattle.statement.proofs.cursor.Lemmas.{lines_none, lines_then, lines-as, lines-within, lines-size, room-then}
 use Rattle.statement.proofs.day.put_hours.Goals as goal

@@ -1,7 +1,6 @@
 use native.Mathlib.Omega.{arith}
 use Rattle.statement.proofs.cursor.Lemmas.{lines_then, lines-within, room-less, room-then}
 use Rattle.statement.proofs.day.Lemmas.{with-total}
-use borrow.Author.Rules.{rules}
 use Rattle.statement.proofs.day.put_lines.Goals as goal
 
 pub put_hours-d-requires : goal.put_hours-d-requires

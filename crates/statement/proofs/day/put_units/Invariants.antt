@@ -1,15 +1,10 @@
-use mathlib.Core.Path.{◌≡◌, sym}
+use mathlib.Core.Path.{◌≡◌}
 use Prim.Native.Nat.{◌≤◌, ◌-◌, ◌*◌}
 use lib.ListN.{length, take}
-use borrow.Author.Rules.{rules}
-use native.Mathlib.Omega.{arith}
-use Rattle.money.proofs.laws.UnitLaws.{unmapped}
 use Rattle.book.specs.Register.{max_changes}
 use Rattle.statement.specs.Statement.{max_unit_lines}
 use Rattle.statement.specs.tables.Inner.{lines_of_units, PrintableUnits}
 use Rattle.statement.specs.tables.Cursors.{Room, WritesLines}
-use Rattle.statement.proofs.laws.StatementLaws.{units-none, units-more}
-use Rattle.statement.proofs.cursor.Lemmas.{lines_none, lines_then, lines-as, lines-within, lines-size, room-then}
 use Rattle.statement.proofs.day.put_units.Given as goal
 
 abbrev pub invariant-loop-i : goal.invariant-loop-i

@@ -3,7 +3,6 @@ use mathlib.Core.Path.{sym}
 use lib.ListN.{length-replicate}
 use lib.Seq.{length-take-le}
 use native.Mathlib.Omega.{arith}
-use Rattle.statement.specs.Lines.{text_of}
 use Rattle.statement.specs.Statement.{longest_statement, statement_of}
 use Rattle.statement.proofs.bytes.Lemmas.{writes-size}
 use Rattle.statement.proofs.day.Lemmas.{loaded, is-mismatched, printable, stated, fits-written, fits-front, answers-mismatched, answers-fitted}

@@ -1,6 +1,5 @@
 use mathlib.Core.Path.{ap}
 use lib.IntN.{ℤ}
-use borrow.Author.Rules.{rules}
 use Rattle.statement.proofs.hours.amount_line.Goals as goal
 
 pub returns : goal.returns

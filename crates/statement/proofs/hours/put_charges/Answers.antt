@@ -1,14 +1,9 @@
 use mathlib.Core.Path.{◌≡◌, ap}
-use mathlib.Core.List.{[], ◌∷◌, map}
-use Prim.Native.Nat.{◌≤◌, ◌-◌}
-use lib.ListN.{length, take}
+use mathlib.Core.List.{[], ◌∷◌}
 use borrow.Author.Rules.{rules}
 use native.Mathlib.Omega.{arith}
 use Rattle.money.proofs.laws.UnitLaws.{unmapped}
-use Rattle.book.specs.Handed.{max_charges}
-use Rattle.book.specs.tables.Sizes.{AllBounded}
 use Rattle.statement.specs.Statement.{line_of}
-use Rattle.statement.specs.tables.Cursors.{Room, WritesLines}
 use Rattle.statement.specs.declared.lines.Line.{Line}
 use Rattle.statement.proofs.cursor.Lemmas.{lines_none, lines_then, lines-as, lines-size, room-then, countable, next-line}
 use Rattle.statement.proofs.hours.put_charges.Goals as goal

@@ -1,7 +1,6 @@
 use lib.ListN.{take}
 use borrow.Author.Tests.{ne_eqb}
 use native.Mathlib.Omega.{arith}
-use borrow.Author.Rules.{rules}
 use Rattle.statement.proofs.cursor.Lemmas.{lines_then, lines-within, room-less, room-then, hour-written}
 use Rattle.statement.proofs.hours.put_hour.Goals as goal
 

@@ -1,6 +1,5 @@
 use mathlib.Core.Path.{ap}
 use mathlib.Core.List.{[], ◌∷◌}
-use borrow.Author.Rules.{rules}
 use Rattle.money.specs.declared.names.Name.{Name}
 use Rattle.statement.specs.Statement.{error_line}
 use Rattle.statement.proofs.cursor.Lemmas.{lines-as}

@@ -2,7 +2,6 @@ use mathlib.Core.Path.{ap, ◌∙◌}
 use mathlib.Core.List.{[], ◌∷◌}
 use borrow.Author.Tests.{eq-eqb, ne_eqb}
 use native.Mathlib.Omega.{arith}
-use borrow.Author.Rules.{rules}
 use Rattle.money.specs.declared.names.Name.{Name}
 use Rattle.statement.specs.Statement.{amount_line}
 use Rattle.statement.specs.declared.lines.Kind.TheVariants.{Off}

@@ -1,4 +1,3 @@
-use borrow.Author.Rules.{rules}
 use Rattle.statement.specs.Lines.{kind_bytes}
 use Rattle.statement.proofs.lines.put_kind.Goals as goal
 

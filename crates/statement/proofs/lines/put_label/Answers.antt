@@ -1,7 +1,6 @@
 use native.Mathlib.Omega.{arith}
 use Rattle.statement.proofs.laws.LineLaws.{when-length, kind-length}
 use Rattle.statement.proofs.bytes.Lemmas.{writes_then, writes-size}
-use borrow.Author.Rules.{rules}
 use Rattle.statement.proofs.lines.put_label.Goals as goal
 
 pub put_byte-b-requires : goal.put_byte-b-requires

@@ -1,5 +1,4 @@
 use native.Mathlib.Omega.{arith}
-use borrow.Author.Rules.{rules}
 use Rattle.statement.proofs.laws.LineLaws.{name-unspelled, name-spelled, spells}
 use Rattle.statement.proofs.lines.put_name.Goals as goal
 

@@ -2,7 +2,6 @@ use native.Mathlib.Omega.{arith}
 use Rattle.statement.specs.Lines.{line_bytes}
 use Rattle.statement.proofs.laws.LineLaws.{name-length, figure-length, line-length}
 use Rattle.statement.proofs.bytes.Lemmas.{writes_then, writes-size}
-use borrow.Author.Rules.{rules}
 use Rattle.statement.proofs.lines.put_text.Goals as goal
 
 pub put_label-a-requires : goal.put_label-a-requires

@@ -1,6 +1,5 @@
 use native.Mathlib.Omega.{arith}
 use Rattle.statement.proofs.bytes.Lemmas.{writes_then, writes-size}
-use borrow.Author.Rules.{rules}
 use Rattle.statement.proofs.pages.close_last.Goals as goal
 
 pub overflow_sub-sheet : goal.overflow_sub-sheet

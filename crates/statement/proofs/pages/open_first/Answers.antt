@@ -2,7 +2,6 @@ use native.Mathlib.Omega.{arith}
 use mathlib.Core.Path.{◌≡◌}
 use Prim.Native.Nat.{◌*◌}
 use Rattle.statement.specs.Pages.{line_size}
-use borrow.Author.Rules.{rules}
 use Rattle.statement.proofs.pages.open_first.Goals as goal
 
 pub returns : goal.returns

@@ -6,7 +6,6 @@ use native.Mathlib.Omega.{arith}
 use Rattle.statement.specs.Pages.{pages_text, pages_of, longest_pages}
 use Rattle.statement.proofs.bytes.Lemmas.{writes-size}
 use Rattle.statement.proofs.day.Lemmas.{loaded, is-mismatched, printable, told, fits-written, fits-front, answers-mismatched, answers-fitted}
-use borrow.Author.Rules.{rules}
 use Rattle.statement.proofs.pages.pages.Goals as goal
 
 pub returns-then-day-ne0 : goal.returns-then-day-ne0

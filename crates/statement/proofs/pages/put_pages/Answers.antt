@@ -6,7 +6,6 @@ use Rattle.statement.specs.declared.cursor.Cursor.{Cursor}
 use Rattle.statement.proofs.bytes.Lemmas.{writes-size}
 use Rattle.statement.proofs.cursor.Lemmas.{lines-size, lines_from, room-from}
 use Rattle.statement.proofs.pages.Lemmas.{room-first, last-page, paged-text}
-use borrow.Author.Rules.{rules}
 use Rattle.statement.proofs.pages.put_pages.Goals as goal
 
 pub open_first-first-requires : goal.open_first-first-requires

@@ -1,5 +1,4 @@
 use native.Mathlib.Omega.{arith}
-use borrow.Author.Rules.{rules}
 use Rattle.statement.specs.Refusal.{refusal_line}
 use Rattle.statement.proofs.refusal.Lemmas.{ordinal-digits, number_digits}
 use Rattle.statement.proofs.bytes.Lemmas.{writes_then, writes-size}

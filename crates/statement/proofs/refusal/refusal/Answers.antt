@@ -2,7 +2,6 @@ use Prim.Native.Nat.{ℕ}
 use mathlib.Core.Path.{sym}
 use lib.Seq.{length-take-le}
 use native.Mathlib.Omega.{arith}
-use borrow.Author.Rules.{rules}
 use Rattle.statement.proofs.day.Lemmas.{fits-front}
 use Rattle.statement.proofs.refusal.Lemmas.{refusal-length}
 use Rattle.statement.proofs.refusal.refusal.Goals as goal

@@ -1,7 +1,6 @@
 use mathlib.Core.Path.{sym}
 use lib.IntN.{+ℤ_idr}
 use native.Mathlib.Omega.{arith}
-use borrow.Author.Rules.{rules}
 use Rattle.laws.specs.IntLaws.{abs_neg}
 use Rattle.statement.proofs.sums.counted.Goals as goal
 

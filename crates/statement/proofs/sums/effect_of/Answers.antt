@@ -1,4 +1,3 @@
-use borrow.Author.Rules.{rules}
 use Rattle.statement.proofs.sums.effect_of.Goals as goal
 
 pub returns-in-Iog : goal.returns-in-Iog

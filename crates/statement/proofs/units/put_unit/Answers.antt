@@ -2,7 +2,6 @@ use mathlib.Core.Path.{ap}
 use mathlib.Core.List.{[], ◌∷◌}
 use borrow.Author.Tests.{ne_eqb}
 use native.Mathlib.Omega.{arith}
-use borrow.Author.Rules.{rules}
 use Rattle.statement.specs.declared.lines.Line.{Line}
 use Rattle.statement.proofs.cursor.Lemmas.{lines_then, lines-as, lines-within, room-less, room-then, countable}
 use Rattle.statement.proofs.units.put_unit.Goals as goal

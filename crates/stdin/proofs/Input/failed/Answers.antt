@@ -1,4 +1,3 @@
-
 use Rattle.stdin.proofs.Input.failed.Goals as goal
 
 pub returns-then-self : goal.returns-then-self

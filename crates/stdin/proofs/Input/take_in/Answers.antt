@@ -1,6 +1,5 @@
 use mathlib.Core.Path.{ap}
 use mir.Facts.{to_z-of_z}
-use borrow.Author.Rules.{rules}
 use Rattle.stdin.specs.Rounds.{broke_off}
 use Rattle.stdin.proofs.Rounds.{taken_in}
 use Rattle.stdin.proofs.Input.take_in.Goals as goal

@@ -1,6 +1,5 @@
 use mathlib.Core.Path.{ap}
 use mathlib.Core.Bool.{true, false}
-use borrow.Author.Rules.{rules}
 use Rattle.filter.specs.declared.reading.Reading.{Reading}
 use Rattle.stdin.proofs.Input.unread.Goals as goal
 

@@ -1,5 +1,4 @@
 use mathlib.Core.Path.{ap}
-use borrow.Author.Rules.{rules}
 use Rattle.book.specs.declared.book.Book.{Book}
 use Rattle.filter.proofs.reading.Reading.fresh.Goals as goal
 

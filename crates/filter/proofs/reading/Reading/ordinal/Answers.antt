@@ -1,4 +1,3 @@
-use borrow.Author.Rules.{rules}
 use Rattle.filter.proofs.reading.Reading.ordinal.Goals as goal
 
 pub returns : goal.returns

@@ -1,5 +1,4 @@
 use native.Mathlib.Omega.{arith}
-use borrow.Author.Rules.{rules}
 use Rattle.statement.specs.Statement.{statement_of, longest_statement}
 use Rattle.filter.proofs.reading.Lemmas.{prints-text, prints-refusal}
 use Rattle.filter.proofs.reading.Reading.output.Goals as goal

@@ -1,5 +1,4 @@
 use native.Mathlib.Omega.{arith}
-use borrow.Author.Rules.{rules}
 use Rattle.statement.specs.Pages.{pages_of, longest_pages}
 use Rattle.filter.proofs.reading.Lemmas.{prints-text, prints-refusal}
 use Rattle.filter.proofs.reading.Reading.pages.Goals as goal

@@ -1,5 +1,4 @@
 use mathlib.Core.Path.{sym, ◌∙◌}
-use borrow.Author.Rules.{rules}
 use Rattle.filter.proofs.reading.Lemmas.{over, waiting, going}
 use Rattle.filter.proofs.reading.Reading.read_on.Goals as goal
 
