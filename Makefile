@@ -6,7 +6,7 @@ PREFIX = /usr/local
 DESTDIR =
 SAMPLE = ordinary
 
-RT = rt
+BUILD = tools/build
 CARGO = cargo
 INSTALL = install
 
@@ -49,16 +49,16 @@ build: programs archive recordtext
 
 # What has not changed is not proved again.
 programs:
-	$(RT) check settle pages
+	$(BUILD) settle pages
 
 settle:
-	$(RT) check settle
+	$(BUILD) settle
 
 archive:
-	$(RT) staticlib hour_offset
+	$(BUILD) hour_offset
 
 bridge:
-	$(RT) staticlib bridge
+	$(BUILD) bridge
 
 recordtext:
 	$(CARGO) build --offline --release --manifest-path recordtext/Cargo.toml
@@ -107,4 +107,4 @@ uninstall:
 	rm -rf $(installed)
 
 clean:
-	rm -rf target peer/target recordtext/target bench/target
+	rm -rf target peer/target recordtext/target bench/target crates/*/out

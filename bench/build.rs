@@ -19,7 +19,7 @@ fn main() {
         println!("cargo:rerun-if-changed={}", library.display());
         if !library.is_file() {
             eprintln!("{} is not there.", library.display());
-            eprintln!("Make it with `rt staticlib {name}` at the root of the repository,");
+            eprintln!("Make it with `tools/build {name}` at the root of the repository,");
             eprintln!("or name its folder in the environment variable PEWATUNO_LIB.");
             eprintln!("The bench tests itself without it: `cargo test --features mock`.");
             process::exit(1);
