@@ -127,7 +127,7 @@ mod tests {
     fn what_did_not_occur_is_named() {
         let mut tally = Tally::default();
         tally.note(Kind::Free, 0);
-        let all = Layers(0x7F);
+        let all = Layers(0x3F);
         let missing = tally.below(1, &[Part::Books], all);
         assert!(missing.contains(&(Kind::Free, 16, 0)));
         assert!(!missing.contains(&(Kind::Free, 0, 1)));

@@ -78,7 +78,7 @@ abbrev pub absent : Pick → Bool
 absent (is r) = false
 absent nil = true
 
--- "each `Gh` hour" needs its price
+-- "each `GH` hour" needs its price
 abbrev pub payable : Pick → HourPricing → Bool
 payable nil q = true
 payable (is r) (priced p) = true
@@ -92,7 +92,7 @@ unit_at k rs j = pick (at_hour k (1 + j)) rs
 unfoldable pub day_total : Key → List Rec → (ℕ → HourPricing) → ℤ
 day_total k rs price = Σℤ day_hours (λ (j : ℕ). hour_ticks (unit_at k rs j) (price (1 + j)))
 
--- "A unit without `Gh` gives 11", then 15; "The reversal is max(0, -total)"
+-- "A unit without `GH` gives 11", then 15; "The reversal is max(0, -total)"
 unfoldable pub unit_day_of : Key → List Rec → (ℕ → HourPricing) → Reply
 unit_day_of k rs price =
     cond (every day_hours (λ (j : ℕ). absent (unit_at k rs j))) (refused no_such_key)

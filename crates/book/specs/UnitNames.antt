@@ -25,7 +25,7 @@ pub data NameList : Type 0 where
   named : List Name → NameList
   no : ℕ → NameList
 
--- 16; then the names under which a `Gh` stands, by name
+-- 16; then the names under which a `GH` stands, by name
 abbrev pub unit_names : Load → NameList
 unit_names mismatched = no not_together
 unit_names (belongs l) = named (names_of gh_key (standing l))

@@ -129,7 +129,8 @@ ticks-if (Refused k) row {n} e = go (eqb n 0)
 -- what a call for the text t promises, told with the number that it gives
 pub text-told : (t : List Change → List ℕ) (state lent out row : List ℕ) {longest : ℕ} {b : Book} → b ≡ book_in state → {left : List ℕ} {w : Written}
     → AnswersBy t longest (load b lent) out left w → {r : ℕ} → r ≡ w.number → {row' : List ℕ} → row' ≡ told r w.len row
-    → (r ≡ (outcome_by t (load (book_in state) lent) out).number) × ((left ≡ (outcome_by t (load (book_in state) lent) out).bytes) × (row' ≡ told r (outcome_by t (load (book_in state) lent) out).len row))
+    → (r ≡ (outcome_by t (load (book_in state) lent) out).number) ×
+    ((left ≡ (outcome_by t (load (book_in state) lent) out).bytes) × (row' ≡ told r (outcome_by t (load (book_in state) lent) out).len row))
 text-told t state lent out row f a {r} e g =
     let o = ap (λ (x : Book). outcome_by t (load x lent) out) f in (
       e ∙ a.number ∙ ap (λ (x : Outcome). x.number) o,

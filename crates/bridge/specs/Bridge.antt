@@ -222,7 +222,7 @@ hour_amounts (charge t) row = row
 abbrev pub filing_fault : List ℕ → Bool → ℕ
 filing_fault s marked = cond (ltb (length s) 2) ends_early (cond marked (parsed_of (parse (Only File) s)).number mark_unknown)
 
--- an `IM`, `Gh`, `FI` or `FE`
+-- an `IM`, `GH`, `FI` or `FE`
 abbrev pub has_amount : List ℕ → Bool
 has_amount s = begins (mark_bytes Im) s || (begins (mark_bytes Gh) s || (begins (mark_bytes Fi) s || begins (mark_bytes Fe) s))
 

@@ -1,5 +1,5 @@
 -- The book's calls beside those of 01's register, in terms of these: `feed`, which takes the records of an input, and `charges`, which the statement asks for. (`units` answers the names under
--- which a `Gh` stands, `book/specs/UnitNames.antt`.) Proved in `BesideLaws.antt`.
+-- which a `GH` stands, `book/specs/UnitNames.antt`.) Proved in `BesideLaws.antt`.
 use Rattle.std.specs.Prelude.{ℕ, zero, suc, ◌≡◌, List, [], ◌∷◌, ◌++◌, map, true, length, take, drop, replicate}
 use Rattle.laws.specs.Lists.{All}
 use Rattle.book.specs.Layer.{Change, HourPrices, Mark, Rec, got, ask_hour_of, is_failure, charge_ticks}

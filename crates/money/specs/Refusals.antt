@@ -45,7 +45,7 @@ key_stands = 10
 abbrev pub no_such_key : ℕ
 no_such_key = 11
 
--- hour holds 16 of that mark (8 for `Gh`)
+-- hour holds 16 of that mark (8 for `GH`)
 abbrev pub hour_full : ℕ
 hour_full = 12
 

@@ -4,7 +4,7 @@ use Rattle.records.specs.Marks.{limit}
 use Rattle.records.specs.Keys.{same}
 use Rattle.records.specs.declared.keys.Key.{Key}
 
--- "hour holds 16 of that mark (8 for `Gh`)", by the key's mark
+-- "hour holds 16 of that mark (8 for `GH`)", by the key's mark
 unfoldable pub limit_of : Key → ℕ
 limit_of k = limit k.mark
 

@@ -37,7 +37,7 @@ import s =
 unfoldable pub export : Reader Export
 export s = many intervals quantity s >>= λ qs s. got (record { mqsw = qs }) s
 
--- "`Gh`: hour, name, start-up cents u32 .., speed no-load cents u32 .., 12 of each D, R, U, A, K,"
+-- "`GH`: hour, name, start-up cents u32 .., speed no-load cents u32 .., 12 of each D, R, U, A, K,"
 unfoldable pub schedules : Reader Schedules
 schedules s =
     amount max_cents s >>= λ su s. amount max_cents s >>= λ nl s.

@@ -93,11 +93,11 @@ key_mark Fe = Fe
 abbrev pub key_order : Mark → ℕ
 key_order m = order (key_mark m)
 
--- "hour holds 16 of that mark (8 for `Gh`)"
+-- "hour holds 16 of that mark (8 for `GH`)"
 abbrev pub hour_limit : ℕ
 hour_limit = 16
 
--- "8 for `Gh`"
+-- "8 for `GH`"
 abbrev pub unit_limit : ℕ
 unit_limit = 8
 

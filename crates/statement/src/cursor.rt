@@ -1,7 +1,8 @@
 // Lines written one behind the other, on pages or without.
 ghost use Rattle.std.specs.Prelude.{◌≡◌, [], ◌∷◌, ◌<◌};
 ghost use Rattle.statement.specs.Pages.{page_entries};
-ghost use Rattle.statement.specs.tables.Cursors.{Countable, Room, WritesLines, Turns, Enters};
+ghost use Rattle.statement.specs.tables.Inner.{Countable};
+ghost use Rattle.statement.specs.tables.Cursors.{SheetRoom, SheetLines, Turns, Enters};
 
 use crate::columns::{put_entry, put_head, put_sum};
 use crate::lines::{Line, put_text};
@@ -29,7 +30,7 @@ pub(crate) struct Cursor {
 
 // Turns a full page: its sum, and the head of the next.
 fn turn(out: &mut [u8], c: Cursor) -> Cursor
-    requires { Room out.old c 1 × (c.sheet.page ≡ 0 → ⊥) }
+    requires { SheetRoom out.old c 1 × (c.sheet.page ≡ 0 → ⊥) }
     ensures { Turns out.old c out.new result }
 {
     let sheet = c.sheet;
@@ -54,7 +55,7 @@ fn turn(out: &mut [u8], c: Cursor) -> Cursor
 
 // Writes a line on a page that has room for it, and counts it.
 fn enter(out: &mut [u8], c: Cursor, line: Line) -> Cursor
-    requires { Room out.old c 1 × Countable line × (c.sheet.page ≡ 0 → ⊥) × (c.sheet.entries < page_entries) }
+    requires { SheetRoom out.old c 1 × Countable line × (c.sheet.page ≡ 0 → ⊥) × (c.sheet.entries < page_entries) }
     ensures { Enters out.old c line out.new result }
 {
     let sheet = c.sheet;
@@ -79,8 +80,8 @@ fn enter(out: &mut [u8], c: Cursor, line: Line) -> Cursor
 
 // Writes a line of a text without pages, and counts it.
 fn put_plain(out: &mut [u8], c: Cursor, line: Line) -> Cursor
-    requires { Room out.old c 1 × Countable line × (c.sheet.page ≡ 0) }
-    ensures { WritesLines out.old c 1 (line ∷ []) out.new result }
+    requires { SheetRoom out.old c 1 × Countable line × (c.sheet.page ≡ 0) }
+    ensures { SheetLines out.old c 1 (line ∷ []) out.new result }
 {
     let before = c.sum;
     let sheet = c.sheet;
@@ -93,8 +94,8 @@ fn put_plain(out: &mut [u8], c: Cursor, line: Line) -> Cursor
 
 // Writes a line behind those before it, and counts it.
 pub(crate) fn put_line(out: &mut [u8], c: Cursor, line: Line) -> Cursor
-    requires { Room out.old c 1 × Countable line }
-    ensures { WritesLines out.old c 1 (line ∷ []) out.new result }
+    requires { SheetRoom out.old c 1 × Countable line }
+    ensures { SheetLines out.old c 1 (line ∷ []) out.new result }
 {
     let sheet = c.sheet;
     if sheet.page == 0 {

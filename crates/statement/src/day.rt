@@ -7,7 +7,7 @@ ghost use Rattle.statement.specs.Lines.{line_bytes, text_of, max_line};
 ghost use Rattle.statement.specs.Total.{total_of, with_total};
 ghost use Rattle.statement.specs.Statement.{max_hour_lines, max_unit_lines, max_lines, longest_statement, Answers};
 ghost use Rattle.statement.specs.tables.Inner.{Writes, PrintableHours, PrintableUnits, PrintableDay, lines_of_hours, lines_of_units, lines_of_day};
-ghost use Rattle.statement.specs.tables.Cursors.{top, Room, WritesLines};
+ghost use Rattle.statement.specs.tables.Cursors.{top, SheetRoom, SheetLines};
 
 use crate::bytes::write_front;
 use crate::cursor::{Cursor, Sheet, put_line};
@@ -40,8 +40,8 @@ pub struct Written {
 
 // Writes the hours in turn.
 fn put_hours(out: &mut [u8], c: Cursor, hours: [HourAmounts; HOURS]) -> Cursor
-    requires { Room out.old c (max_hour_lines * day_hours) × PrintableHours hours }
-    ensures { WritesLines out.old c (max_hour_lines * day_hours) (lines_of_hours day_hours hours) out.new result }
+    requires { SheetRoom out.old c (max_hour_lines * day_hours) × PrintableHours hours }
+    ensures { SheetLines out.old c (max_hour_lines * day_hours) (lines_of_hours day_hours hours) out.new result }
 {
     let mut next = c;
     let mut h: usize = 0;
@@ -55,8 +55,8 @@ fn put_hours(out: &mut [u8], c: Cursor, hours: [HourAmounts; HOURS]) -> Cursor
 
 // Writes the first n units in turn.
 fn put_units(out: &mut [u8], c: Cursor, units: [UnitAmounts; CHANGES_MAX], n: usize) -> Cursor
-    requires { (n ≤ max_changes) × Room out.old c (max_unit_lines * n) × PrintableUnits n units }
-    ensures { WritesLines out.old c (max_unit_lines * n) (lines_of_units (take n units)) out.new result }
+    requires { (n ≤ max_changes) × SheetRoom out.old c (max_unit_lines * n) × PrintableUnits n units }
+    ensures { SheetLines out.old c (max_unit_lines * n) (lines_of_units (take n units)) out.new result }
 {
     let mut next = c;
     let mut i: usize = 0;
@@ -91,8 +91,8 @@ fn put_total(out: &mut [u8], at: usize, cents: Cents) -> usize
 
 // The same behind a cursor, on pages or without.
 fn put_foot(out: &mut [u8], c: Cursor) -> Cursor
-    requires { Room out.old c 1 }
-    ensures { WritesLines out.old c 1 (total_of c.sum.0 ∷ []) out.new result }
+    requires { SheetRoom out.old c 1 }
+    ensures { SheetLines out.old c 1 (total_of c.sum.0 ∷ []) out.new result }
 {
     let sum = c.sum;
     let sheet = c.sheet;
@@ -105,8 +105,8 @@ fn put_foot(out: &mut [u8], c: Cursor) -> Cursor
 
 // Writes all lines of a day and their total from a cursor on.
 pub(crate) fn put_lines(out: &mut [u8], c: Cursor, day: DayAmounts) -> Cursor
-    requires { PrintableDay day × Room out.old c max_lines × (c.sum.0 ≡ pos 0) }
-    ensures { WritesLines out.old c max_lines (with_total (lines_of_day day)) out.new result }
+    requires { PrintableDay day × SheetRoom out.old c max_lines × (c.sum.0 ≡ pos 0) }
+    ensures { SheetLines out.old c max_lines (with_total (lines_of_day day)) out.new result }
 {
     let hours = day.hours;
     let units = day.units;

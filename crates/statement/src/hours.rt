@@ -6,7 +6,7 @@ ghost use Rattle.book.specs.tables.Sizes.{AllBounded};
 ghost use Rattle.statement.specs.declared.lines.Kind.TheVariants.{Iog};
 ghost use Rattle.statement.specs.Statement.{amount_line, line_of, error_line, hour_error, offset_lines, max_hour_lines};
 ghost use Rattle.statement.specs.tables.Inner.{lines_of_hour, PrintableHour};
-ghost use Rattle.statement.specs.tables.Cursors.{Room, WritesLines};
+ghost use Rattle.statement.specs.tables.Cursors.{SheetRoom, SheetLines};
 
 use crate::cursor::{Cursor, put_line};
 use crate::lines::{Kind, Line};
@@ -30,8 +30,8 @@ pub(crate) fn amount_line(hour: u8, kind: Kind, name: Name, ticks: Ticks) -> Lin
 
 // A price lacks: the only line.
 pub(crate) fn put_error(out: &mut [u8], c: Cursor, hour: u8, name: Name) -> Cursor
-    requires { Room out.old c 1 }
-    ensures { WritesLines out.old c 1 (error_line hour name ∷ []) out.new result }
+    requires { SheetRoom out.old c 1 }
+    ensures { SheetLines out.old c 1 (error_line hour name ∷ []) out.new result }
 {
     let line = Line {
         hour,
@@ -43,16 +43,16 @@ pub(crate) fn put_error(out: &mut [u8], c: Cursor, hour: u8, name: Name) -> Curs
 }
 
 fn put_hour_error(out: &mut [u8], c: Cursor, hour: u8) -> Cursor
-    requires { Room out.old c 1 }
-    ensures { WritesLines out.old c 1 (hour_error hour) out.new result }
+    requires { SheetRoom out.old c 1 }
+    ensures { SheetLines out.old c 1 (hour_error hour) out.new result }
 {
     put_error(out, c, hour, no_name())
 }
 
 // A line for each credit, in their order.
 fn put_credits(out: &mut [u8], c: Cursor, hour: u8, a: Credits) -> Cursor
-    requires { (a.n ≤ max_credits) × Room out.old c a.n × AllBounded a.n a.list }
-    ensures { WritesLines out.old c a.n (map (line_of hour Iog) (take a.n a.list)) out.new result
+    requires { (a.n ≤ max_credits) × SheetRoom out.old c a.n × AllBounded a.n a.list }
+    ensures { SheetLines out.old c a.n (map (line_of hour Iog) (take a.n a.list)) out.new result
         × (a.n ≡ length (take a.n a.list)) }
 {
     let n = a.n;
@@ -70,8 +70,8 @@ fn put_credits(out: &mut [u8], c: Cursor, hour: u8, a: Credits) -> Cursor
 
 // A line for each charge, in their order.
 fn put_charges(out: &mut [u8], c: Cursor, hour: u8, kind: Kind, a: ChargeList) -> Cursor
-    requires { (a.n ≤ max_charges) × Room out.old c a.n × AllBounded a.n a.list }
-    ensures { WritesLines out.old c a.n (map (line_of hour kind) (take a.n a.list)) out.new result }
+    requires { (a.n ≤ max_charges) × SheetRoom out.old c a.n × AllBounded a.n a.list }
+    ensures { SheetLines out.old c a.n (map (line_of hour kind) (take a.n a.list)) out.new result }
 {
     let n = a.n;
     let mut next = c;
@@ -88,8 +88,8 @@ fn put_charges(out: &mut [u8], c: Cursor, hour: u8, kind: Kind, a: ChargeList) -
 
 // The wheel offset, where imports stand.
 fn put_offset(out: &mut [u8], c: Cursor, hour: u8, imports: usize, offset: Ticks) -> Cursor
-    requires { Room out.old c 1 × Bounded offset.0 }
-    ensures { WritesLines out.old c 1 (offset_lines hour imports offset.0) out.new result }
+    requires { SheetRoom out.old c 1 × Bounded offset.0 }
+    ensures { SheetLines out.old c 1 (offset_lines hour imports offset.0) out.new result }
 {
     if imports == 0 {
         return c;
@@ -99,8 +99,8 @@ fn put_offset(out: &mut [u8], c: Cursor, hour: u8, imports: usize, offset: Ticks
 
 // The lines of an hour's amounts.
 pub(crate) fn put_hour(out: &mut [u8], c: Cursor, hour: u8, a: HourAmounts) -> Cursor
-    requires { Room out.old c max_hour_lines × PrintableHour a }
-    ensures { WritesLines out.old c max_hour_lines (lines_of_hour hour a) out.new result }
+    requires { SheetRoom out.old c max_hour_lines × PrintableHour a }
+    ensures { SheetLines out.old c max_hour_lines (lines_of_hour hour a) out.new result }
 {
     let g = a.guarantees;
     let f = a.imports;

@@ -2,7 +2,7 @@
 ghost use Rattle.book.specs.tables.Sizes.{BoundedUnit};
 ghost use Rattle.statement.specs.Statement.{max_unit_lines};
 ghost use Rattle.statement.specs.tables.Inner.{lines_of_unit};
-ghost use Rattle.statement.specs.tables.Cursors.{Room, WritesLines};
+ghost use Rattle.statement.specs.tables.Cursors.{SheetRoom, SheetLines};
 
 use crate::cursor::{Cursor, put_line};
 use crate::hours::{amount_line, put_error};
@@ -11,8 +11,8 @@ use book::answers::UnitAmounts;
 
 // The day total and the reversal of a unit, or its error.
 pub(crate) fn put_unit(out: &mut [u8], c: Cursor, u: UnitAmounts) -> Cursor
-    requires { Room out.old c max_unit_lines × BoundedUnit u }
-    ensures { WritesLines out.old c max_unit_lines (lines_of_unit u) out.new result }
+    requires { SheetRoom out.old c max_unit_lines × BoundedUnit u }
+    ensures { SheetLines out.old c max_unit_lines (lines_of_unit u) out.new result }
 {
     let name = u.name;
     let day = u.day;

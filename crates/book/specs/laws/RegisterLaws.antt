@@ -186,7 +186,7 @@ survey-count k (withdrawn j ∷ l) v =
     ap (λ (n : ℕ). cond (same_hour k j) (n - 1) n) (survey-count k l v.2) ∙ sym
     (count-without k j (standing l) (once-standing l (valid-new l v.2)) (refusal-found l 65535 (withdrawn j) v.1))
 
--- ---- "hour holds 16 of that mark (8 for `Gh`)"
+-- ---- "hour holds 16 of that mark (8 for `GH`)"
 count_same : (k j : Key) (xs : List Rec) → same_hour k j ≡ true → count k xs ≡ count j xs
 unfolding count
 count_same k j [] h = refl

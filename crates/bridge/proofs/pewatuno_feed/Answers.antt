@@ -12,7 +12,8 @@ use Rattle.bridge.proofs.pewatuno_feed.Goals as goal
 pub returns : goal.returns
 unfolding feed_in
 returns c =
-    let e = fed-is c.book_in-b.result c.args.lent.now c.args.input.now _ c.feed-f.result c.feed-f.ensures ∙ ap (λ (x : Book). feed_of (load x c.args.lent.now) x (length c.args.lent.now) c.args.input.now)
+    let e = fed-is c.book_in-b.result c.args.lent.now c.args.input.now _ c.feed-f.result c.feed-f.ensures ∙ ap
+    (λ (x : Book). feed_of (load x c.args.lent.now) x (length c.args.lent.now) c.args.input.now)
     c.book_in-b.ensures in
     record {
       value = ap (λ (f : Fed). f.number) e;

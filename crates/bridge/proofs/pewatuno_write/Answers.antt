@@ -3,7 +3,11 @@ use borrow.Author.Tests.{eq-eqb, ne_eqb}
 use Rattle.bridge.proofs.pewatuno_write.Goals as goal
 
 pub returns-then-method-eq0 : goal.returns-then-method-eq0
-returns-then-method-eq0 c = rw (eq-eqb _ _ c.if-method-eq0.true) (record { value = c.write_any.ensures.value; out_after = c.write_any.ensures.out_after; sizes_after = c.write_any.ensures.sizes_after })
+returns-then-method-eq0 c = rw (eq-eqb _ _ c.if-method-eq0.true) (record {
+  value = c.write_any.ensures.value;
+  out_after = c.write_any.ensures.out_after;
+  sizes_after = c.write_any.ensures.sizes_after;
+})
 
 pub returns-then-method-eq4 : goal.returns-then-method-eq4
 returns-then-method-eq4 c = rw (ne_eqb _ _ c.if-method-eq0.false, eq-eqb _ _ c.if-method-eq4.true)
@@ -14,4 +18,8 @@ returns-then-method-eq5 c = rw (ne_eqb _ _ c.if-method-eq0.false, ne_eqb _ _ c.i
     (record { value = c.mark_alone-then-method-eq5.ensures.value ∙ c.parse_close.ensures; out_after = refl; sizes_after = c.mark_alone-then-method-eq5.ensures.sizes_after })
 
 pub returns : goal.returns
-returns c = rw (ne_eqb _ _ c.if-method-eq0.false, ne_eqb _ _ c.if-method-eq4.false, ne_eqb _ _ c.if-method-eq5.false, ← c.wanted_by.ensures) (record { value = c.write_change.ensures.value; out_after = c.write_change.ensures.out_after; sizes_after = c.write_change.ensures.sizes_after })
+returns c = rw (ne_eqb _ _ c.if-method-eq0.false, ne_eqb _ _ c.if-method-eq4.false, ne_eqb _ _ c.if-method-eq5.false, ← c.wanted_by.ensures) (record {
+  value = c.write_change.ensures.value;
+  out_after = c.write_change.ensures.out_after;
+  sizes_after = c.write_change.ensures.sizes_after;
+})

@@ -12,8 +12,15 @@ loop-i-init c = (refl, c.requires, omega arith, refl, refl, none_told _ _ _ _ _ 
 
 pub loop-i-preserved : goal.loop-i-preserved
 loop-i-preserved c =
-    let long : length c.args.a.list ≡ max_credits = search (rules, unmapped) in
-    (c.loop-i.invariant.0, c.loop-i.invariant.1, omega arith, omega (arith, c.loop-i.invariant.3), omega (arith, c.loop-i.invariant.4), one_told _ _ _ _ _ _ _ c.loop-i.invariant.5 c.loop-i-test.true (omega (arith, c.loop-i.invariant.1)) c.tell_credit.ensures.sizes_after c.tell_credit.ensures.amounts_after)
+    let long : length c.args.a.list ≡ max_credits = search (rules, unmapped) in (
+      c.loop-i.invariant.0,
+      c.loop-i.invariant.1,
+      omega arith,
+      omega (arith, c.loop-i.invariant.3),
+      omega (arith, c.loop-i.invariant.4),
+      one_told _ _ _ _ _ _ _
+          c.loop-i.invariant.5 c.loop-i-test.true (omega (arith, c.loop-i.invariant.1)) c.tell_credit.ensures.sizes_after c.tell_credit.ensures.amounts_after,
+    )
 
 pub returns : goal.returns
 returns c =

@@ -10,7 +10,11 @@ use Rattle.bridge.proofs.write_any.Goals as goal
 pub returns-then-n-ne0 : goal.returns-then-n-ne0
 returns-then-n-ne0 c =
     let e = ap (λ (x : Parsed). x.number) c.parse_any-p.ensures in
-    record { value = kept (cond (not (is_record (entry_of (parse_any c.args.bytes.now)).view.act)) 0 (put_number (parse Any c.args.bytes.now) 0 c.args.out.now)) e c.if-n-ne0.true; out_after = if_no _ _ e c.if-n-ne0.true; sizes_after = told-no _ _ _ c.if-n-ne0.true }
+    record {
+      value = kept (cond (not (is_record (entry_of (parse_any c.args.bytes.now)).view.act)) 0 (put_number (parse Any c.args.bytes.now) 0 c.args.out.now)) e c.if-n-ne0.true;
+      out_after = if_no _ _ e c.if-n-ne0.true;
+      sizes_after = told-no _ _ _ c.if-n-ne0.true;
+    }
 
 pub returns-then-not-is_record : goal.returns-then-not-is_record
 returns-then-not-is_record c =

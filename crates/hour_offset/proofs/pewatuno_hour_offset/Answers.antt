@@ -9,7 +9,13 @@ pub put_ticks-requires : goal.put_ticks-requires
 put_ticks-requires c = c.if-res-ne8.false
 
 pub returns-in-Amount : goal.returns-in-Amount
-returns-in-Amount c = record { value = (call-with _ _ c.if-res-ne8.false c.in-Amount.t (sym c.in-Amount.is ∙ c.offset_of_hour-a.ensures) _ c.put_ticks.ensures).0; res_after = (call-with _ _ c.if-res-ne8.false c.in-Amount.t (sym c.in-Amount.is ∙ c.offset_of_hour-a.ensures) _ c.put_ticks.ensures).1 }
+returns-in-Amount c = record {
+  value = (call-with _ _ c.if-res-ne8.false c.in-Amount.t (sym c.in-Amount.is ∙ c.offset_of_hour-a.ensures) _ c.put_ticks.ensures).0;
+  res_after = (call-with _ _ c.if-res-ne8.false c.in-Amount.t (sym c.in-Amount.is ∙ c.offset_of_hour-a.ensures) _ c.put_ticks.ensures).1;
+}
 
 pub returns-in-Refused : goal.returns-in-Refused
-returns-in-Refused c = record { value = (call-no _ _ c.if-res-ne8.false c.in-Refused.n (sym c.in-Refused.is ∙ c.offset_of_hour-a.ensures)).0; res_after = (call-no _ _ c.if-res-ne8.false c.in-Refused.n (sym c.in-Refused.is ∙ c.offset_of_hour-a.ensures)).1 }
+returns-in-Refused c = record {
+  value = (call-no _ _ c.if-res-ne8.false c.in-Refused.n (sym c.in-Refused.is ∙ c.offset_of_hour-a.ensures)).0;
+  res_after = (call-no _ _ c.if-res-ne8.false c.in-Refused.n (sym c.in-Refused.is ∙ c.offset_of_hour-a.ensures)).1;
+}

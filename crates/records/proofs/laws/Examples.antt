@@ -37,7 +37,7 @@ pr = bytes "PR" ++ (5 ∷ times 13 (w 3000))
 abbrev pub im : ℕ → List ℕ → List ℕ
 im q l = bytes "IM" ++ (5 ∷ 5 ∷ (bytes "A%2FB" ++ (times 12 (w q) ++ l)))
 
--- `Gh` `U` of hour 5: D, spinning schedules, the three lists of the reserves; DA and RT reach 600
+-- `GH` `U` of hour 5: D, spinning schedules, the three lists of the reserves; DA and RT reach 600
 abbrev gh : ℕ → ℕ → List ℕ → List ℕ → List ℕ → List ℕ
 gh d s l1 l2 l3 =
     bytes "GH" ++ (5 ∷ 1 ∷ char "U" ∷ (w 0 ++ (w 0 ++ (times 12 (w d) ++ (times 48 (w 0) ++ (times 12 (w 600) ++ (times 12 (w s) ++ (times 48 (w 0)

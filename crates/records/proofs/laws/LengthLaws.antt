@@ -208,7 +208,7 @@ brief-failure =
 brief-skip : {A : Type 0} (n : ℕ) (f : Reader A) → Brief n f → Brief n (skip f)
 brief-skip n f h = brief-more (n + 0) n (skip f) (omega arith) (brief-bind n 0 f _ h (λ x. brief-got tt))
 
--- the most bytes that the fields of a mark take: `Gh`'s the most of all, with five full lists
+-- the most bytes that the fields of a mark take: `GH`'s the most of all, with five full lists
 abbrev pub body_most : Mark → ℕ
 body_most Pr = 52
 body_most Im = 209
@@ -408,7 +408,8 @@ brief-entry =
     brief-two (2 + 1 + max_name_head + max_body) entry refl (λ a. refl) (λ a b.
     brief-cond (2 + 1 + max_name_head + max_body) (is take_back_bytes a b) (λ s. got taking_back s) _ (brief-more 0 (2 + 1 + max_name_head + max_body) _ (omega arith) (brief-got taking_back))
     (brief-cond (2 + 1 + max_name_head + max_body) (is close_bytes a b) (λ s. got closing s) _ (brief-more 0 (2 + 1 + max_name_head + max_body) _ (omega arith) (brief-got closing))
-    (brief-bind (2 + 1 + max_name_head + max_body) 0 (λ s. change Any (a ∷ b ∷ s)) _ (brief-bind 2 (1 + max_name_head + max_body) (λ s. head Any (a ∷ b ∷ s)) _ (head-behind Any a b) (λ h. brief-rest h))
+    (brief-bind (2 + 1 + max_name_head + max_body) 0 (λ s. change Any (a ∷ b ∷ s)) _
+    (brief-bind 2 (1 + max_name_head + max_body) (λ s. head Any (a ∷ b ∷ s)) _ (head-behind Any a b) (λ h. brief-rest h))
     (λ c. brief-got (changed c)))))
 
 -- a record that ends early is shorter than the longest one

@@ -25,8 +25,8 @@ use Rattle.statement.specs.Total.{effect_of, towards, sum_of}
 use Rattle.statement.specs.Pages.{page_entries, line_size, page_size, page_count, entry_bytes, sum_line, page_head}
 use Rattle.statement.proofs.laws.TotalLaws.{signed-size, sum-none, sum_one, sum-append}
 use Rattle.statement.specs.Statement.{amount_line, line_of, offset_lines, charged_lines, max_hour_lines}
-use Rattle.statement.specs.tables.Inner.{Writes, max_printed}
-use Rattle.statement.specs.tables.Cursors.{fresh_sheet, with_entry, next_sheet, laid, sheet_after, text_from, reach, Countable, Room, WritesLines, Turns, Enters}
+use Rattle.statement.specs.tables.Inner.{Writes, max_printed, Countable}
+use Rattle.statement.specs.tables.Cursors.{fresh_sheet, with_entry, next_sheet, laid, sheet_after, text_from, reach, SheetRoom, SheetLines, Turns, Enters}
 use Rattle.statement.specs.declared.lines.Kind.{Kind}
 use Rattle.statement.specs.declared.lines.Kind.TheVariants.{Iog, Ifc, Efc}
 use Rattle.statement.specs.declared.lines.Line.{Line}
@@ -76,10 +76,10 @@ after-plain s e (l ∷ ls) = rw (eq-eqb s.page 0 e) (after-plain s e ls)
 
 -- ---- lines
 
-pub lines-size : {d e : List ℕ} {c r : Cursor} {n : ℕ} {ls : List Line} → WritesLines d c n ls e r → length e ≡ length d
+pub lines-size : {d e : List ℕ} {c r : Cursor} {n : ℕ} {ls : List Line} → SheetLines d c n ls e r → length e ≡ length d
 lines-size w = writes-size w.text
 
-pub lines_none : (d : List ℕ) (c : Cursor) → c.at ≤ length d → WritesLines d c 0 [] d c
+pub lines_none : (d : List ℕ) (c : Cursor) → c.at ≤ length d → SheetLines d c 0 [] d c
 lines_none d c h = record {
   text = subst (λ (xs : List ℕ). Writes d c.at xs d c.at) (sym (from-none c.sheet)) (writes-none d c.at h);
   sheet = sym (after_none c.sheet);
@@ -89,8 +89,8 @@ lines_none d c h = record {
   placed = λ p. p;
 }
 
-pub lines_then : {d e f : List ℕ} {c r q : Cursor} {n m : ℕ} {xs ys : List Line} → WritesLines d c n xs e r → WritesLines e r m ys f q
-    → WritesLines d c (n + m) (xs ++ ys) f q
+pub lines_then : {d e f : List ℕ} {c r q : Cursor} {n m : ℕ} {xs ys : List Line} → SheetLines d c n xs e r → SheetLines e r m ys f q
+    → SheetLines d c (n + m) (xs ++ ys) f q
 lines_then {d} {e} {f} {c} {r} {q} {n} {m} {xs} {ys} a b = record {
   text = subst (λ (t : List ℕ). Writes d c.at t f q.at)
       (ap (λ (s : Sheet). text_from c.sheet xs ++ text_from s ys) a.sheet ∙ sym (from-append c.sheet xs ys)) (writes_then a.text b.text);
@@ -103,17 +103,17 @@ lines_then {d} {e} {f} {c} {r} {q} {n} {m} {xs} {ys} a b = record {
   placed = λ p. b.placed (a.placed p);
 }
 
-pub lines-as : {d e : List ℕ} {c r : Cursor} {n : ℕ} {xs ys : List Line} → xs ≡ ys → WritesLines d c n xs e r → WritesLines d c n ys e r
-lines-as {d} {e} {c} {r} {n} q w = subst (λ (ls : List Line). WritesLines d c n ls e r) q w
+pub lines-as : {d e : List ℕ} {c r : Cursor} {n : ℕ} {xs ys : List Line} → xs ≡ ys → SheetLines d c n xs e r → SheetLines d c n ys e r
+lines-as {d} {e} {c} {r} {n} q w = subst (λ (ls : List Line). SheetLines d c n ls e r) q w
 
-pub lines_from : {d e : List ℕ} {c k r : Cursor} {n : ℕ} {ls : List Line} → c ≡ k → WritesLines d c n ls e r → WritesLines d k n ls e r
-lines_from {d} {e} {r = r} {n = n} {ls = ls} q w = subst (λ (x : Cursor). WritesLines d x n ls e r) q w
+pub lines_from : {d e : List ℕ} {c k r : Cursor} {n : ℕ} {ls : List Line} → c ≡ k → SheetLines d c n ls e r → SheetLines d k n ls e r
+lines_from {d} {e} {r = r} {n = n} {ls = ls} q w = subst (λ (x : Cursor). SheetLines d x n ls e r) q w
 
 -- more lines reach further
 reach-more : (c : Cursor) (n m : ℕ) → n ≤ m → reach c n ≤ reach c m
 reach-more c n m h = on (eqb c.sheet.page 0) (λ e. rw e (omega arith)) (λ e. rw e (omega arith))
 
-pub lines-within : {d e : List ℕ} {c r : Cursor} {n m : ℕ} {ls : List Line} → n ≤ m → WritesLines d c n ls e r → WritesLines d c m ls e r
+pub lines-within : {d e : List ℕ} {c r : Cursor} {n m : ℕ} {ls : List Line} → n ≤ m → SheetLines d c n ls e r → SheetLines d c m ls e r
 lines-within {c = c} {n = n} {m = m} h w = record {
   text = w.text;
   sheet = w.sheet;
@@ -125,7 +125,7 @@ lines-within {c = c} {n = n} {m = m} h w = record {
 
 -- ---- room
 
-pub room-less : {d : List ℕ} {c : Cursor} {n m : ℕ} → m ≤ n → Room d c n → Room d c m
+pub room-less : {d : List ℕ} {c : Cursor} {n m : ℕ} → m ≤ n → SheetRoom d c n → SheetRoom d c m
 room-less {c = c} {n = n} {m = m} h k = record {
   here = k.here;
   text = omega (arith, k.text, reach-more c m n h);
@@ -133,11 +133,11 @@ room-less {c = c} {n = n} {m = m} h k = record {
   placed = k.placed;
 }
 
-pub room-from : {d : List ℕ} {c k : Cursor} {n : ℕ} → c ≡ k → Room d k n → Room d c n
-room-from {d} {n = n} q x = subst (λ (y : Cursor). Room d y n) (sym q) x
+pub room-from : {d : List ℕ} {c k : Cursor} {n : ℕ} → c ≡ k → SheetRoom d k n → SheetRoom d c n
+room-from {d} {n = n} q x = subst (λ (y : Cursor). SheetRoom d y n) (sym q) x
 
 -- what is left of it behind n lines
-pub room-then : {d e : List ℕ} {c r : Cursor} {n m k : ℕ} {ls : List Line} → n + m ≤ k → Room d c k → WritesLines d c n ls e r → Room e r m
+pub room-then : {d e : List ℕ} {c r : Cursor} {n m k : ℕ} {ls : List Line} → n + m ≤ k → SheetRoom d c k → SheetLines d c n ls e r → SheetRoom e r m
 room-then {c = c} {n = n} {m = m} {k = k} h x w = record {
   here = omega (arith, w.text.behind, w.text.room, lines-size w);
   text = omega (arith, x.text, w.short m, reach-more c (n + m) k h, lines-size w);
@@ -152,7 +152,7 @@ counted-within : (s z : ℤ) (k n : ℕ) → nat_abs s ≤ n → nat_abs z ≤ k
 counted-within s z k n a b = add-within s z {A = n} {B = k} a b
 
 pub lines-plain : {d e : List ℕ} {c : Cursor} {at : ℕ} {s : Cents} (l : Line) → c.sheet.page ≡ 0 → length (line_bytes l) ≤ max_line → Countable l
-    → Writes d c.at (line_bytes l) e at → s.0 ≡ c.sum.0 +ℤ towards l → WritesLines d c 1 (l ∷ []) e (record { at = at; sum = s; sheet = c.sheet })
+    → Writes d c.at (line_bytes l) e at → s.0 ≡ c.sum.0 +ℤ towards l → SheetLines d c 1 (l ∷ []) e (record { at = at; sum = s; sheet = c.sheet })
 lines-plain {d} {e} {c} {at} {s} l z h k w q = record {
   text = subst (λ (xs : List ℕ). Writes d c.at xs e at) (sym (from_one c.sheet l ∙ rw z)) w;
   sheet = sym (after_one c.sheet l ∙ rw z);
@@ -165,19 +165,19 @@ lines-plain {d} {e} {c} {at} {s} l z h k w q = record {
 
 -- ---- a page is turned
 
-pub turns-none : {d : List ℕ} {c : Cursor} → Room d c 1 → (c.sheet.page ≡ 0 → ⊥) → c.sheet.entries < page_entries → Turns d c d c
+pub turns-none : {d : List ℕ} {c : Cursor} → SheetRoom d c 1 → (c.sheet.page ≡ 0 → ⊥) → c.sheet.entries < page_entries → Turns d c d c
 turns-none {d} {c} x n h =
     let y : ltb c.sheet.entries page_entries ≡ true = lt-ltb c.sheet.entries page_entries h in
     record { text = rw y (writes-none d c.at x.here); sheet = rw y; sum = refl; room = x; paged = n; free = h; same = refl }
 
 -- the page behind a full one has room
-pub full-room : {d : List ℕ} {c : Cursor} → Room d c 1 → (c.sheet.page ≡ 0 → ⊥) → page_entries ≤ c.sheet.entries → page_size * (c.sheet.page + 1) ≤ length d
+pub full-room : {d : List ℕ} {c : Cursor} → SheetRoom d c 1 → (c.sheet.page ≡ 0 → ⊥) → page_entries ≤ c.sheet.entries → page_size * (c.sheet.page + 1) ≤ length d
 full-room {d} {c} x n h =
     let z : eqb c.sheet.page 0 ≡ false = ne_eqb c.sheet.page 0 n in
     let t : page_size * page_count (page_entries * (c.sheet.page - 1) + c.sheet.entries + 1) ≤ length d = rw z at x.text in
     omega (arith, (x.placed n).entries)
 
-pub turns-full : {d e f : List ℕ} {c : Cursor} {a b : ℕ} → Room d c 1 → (c.sheet.page ≡ 0 → ⊥) → page_entries ≤ c.sheet.entries
+pub turns-full : {d e f : List ℕ} {c : Cursor} {a b : ℕ} → SheetRoom d c 1 → (c.sheet.page ≡ 0 → ⊥) → page_entries ≤ c.sheet.entries
     → Writes d c.at (sum_line c.sheet.sum.0) e a → a ≡ c.at + line_size → Writes e a (page_head (c.sheet.page + 1)) f b → b ≡ a + line_size * 2
     → Turns d c f (record { at = b; sum = c.sum; sheet = fresh_sheet (c.sheet.page + 1) })
 turns-full {d} {e} {f} {c} {a} {b} x n h foot p head q =
@@ -204,7 +204,7 @@ turns-full {d} {e} {f} {c} {a} {b} x n h foot p head q =
 -- ---- an entry on a page
 
 -- it has room where the page is not full
-pub entry-room : {d : List ℕ} {c : Cursor} → Room d c 1 → (c.sheet.page ≡ 0 → ⊥) → c.sheet.entries < page_entries → c.at + line_size ≤ length d
+pub entry-room : {d : List ℕ} {c : Cursor} → SheetRoom d c 1 → (c.sheet.page ≡ 0 → ⊥) → c.sheet.entries < page_entries → c.at + line_size ≤ length d
 entry-room {d} {c} x n h =
     let z : eqb c.sheet.page 0 ≡ false = ne_eqb c.sheet.page 0 n in
     let t : page_size * page_count (page_entries * (c.sheet.page - 1) + c.sheet.entries + 1) ≤ length d = rw z at x.text in
@@ -221,7 +221,7 @@ enters {c = c} l w p q r = record {
 }
 
 pub lines-entered : {d e f : List ℕ} {c t r : Cursor} (l : Line) → (c.sheet.page ≡ 0 → ⊥) → Countable l → Turns d c e t → Enters e t l f r
-    → WritesLines d c 1 (l ∷ []) f r
+    → SheetLines d c 1 (l ∷ []) f r
 lines-entered {d} {e} {f} {c} {t} {r} l n k a b =
     let z : eqb c.sheet.page 0 ≡ false = ne_eqb c.sheet.page 0 n in
     let page : r.sheet.page ≡ t.sheet.page = ap (λ (s : Sheet). s.page) b.sheet in
@@ -262,8 +262,8 @@ next-line f xs i d h = sym (rw (add-one, take-suc xs i d h) (map_snoc f (take i 
 
 -- an hour that needs no price, or has it
 pub hour-written : {d e f g k : List ℕ} {c o i x r : Cursor} {n p q : ℕ} (h : ℕ) (cs fs es : List NamedAmount) (t : ℤ) → n ≡ length cs → n ≤ max_credits
-    → p ≤ max_charges → q ≤ max_charges → WritesLines d c n (map (line_of h Iog) cs) e o → WritesLines e o 1 (offset_lines h n t) f i
-    → WritesLines f i p (map (line_of h Ifc) fs) g x → WritesLines g x q (map (line_of h Efc) es) k r
-    → WritesLines d c max_hour_lines (charged_lines h cs t (charged fs) (charged es)) k r
+    → p ≤ max_charges → q ≤ max_charges → SheetLines d c n (map (line_of h Iog) cs) e o → SheetLines e o 1 (offset_lines h n t) f i
+    → SheetLines f i p (map (line_of h Ifc) fs) g x → SheetLines g x q (map (line_of h Efc) es) k r
+    → SheetLines d c max_hour_lines (charged_lines h cs t (charged fs) (charged es)) k r
 hour-written h cs fs es t z a b l iog off ifc efc =
     lines-within (omega arith) (lines_then (lines_then (lines_then iog (lines-as (ap (λ (m : ℕ). offset_lines h m t) z) off)) ifc) efc)

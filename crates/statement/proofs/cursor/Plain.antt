@@ -1,29 +1,21 @@
--- A text without pages: what room and lines are there, as was said of them before there were pages, and that `Room` and `WritesLines` say the same of it.
-use Rattle.std.specs.Prelude.{◌≡◌, List, ℕ, ◌+◌, ◌*◌, ◌≤◌, nat_abs, ◌+ℤ◌, length}
-use Rattle.std.proofs.Common.{subst, arith}
-use Rattle.money.specs.tables.Numbers.{max_moderate}
-use Rattle.statement.specs.Lines.{max_line, text_of}
-use Rattle.statement.specs.Total.{sum_of}
-use Rattle.statement.specs.tables.Inner.{Writes, max_printed}
-use Rattle.statement.specs.tables.Cursors as sheets
+-- A text without pages: `SheetRoom` and `SheetLines` say of it what `Room` and `WritesLines` say.
+use Rattle.std.specs.Prelude.{◌≡◌, List, [], ◌∷◌, ℕ, ◌+◌, ◌*◌, ◌≤◌, ℤ, nat_abs, ◌+ℤ◌, length}
+use Rattle.std.proofs.Math.Path.{ap}
+use Rattle.std.proofs.Common.{◌∙◌, sym, subst, arith}
+use Rattle.laws.specs.IntLaws.{add-within}
+use Rattle.money.specs.declared.units.Cents.{Cents}
+use Rattle.statement.specs.Lines.{line_bytes, max_line, text_of}
+use Rattle.statement.specs.Total.{towards}
+use Rattle.statement.proofs.laws.LineLaws.{text-one}
+use Rattle.statement.proofs.laws.TotalLaws.{sum_one}
+use Rattle.statement.specs.tables.Inner.{Writes, max_printed, Countable, Room, WritesLines}
+use Rattle.statement.specs.tables.Cursors.{SheetRoom, SheetLines}
 use Rattle.statement.specs.declared.lines.Line.{Line}
 use Rattle.statement.specs.declared.cursor.Cursor.{Cursor}
 use Rattle.statement.proofs.cursor.Lemmas.{from-plain, after-plain}
 
--- room for n lines behind a cursor: for their text, and for their sum in 64 bits
-pub record Room (d : List ℕ) (c : Cursor) (n : ℕ) : Type 0 where
-  pub text : c.at + max_line * n ≤ length d
-  pub sum : nat_abs c.sum.0 + max_printed * n ≤ max_moderate
-
--- the text of lines was put at a cursor and the lines were counted, in the room of n lines
-pub record WritesLines (d : List ℕ) (c : Cursor) (n : ℕ) (ls : List Line) (e : List ℕ) (r : Cursor) : Type 0 where
-  pub text : Writes d c.at (text_of ls) e r.at
-  pub sum : r.sum.0 ≡ c.sum.0 +ℤ sum_of ls
-  pub short : length (text_of ls) ≤ max_line * n
-  pub small : nat_abs r.sum.0 ≤ nat_abs c.sum.0 + max_printed * n
-
 -- who had room has it
-pub plain-room : {d : List ℕ} {c : Cursor} {n : ℕ} → c.sheet.page ≡ 0 → Room d c n → sheets.Room d c n
+pub plain-room : {d : List ℕ} {c : Cursor} {n : ℕ} → c.sheet.page ≡ 0 → Room d c n → SheetRoom d c n
 plain-room {c = c} z x = record {
   here = omega (arith, x.text);
   text = rw z x.text;
@@ -32,7 +24,7 @@ plain-room {c = c} z x = record {
 }
 
 -- and what was promised of the lines is
-pub plain-lines : {d e : List ℕ} {c r : Cursor} {n : ℕ} {ls : List Line} → c.sheet.page ≡ 0 → sheets.WritesLines d c n ls e r → WritesLines d c n ls e r
+pub plain-lines : {d e : List ℕ} {c r : Cursor} {n : ℕ} {ls : List Line} → c.sheet.page ≡ 0 → SheetLines d c n ls e r → WritesLines d c n ls e r
 plain-lines {d} {e} {c} {r} {n} {ls} z w =
     let text : Writes d c.at (text_of ls) e r.at = subst (λ (t : List ℕ). Writes d c.at t e r.at) (from-plain c.sheet z ls) w.text in
     let page : r.sheet.page ≡ 0 = rw (w.sheet, after-plain c.sheet z ls) z in
@@ -43,3 +35,14 @@ plain-lines {d} {e} {c} {r} {n} {ls} z w =
       short = omega (arith, text.behind, end);
       small = w.small;
     }
+
+-- a line that was put is lines, of one
+pub lines-one : {d e : List ℕ} {c : Cursor} {at : ℕ} {s : Cents} (l : Line) → length (line_bytes l) ≤ max_line → Countable l → Writes d c.at (line_bytes l) e at
+    → s.0 ≡ c.sum.0 +ℤ towards l → WritesLines d c 1 (l ∷ []) e (record { at = at; sum = s; sheet = c.sheet })
+lines-one {d} {e} {c} {at} {s} l h k w q = record {
+  text = subst (λ (xs : List ℕ). Writes d c.at xs e at) (sym (text-one l)) w;
+  sum = q ∙ ap (λ (z : ℤ). c.sum.0 +ℤ z) (sym (sum_one l));
+  short = omega (arith, ap length (text-one l));
+  small = subst (λ (z : ℤ). nat_abs z ≤ nat_abs c.sum.0 + max_printed * 1) (sym q)
+      (omega (arith, add-within c.sum.0 (towards l) {A = nat_abs c.sum.0} {B = max_printed} (omega arith) k.within));
+}

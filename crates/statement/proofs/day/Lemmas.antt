@@ -20,7 +20,7 @@ use Rattle.statement.specs.Lines.{text_of}
 use Rattle.statement.specs.Total.{sum_of, total_of, with_total}
 use Rattle.statement.specs.Statement.{statement_lines, statement_of, max_lines, longest_statement, Fits, AnswersBy}
 use Rattle.statement.specs.tables.Inner.{Writes, lines_of_day, PrintableDay}
-use Rattle.statement.specs.tables.Cursors.{no_sheet, top, Room, WritesLines}
+use Rattle.statement.specs.tables.Cursors.{no_sheet, top, SheetRoom, SheetLines}
 use Rattle.statement.proofs.laws.StatementLaws.{day-lines, day-printable}
 use Rattle.statement.specs.declared.day.Written.{Written}
 use Rattle.statement.specs.declared.cursor.Sheet.{Sheet}
@@ -72,17 +72,17 @@ printable x = subst PrintableDay (sym x.amounts) (day-printable x.list x.valid)
 
 -- ---- its lines, and their total
 
-pub room-top : (d : List ℕ) → longest_statement ≤ length d → Room d top max_lines
+pub room-top : (d : List ℕ) → longest_statement ≤ length d → SheetRoom d top max_lines
 room-top d h = record { here = omega arith; text = omega arith; sum = omega arith; placed = λ n. absurd (n refl) }
 
-pub with-total : {d e f : List ℕ} {c r q : Cursor} {n : ℕ} {ls : List Line} → c.sum.0 ≡ pos 0 → WritesLines d c n ls e r
-    → WritesLines e r 1 (total_of r.sum.0 ∷ []) f q → WritesLines d c (n + 1) (with_total ls) f q
+pub with-total : {d e f : List ℕ} {c r q : Cursor} {n : ℕ} {ls : List Line} → c.sum.0 ≡ pos 0 → SheetLines d c n ls e r
+    → SheetLines e r 1 (total_of r.sum.0 ∷ []) f q → SheetLines d c (n + 1) (with_total ls) f q
 with-total {ls = ls} z w t =
     let same = w.sum ∙ ap (λ (y : ℤ). y +ℤ sum_of ls) z ∙ +ℤ_idl (sum_of ls) in
     lines_then w (lines-as (ap (λ (y : ℤ). total_of y ∷ []) same) t)
 
 -- without pages
-pub plainly : {d e : List ℕ} {r : Cursor} {ls : List Line} → WritesLines d top max_lines ls e r → Writes d 0 (text_of ls) e r.at
+pub plainly : {d e : List ℕ} {r : Cursor} {ls : List Line} → SheetLines d top max_lines ls e r → Writes d 0 (text_of ls) e r.at
 plainly {d} {e} {r} {ls} w = subst (λ (t : List ℕ). Writes d 0 t e r.at) (from-plain no_sheet refl ls) w.text
 
 -- what is written of it is a text of its changes
@@ -99,7 +99,7 @@ pub stated : {b : Book} {s d e : List ℕ} {day : DayAmounts} {r : ℕ} (x : Loa
 unfolding statement_of
 stated x w = told text_of x w
 
-pub stated-short : {d e : List ℕ} {r : Cursor} {ls : List Line} → WritesLines d top max_lines ls e r → r.at ≤ longest_statement
+pub stated-short : {d e : List ℕ} {r : Cursor} {ls : List Line} → SheetLines d top max_lines ls e r → r.at ≤ longest_statement
 stated-short {r = r} w = let z : r.sheet.page ≡ 0 = ap (λ (s : Sheet). s.page) (w.sheet ∙ after-plain no_sheet refl _) in omega (arith, rw z at (w.short 0))
 
 -- ---- the answers

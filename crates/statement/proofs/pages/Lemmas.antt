@@ -15,7 +15,7 @@ use Rattle.statement.specs.Statement.{max_lines}
 use Rattle.statement.specs.Pages.{page_entries, page_size, entry_bytes, sum_line, blank_lines, entries_bytes, page_head, page_text, page_of, page_count, pages_to, pages_text, longest_pages}
 use Rattle.statement.proofs.laws.TotalLaws.{sum-none, sum_one, sum-append}
 use Rattle.statement.specs.tables.Inner.{Writes}
-use Rattle.statement.specs.tables.Cursors.{fresh_sheet, with_entry, next_sheet, laid, sheet_after, text_from, first_entry, Placed, Room, WritesLines}
+use Rattle.statement.specs.tables.Cursors.{fresh_sheet, with_entry, next_sheet, laid, sheet_after, text_from, first_entry, Placed, SheetRoom, SheetLines}
 use Rattle.statement.specs.declared.lines.Line.{Line}
 use Rattle.statement.specs.declared.cursor.Sheet.{Sheet}
 use Rattle.statement.specs.declared.cursor.Cursor.{Cursor}
@@ -223,7 +223,7 @@ last-entries s ls l n =
     let m : 1 ≤ (next_sheet r l).entries = rw (ne_eqb r.page 0 (after-paged s ls n)) (omega arith) in
     omega (arith, e)
 
-pub room-first : (d : List ℕ) → longest_pages ≤ length d → Room d first_entry max_lines
+pub room-first : (d : List ℕ) → longest_pages ≤ length d → SheetRoom d first_entry max_lines
 room-first d h = record {
   here = omega arith;
   text = omega arith;
@@ -237,7 +237,7 @@ pub record Last (d : List ℕ) (c : Cursor) : Type 0 where
   pub paged : c.sheet.page ≡ 0 → ⊥
   pub within : page_size * c.sheet.page ≤ longest_pages
 
-pub last-page : {d e : List ℕ} {r : Cursor} (ls : List Line) (l : Line) → longest_pages ≤ length d → WritesLines d first_entry max_lines (ls ++ (l ∷ [])) e r → Last e r
+pub last-page : {d e : List ℕ} {r : Cursor} (ls : List Line) (l : Line) → longest_pages ≤ length d → SheetLines d first_entry max_lines (ls ++ (l ∷ [])) e r → Last e r
 last-page {d} {e} {r} ls l h w =
     let one : ◌≡◌ {A = ℕ} 1 0 → ⊥ = λ z. omega arith in
     let n : r.sheet.page ≡ 0 → ⊥ = λ z. after-paged (fresh_sheet 1) (ls ++ (l ∷ [])) one (sym (ap (λ (s : Sheet). s.page) w.sheet) ∙ z) in
@@ -247,7 +247,7 @@ last-page {d} {e} {r} ls l h w =
     record { placed = p; paged = n; within = omega (arith, p.entries) }
 
 pub paged-text : {d e f g : List ℕ} {c r : Cursor} {q : ℕ} (ls : List Line) (l : Line) → c ≡ first_entry → Writes d 0 (page_head 1) e c.at
-    → WritesLines e c max_lines (ls ++ (l ∷ [])) f r → Writes f r.at (ending r.sheet) g q → Writes d 0 (pages_text (ls ++ (l ∷ []))) g q
+    → SheetLines e c max_lines (ls ++ (l ∷ [])) f r → Writes f r.at (ending r.sheet) g q → Writes d 0 (pages_text (ls ++ (l ∷ []))) g q
 paged-text {d} {e} {f} {g} {c} {r} {q} ls l z a w b =
     let all = ls ++ (l ∷ []) in
     let s : c.sheet ≡ fresh_sheet 1 = ap (λ (x : Cursor). x.sheet) z in

@@ -73,19 +73,15 @@ InPlace c = (c.sheet.page ≡ 0 → ⊥) → Placed c
 
 -- ---- writing
 
--- a line that counts no more than the largest amount in a sum
-pub record Countable (l : Line) : Type 0 where
-  pub within : nat_abs (towards l) ≤ max_printed
-
 -- room for n lines behind a cursor: for their text, and for their sum in 64 bits
-pub record Room (d : List ℕ) (c : Cursor) (n : ℕ) : Type 0 where
+pub record SheetRoom (d : List ℕ) (c : Cursor) (n : ℕ) : Type 0 where
   pub here : c.at ≤ length d
   pub text : reach c n ≤ length d
   pub sum : nat_abs c.sum.0 + max_printed * n ≤ max_moderate
   pub placed : InPlace c
 
 -- the text of lines was put at a cursor and the lines were counted, in the room of n lines
-pub record WritesLines (d : List ℕ) (c : Cursor) (n : ℕ) (ls : List Line) (e : List ℕ) (r : Cursor) : Type 0 where
+pub record SheetLines (d : List ℕ) (c : Cursor) (n : ℕ) (ls : List Line) (e : List ℕ) (r : Cursor) : Type 0 where
   pub text : Writes d c.at (text_from c.sheet ls) e r.at
   pub sheet : r.sheet ≡ sheet_after c.sheet ls
   pub sum : r.sum.0 ≡ c.sum.0 +ℤ sum_of ls
@@ -99,7 +95,7 @@ pub record Turns (d : List ℕ) (c : Cursor) (e : List ℕ) (r : Cursor) : Type 
   pub sheet : r.sheet ≡ turned c.sheet
   pub sum : r.sum ≡ c.sum
   -- there is room for an entry on the page, which is as far from the first one
-  pub room : Room e r 1
+  pub room : SheetRoom e r 1
   pub paged : r.sheet.page ≡ 0 → ⊥
   pub free : r.sheet.entries < page_entries
   pub same : page_entries * (r.sheet.page - 1) + r.sheet.entries ≡ page_entries * (c.sheet.page - 1) + c.sheet.entries

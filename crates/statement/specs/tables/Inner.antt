@@ -1,7 +1,7 @@
 -- What the values that inner functions take and return say. No definition of 01 stands here. Assumes nothing.
-use Rattle.std.specs.Prelude.{◌≡◌, List, [], ◌∷◌, ◌++◌, ℕ, ◌+◌, ◌-◌, ◌/◌, ◌≤◌, ◌<◌, length, take, get_or}
+use Rattle.std.specs.Prelude.{◌≡◌, List, [], ◌∷◌, ◌++◌, ℕ, ◌+◌, ◌-◌, ◌*◌, ◌/◌, ◌≤◌, ◌<◌, nat_abs, ◌+ℤ◌, length, take, get_or}
 use Rattle.money.specs.Units.{day_hours, ticks_per_cent}
-use Rattle.money.specs.tables.Numbers.{max_amount}
+use Rattle.money.specs.tables.Numbers.{max_moderate, max_amount}
 use Rattle.records.specs.Changes.{put}
 use Rattle.book.specs.declared.answers.HourAmounts.{HourAmounts}
 use Rattle.book.specs.declared.answers.UnitAmounts.{UnitAmounts}
@@ -11,10 +11,12 @@ use Rattle.book.specs.WholeDay.{no_hour}
 use Rattle.book.specs.Handed.{max_credits, max_charges}
 use Rattle.book.specs.Register.{max_changes}
 use Rattle.book.specs.tables.Sizes.{BoundedHour, BoundedUnit}
-use Rattle.statement.specs.Lines.{when_bytes, kind_bytes, space}
+use Rattle.statement.specs.Lines.{max_line, text_of, when_bytes, kind_bytes, space}
+use Rattle.statement.specs.Total.{towards, sum_of}
 use Rattle.statement.specs.Statement.{hour_lines, unit_lines, hours_to}
 use Rattle.statement.specs.declared.lines.Kind.{Kind}
 use Rattle.statement.specs.declared.lines.Line.{Line}
+use Rattle.statement.specs.declared.cursor.Cursor.{Cursor}
 
 -- ---- writing
 
@@ -34,6 +36,22 @@ label_size = 7
 -- the largest amount as it is printed, in cents
 abbrev pub max_printed : ℕ
 max_printed = max_amount / ticks_per_cent
+
+-- a line that counts no more than that in a sum
+pub record Countable (l : Line) : Type 0 where
+  pub within : nat_abs (towards l) ≤ max_printed
+
+-- room for n lines behind a cursor: for their text, and for their sum in 64 bits
+pub record Room (d : List ℕ) (c : Cursor) (n : ℕ) : Type 0 where
+  pub text : c.at + max_line * n ≤ length d
+  pub sum : nat_abs c.sum.0 + max_printed * n ≤ max_moderate
+
+-- the text of lines was put at a cursor and the lines were counted, in the room of n lines
+pub record WritesLines (d : List ℕ) (c : Cursor) (n : ℕ) (ls : List Line) (e : List ℕ) (r : Cursor) : Type 0 where
+  pub text : Writes d c.at (text_of ls) e r.at
+  pub sum : r.sum.0 ≡ c.sum.0 +ℤ sum_of ls
+  pub short : length (text_of ls) ≤ max_line * n
+  pub small : nat_abs r.sum.0 ≤ nat_abs c.sum.0 + max_printed * n
 
 -- ---- the lines of a day's amounts, as the book hands them over
 

@@ -34,7 +34,10 @@ between-requires c =
     record { self_in = c.requires.good.prices-in _ c.loop-w.invariant.below; in_order = short _ _ c.requires.good m _ _ _ c.loop-w.invariant; to_in = in-range _ _ c.requires.good m }
 
 pub plus-cost-requires : goal.plus-cost-requires
-plus-cost-requires c = record { self_moderate = pieces_room _ c.requires.good _ c.loop-w.invariant.below (c.costs_before-costs.ensures _ c.loop-w.invariant.below); other_moderate = omega (arith, c.between.ensures.bounded) }
+plus-cost-requires c = record {
+  self_moderate = pieces_room _ c.requires.good _ c.loop-w.invariant.below (c.costs_before-costs.ensures _ c.loop-w.invariant.below);
+  other_moderate = omega (arith, c.between.ensures.bounded);
+}
 
 pub loop-w-preserved : goal.loop-w-preserved
 loop-w-preserved c =

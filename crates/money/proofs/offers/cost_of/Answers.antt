@@ -6,13 +6,21 @@ pub loop-o-init : goal.loop-o-init
 loop-o-init c = starts _ _ c.requires.o_good c.requires.within_o
 
 pub between-requires : goal.between-requires
-between-requires c = record { self_in = c.requires.o_good.prices-in _ c.loop-o.invariant.below; in_order = short _ _ c.requires.o_good c.requires.within_o _ _ _ c.loop-o.invariant; to_in = in-range _ _ c.requires.o_good c.requires.within_o }
+between-requires c = record {
+  self_in = c.requires.o_good.prices-in _ c.loop-o.invariant.below;
+  in_order = short _ _ c.requires.o_good c.requires.within_o _ _ _ c.loop-o.invariant;
+  to_in = in-range _ _ c.requires.o_good c.requires.within_o;
+}
 
 pub plus-c-requires : goal.plus-c-requires
 plus-c-requires c = record { self_moderate = pieces_room _ c.requires.o_good _ c.loop-o.invariant.below c.loop-o.invariant.sum; other_moderate = omega (arith, c.between.ensures.bounded) }
 
 pub between-requires-in-loop-o : goal.between-requires-in-loop-o
-between-requires-in-loop-o c = record { self_in = c.requires.o_good.prices-in _ c.loop-o.invariant.below; in_order = reach _ c.requires.o_good _ c.loop-o.invariant.below c.loop-o.invariant.from; to_in = c.requires.o_good.quantities-in _ c.loop-o.invariant.below }
+between-requires-in-loop-o c = record {
+  self_in = c.requires.o_good.prices-in _ c.loop-o.invariant.below;
+  in_order = reach _ c.requires.o_good _ c.loop-o.invariant.below c.loop-o.invariant.from;
+  to_in = c.requires.o_good.quantities-in _ c.loop-o.invariant.below;
+}
 
 pub plus-acc-requires : goal.plus-acc-requires
 plus-acc-requires c = record { self_moderate = pieces_room _ c.requires.o_good _ c.loop-o.invariant.below c.loop-o.invariant.sum; other_moderate = omega (arith, c.between-in-loop-o.ensures.bounded) }

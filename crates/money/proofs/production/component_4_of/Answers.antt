@@ -2,13 +2,25 @@ use Rattle.money.proofs.laws.ProductionLaws.{room, two-room, net-within, net-sma
 use Rattle.money.proofs.production.component_4_of.Goals as goal
 
 pub reserve_net-one-requires : goal.reserve_net-one-requires
-reserve_net-one-requires c = record { s_usable = c.requires.r1_usable; k_in = c.requires.k_in; within_offer = net-within c.requires.r1_usable c.above-left1.result.0 c.args.k c.requires.k_in c.lesser.ensures }
+reserve_net-one-requires c = record {
+  s_usable = c.requires.r1_usable;
+  k_in = c.requires.k_in;
+  within_offer = net-within c.requires.r1_usable c.above-left1.result.0 c.args.k c.requires.k_in c.lesser.ensures;
+}
 
 pub reserve_net-two-requires : goal.reserve_net-two-requires
-reserve_net-two-requires c = record { s_usable = c.requires.r2_usable; k_in = c.requires.k_in; within_offer = net-within c.requires.r2_usable c.above-left2.result.0 c.args.k c.requires.k_in c.lesser-2.ensures }
+reserve_net-two-requires c = record {
+  s_usable = c.requires.r2_usable;
+  k_in = c.requires.k_in;
+  within_offer = net-within c.requires.r2_usable c.above-left2.result.0 c.args.k c.requires.k_in c.lesser-2.ensures;
+}
 
 pub reserve_net-three-requires : goal.reserve_net-three-requires
-reserve_net-three-requires c = record { s_usable = c.requires.r3_usable; k_in = c.requires.k_in; within_offer = net-within c.requires.r3_usable c.above-left3.result.0 c.args.k c.requires.k_in c.lesser-3.ensures }
+reserve_net-three-requires c = record {
+  s_usable = c.requires.r3_usable;
+  k_in = c.requires.k_in;
+  within_offer = net-within c.requires.r3_usable c.above-left3.result.0 c.args.k c.requires.k_in c.lesser-3.ensures;
+}
 
 pub plus-requires : goal.plus-requires
 plus-requires c = record {

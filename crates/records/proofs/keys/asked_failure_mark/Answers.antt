@@ -10,6 +10,7 @@ unfolding ask_failure_mark
 returns c =
     let ok = is_failure c.asked_mark-m.result.mark in (
       rw (c.guard_end-end.ensures, c.is_failure.ensures)
-          (sym (first c.args.mark.now c.asked_mark-m.result.end c.asked_mark-m.result.mark (ask_mark c.args.mark.now) _ c.asked_mark-m.ensures.0 ∙ test c.args.mark.now c.asked_mark-m.result.end ok 2 _ ∙ last c.args.mark.now (guarded c.asked_mark-m.result.end ok 2) c.asked_mark-m.result.mark)),
+          (sym (first c.args.mark.now c.asked_mark-m.result.end c.asked_mark-m.result.mark (ask_mark c.args.mark.now) _ c.asked_mark-m.ensures.0 ∙ test
+          c.args.mark.now c.asked_mark-m.result.end ok 2 _ ∙ last c.args.mark.now (guarded c.asked_mark-m.result.end ok 2) c.asked_mark-m.result.mark)),
       rw c.guard_end-end.ensures (guarded-in c.args.mark.now c.asked_mark-m.result.end _ 2 c.asked_mark-m.ensures.1),
     )

@@ -19,7 +19,8 @@ loop-i-init c =
 
 pub returns-then-is : goal.returns-then-is
 returns-then-is c = (
-  rw c.marked.ensures (sym (c.loop-i.invariant ∙ among-test listing _ _ _ c.loop-i.i c.loop-i-test.true c.listed-mark.result c.listed-mark.ensures _ _ c.bytes_of-bytes.ensures c.is.result c.is.ensures true c.if-is.true)),
+  rw c.marked.ensures (sym
+      (c.loop-i.invariant ∙ among-test listing _ _ _ c.loop-i.i c.loop-i-test.true c.listed-mark.result c.listed-mark.ensures _ _ c.bytes_of-bytes.ensures c.is.result c.is.ensures true c.if-is.true)),
   rw c.marked.ensures (omega arith),
 )
 

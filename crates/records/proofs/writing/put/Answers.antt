@@ -17,7 +17,8 @@ head_of-h-requires c = c.read_change-c.ensures.few
 pub returns-then-log-at : goal.returns-then-log-at
 returns-then-log-at c =
     let f = full c.args.s.now c.args.want c.read_change-c.result c.read_change-c.ensures c.in-At.n c.in-At.is in
-    put_full (parse c.args.want c.args.s.now) c.args.at c.args.log.now (read_of c.args.s.now c.in-At.n c.read_change-c.result) (parse-fine c.args.s.now c.args.want c.in-At.n c.read_change-c.result f c.if-n-s.false)
+    put_full (parse c.args.want c.args.s.now) c.args.at c.args.log.now (read_of c.args.s.now c.in-At.n c.read_change-c.result)
+    (parse-fine c.args.s.now c.args.want c.in-At.n c.read_change-c.result f c.if-n-s.false)
     (omega arith)
 
 pub overflow_sub-n : goal.overflow_sub-n
@@ -33,7 +34,8 @@ overflow_add-m c =
 pub returns-then-log-at-2 : goal.returns-then-log-at-2
 returns-then-log-at-2 c =
     let f = full c.args.s.now c.args.want c.read_change-c.result c.read_change-c.ensures c.in-At.n c.in-At.is in
-    put_full (parse c.args.want c.args.s.now) c.args.at c.args.log.now (read_of c.args.s.now c.in-At.n c.read_change-c.result) (parse-fine c.args.s.now c.args.want c.in-At.n c.read_change-c.result f c.if-n-s.false)
+    put_full (parse c.args.want c.args.s.now) c.args.at c.args.log.now (read_of c.args.s.now c.in-At.n c.read_change-c.result)
+    (parse-fine c.args.s.now c.args.want c.in-At.n c.read_change-c.result f c.if-n-s.false)
     (omega (arith, full-length c.args.s.now c.args.want c.in-At.n c.read_change-c.result f c.head_of-h.result.len c.head_of-h.ensures.len))
 
 pub slice_bounds-bytes-end : goal.slice_bounds-bytes-end

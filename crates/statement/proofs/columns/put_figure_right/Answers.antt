@@ -14,7 +14,8 @@ slice_bounds-text-end c =
 
 pub slice_bounds-put_right-end : goal.slice_bounds-put_right-end
 slice_bounds-put_right-end c =
-    sym (length-take-le {A = ℕ} c.put_figure-len.result c.put_figure-len.new.out (omega (arith, c.put_figure-len.ensures.0.behind, c.put_figure-len.ensures.0.room, writes-size c.put_figure-len.ensures.0)))
+    sym (length-take-le {A = ℕ} c.put_figure-len.result c.put_figure-len.new.out
+    (omega (arith, c.put_figure-len.ensures.0.behind, c.put_figure-len.ensures.0.room, writes-size c.put_figure-len.ensures.0)))
 
 pub put_right-requires : goal.put_right-requires
 put_right-requires c =

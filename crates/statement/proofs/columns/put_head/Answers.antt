@@ -19,7 +19,8 @@ slice_bounds-digits-end c =
 
 pub slice_bounds-put_right-end : goal.slice_bounds-put_right-end
 slice_bounds-put_right-end c =
-    sym (length-take-le {A = ℕ} c.put_decimal-len.result c.put_decimal-len.new.out (omega (arith, c.put_decimal-len.ensures.behind, c.put_decimal-len.ensures.room, writes-size c.put_decimal-len.ensures)))
+    sym (length-take-le {A = ℕ} c.put_decimal-len.result c.put_decimal-len.new.out
+    (omega (arith, c.put_decimal-len.ensures.behind, c.put_decimal-len.ensures.room, writes-size c.put_decimal-len.ensures)))
 
 pub put_right-end-requires : goal.put_right-end-requires
 put_right-end-requires c =

@@ -35,7 +35,8 @@ slice_bounds-aside-end c =
 
 pub slice_bounds-write_front-end : goal.slice_bounds-write_front-end
 slice_bounds-write_front-end c =
-    sym (length-take-le {A = ℕ} c.put_pages-len-2.result c.put_pages-len-2.new.out (omega (arith, c.put_pages-len-2.ensures.0.behind, c.put_pages-len-2.ensures.0.room, writes-size c.put_pages-len-2.ensures.0)))
+    sym (length-take-le {A = ℕ} c.put_pages-len-2.result c.put_pages-len-2.new.out
+    (omega (arith, c.put_pages-len-2.ensures.0.behind, c.put_pages-len-2.ensures.0.room, writes-size c.put_pages-len-2.ensures.0)))
 
 pub returns : goal.returns
 unfolding pages_of

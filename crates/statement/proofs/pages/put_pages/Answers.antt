@@ -13,8 +13,12 @@ open_first-first-requires c =
     omega (arith, c.requires.1)
 
 pub put_lines-last-requires : goal.put_lines-last-requires
-put_lines-last-requires c =
-    (c.requires.0, room-from c.open_first-first.ensures.1 (room-first _ (omega (arith, c.requires.1, writes-size c.open_first-first.ensures.0))), ap (λ (c : Cursor). c.sum.0) c.open_first-first.ensures.1)
+put_lines-last-requires c = (
+  c.requires.0,
+  room-from c.open_first-first.ensures.1 (room-first _ (omega (arith, c.requires.1, writes-size c.open_first-first.ensures.0))),
+  ap
+      (λ (c : Cursor). c.sum.0) c.open_first-first.ensures.1,
+)
 
 pub close_last-requires : goal.close_last-requires
 close_last-requires c =
