@@ -236,7 +236,7 @@ impl fmt::Display for WrongVersion {
         write!(
             out,
             "the static library speaks interface version {}, this bench version {VERSION}; \
-             make the library anew with `rt staticlib bridge` and build the bench of the same \
+             make the library anew with `tools/build bridge` and build the bench of the same \
              sources",
             self.found
         )
