@@ -2,6 +2,7 @@ pub mod UnitLaws
 pub mod OfferLaws
 pub mod GuaranteeLaws
 pub mod NameLaws
+pub mod NameLoopLaws
 pub mod OffsetLaws
 pub mod CancelledLaws
 pub mod LentLaws

@@ -3,7 +3,7 @@ use Rattle.std.specs.Prelude.{Bool, ◌&&◌, ℕ, ◌-◌, ℤ, pos, ◌-ℤ◌
 use Rattle.laws.specs.Ints.{minℤ, maxℤ}
 use Rattle.money.specs.Refusals.{number_outside}
 use Rattle.money.specs.declared.units.Price.{Price}
-use Rattle.money.specs.declared.units.Answer.{Answer}
+use Rattle.money.specs.Answers.{Answer}
 use Rattle.money.specs.declared.failure.Failure.{Failure}
 use Rattle.money.specs.Units.{intervals, price_ok, quantity_ok, unless, answer}
 

@@ -5,7 +5,7 @@ use Rattle.laws.specs.Sums.{Σℤ, or_else}
 use Rattle.money.specs.Refusals.{number_outside, beyond_list}
 use Rattle.money.specs.declared.units.Price.{Price}
 use Rattle.money.specs.declared.units.Quantity.{Quantity}
-use Rattle.money.specs.declared.units.Answer.{Answer}
+use Rattle.money.specs.Answers.{Answer}
 use Rattle.money.specs.declared.offers.Offer.{Offer}
 use Rattle.money.specs.Units.{intervals, price_at, quantity_at, prices_ok, quantities_ok, within_ok, unless, answer}
 use Rattle.money.specs.Offers.{last_q, offer_fault, cost}

@@ -1,4 +1,5 @@
 pub mod Refusals
+pub mod Answers
 pub mod Units
 pub mod Offers
 pub mod Guarantee

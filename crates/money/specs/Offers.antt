@@ -5,7 +5,7 @@ use Rattle.laws.specs.Sums.{Σℤ, Σℕ, every, or_else}
 use Rattle.money.specs.Refusals.{number_outside, list_fault, beyond_list}
 use Rattle.money.specs.declared.units.Price.{Price}
 use Rattle.money.specs.declared.units.Quantity.{Quantity}
-use Rattle.money.specs.declared.units.Answer.{Answer}
+use Rattle.money.specs.Answers.{Answer}
 use Rattle.money.specs.declared.offers.Offer.{Offer}
 use Rattle.money.specs.Units.{no_price, no_quantity, price_ok, quantity_ok, price_at, quantity_at, unless, answer}
 

@@ -5,8 +5,8 @@ use Rattle.laws.specs.Sums.{Σℤ, Σℕ, every, first_of, or_else}
 use Rattle.money.specs.Refusals.{name_fault, number_outside, beyond_list, key_stands, hour_full}
 use Rattle.money.specs.declared.units.Price.{Price}
 use Rattle.money.specs.declared.units.Quantity.{Quantity}
-use Rattle.money.specs.declared.units.Answer.{Answer}
-use Rattle.money.specs.declared.units.Answer.TheVariants.{Refused}
+use Rattle.money.specs.Answers.{Answer}
+use Rattle.money.specs.Answers.{Refused}
 use Rattle.money.specs.declared.imports.Import.{Import}
 use Rattle.money.specs.Units.{intervals, no_price, no_quantity, price_ok, quantity_at, series_of, quantities_ok, within_ok, sameℤ, unless, answer}
 use Rattle.money.specs.Offers.{last_q, offer_fault}

@@ -7,12 +7,12 @@ use Rattle.money.specs.Refusals.{number_outside, beyond_list}
 use Rattle.money.specs.declared.units.Price.{Price}
 use Rattle.money.specs.declared.units.Ticks.{Ticks}
 use Rattle.money.specs.declared.units.CentsPerStart.{CentsPerStart}
-use Rattle.money.specs.declared.units.Answer.{Answer}
+use Rattle.money.specs.Answers.{Answer}
 use Rattle.money.specs.declared.offers.Offer.{Offer}
 use Rattle.money.specs.declared.production.Reserve.{Reserve}
 use Rattle.money.specs.declared.production.UnitHour.{UnitHour}
-use Rattle.money.specs.declared.production.DayAnswer.{DayAnswer}
-use Rattle.money.specs.declared.production.DayAnswer.TheVariants.{Day, Refused}
+use Rattle.money.specs.Answers.{DayAnswer}
+use Rattle.money.specs.Answers.{Day, NoDay}
 use Rattle.money.specs.Units.{intervals, day_hours, ticks_per_cent, noload_ticks, max_cents, price_at, quantity_at, prices_ok, quantities_ok, within_ok, unless, answer}
 use Rattle.money.specs.Offers.{last_q, offer_fault, cost}
 use Rattle.money.specs.Guarantee.{profit}
@@ -176,4 +176,4 @@ reversal total = maxℤ (pos 0) (neg_ℤ total)
 
 -- the day total and the reversal of 24 hours' amounts and start-ups, 0 where the unit has no hour
 unfoldable pub day_answer : List Ticks → List CentsPerStart → DayAnswer
-day_answer ts ss = cond (hours_ok ts ss) (Day (record { 0 = day_sum ts ss }) (record { 0 = reversal (day_sum ts ss) })) (Refused number_outside)
+day_answer ts ss = cond (hours_ok ts ss) (Day (record { 0 = day_sum ts ss }) (record { 0 = reversal (day_sum ts ss) })) (NoDay number_outside)

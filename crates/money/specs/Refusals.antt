@@ -1,5 +1,7 @@
--- 01, "Numbers a call can bring back": the numbers under names. src/refusals.rt has the same for the code.
+-- 01, "Numbers a call can bring back": the numbers under names, and which of them a refusal has.
 use Rattle.std.specs.Prelude.{ℕ}
+use Rattle.money.specs.declared.refusals.Refusal.{Refusal}
+use Rattle.money.specs.declared.refusals.Refusal.TheVariants.{EndsEarly, MarkUnknown, HourOutside, NameFault, NumberOutside, ListFault, BeyondList, BytesLeftOver, Closed, KeyStands, NoSuchKey, HourFull, NoSpace, NothingToTakeBack, PriceMissing, NotTogether}
 
 -- bytes end early
 abbrev pub ends_early : ℕ
@@ -64,3 +66,22 @@ price_missing = 15
 -- book and lent bytes don't belong together
 abbrev pub not_together : ℕ
 not_together = 16
+
+-- "a definition tells you this paper's number .. for each of its cases"
+abbrev pub number_of : Refusal → ℕ
+number_of EndsEarly = ends_early
+number_of MarkUnknown = mark_unknown
+number_of HourOutside = hour_outside
+number_of NameFault = name_fault
+number_of NumberOutside = number_outside
+number_of ListFault = list_fault
+number_of BeyondList = beyond_list
+number_of BytesLeftOver = bytes_left_over
+number_of Closed = closed
+number_of KeyStands = key_stands
+number_of NoSuchKey = no_such_key
+number_of HourFull = hour_full
+number_of NoSpace = no_space
+number_of NothingToTakeBack = nothing_to_take_back
+number_of PriceMissing = price_missing
+number_of NotTogether = not_together

@@ -1,16 +1,13 @@
 -- 01, "Units and offers": prices, quantities and money, and what a call answers.
-use Rattle.std.specs.Prelude.{Bool, cond, ◌&&◌, List, [], ◌∷◌, ℕ, zero, suc, ◌+◌, ◌/◌, ℤ, pos, negsuc, neg_ℤ, leb, get_or}
+use Rattle.std.specs.Prelude.{Bool, cond, ◌&&◌, List, [], ◌∷◌, ℕ, zero, suc, ◌+◌, ◌/◌, ℤ, pos, negsuc, neg_ℤ, leb, get_or, Result, Ok, Err}
 use Rattle.std.specs.Int.Signed.{le_z}
 use Rattle.laws.specs.Sums.{every}
-use Rattle.money.specs.Refusals.{number_outside}
 use Rattle.money.specs.declared.units.Price.{Price}
 use Rattle.money.specs.declared.units.Quantity.{Quantity}
-use Rattle.money.specs.declared.units.Answer.{Answer}
-use Rattle.money.specs.declared.units.Answer.TheVariants.{Amount, Refused}
-use Rattle.money.specs.declared.units.PriceRead.{PriceRead}
-use Rattle.money.specs.declared.units.PriceRead.TheVariants as price_read-variants
-use Rattle.money.specs.declared.units.QuantityRead.{QuantityRead}
-use Rattle.money.specs.declared.units.QuantityRead.TheVariants as quantity_read-variants
+use Rattle.money.specs.Answers.{Answer}
+use Rattle.money.specs.Answers.{Amount, Refused}
+use Rattle.money.specs.declared.refusals.Refusal.{Refusal}
+use Rattle.money.specs.declared.refusals.Refusal.TheVariants.{NumberOutside}
 
 -- "sum of OP over 12 intervals": those of an hour
 abbrev pub intervals : ℕ
@@ -42,11 +39,11 @@ abbrev pub quantity_ok : Quantity → Bool
 quantity_ok q = leb q.0 max_quantity
 
 -- what a constructor answers
-abbrev pub price_read : ℤ → PriceRead
-price_read c = cond (price_ok (record { 0 = c })) (price_read-variants.Good (record { 0 = c })) (price_read-variants.Refused number_outside)
+abbrev pub price_read : ℤ → Result Price Refusal
+price_read c = cond (price_ok (record { 0 = c })) (Ok (record { 0 = c })) (Err NumberOutside)
 
-abbrev pub quantity_read : ℕ → QuantityRead
-quantity_read n = cond (quantity_ok (record { 0 = n })) (quantity_read-variants.Good (record { 0 = n })) (quantity_read-variants.Refused number_outside)
+abbrev pub quantity_read : ℕ → Result Quantity Refusal
+quantity_read n = cond (quantity_ok (record { 0 = n })) (Ok (record { 0 = n })) (Err NumberOutside)
 
 -- "Money: ticks of 1/120 cent, signed"
 abbrev pub ticks_per_cent : ℕ

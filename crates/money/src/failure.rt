@@ -2,10 +2,11 @@
 ghost use Rattle.std.specs.Prelude.{◌≡◌, ◌≤◌, ◌-◌, ℤ, pos, nat_abs, ◌-ℤ◌, ◌*ℤ◌};
 ghost use Rattle.laws.specs.Ints.{minℤ, maxℤ};
 ghost use Rattle.money.specs.Units.{intervals, max_gap};
+ghost use Rattle.money.specs.Answers.{answer_of};
 ghost use Rattle.money.specs.Failure.{dev, failure_ok, import_charge_answer, export_charge_answer};
 
-use crate::refusals::NUMBER_OUTSIDE;
-use crate::units::{Answer, Price, PriceGap, Quantity, Ticks};
+use crate::refusals::Refusal;
+use crate::units::{Price, PriceGap, Quantity, Ticks};
 
 // A failed import or export of an hour: the quantities scheduled, and the prices offered or bid, day-ahead and in pre-dispatch.
 #[derive(Clone, Copy)]
@@ -20,9 +21,7 @@ pub struct Failure {
 fn dev_of(f: Failure) -> Quantity
     ensures { result.0 ≡ dev f }
 {
-    let day_ahead = f.day_ahead_quantity;
-    let pre_dispatch = f.pre_dispatch_quantity;
-    day_ahead.above(pre_dispatch)
+    f.day_ahead_quantity.above(f.pre_dispatch_quantity)
 }
 
 // max(0, high - low)
@@ -31,10 +30,7 @@ fn gap(high: Price, low: Price) -> PriceGap
     requires low_in { nat_abs low.0 ≤ 200000 }
     ensures { result.0 ≡ maxℤ (pos 0) (high.0 -ℤ low.0) }
 {
-    if high.0 < low.0 {
-        return PriceGap(0);
-    }
-    PriceGap(high.0 - low.0)
+    PriceGap((high.0 - low.0).max(0))
 }
 
 // The lesser of two gaps, for a quantity over a whole hour.
@@ -50,45 +46,33 @@ fn charge_of(a: PriceGap, b: PriceGap, dev: Quantity) -> Ticks
 fn failure_ok(f: Failure, pd: Price) -> bool
     ensures { result ≡ failure_ok f pd }
 {
-    let day_ahead_quantity = f.day_ahead_quantity;
-    let pre_dispatch_quantity = f.pre_dispatch_quantity;
-    let day_ahead_price = f.day_ahead_price;
-    let pre_dispatch_price = f.pre_dispatch_price;
-    if !pd.in_range() {
-        return false;
-    }
-    if !day_ahead_quantity.in_range() {
-        return false;
-    }
-    if !pre_dispatch_quantity.in_range() {
-        return false;
-    }
-    if !day_ahead_price.in_range() {
-        return false;
-    }
-    pre_dispatch_price.in_range()
+    pd.in_range()
+        && f.day_ahead_quantity.in_range()
+        && f.pre_dispatch_quantity.in_range()
+        && f.day_ahead_price.in_range()
+        && f.pre_dispatch_price.in_range()
 }
 
-// The charge for a failed import at the hour's pre-dispatch price, or the number of the refusal.
-pub fn import_charge(f: Failure, pd: Price) -> Answer
-    ensures { result ≡ import_charge_answer f pd }
+// The charge for a failed import at the hour's pre-dispatch price.
+pub fn import_charge(f: Failure, pd: Price) -> Result<Ticks, Refusal>
+    ensures { answer_of result ≡ import_charge_answer f pd }
 {
     if !failure_ok(f, pd) {
-        return Answer::Refused(NUMBER_OUTSIDE);
+        return Err(Refusal::NumberOutside);
     }
     let day_ahead = f.day_ahead_price;
     let pre_dispatch = f.pre_dispatch_price;
-    Answer::Amount(charge_of(gap(pd, day_ahead), gap(pre_dispatch, day_ahead), dev_of(f)))
+    Ok(charge_of(gap(pd, day_ahead), gap(pre_dispatch, day_ahead), dev_of(f)))
 }
 
-// The charge for a failed export at the hour's pre-dispatch price, or the number of the refusal.
-pub fn export_charge(f: Failure, pd: Price) -> Answer
-    ensures { result ≡ export_charge_answer f pd }
+// The charge for a failed export at the hour's pre-dispatch price.
+pub fn export_charge(f: Failure, pd: Price) -> Result<Ticks, Refusal>
+    ensures { answer_of result ≡ export_charge_answer f pd }
 {
     if !failure_ok(f, pd) {
-        return Answer::Refused(NUMBER_OUTSIDE);
+        return Err(Refusal::NumberOutside);
     }
     let day_ahead = f.day_ahead_price;
     let pre_dispatch = f.pre_dispatch_price;
-    Answer::Amount(charge_of(gap(day_ahead, pd), gap(day_ahead, pre_dispatch), dev_of(f)))
+    Ok(charge_of(gap(day_ahead, pd), gap(day_ahead, pre_dispatch), dev_of(f)))
 }

@@ -1,67 +1,72 @@
 // The intertie offer guarantee: an import's credit for an hour.
-ghost use Rattle.std.specs.Prelude.{◌≡◌};
-ghost use Rattle.money.specs.Units.{quantity_at};
+ghost use Rattle.std.specs.Prelude.{◌≡◌, ℕ, ◌<◌, ◌≤◌, nat_abs};
+ghost use Rattle.money.specs.Units.{intervals, quantity_at};
+ghost use Rattle.money.specs.Answers.{answer_of};
+ghost use Rattle.money.specs.Offers.{last_q};
 ghost use Rattle.money.specs.Guarantee.{profits, credit, credit_answer};
-ghost use Rattle.money.specs.tables.Ready.{Ready};
+ghost use Rattle.money.specs.tables.Ready.{Rates};
 
-use crate::offers::{Offer, costs_before, last_of, offer_fault};
-use crate::refusals::{BEYOND_LIST, NUMBER_OUTSIDE};
-use crate::units::{
-    Answer, INTERVALS, Price, Quantity, Ticks, prices_ok, quantities_ok, within_ok,
-};
+use crate::offers::{GoodOffer, Offer, last_of};
+use crate::refusals::Refusal;
+use crate::units::{INTERVALS, Price, Quantity, Ticks, prices_ok, quantities_ok, within_ok};
+
+// An hour's prices, each in its range.
+#[derive(Clone, Copy)]
+pub(crate) struct HourPrices {
+    pub(crate) prices: [Price; INTERVALS],
+    ghost rates: { Rates prices },
+}
 
 // The profits of twelve intervals. The walk over the pairs stops at the first one that reaches the quantity; what the pairs before it cost is known.
-pub(crate) fn profit_sum(o: Offer, prices: [Price; INTERVALS], qs: [Quantity; INTERVALS]) -> Ticks
-    requires { Ready o prices (quantity_at qs) }
-    ensures { result.0 ≡ profits o prices (quantity_at qs) }
+pub(crate) fn profit_sum(good: GoodOffer, hour: HourPrices, qs: [Quantity; INTERVALS]) -> Ticks
+    requires { (k : ℕ) → k < intervals → quantity_at qs k ≤ last_q good.offer }
+    ensures value { result.0 ≡ profits good.offer hour.prices (quantity_at qs) }
+    ensures bounded { nat_abs result.0 ≤ 5280000000000 }
 {
-    let costs = costs_before(o);
+    let costs = good.costs_before();
+    let o = good.offer;
     let mut sum = Ticks(0);
-    let mut k: usize = 0;
-    'intervals: while k < INTERVALS {
+    // The specification's form: the walk in an interval yields its cost by a break.
+    'intervals: for k in 0..INTERVALS {
         let q = qs[k];
-        let emp = prices[k];
         let mut last = Quantity(0);
         let mut i: usize = 0;
-        let cost = loop {
+        let cost = 'pairs: loop {
             let w = o.quantities[i];
             if q.0 <= w.0 {
-                let p = o.prices[i];
-                let before = costs[i];
-                break before.plus(p.between(last, q));
+                break costs[i].plus(o.prices[i].between(last, q));
             }
             last = w;
-            i = i + 1;
+            i += 1;
         };
-        sum = sum.plus(emp.for_quantity(q).minus(cost));
-        k = k + 1;
+        sum = sum.plus(hour.prices[k].for_quantity(q).minus(cost));
     }
     sum
 }
 
-pub(crate) fn credit_of(o: Offer, prices: [Price; INTERVALS], qs: [Quantity; INTERVALS]) -> Ticks
-    requires { Ready o prices (quantity_at qs) }
-    ensures { result.0 ≡ credit o prices (quantity_at qs) }
+pub(crate) fn credit_of(good: GoodOffer, hour: HourPrices, qs: [Quantity; INTERVALS]) -> Ticks
+    requires { (k : ℕ) → k < intervals → quantity_at qs k ≤ last_q good.offer }
+    ensures { result.0 ≡ credit good.offer hour.prices (quantity_at qs) }
 {
-    profit_sum(o, prices, qs).deficit()
+    profit_sum(good, hour, qs).deficit()
 }
 
-// An import's credit for an hour, or the number of the refusal.
-pub fn hour_credit(o: Offer, prices: [Price; INTERVALS], qs: [Quantity; INTERVALS]) -> Answer
-    ensures { result ≡ credit_answer o prices qs }
+// An import's credit for an hour.
+#[tactic(auto, unfolding(crate::specs::Guarantee::credit_answer))]
+pub fn hour_credit(
+    o: Offer,
+    prices: [Price; INTERVALS],
+    qs: [Quantity; INTERVALS],
+) -> Result<Ticks, Refusal>
+    ensures { answer_of result ≡ credit_answer o prices qs }
 {
-    if !prices_ok(prices) {
-        return Answer::Refused(NUMBER_OUTSIDE);
+    if !prices_ok(prices) || !quantities_ok(qs) {
+        return Err(Refusal::NumberOutside);
     }
-    if !quantities_ok(qs) {
-        return Answer::Refused(NUMBER_OUTSIDE);
-    }
-    let f = offer_fault(o);
-    if f != 0 {
-        return Answer::Refused(f);
-    }
+    let hour = HourPrices { prices };
+    let good = GoodOffer::new(o)?;
     if !within_ok(qs, last_of(o)) {
-        return Answer::Refused(BEYOND_LIST);
+        return Err(Refusal::BeyondList);
     }
-    Answer::Amount(credit_of(o, prices, qs))
+    Ok(credit_of(good, hour, qs))
 }

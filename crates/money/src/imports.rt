@@ -1,13 +1,13 @@
 // The imports of an hour as the offset takes them: their order and their faults.
 ghost use Rattle.std.specs.Prelude.{◌≡◌, ◌<◌, ◌≤◌};
+ghost use Rattle.money.specs.Answers.{fault_in};
 ghost use Rattle.money.specs.Offset.{max_imports, precedes, up_to, entry_fault, fresh_name, nth_fault, entries_fault};
-ghost use Rattle.money.specs.tables.Ready.{Rates};
 
-use crate::guarantee::credit_of;
-use crate::names::{Name, name_before, name_ok, same_name};
-use crate::offers::{Offer, last_of, offer_fault};
-use crate::refusals::{BEYOND_LIST, KEY_STANDS, NAME_FAULT, NUMBER_OUTSIDE};
-use crate::units::{INTERVALS, Price, Quantity, Ticks, quantities_ok, within_ok};
+use crate::guarantee::{HourPrices, credit_of};
+use crate::names::{Name, name_ok};
+use crate::offers::{GoodOffer, Offer, last_of};
+use crate::refusals::Refusal;
+use crate::units::{INTERVALS, Quantity, Ticks, quantities_ok, within_ok};
 
 // The number of imports that an hour may have.
 pub const IMPORTS_MAX: usize = 16;
@@ -25,57 +25,36 @@ pub struct Import {
 fn comes_before(a: Import, b: Import) -> bool
     ensures { result ≡ precedes a b }
 {
-    let x = a.credit;
-    let y = b.credit;
-    if x.0 < y.0 {
-        return true;
-    }
-    if y.0 < x.0 {
-        return false;
-    }
-    let an = a.name;
-    let bn = b.name;
-    name_before(an, bn)
+    (a.credit, a.name) < (b.credit, b.name)
 }
 
 // `a` precedes `e`, or is `e`.
 pub(crate) fn up_to(a: Import, e: Import) -> bool
     ensures { result ≡ up_to a e }
 {
-    if comes_before(a, e) {
-        return true;
-    }
-    let an = a.name;
-    let en = e.name;
-    same_name(an, en)
+    comes_before(a, e) || a.name == e.name
 }
 
-// What is wrong with an entry by itself: its number, or 0.
-fn entry_fault(e: Import, prices: [Price; INTERVALS]) -> u8
-    requires { Rates prices }
-    ensures { result ≡ entry_fault prices e }
+// Whether an entry by itself keeps its rules, or what is wrong with it first.
+#[tactic(auto, unfolding(crate::specs::Offset::entry_fault))]
+fn check_entry(e: Import, hour: HourPrices) -> Result<(), Refusal>
+    ensures { fault_in result ≡ entry_fault hour.prices e }
 {
-    let name = e.name;
-    if !name_ok(name) {
-        return NAME_FAULT;
-    }
-    let qs = e.quantities;
-    if !quantities_ok(qs) {
-        return NUMBER_OUTSIDE;
-    }
     let o = e.offer;
-    let f = offer_fault(o);
-    if f != 0 {
-        return f;
+    if !name_ok(e.name) {
+        return Err(Refusal::NameFault);
     }
-    if !within_ok(qs, last_of(o)) {
-        return BEYOND_LIST;
+    if !quantities_ok(e.quantities) {
+        return Err(Refusal::NumberOutside);
     }
-    let stated = e.credit;
-    if !stated.same(credit_of(o, prices, qs)) {
-        return NUMBER_OUTSIDE;
+    let good = GoodOffer::new(o)?;
+    if !within_ok(e.quantities, last_of(o)) {
+        return Err(Refusal::BeyondList);
     }
-    0
+    if e.credit != credit_of(good, hour, e.quantities) {
+        return Err(Refusal::NumberOutside);
+    }
+    Ok(())
 }
 
 // No entry before i has its name.
@@ -83,54 +62,34 @@ fn fresh(entries: [Import; IMPORTS_MAX], i: usize) -> bool
     requires { i < max_imports }
     ensures { result ≡ fresh_name entries i }
 {
-    let e = entries[i];
-    let name = e.name;
-    let mut j: usize = 0;
-    while j < i {
-        let a = entries[j];
-        let other = a.name;
-        if same_name(name, other) {
-            return false;
-        }
-        j = j + 1;
-    }
-    true
+    let name = entries[i].name;
+    entries[..i].iter().all(|a| name != a.name)
 }
 
-// What is wrong with entry i in its list: its number, or 0.
-fn nth_fault(entries: [Import; IMPORTS_MAX], prices: [Price; INTERVALS], i: usize) -> u8
-    requires rates { Rates prices }
-    requires i_in { i < max_imports }
-    ensures { result ≡ nth_fault prices entries i }
+// Whether entry i keeps its rules in its list, or what is wrong with it first.
+fn check_nth(entries: [Import; IMPORTS_MAX], hour: HourPrices, i: usize) -> Result<(), Refusal>
+    requires { i < max_imports }
+    ensures { fault_in result ≡ nth_fault hour.prices entries i }
 {
     let e = entries[i];
-    let f = entry_fault(e, prices);
-    if f != 0 {
-        return f;
-    }
+    check_entry(e, hour)?;
     if !fresh(entries, i) {
-        return KEY_STANDS;
+        return Err(Refusal::KeyStands);
     }
-    0
+    Ok(())
 }
 
-// The first fault of the first n entries.
-pub(crate) fn entries_fault(
+// Whether the first n entries keep their rules, or the first fault of them.
+pub(crate) fn check_entries(
     n: usize,
     entries: [Import; IMPORTS_MAX],
-    prices: [Price; INTERVALS],
-) -> u8
-    requires n_in { n ≤ max_imports }
-    requires rates { Rates prices }
-    ensures { result ≡ entries_fault n prices entries }
+    hour: HourPrices,
+) -> Result<(), Refusal>
+    requires { n ≤ max_imports }
+    ensures { fault_in result ≡ entries_fault n hour.prices entries }
 {
-    let mut i: usize = 0;
-    while i < n {
-        let f = nth_fault(entries, prices, i);
-        if f != 0 {
-            return f;
-        }
-        i = i + 1;
+    for i in 0..n {
+        check_nth(entries, hour, i)?;
     }
-    0
+    Ok(())
 }

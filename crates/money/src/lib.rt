@@ -9,4 +9,5 @@ pub mod offers;
 pub mod offset;
 pub mod production;
 pub mod refusals;
+pub mod series;
 pub mod units;

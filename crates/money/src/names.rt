@@ -1,6 +1,11 @@
 // Decoded names: their rule and their order.
-ghost use Rattle.std.specs.Prelude.{◌≡◌, min};
-ghost use Rattle.money.specs.Names.{max_name, decoded_bytes, name_before, same_name, name_byte_ok, name_ok};
+ghost use Rattle.std.specs.Prelude.{◌≡◌, refl, Some, nat_eq};
+ghost use Rattle.std.specs.Ordering.{nat_cmp, on};
+ghost use Rattle.std.specs.Cmp.{on_po, partial_equiv_from_equiv};
+ghost use Rattle.std.specs.Cmp.Lexicographic.{pointwise, slice_cmp, on_texts, on_texts_equal, texts_po, texts_ties};
+ghost use Rattle.money.specs.Names.{decoded_bytes, name_before, same_name, name_byte_ok, name_ok};
+
+use std::cmp::Ordering;
 
 // Bytes of a decoded name, at most.
 pub const NAME_MAX: usize = 12;
@@ -17,62 +22,65 @@ pub struct Name {
     pub bytes: [u8; NAME_MAX],
 }
 
-// The number of places that a name uses.
-fn used(a: Name) -> usize
-    ensures { result ≡ min a.len max_name }
-{
-    let n = a.len as usize;
-    if NAME_MAX < n {
-        return NAME_MAX;
+impl Name {
+    // Its decoded bytes.
+    pub(crate) fn decoded(&self) -> &[u8]
+        ensures { result.now ≡ decoded_bytes self.now }
+    {
+        let used = NAME_MAX.min(self.len as usize);
+        &self.bytes[..used]
     }
-    n
+}
+
+impl PartialEq for Name {
+    ghost eq = { on decoded_bytes (pointwise nat_eq) };
+
+    ghost laws = { partial_equiv_from_equiv (on_texts_equal decoded_bytes) };
+
+    fn eq(&self, other: &Name) -> bool {
+        self.decoded() == other.decoded()
+    }
+}
+
+impl Eq for Name {
+    ghost laws = { on_texts_equal decoded_bytes };
 }
 
 // Byte order, a prefix first.
+impl PartialOrd for Name {
+    ghost partial_cmp = { λ a b. Some (slice_cmp nat_cmp (decoded_bytes a) (decoded_bytes b)) };
+
+    ghost laws = { on_po decoded_bytes texts_po };
+
+    fn partial_cmp(&self, other: &Name) -> Option<Ordering> {
+        Some(self.cmp(other))
+    }
+}
+
+impl Ord for Name {
+    ghost cmp = { on decoded_bytes (slice_cmp nat_cmp) };
+
+    ghost total = { on_texts decoded_bytes };
+
+    ghost matches_partial_cmp = { λ a b. refl };
+
+    ghost matches_eq = { λ a b. texts_ties (decoded_bytes a) (decoded_bytes b) };
+
+    fn cmp(&self, other: &Name) -> Ordering {
+        self.decoded().cmp(other.decoded())
+    }
+}
+
 pub fn name_before(a: Name, b: Name) -> bool
     ensures { result ≡ name_before (decoded_bytes a) (decoded_bytes b) }
 {
-    let m = used(a);
-    let n = used(b);
-    let mut i: usize = 0;
-    while i < m {
-        if n <= i {
-            return false;
-        }
-        let x = a.bytes[i];
-        let y = b.bytes[i];
-        if x < y {
-            return true;
-        }
-        if y < x {
-            return false;
-        }
-        i = i + 1;
-    }
-    if i < n {
-        return true;
-    }
-    false
+    a < b
 }
 
 pub fn same_name(a: Name, b: Name) -> bool
     ensures { result ≡ same_name a b }
 {
-    let m = used(a);
-    let n = used(b);
-    if m != n {
-        return false;
-    }
-    let mut i: usize = 0;
-    while i < m {
-        let x = a.bytes[i];
-        let y = b.bytes[i];
-        if x != y {
-            return false;
-        }
-        i = i + 1;
-    }
-    true
+    a == b
 }
 
 fn byte_ok(b: u8) -> bool
@@ -85,20 +93,5 @@ fn byte_ok(b: u8) -> bool
 pub fn name_ok(a: Name) -> bool
     ensures { result ≡ name_ok a }
 {
-    let n = a.len as usize;
-    if n < 1 {
-        return false;
-    }
-    if NAME_MAX < n {
-        return false;
-    }
-    let mut i: usize = 0;
-    while i < n {
-        let b = a.bytes[i];
-        if !byte_ok(b) {
-            return false;
-        }
-        i = i + 1;
-    }
-    true
+    (1..=NAME_MAX as u8).contains(&a.len) && a.decoded().iter().all(|b| byte_ok(*b))
 }

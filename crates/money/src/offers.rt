@@ -1,13 +1,14 @@
 // Offers: pairs of a price and a quantity, their rule, and what a quantity costs.
-ghost use Rattle.std.specs.Prelude.{◌≡◌, ℕ, ◌≤◌, ◌<◌, ◌&&◌};
+ghost use Rattle.std.specs.Prelude.{◌≡◌, ℕ, ◌≤◌, ◌<◌, ◌&&◌, nat_abs, IfOk};
 ghost use Rattle.laws.specs.Sums.{Σℤ};
 ghost use Rattle.money.specs.Units.{price_ok, quantity_ok};
+ghost use Rattle.money.specs.Answers.{answer_of, fault_in};
 ghost use Rattle.money.specs.Offers.{max_pairs, numbers_ok, rises, order_ok, offer_fault, last_q, piece, cost, cost_answer};
 ghost use Rattle.money.specs.tables.Numbers.{ticks_at};
 ghost use Rattle.money.specs.tables.Ready.{Good};
 
-use crate::refusals::{BEYOND_LIST, LIST_FAULT, NUMBER_OUTSIDE};
-use crate::units::{Answer, Price, Quantity, Ticks};
+use crate::refusals::Refusal;
+use crate::units::{Price, Quantity, Ticks};
 
 // The number of pairs that an offer may have.
 pub const PAIRS_MAX: usize = 20;
@@ -31,15 +32,10 @@ fn numbers_ok(o: Offer) -> bool
     requires { o.count ≤ max_pairs }
     ensures { result ≡ numbers_ok o }
 {
-    let n = o.count as usize;
-    let mut i: usize = 0;
-    while i < n {
-        let p = o.prices[i];
-        let q = o.quantities[i];
-        if !pair_ok(p, q) {
+    for i in 0..o.count as usize {
+        if !pair_ok(o.prices[i], o.quantities[i]) {
             return false;
         }
-        i = i + 1;
     }
     true
 }
@@ -56,112 +52,120 @@ fn order_ok(o: Offer) -> bool
     requires count_in { o.count ≤ max_pairs }
     ensures { result ≡ order_ok o }
 {
-    let n = o.count as usize;
     let first = o.quantities[0];
     if first.0 < 1 {
         return false;
     }
-    let mut i: usize = 0;
-    while i < n - 1 {
-        let p = o.prices[i];
-        let p2 = o.prices[i + 1];
-        let q = o.quantities[i];
-        let q2 = o.quantities[i + 1];
-        if !pair_rises(p, p2, q, q2) {
+    for i in 0..o.count as usize - 1 {
+        if !pair_rises(
+            o.prices[i],
+            o.prices[i + 1],
+            o.quantities[i],
+            o.quantities[i + 1],
+        ) {
             return false;
         }
-        i = i + 1;
     }
     true
 }
 
-// What is wrong with an offer: its number, or 0.
-pub fn offer_fault(o: Offer) -> u8
-    ensures { result ≡ offer_fault o }
+// Whether an offer keeps its rule, or what is wrong with it first.
+#[tactic(auto, unfolding(crate::specs::Offers::offer_fault))]
+pub fn check_offer(o: Offer) -> Result<(), Refusal>
+    ensures { fault_in result ≡ offer_fault o }
 {
     let n = o.count as usize;
-    if n < 1 {
-        return LIST_FAULT;
-    }
-    if PAIRS_MAX < n {
-        return LIST_FAULT;
+    if n < 1 || PAIRS_MAX < n {
+        return Err(Refusal::ListFault);
     }
     if !numbers_ok(o) {
-        return NUMBER_OUTSIDE;
+        return Err(Refusal::NumberOutside);
     }
     if !order_ok(o) {
-        return LIST_FAULT;
+        return Err(Refusal::ListFault);
     }
-    0
+    Ok(())
 }
 
-// The quantity of the last pair.
+// The quantity of the last pair, 0 where no pair is.
 pub(crate) fn last_of(o: Offer) -> Quantity
-    requires not_empty { 1 ≤ o.count }
-    requires count_in { o.count ≤ max_pairs }
     ensures { result.0 ≡ last_q o }
 {
     let n = o.count as usize;
+    if n < 1 || PAIRS_MAX < n {
+        return Quantity(0);
+    }
     o.quantities[n - 1]
 }
 
-// The cost of a quantity within the offer.
-pub(crate) fn cost_of(o: Offer, q: Quantity) -> Ticks
-    requires o_good { Good o }
-    requires within_o { q.0 ≤ last_q o }
-    ensures { result.0 ≡ cost o q.0 }
-{
-    let mut acc = Ticks(0);
-    let mut last = Quantity(0);
-    let mut i: usize = 0;
-    let c = loop {
-        let p = o.prices[i];
-        let w = o.quantities[i];
-        if q.0 <= w.0 {
-            break acc.plus(p.between(last, q));
-        }
-        acc = acc.plus(p.between(last, w));
-        last = w;
-        i = i + 1;
-    };
-    c
+// An offer that keeps its rule.
+#[derive(Clone, Copy)]
+pub(crate) struct GoodOffer {
+    pub(crate) offer: Offer,
+    ghost good: { Good offer },
 }
 
-// For each pair, what the pairs before it cost together.
-pub(crate) fn costs_before(o: Offer) -> [Ticks; PAIRS_MAX]
-    requires { Good o }
-    ensures { (i : ℕ) → i < o.count → ticks_at result i ≡ Σℤ i (piece o) }
-{
-    let n = o.count as usize;
-    let mut costs = [Ticks(0); PAIRS_MAX];
-    let mut acc = Ticks(0);
-    let mut last = Quantity(0);
-    let mut i: usize = 0;
-    while i < n {
-        costs[i] = acc;
-        let p = o.prices[i];
-        let w = o.quantities[i];
-        acc = acc.plus(p.between(last, w));
-        last = w;
-        i = i + 1;
+impl GoodOffer {
+    pub(crate) fn new(o: Offer) -> Result<GoodOffer, Refusal>
+        ensures fault { fault_in result ≡ offer_fault o }
+        ensures kept { IfOk result (λ g. g.offer ≡ o) }
+    {
+        check_offer(o)?;
+        Ok(GoodOffer { offer: o })
     }
-    costs
+
+    // The cost of a quantity within the offer.
+    pub(crate) fn cost_of(self, q: Quantity) -> Ticks
+        requires { q.0 ≤ last_q self.offer }
+        ensures value { result.0 ≡ cost self.offer q.0 }
+        ensures bounded { nat_abs result.0 ≤ 420000000000 }
+    {
+        let o = self.offer;
+        let mut acc = Ticks(0);
+        let mut last = Quantity(0);
+        let mut i: usize = 0;
+        // The specification's form: a walk that yields the cost by a break.
+        'pairs: loop {
+            let p = o.prices[i];
+            let w = o.quantities[i];
+            if q.0 <= w.0 {
+                break acc.plus(p.between(last, q));
+            }
+            acc = acc.plus(p.between(last, w));
+            last = w;
+            i += 1;
+        }
+    }
+
+    // For each pair, what the pairs before it cost together.
+    pub(crate) fn costs_before(self) -> [Ticks; PAIRS_MAX]
+        ensures { (i : ℕ) → i < self.offer.count → ticks_at result i ≡ Σℤ i (piece self.offer) }
+    {
+        let o = self.offer;
+        let mut costs = [Ticks(0); PAIRS_MAX];
+        let mut acc = Ticks(0);
+        let mut last = Quantity(0);
+        for i in 0..o.count as usize {
+            costs[i] = acc;
+            let w = o.quantities[i];
+            acc = acc.plus(o.prices[i].between(last, w));
+            last = w;
+        }
+        costs
+    }
 }
 
-// The cost of a quantity, or the number of the refusal.
-pub fn cost_at(o: Offer, q: Quantity) -> Answer
-    ensures { result ≡ cost_answer o q }
+// The cost of a quantity.
+#[tactic(auto, unfolding(crate::specs::Offers::cost_answer))]
+pub fn cost_at(o: Offer, q: Quantity) -> Result<Ticks, Refusal>
+    ensures { answer_of result ≡ cost_answer o q }
 {
     if !q.in_range() {
-        return Answer::Refused(NUMBER_OUTSIDE);
+        return Err(Refusal::NumberOutside);
     }
-    let f = offer_fault(o);
-    if f != 0 {
-        return Answer::Refused(f);
+    let good = GoodOffer::new(o)?;
+    if last_of(o).0 < q.0 {
+        return Err(Refusal::BeyondList);
     }
-    let end = last_of(o);
-    if end.0 < q.0 {
-        return Answer::Refused(BEYOND_LIST);
-    }
-    Answer::Amount(cost_of(o, q))
+    Ok(good.cost_of(q))
 }

@@ -1,17 +1,19 @@
 // The wheel offset of an hour.
 ghost use Rattle.std.specs.Prelude.{◌≡◌, ℕ, ◌<◌, ◌+◌, ◌-◌, min, ◌&&◌, length};
-ghost use Rattle.money.specs.Units.{intervals, price_ok, quantity_at};
-ghost use Rattle.money.specs.Offset.{max_total, mqsi, counted, reach, adj, offset, total_ok, totals_with, rates_ok, offset_answer};
+ghost use Rattle.money.specs.Units.{intervals, quantity_at};
+ghost use Rattle.money.specs.Answers.{answer_of};
+ghost use Rattle.money.specs.Offset.{max_total, mqsi, counted, reach, adj, offset, totals_with, rates_ok, offset_answer};
 ghost use Rattle.money.specs.tables.Numbers.{Fits};
-ghost use Rattle.money.specs.tables.Ready.{Rates, Listed};
+ghost use Rattle.money.specs.tables.Ready.{Listed};
 ghost use Rattle.money.specs.tables.Taken.{start_of, add_of, finish_of};
 
-use crate::guarantee::credit_of;
-use crate::imports::{IMPORTS_MAX, Import, entries_fault, up_to};
+use crate::guarantee::{HourPrices, credit_of};
+use crate::imports::{IMPORTS_MAX, Import, check_entries, up_to};
 use crate::names::{NAME_MAX, Name};
-use crate::offers::{Offer, PAIRS_MAX};
-use crate::refusals::{HOUR_FULL, NUMBER_OUTSIDE};
-use crate::units::{Answer, INTERVALS, Price, Quantity, Ticks};
+use crate::offers::{GoodOffer, Offer, PAIRS_MAX};
+use crate::refusals::Refusal;
+use crate::series::zip_series;
+use crate::units::{INTERVALS, Price, Quantity, Ticks, prices_ok};
 
 // What an hour's sixteen exports can come to.
 pub const TOTAL_MAX: Quantity = Quantity(1600000);
@@ -20,13 +22,7 @@ pub const TOTAL_MAX: Quantity = Quantity(1600000);
 fn total_with(total: Quantity, more: Quantity) -> Quantity
     ensures { result.0 ≡ min (total.0 + more.0) (max_total + 1) }
 {
-    if TOTAL_MAX.0 < total.0 {
-        return Quantity(TOTAL_MAX.0 + 1);
-    }
-    if TOTAL_MAX.0 - total.0 < more.0 {
-        return Quantity(TOTAL_MAX.0 + 1);
-    }
-    Quantity(total.0 + more.0)
+    Quantity(total.0.saturating_add(more.0).min(TOTAL_MAX.0 + 1))
 }
 
 // Twelve totals, each with one quantity more. What would come to more than TOTAL_MAX is TOTAL_MAX + 1, which the offset refuses.
@@ -36,15 +32,7 @@ pub fn totals_with(
 ) -> [Quantity; INTERVALS]
     ensures { result ≡ totals_with totals more }
 {
-    let mut series = [Quantity(0); INTERVALS];
-    let mut k: usize = 0;
-    while k < INTERVALS {
-        let a = totals[k];
-        let b = more[k];
-        series[k] = total_with(a, b);
-        k = k + 1;
-    }
-    series
+    zip_series(totals, more, total_with)
 }
 
 // Two series of quantities, added up.
@@ -52,16 +40,7 @@ fn series_sum(a: [Quantity; INTERVALS], b: [Quantity; INTERVALS]) -> [Quantity; 
     requires { (k : ℕ) → k < intervals → Fits (quantity_at a k + quantity_at b k) }
     ensures { (k : ℕ) → k < intervals → quantity_at result k ≡ quantity_at a k + quantity_at b k }
 {
-    let mut series = [Quantity(0); INTERVALS];
-    let mut k: usize = 0;
-    while k < INTERVALS {
-        let x = a[k];
-        let y = b[k];
-        let sum = x.0 + y.0;
-        series[k] = Quantity(sum);
-        k = k + 1;
-    }
-    series
+    zip_series(a, b, |x, y| Quantity(x.0 + y.0))
 }
 
 // Sums with an import's quantities, if it precedes `e` or is `e`.
@@ -84,12 +63,10 @@ fn reach_series(n: usize, entries: [Import; IMPORTS_MAX], i: usize) -> [Quantity
 {
     let e = entries[i];
     let mut sums = [Quantity(0); INTERVALS];
-    let mut j: usize = 0;
-    while j < n {
-        let a = entries[j];
-        let next = counted_in(sums, a, e);
+    for a in &entries[..n] {
+        // The borrow checker takes no call's result into an array that the loop carries.
+        let next = counted_in(sums, *a, e);
         sums = next;
-        j = j + 1;
     }
     sums
 }
@@ -105,86 +82,56 @@ fn adj_series(
     requires i_in { i < n }
     ensures { (k : ℕ) → k < intervals → quantity_at result k ≡ adj n entries totals i k }
 {
-    let e = entries[i];
     let reached = reach_series(n, entries, i);
-    let mut series = [Quantity(0); INTERVALS];
-    let mut k: usize = 0;
-    while k < INTERVALS {
-        let q = e.quantities[k];
-        let s = reached[k];
-        let t = totals[k];
-        series[k] = q.lesser(s.above(t));
-        k = k + 1;
-    }
-    series
+    let beyond = zip_series(reached, totals, Quantity::above);
+    zip_series(entries[i].quantities, beyond, Quantity::lesser)
 }
 
 // The offset of a sound list.
 fn offset_of(
     n: usize,
     entries: [Import; IMPORTS_MAX],
-    prices: [Price; INTERVALS],
+    hour: HourPrices,
     totals: [Quantity; INTERVALS],
 ) -> Ticks
-    requires listed { Listed n entries }
-    requires rates { Rates prices }
-    ensures { result.0 ≡ offset n entries prices totals }
+    requires { Listed n entries }
+    ensures { result.0 ≡ offset n entries hour.prices totals }
 {
     let mut sum = Ticks(0);
-    let mut i: usize = 0;
-    while i < n {
+    for i in 0..n {
         let e = entries[i];
         let series = adj_series(n, entries, totals, i);
-        let o = e.offer;
-        let c = e.credit;
-        sum = sum.plus(c.minus(credit_of(o, prices, series)));
-        i = i + 1;
+        let good = GoodOffer { offer: e.offer };
+        sum = sum.plus(e.credit.minus(credit_of(good, hour, series)));
     }
     sum
-}
-
-fn rate_ok(p: Price, total: Quantity) -> bool
-    ensures { result ≡ (price_ok p && total_ok total) }
-{
-    p.in_range() && total.0 <= TOTAL_MAX.0
 }
 
 fn rates_ok(prices: [Price; INTERVALS], totals: [Quantity; INTERVALS]) -> bool
     ensures { result ≡ rates_ok prices totals }
 {
-    let mut k: usize = 0;
-    while k < INTERVALS {
-        let p = prices[k];
-        let t = totals[k];
-        if !rate_ok(p, t) {
-            return false;
-        }
-        k = k + 1;
-    }
-    true
+    prices_ok(prices) && totals.iter().all(|t| t.0 <= TOTAL_MAX.0)
 }
 
-// The offset of the first `count` entries, or the number of the refusal.
+// The offset of the first `count` entries.
 pub fn offset_core(
     count: u8,
     entries: [Import; IMPORTS_MAX],
     prices: [Price; INTERVALS],
     totals: [Quantity; INTERVALS],
-) -> Answer
-    ensures { result ≡ offset_answer count entries prices totals }
+) -> Result<Ticks, Refusal>
+    ensures { answer_of result ≡ offset_answer count entries prices totals }
 {
     let n = count as usize;
     if IMPORTS_MAX < n {
-        return Answer::Refused(HOUR_FULL);
+        return Err(Refusal::HourFull);
     }
     if !rates_ok(prices, totals) {
-        return Answer::Refused(NUMBER_OUTSIDE);
+        return Err(Refusal::NumberOutside);
     }
-    let f = entries_fault(n, entries, prices);
-    if f != 0 {
-        return Answer::Refused(f);
-    }
-    Answer::Amount(offset_of(n, entries, prices, totals))
+    let hour = HourPrices { prices };
+    check_entries(n, entries, hour)?;
+    Ok(offset_of(n, entries, hour, totals))
 }
 
 // The entries taken so far, beside the hour's prices and export totals.
@@ -237,8 +184,8 @@ pub(crate) fn add(mut s: Taken, e: Import) -> Taken
     s
 }
 
-pub(crate) fn finish(s: Taken) -> Answer
-    ensures { result ≡ finish_of s }
+pub(crate) fn finish(s: Taken) -> Result<Ticks, Refusal>
+    ensures { answer_of result ≡ finish_of s }
 {
     let entries = s.entries;
     let prices = s.prices;
@@ -251,14 +198,12 @@ pub fn offset(
     entries: &[Import],
     prices: [Price; INTERVALS],
     totals: [Quantity; INTERVALS],
-) -> Answer
-    ensures { result ≡ offset_answer (length entries.now) entries.now prices totals }
+) -> Result<Ticks, Refusal>
+    ensures { answer_of result ≡ offset_answer (length entries.now) entries.now prices totals }
 {
     let mut t = start(prices, totals);
-    let mut i = 0;
-    while i < entries.len() {
-        t = add(t, entries[i]);
-        i = i + 1;
+    for e in entries {
+        t = add(t, *e);
     }
     finish(t)
 }

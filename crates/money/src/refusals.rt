@@ -1,4 +1,54 @@
-// The numbers that a call can bring back, under names; specs/Refusals.antt has the same for the definitions.
+// Why a call is refused, and this paper's number of each refusal.
+ghost use Rattle.std.specs.Prelude.{◌≡◌};
+ghost use Rattle.money.specs.Refusals.{number_of};
+
+// One of 01's sixteen refusals.
+#[derive(Clone, Copy, PartialEq, Eq)]
+pub enum Refusal {
+    EndsEarly,
+    MarkUnknown,
+    HourOutside,
+    NameFault,
+    NumberOutside,
+    ListFault,
+    BeyondList,
+    BytesLeftOver,
+    Closed,
+    KeyStands,
+    NoSuchKey,
+    HourFull,
+    NoSpace,
+    NothingToTakeBack,
+    PriceMissing,
+    NotTogether,
+}
+
+impl Refusal {
+    pub fn number(self) -> u8
+        ensures { result ≡ number_of self }
+    {
+        match self {
+            Refusal::EndsEarly => 1,
+            Refusal::MarkUnknown => 2,
+            Refusal::HourOutside => 3,
+            Refusal::NameFault => 4,
+            Refusal::NumberOutside => 5,
+            Refusal::ListFault => 6,
+            Refusal::BeyondList => 7,
+            Refusal::BytesLeftOver => 8,
+            Refusal::Closed => 9,
+            Refusal::KeyStands => 10,
+            Refusal::NoSuchKey => 11,
+            Refusal::HourFull => 12,
+            Refusal::NoSpace => 13,
+            Refusal::NothingToTakeBack => 14,
+            Refusal::PriceMissing => 15,
+            Refusal::NotTogether => 16,
+        }
+    }
+}
+
+// The same numbers, for the layers whose answers are still numbers.
 pub const ENDS_EARLY: u8 = 1;
 
 pub const MARK_UNKNOWN: u8 = 2;

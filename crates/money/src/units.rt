@@ -1,10 +1,10 @@
-// Prices, quantities and money, each a type of its own, and what a call answers.
+// Prices, quantities and money, each a type of its own.
 ghost use Rattle.std.specs.Prelude.{◌≡◌, ◌<◌, ◌≤◌, ◌+◌, ◌-◌, ◌*◌, ◌^◌, min, max, ℤ, pos, neg_ℤ, nat_abs, ◌+ℤ◌, ◌-ℤ◌, ◌*ℤ◌};
 ghost use Rattle.laws.specs.Ints.{minℤ};
-ghost use Rattle.money.specs.Units.{intervals, max_gap, ticks_per_cent, noload_ticks, price_ok, quantity_ok, price_read, quantity_read, prices_ok, quantities_ok, within_ok, sameℤ, cents_of};
+ghost use Rattle.money.specs.Units.{intervals, max_gap, ticks_per_cent, noload_ticks, price_ok, quantity_ok, price_read, quantity_read, prices_ok, quantities_ok, within_ok, cents_of};
 ghost use Rattle.money.specs.tables.Numbers.{Moderate};
 
-use crate::refusals::NUMBER_OUTSIDE;
+use crate::refusals::Refusal;
 
 // The intervals of an hour.
 pub const INTERVALS: usize = 12;
@@ -31,7 +31,7 @@ pub struct PriceGap(pub i32);
 pub struct Quantity(pub u32);
 
 // 1/120 cent: a price times a quantity for one interval is that many.
-#[derive(Clone, Copy)]
+#[derive(Clone, Copy, PartialEq, Eq, PartialOrd, Ord)]
 pub struct Ticks(pub i64);
 
 // Cents for each start of a unit.
@@ -46,37 +46,19 @@ pub struct CentsPerHour(pub u32);
 #[derive(Clone, Copy)]
 pub struct Cents(pub i64);
 
-#[derive(Clone, Copy)]
-pub enum PriceRead {
-    Good(Price),
-    Refused(u8),
-}
-
-#[derive(Clone, Copy)]
-pub enum QuantityRead {
-    Good(Quantity),
-    Refused(u8),
-}
-
-// An amount, or the number of the refusal.
-#[derive(Clone, Copy)]
-pub enum Answer {
-    Amount(Ticks),
-    Refused(u8),
-}
-
 impl Price {
     pub const MIN: Price = Price(-200000);
 
     pub const MAX: Price = Price(200000);
 
-    pub fn new(cents: i32) -> PriceRead
+    pub fn new(cents: i32) -> Result<Price, Refusal>
         ensures { result ≡ price_read cents }
     {
-        if Price(cents).in_range() {
-            return PriceRead::Good(Price(cents));
+        let price = Price(cents);
+        if !price.in_range() {
+            return Err(Refusal::NumberOutside);
         }
-        PriceRead::Refused(NUMBER_OUTSIDE)
+        Ok(price)
     }
 
     pub fn in_range(self) -> bool
@@ -112,10 +94,7 @@ impl PriceGap {
     pub fn lesser(self, other: PriceGap) -> PriceGap
         ensures { result.0 ≡ minℤ self.0 other.0 }
     {
-        if self.0 < other.0 {
-            return self;
-        }
-        other
+        PriceGap(self.0.min(other.0))
     }
 
     // This gap for a quantity over a whole hour, of twelve intervals.
@@ -131,13 +110,14 @@ impl PriceGap {
 impl Quantity {
     pub const MAX: Quantity = Quantity(100000);
 
-    pub fn new(tenths: u32) -> QuantityRead
+    pub fn new(tenths: u32) -> Result<Quantity, Refusal>
         ensures { result ≡ quantity_read tenths }
     {
-        if Quantity(tenths).in_range() {
-            return QuantityRead::Good(Quantity(tenths));
+        let quantity = Quantity(tenths);
+        if !quantity.in_range() {
+            return Err(Refusal::NumberOutside);
         }
-        QuantityRead::Refused(NUMBER_OUTSIDE)
+        Ok(quantity)
     }
 
     pub fn in_range(self) -> bool
@@ -149,29 +129,20 @@ impl Quantity {
     pub fn lesser(self, other: Quantity) -> Quantity
         ensures { result.0 ≡ min self.0 other.0 }
     {
-        if self.0 <= other.0 {
-            return self;
-        }
-        other
+        Quantity(self.0.min(other.0))
     }
 
     pub fn greater(self, other: Quantity) -> Quantity
         ensures { result.0 ≡ max self.0 other.0 }
     {
-        if self.0 <= other.0 {
-            return other;
-        }
-        self
+        Quantity(self.0.max(other.0))
     }
 
     // max(0, self - other)
     pub fn above(self, other: Quantity) -> Quantity
         ensures { result.0 ≡ self.0 - other.0 }
     {
-        if self.0 <= other.0 {
-            return Quantity(0);
-        }
-        Quantity(self.0 - other.0)
+        Quantity(self.0.saturating_sub(other.0))
     }
 }
 
@@ -200,7 +171,8 @@ impl Ticks {
     pub(crate) fn plus(self, other: Ticks) -> Ticks
         requires self_moderate { Moderate self.0 }
         requires other_moderate { Moderate other.0 }
-        ensures { result.0 ≡ self.0 +ℤ other.0 }
+        ensures value { result.0 ≡ self.0 +ℤ other.0 }
+        ensures within { nat_abs result.0 ≤ nat_abs self.0 + nat_abs other.0 }
     {
         Ticks(self.0 + other.0)
     }
@@ -208,7 +180,8 @@ impl Ticks {
     pub(crate) fn minus(self, other: Ticks) -> Ticks
         requires self_moderate { Moderate self.0 }
         requires other_moderate { Moderate other.0 }
-        ensures { result.0 ≡ self.0 -ℤ other.0 }
+        ensures value { result.0 ≡ self.0 -ℤ other.0 }
+        ensures within { nat_abs result.0 ≤ nat_abs self.0 + nat_abs other.0 }
     {
         Ticks(self.0 - other.0)
     }
@@ -218,26 +191,14 @@ impl Ticks {
         requires { Moderate self.0 }
         ensures { result.0 ≡ neg_ℤ (minℤ (pos 0) self.0) }
     {
-        if self.0 < 0 {
-            return Ticks(-self.0);
-        }
-        Ticks(0)
-    }
-
-    pub(crate) fn same(self, other: Ticks) -> bool
-        ensures { result ≡ sameℤ self.0 other.0 }
-    {
-        if self.0 == other.0 {
-            return true;
-        }
-        false
+        Ticks((-self.0).max(0))
     }
 
     // Rounded half away from zero.
     pub fn cents(self) -> Cents
         ensures { result.0 ≡ cents_of self.0 }
     {
-        let whole = ((magnitude(self.0) + TICKS_PER_CENT / 2) / TICKS_PER_CENT) as i64;
+        let whole = ((self.0.unsigned_abs() + TICKS_PER_CENT / 2) / TICKS_PER_CENT) as i64;
         if self.0 < 0 {
             return Cents(-whole);
         }
@@ -250,60 +211,25 @@ impl Cents {
         ensures value { result ≡ nat_abs self.0 }
         ensures bounded { result ≤ 2 ^ 63 }
     {
-        magnitude(self.0)
+        self.0.unsigned_abs()
     }
-}
-
-// The size of a signed number, of the least one too, which has no negative.
-fn magnitude(n: i64) -> u64
-    ensures value { result ≡ nat_abs n }
-    ensures bounded { result ≤ 2 ^ 63 }
-{
-    if n < 0 {
-        return (-1 - n) as u64 + 1;
-    }
-    n as u64
 }
 
 pub(crate) fn prices_ok(prices: [Price; INTERVALS]) -> bool
     ensures { result ≡ prices_ok prices }
 {
-    let mut k: usize = 0;
-    while k < INTERVALS {
-        let p = prices[k];
-        if !p.in_range() {
-            return false;
-        }
-        k = k + 1;
-    }
-    true
+    prices.iter().all(|p| p.in_range())
 }
 
 pub(crate) fn quantities_ok(qs: [Quantity; INTERVALS]) -> bool
     ensures { result ≡ quantities_ok qs }
 {
-    let mut k: usize = 0;
-    while k < INTERVALS {
-        let q = qs[k];
-        if !q.in_range() {
-            return false;
-        }
-        k = k + 1;
-    }
-    true
+    qs.iter().all(|q| q.in_range())
 }
 
 // No quantity lies beyond the last of a list.
 pub fn within_ok(qs: [Quantity; INTERVALS], last: Quantity) -> bool
     ensures { result ≡ within_ok qs last.0 }
 {
-    let mut k: usize = 0;
-    while k < INTERVALS {
-        let q = qs[k];
-        if last.0 < q.0 {
-            return false;
-        }
-        k = k + 1;
-    }
-    true
+    qs.iter().all(|q| q.0 <= last.0)
 }

@@ -3,6 +3,7 @@
 #![tactic(auto)]
 
 ghost use Rattle.std.specs.Prelude.{◌≡◌, ◌≤◌, take};
+ghost use Rattle.money.specs.Answers.{answer_of};
 ghost use Rattle.money.specs.Offset.{offset_answer};
 
 use money::failure::{Failure, export_charge, import_charge};
@@ -14,7 +15,8 @@ use money::offset::{offset, offset_core};
 use money::production::{
     Reserve, UnitHour, component_1, component_2, component_3, component_4, unit_hour,
 };
-use money::units::{Answer, Cents, CentsPerHour, CentsPerStart, Price, Quantity, Ticks};
+use money::refusals::Refusal;
+use money::units::{Cents, CentsPerHour, CentsPerStart, Price, Quantity, Ticks};
 
 // ---- printing
 
@@ -32,14 +34,14 @@ fn print_amount(t: Ticks) {
     io::write_all(1, b" cents\n");
 }
 
-fn show(label: &[u8], a: Answer) {
+fn show(label: &[u8], a: Result<Ticks, Refusal>) {
     io::write_all(1, label);
     io::write_all(1, b": ");
     match a {
-        Answer::Amount(t) => print_amount(t),
-        Answer::Refused(n) => {
+        Ok(t) => print_amount(t),
+        Err(refusal) => {
             io::write_all(1, b"refused ");
-            io::print_decimal(1, n as u64);
+            io::print_decimal(1, refusal.number() as u64);
             io::write_all(1, b"\n");
         }
     }
@@ -199,9 +201,9 @@ fn offset_of_first(
     list: [Import; 17],
     prices: [Price; 12],
     totals: [Quantity; 12],
-) -> Answer
+) -> Result<Ticks, Refusal>
     requires { n ≤ 17 }
-    ensures { result ≡ offset_answer n (take n list) prices totals }
+    ensures { answer_of result ≡ offset_answer n (take n list) prices totals }
 {
     offset(&list[..n], prices, totals)
 }
@@ -314,10 +316,10 @@ fn failures() {
 }
 
 fn rounding() {
-    show(b"half a cent", Answer::Amount(Ticks(60)));
-    show(b"less than half", Answer::Amount(Ticks(59)));
-    show(b"half a cent below 0", Answer::Amount(Ticks(-60)));
-    show(b"less than half below 0", Answer::Amount(Ticks(-59)));
+    show(b"half a cent", Ok(Ticks(60)));
+    show(b"less than half", Ok(Ticks(59)));
+    show(b"half a cent below 0", Ok(Ticks(-60)));
+    show(b"less than half below 0", Ok(Ticks(-59)));
 }
 
 fn main() {

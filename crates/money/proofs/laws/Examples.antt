@@ -4,8 +4,8 @@ use Rattle.laws.specs.Ints.{minℤ, maxℤ}
 use Rattle.laws.specs.Sums.{Σℤ, Σℕ, every, first_of}
 use Rattle.money.specs.declared.units.Price.{Price}
 use Rattle.money.specs.declared.units.Quantity.{Quantity}
-use Rattle.money.specs.declared.units.Answer.{Answer}
-use Rattle.money.specs.declared.units.Answer.TheVariants.{Amount, Refused}
+use Rattle.money.specs.Answers.{Answer}
+use Rattle.money.specs.Answers.{Amount, Refused}
 use Rattle.money.specs.declared.offers.Offer.{Offer}
 use Rattle.money.specs.declared.imports.Import.{Import}
 use Rattle.money.specs.declared.production.Reserve.{Reserve}

@@ -5,7 +5,7 @@ use Rattle.laws.specs.Ints.{minℤ, maxℤ}
 use Rattle.laws.specs.IntLaws.{ints, dif, pos-dif, by₂}
 use Rattle.laws.specs.SumLaws.{and-true}
 use Rattle.money.specs.declared.units.Price.{Price}
-use Rattle.money.specs.declared.units.Answer.TheVariants.{Amount}
+use Rattle.money.specs.Answers.{Amount}
 use Rattle.money.specs.declared.failure.Failure.{Failure}
 use Rattle.money.specs.Units.{intervals, max_gap, price_ok, quantity_ok, unless, answer}
 use Rattle.money.proofs.laws.UnitLaws.{price-in}

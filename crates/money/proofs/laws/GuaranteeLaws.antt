@@ -1,19 +1,19 @@
 -- Sums of profits, credits and their sizes. Assumes nothing.
 use Rattle.std.specs.Prelude.{◌≡◌, Bool, true, List, ℕ, ◌≤◌, ◌<◌, ℤ, pos, neg_ℤ, nat_abs, ◌-ℤ◌, ◌*ℤ◌}
-use Rattle.std.proofs.Common.{sym, ap, ◌∙◌, arith}
+use Rattle.std.proofs.Common.{sym, subst, ap, ◌∙◌, arith}
 use Rattle.laws.specs.Ints.{minℤ}
 use Rattle.laws.specs.IntLaws.{ints, by₁, sub_within}
 use Rattle.laws.specs.Sums.{Σℤ, or_else}
 use Rattle.laws.specs.SumLaws.{Σℤ-ext, Σℤ-within, Summed, summed-all}
 use Rattle.money.specs.declared.units.Price.{Price}
 use Rattle.money.specs.declared.units.Quantity.{Quantity}
-use Rattle.money.specs.declared.units.Answer.TheVariants.{Amount}
+use Rattle.money.specs.Answers.{Amount}
 use Rattle.money.specs.declared.offers.Offer.{Offer}
 use Rattle.money.specs.Units.{intervals, price_at, quantity_at, prices_ok, quantities_ok, within_ok, unless, answer}
 use Rattle.money.specs.Offers.{last_q, offer_fault, cost}
 use Rattle.money.specs.Guarantee.{profit, profits, credit, credit_answer}
 use Rattle.money.specs.tables.Numbers.{Moderate}
-use Rattle.money.specs.tables.Ready.{Rates, Ready}
+use Rattle.money.specs.tables.Ready.{Good, Rates, Ready}
 use Rattle.money.proofs.laws.UnitLaws.{within-at}
 use Rattle.money.proofs.laws.OfferLaws.{good_of, abs-mul-pos, in-range, spends}
 
@@ -37,8 +37,15 @@ module _ (o : Offer) (ps : List Price) (q : ℕ → ℕ) (r : Ready o ps q) wher
       lesser : (x : ℤ) → nat_abs x ≤ 5280000000000 → nat_abs (neg_ℤ (minℤ (pos 0) x)) ≤ 5280000000000
       lesser = by₁ _ (λ a a'. simp ints (omega arith))
 
+pub ready-by : {o : Offer} {ps : List Price} {q : ℕ → ℕ} → Good o → Rates ps → ((k : ℕ) → k < intervals → q k ≤ last_q o) → Ready o ps q
+ready-by g r w = record { good = g; prices = r; within = w }
+
 pub ready_of : (ps : List Price) (o : Offer) (qs : List Quantity) → Rates ps → offer_fault o ≡ 0 → within_ok qs (last_q o) ≡ true → Ready o ps (quantity_at qs)
-ready_of ps o qs r g w = record { good = good_of o g; prices = r; within = within-at qs (last_q o) w }
+ready_of ps o qs r g w = ready-by (good_of o g) r (within-at qs (last_q o) w)
+
+-- an offer that is kept reaches what it reached
+pub reaches : {g o : Offer} (qs : List Quantity) → g ≡ o → within_ok qs (last_q o) ≡ true → (k : ℕ) → k < intervals → quantity_at qs k ≤ last_q g
+reaches {o = o} qs e w k l = let P : Offer → Type 0 = λ x. quantity_at qs k ≤ last_q x in subst P (sym e) (within-at qs (last_q o) w k l)
 
 pub within-is : (o : Offer) (qs : List Quantity) {l : ℕ} {r t : Bool} → l ≡ last_q o → r ≡ within_ok qs l → r ≡ t → within_ok qs (last_q o) ≡ t
 within-is o qs p q k = ap (λ (n : ℕ). within_ok qs n) (sym p) ∙ sym q ∙ k

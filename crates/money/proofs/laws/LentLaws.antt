@@ -8,7 +8,7 @@ use Rattle.laws.specs.Sums.{or_else}
 use Rattle.laws.specs.SumLaws.{Σℤ-ext, Σℕ-ext, every-ext, first_of-ext, below_or}
 use Rattle.money.specs.declared.units.Price.{Price}
 use Rattle.money.specs.declared.units.Quantity.{Quantity}
-use Rattle.money.specs.declared.units.Answer.TheVariants.{Refused}
+use Rattle.money.specs.Answers.{Refused}
 use Rattle.money.specs.declared.imports.Import.{Import}
 use Rattle.money.specs.declared.offset.Taken.{Taken}
 use Rattle.money.specs.Units.{quantity_at, unless, answer}

@@ -1,11 +1,7 @@
 -- The walk over an offer's pairs gives the cost; what an offer's checks tell; sizes. Assumes nothing.
 use Rattle.std.specs.Prelude.{◌≡◌, Bool, ◌&&◌, List, leb, ltb, ◌+ℤ◌, ◌*ℤ◌, length, get_or, set}
-use Rattle.std.proofs.Math.Path.{refl}
-use Rattle.std.proofs.Common.{sym, ap, ◌∙◌, subst, add-one, le-leb, lt-ltb, leb-true, ltb-true, length-set, get_or-set_same, get_or-set_other}
-use Rattle.std.proofs.Math.Bool.{true, false, cond}
-use Prim.Native.Nat.{ℕ, zero, suc, ◌+◌, ◌-◌, ◌*◌, ◌≤◌, ◌<◌, zero-le}
+use Rattle.std.proofs.Common.{refl, true, false, cond, ℕ, zero, suc, ◌+◌, ◌-◌, ◌*◌, ◌≤◌, ◌<◌, zero-le, arith, sym, ap, ◌∙◌, subst, add-one, le-leb, lt-ltb, leb-true, ltb-true, length-set, get_or-set_same, get_or-set_other}
 use Rattle.std.proofs.Math.Decide.{dec_lt, ℕ_discrete}
-use native.Mathlib.Omega.{arith}
 use Rattle.std.proofs.lemmas.Bool.{lt-leb}
 use Rattle.std.proofs.Math.IntN.{ℤ, pos, nat_abs, +ℤ_idr, +ℤ_idl}
 use Rattle.std.specs.Int.Signed.{le_z}
@@ -166,6 +162,9 @@ module _ (o : Offer) (q : ℕ) (good : Good o) (within : q ≤ last_q o) where
 
   pub spends : nat_abs (cost o q) ≤ 420000000000
   spends = cost-size o good q in-range
+
+  pub spent-within : {c : ℤ} → c ≡ cost o q → nat_abs c ≤ 420000000000
+  spent-within e = rw e spends
 
   pub spent-room : {c : ℤ} → c ≡ cost o q → Moderate c
   spent-room e = rw e (omega (arith, spends))

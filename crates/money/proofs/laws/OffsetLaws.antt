@@ -6,7 +6,7 @@ use Rattle.laws.specs.Sums.{Σℕ, or_else}
 use Rattle.laws.specs.SumLaws.{Summed, summed-all, Σℕ-more, Σℤ-sub, Σℤ-within, Σℕ-within, every-at, every-yes, and-true, first_of-zero, first_of-none}
 use Rattle.money.specs.declared.units.Price.{Price}
 use Rattle.money.specs.declared.units.Quantity.{Quantity}
-use Rattle.money.specs.declared.units.Answer.TheVariants.{Amount, Refused}
+use Rattle.money.specs.Answers.{Amount, Refused}
 use Rattle.money.specs.declared.imports.Import.{Import}
 use Rattle.money.specs.Units.{intervals, no_price, no_quantity, quantity_at, series_of, price_ok, prices_ok, quantities_ok, within_ok, sameℤ, unless, answer}
 use Rattle.money.specs.Offers.{last_q, offer_fault}

@@ -1,14 +1,7 @@
 -- What the checks of a unit's hour tell, its components and sums, and their sizes. Assumes nothing.
 use Rattle.std.specs.Prelude.{◌≡◌, Bool, ◌&&◌, List, ltb, ℤ, neg_ℤ, nat_abs, ◌+ℤ◌, ◌-ℤ◌, ◌*ℤ◌, ◌≤ℤ◌, get_or}
-use Rattle.std.proofs.Math.Path.{refl, sym, ap}
-use Rattle.std.proofs.Common.{◌∙◌}
-use Rattle.std.proofs.Math.Bool.{true, false, cond}
-use Prim.Native.Nat.{ℕ, zero, suc, ◌+◌, ◌-◌, ◌*◌, ◌≤◌, ◌<◌, zero-le, min, max}
+use Rattle.std.proofs.Common.{refl, sym, ap, ◌∙◌, true, false, cond, ℕ, zero, suc, ◌+◌, ◌-◌, ◌*◌, ◌≤◌, ◌<◌, zero-le, min, max, arith, leb-true, ltb-true, le-leb, lt-ltb, le-ltb, leb, pos}
 use Rattle.std.proofs.Math.Decide.{dec_lt}
-use native.Mathlib.Omega.{arith}
-use borrow.Author.Tests.{leb-true, ltb-true, le-leb, lt-ltb, le-ltb}
-use Rattle.std.proofs.Math.Dec.{leb}
-use Rattle.std.proofs.Math.IntN.{pos}
 use Rattle.std.specs.Int.Signed.{le_z}
 use Rattle.laws.specs.Ints.{minℤ, maxℤ}
 use Rattle.laws.specs.IntLaws.{ints, dif, pos-dif, by₁, by₃, by₄, by₅, le-true, true-le, min-max-neg, add-within, sub_within}
@@ -16,12 +9,12 @@ use Rattle.laws.specs.Sums.{Σℤ, or_else}
 use Rattle.laws.specs.SumLaws.{Σℤ-ext, Σℤ-cut, Σℤ-sub, Σℤ-within, Summed, every-at, every-yes, and-true}
 use Rattle.money.specs.declared.units.Price.{Price}
 use Rattle.money.specs.declared.units.Ticks.{Ticks}
-use Rattle.money.specs.declared.units.Answer.TheVariants.{Amount}
+use Rattle.money.specs.Answers.{Amount}
 use Rattle.money.specs.declared.units.CentsPerStart.{CentsPerStart}
 use Rattle.money.specs.declared.offers.Offer.{Offer}
 use Rattle.money.specs.declared.production.Reserve.{Reserve}
 use Rattle.money.specs.declared.production.UnitHour.{UnitHour}
-use Rattle.money.specs.declared.production.DayAnswer.TheVariants.{Day}
+use Rattle.money.specs.Answers.{Day}
 use Rattle.money.specs.Units.{intervals, day_hours, ticks_per_cent, noload_ticks, max_cents, price_at, prices_ok, quantities_ok, within_ok, unless, answer}
 use Rattle.money.specs.Offers.{max_pairs, before, last_q, offer_fault, cost}
 use Rattle.money.specs.Guarantee.{profit, profits}
@@ -50,20 +43,18 @@ lesser-in a b e h = omega arith
 pub second-in : (a b : ℕ) {q : ℕ} → q ≡ min a b → q ≤ b
 second-in a b e = omega arith
 
--- ---- a cost within an offer less a price's value
+-- ---- a cost less a price's value
+pub loss-is : (o : Offer) (q : ℕ) (p : ℤ) {c v l : ℤ} → c ≡ cost o q → v ≡ p *ℤ pos q → l ≡ c -ℤ v → l ≡ cost o q -ℤ p *ℤ pos q
+loss-is o q p e f g = g ∙ (λ i. e i -ℤ f i)
+
+loss-size : (o : Offer) (q : ℕ) → Good o → q ≤ last_q o → (p : ℤ) → nat_abs p ≤ 200000 → nat_abs (cost o q -ℤ p *ℤ pos q) ≤ 440000000000
+loss-size o q good within p rate =
+    sub_within (cost o q) (p *ℤ pos q) (spends o q good within) (abs-mul-pos p q {A = 200000} {B = 100000} rate (in-range o q good within))
+
 module _ (o : Offer) (q : ℕ) (good : Good o) (within : q ≤ last_q o) (p : ℤ) (rate : nat_abs p ≤ 200000) where
-  value-size : nat_abs (p *ℤ pos q) ≤ 20000000000
-  value-size = abs-mul-pos p q {A = 200000} {B = 100000} rate (in-range o q good within)
-
-  loss-size : nat_abs (cost o q -ℤ p *ℤ pos q) ≤ 440000000000
-  loss-size = sub_within (cost o q) (p *ℤ pos q) (spends o q good within) value-size
-
   module _ {c v l : ℤ} (e : c ≡ cost o q) (f : v ≡ p *ℤ pos q) (g : l ≡ c -ℤ v) where
-    pub loss-is : l ≡ cost o q -ℤ p *ℤ pos q
-    loss-is = g ∙ (λ i. e i -ℤ f i)
-
     pub loss-room : Moderate l
-    loss-room = room loss-is (omega (arith, loss-size))
+    loss-room = room (loss-is o q p e f g) (omega (arith, loss-size o q good within p rate))
 
 -- ---- C1
 pub running_none : (noload q : ℕ) → q < 1 → pos 0 ≡ running noload q
@@ -93,16 +84,16 @@ shortfall-size o p noload q good within rate small = add-within (cost o q -ℤ p
     (running-size noload q small)
 
 -- ---- C2: the cost between two quantities, in two offers
+pub step_is : (o : Offer) (b a : ℕ) {c d x : ℤ} → c ≡ cost o b → d ≡ cost o a → x ≡ c -ℤ d → x ≡ cost o b -ℤ cost o a
+step_is o b a e f g = g ∙ (λ i. e i -ℤ f i)
+
+step-size : (o : Offer) (b a : ℕ) → Good o → b ≤ last_q o → a ≤ last_q o → nat_abs (cost o b -ℤ cost o a) ≤ 840000000000
+step-size o b a good upper lower = sub_within (cost o b) (cost o a) (spends o b good upper) (spends o a good lower)
+
 module _ (o : Offer) (b a : ℕ) (good : Good o) (upper : b ≤ last_q o) (lower : a ≤ last_q o) where
-  step-size : nat_abs (cost o b -ℤ cost o a) ≤ 840000000000
-  step-size = sub_within (cost o b) (cost o a) (spends o b good upper) (spends o a good lower)
-
   module _ {c d x : ℤ} (e : c ≡ cost o b) (f : d ≡ cost o a) (g : x ≡ c -ℤ d) where
-    pub step_is : x ≡ cost o b -ℤ cost o a
-    step_is = g ∙ (λ i. e i -ℤ f i)
-
     pub step_room : Moderate x
-    step_room = room step_is (omega (arith, step-size))
+    step_room = room (step_is o b a e f g) (omega (arith, step-size o b a good upper lower))
 
 pub arranged_is : (da rt : Offer) (b a : ℕ) {x y r : ℤ} → x ≡ cost da b -ℤ cost da a → y ≡ cost rt b -ℤ cost rt a → r ≡ x -ℤ y → r ≡ arranged da rt b a
 unfolding arranged
@@ -181,6 +172,11 @@ component4-is r1 r2 r3 k d u {q1 = q1} {q2 = q2} {q3 = q3} a b c a' b' c' e f g 
     let q : q2 ≡ min (d - u - S r1 k) (S r2 k) = b' ∙ ap (λ (n : ℕ). min n (S r2 k)) b'' in
     let t : q3 ≡ min (d - u - S r1 k - S r2 k) (S r3 k) = c' ∙ ap (λ (n : ℕ). min n (S r3 k)) c'' in
     m ∙ (λ i. h i +ℤ g i) ∙ (λ i. e i +ℤ f i +ℤ reserve_net r3 k q3) ∙ (λ i. reserve_net r1 k (p i) +ℤ reserve_net r2 k (q i) +ℤ reserve_net r3 k (t i))
+
+pub component4-as : (r1 r2 r3 : Reserve) (k d u : ℕ) {l1 l2 l3 : ℕ} {x y z s r : ℤ} → l1 ≡ d - u → l2 ≡ l1 - S r1 k → l3 ≡ l2 - S r2 k
+    → x ≡ reserve_net r1 k (min l1 (S r1 k)) → y ≡ reserve_net r2 k (min l2 (S r2 k)) → z ≡ reserve_net r3 k (min l3 (S r3 k))
+    → s ≡ x +ℤ y → r ≡ s +ℤ z → r ≡ component4 r1 r2 r3 k d u
+component4-as r1 r2 r3 k d u a b c e f g h m = component4-is r1 r2 r3 k d u a b c refl refl refl e f g h m
 
 -- ---- an interval and an hour
 module _ {h : UnitHour} {ps : List Price} (ready : UnitReady h ps) where
@@ -269,10 +265,21 @@ pub two-profits : {o : Offer} {ps : List Price} {q q' : ℕ → ℕ} → Ready o
 two-profits {o} {ps} {q} {q'} r r' e f g = rw (g ∙ (λ i. e i -ℤ f i))
     (omega (arith, sub_within (profits o ps q) (profits o ps q') (profits-size o ps q r) (profits-size o ps q' r')))
 
+-- quantities no larger than the schedules
+module _ {h : UnitHour} {ps : List Price} (ready : UnitReady h ps) {q : ℕ → ℕ} (less : (k : ℕ) → k < intervals → q k ≤ D h k) where
+  pub ahead-reaches : (k : ℕ) → k < intervals → q k ≤ last_q h.aheadoffer
+  ahead-reaches k l = omega (arith, less k l, ready.ahead_within k l)
+
+  pub real-reaches : (k : ℕ) → k < intervals → q k ≤ last_q h.realoffer
+  real-reaches k l = omega (arith, less k l, ready.real-within k l)
+
 -- speed no-load
 pub runs-room : (noload : ℕ) (m : ℕ → ℕ) → noload ≤ 100000000 → {sum : ℤ} {k : ℕ} → Summed intervals (λ j. running noload (m j)) sum k → Moderate sum
 runs-room noload m small {k = k} u = rw u.so_far
     (omega (arith, u.upto, Σℤ-within 1000000000 k (λ j. running noload (m j)) (λ j l. running-size noload (m j) small)))
+
+pub runs-size : (noload : ℕ) (m : ℕ → ℕ) → noload ≤ 100000000 → nat_abs (Σℤ intervals (λ j. running noload (m j))) ≤ 12000000000
+runs-size noload m small = Σℤ-within 1000000000 intervals (λ j. running noload (m j)) (λ j l. running-size noload (m j) small)
 
 pub runs-moderate : (noload : ℕ) (m : ℕ → ℕ) → noload ≤ 100000000 → {x : ℤ} → x ≡ Σℤ intervals (λ j. running noload (m j)) → Moderate x
 runs-moderate noload m small e = runs-room noload m small (record { upto = omega arith; so_far = e })
@@ -347,6 +354,9 @@ module _ {s : Reserve} (u : Usable s) (left : ℕ → ℕ) where
       (Σℤ-cut intervals 0 (reserved s left) zero-le (λ k a l. sym (idle u k (min (left k) (S s k)) (omega (arith, u.within k l, last_none s.offer h)))))
 
   module _ (q : ℕ → ℕ) (series : (k : ℕ) → k < intervals → q k ≡ min (left k) (S s k)) where
+    pub reserve-reaches : (k : ℕ) → k < intervals → q k ≤ last_q s.offer
+    reserve-reaches k l = omega (arith, series k l, u.within k l)
+
     pub reserve-ready : 1 ≤ s.offer.count → Ready s.offer s.prices q
     reserve-ready h = record { good = u.good h; prices = u.rates; within = λ k l. omega (arith, series k l, u.within k l) }
 
@@ -375,7 +385,7 @@ sum4-is r1 r2 r3 d u l1 l2 l3 a b c e f g h m =
     (λ i. sym (Σℤ-add intervals (reserved r1 l1) (reserved r2 l2)) i +ℤ Σℤ intervals (reserved r3 l3))
     ∙ sym (Σℤ-add intervals (λ k. reserved r1 l1 k +ℤ reserved r2 l2 k) (reserved r3 l3))
     ∙ Σℤ-ext intervals (λ k. reserved r1 l1 k +ℤ reserved r2 l2 k +ℤ reserved r3 l3 k) (λ k. component4 r1 r2 r3 k (d k) (u k))
-    (λ k l. component4-is r1 r2 r3 k (d k) (u k) (a k l) (b k l) (c k l) refl refl refl refl refl refl refl refl)
+    (λ k l. component4-as r1 r2 r3 k (d k) (u k) (a k l) (b k l) (c k l) refl refl refl refl refl)
 
 -- ---- the four together
 parts : (x y z w : ℤ) → (x +ℤ y) -ℤ (z +ℤ w) ≡ x +ℤ y -ℤ z -ℤ w

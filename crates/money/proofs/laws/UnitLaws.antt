@@ -1,17 +1,25 @@
 -- Laws of units, of tests and refusals, and of series of twelve quantities. Assumes nothing.
-use Rattle.std.specs.Prelude.{◌≡◌, refl, Bool, true, false, ◌&&◌, List, [], ◌∷◌, map, ℕ, zero, suc, ◌+◌, ◌-◌, ◌*◌, ◌/◌, ◌^◌, ◌≤◌, ◌<◌, T, leb, ℤ, pos, negsuc, neg_ℤ, nat_abs, ◌-ℤ◌, ◌*ℤ◌, ◌≤ℤ◌, ◌<ℤ◌, get_or, set, length, replicate}
-use Rattle.std.proofs.Common.{sym, ap, ◌∙◌, subst, zero-le, arith, leb-true, ltb→lt, length-set, get_or-set_same, get_or-set_other, SFits, to_z, of_z, to_z-of_z}
-use Rattle.std.specs.Int.Signed.{le_z, ≤ℤ_refl}
+use Rattle.std.specs.Prelude.{◌≡◌, refl, Bool, true, false, ◌&&◌, List, [], ◌∷◌, map, ℕ, zero, suc, ◌+◌, ◌-◌, ◌*◌, ◌/◌, ◌^◌, ◌≤◌, ◌<◌, T, leb, ℤ, pos, negsuc, neg_ℤ, nat_abs, ◌-ℤ◌, ◌*ℤ◌, ◌≤ℤ◌, ◌<ℤ◌, get_or, set, length, replicate, Result, Ok, Err}
+use Rattle.std.specs.Result.{IsErrAnd}
+use Rattle.std.proofs.Common.{Some, Ordering, not, cond, sym, ap, ◌∙◌, subst, zero-le, arith, leb-true, ltb→lt, length-set, get_or-set_same, get_or-set_other, SFits, to_z, of_z, to_z-of_z}
+use Rattle.std.specs.Int.Signed.{lt_z, le_z, ≤ℤ_refl}
+use Rattle.std.specs.Int.{w64, int_min, int_max}
+use Rattle.std.specs.Ordering.{is_lt, is_some_and, partial_ordering_then, int_cmp, int_eq}
+use Rattle.std.specs.declared.cmp.Ordering.TheVariants.{Less, Equal, Greater}
+use Rattle.std.proofs.lemmas.Bool.Decides.{same_from_decides, Decides-int_eq}
 use Rattle.std.proofs.lemmas.List.{length-map}
-use Rattle.std.specs.Int.{w64}
 use Rattle.laws.specs.Carried.{Carried}
-use Rattle.laws.specs.Ints.{minℤ}
+use Rattle.laws.specs.Ints.{minℤ, maxℤ}
 use Rattle.laws.specs.IntLaws.{ints, by₁, by₂, dif, dif-abs, pos-dif, abs_neg, neg-*, le-true, ≤ℤ-antisym}
 use Rattle.laws.specs.Sums.{or_else}
 use Rattle.laws.specs.SumLaws.{every-yes, every-at, and-true, last_or}
 use Rattle.money.specs.declared.units.Price.{Price}
 use Rattle.money.specs.declared.units.Quantity.{Quantity}
-use Rattle.money.specs.declared.units.Answer.TheVariants.{Amount, Refused}
+use Rattle.money.specs.declared.refusals.Refusal.{Refusal}
+use Rattle.money.specs.declared.refusals.Refusal.TheVariants.{EndsEarly, MarkUnknown, HourOutside, NameFault, NumberOutside, ListFault, BeyondList, BytesLeftOver, Closed, KeyStands, NoSuchKey, HourFull, NoSpace, NothingToTakeBack, PriceMissing, NotTogether}
+use Rattle.money.specs.Refusals.{number_of}
+use Rattle.money.specs.Answers.{Amount, Refused, fault_in, answer_of}
+use Rattle.money.specs.declared.units.Ticks.{Ticks}
 use Rattle.money.specs.Units.{intervals, ticks_per_cent, min_price, max_price, no_price, no_quantity, price_ok, quantity_ok, quantity_at, series_of, prices_ok, quantities_ok, within_ok, sameℤ, unless, answer, cents_of}
 use Rattle.money.specs.tables.Numbers.{max_amount, Bounded}
 use Rattle.money.specs.tables.Ready.{Rates}
@@ -65,6 +73,25 @@ kept b {r = r} {a = a} e h = go a e
     go zero q = absurd (h q)
     go (suc n) q = q
 
+-- a refusal has a number
+pub number-some : (r : Refusal) → number_of r ≡ 0 → ⊥
+number-some EndsEarly e = cc
+number-some MarkUnknown e = cc
+number-some HourOutside e = cc
+number-some NameFault e = cc
+number-some NumberOutside e = cc
+number-some ListFault e = cc
+number-some BeyondList e = cc
+number-some BytesLeftOver e = cc
+number-some Closed e = cc
+number-some KeyStands e = cc
+number-some NoSuchKey e = cc
+number-some HourFull e = cc
+number-some NoSpace e = cc
+number-some NothingToTakeBack e = cc
+number-some PriceMissing e = cc
+number-some NotTogether e = cc
+
 -- the answer where there is a fault
 pub answer-fault : (x : ℤ) {r a : ℕ} → r ≡ a → (r ≡ 0 → ⊥) → Refused r ≡ answer a x
 answer-fault x {r = r} {a = a} e h = go a e
@@ -76,6 +103,18 @@ answer-fault x {r = r} {a = a} e h = go a e
 -- the answer where there is none
 pub answer-amount : {f : ℕ} {x y : ℤ} → f ≡ 0 → y ≡ x → Amount (record { 0 = y }) ≡ answer f x
 answer-amount {f = f} {x = x} {y = y} e k = ap (λ (z : ℤ). Amount (record { 0 = z })) k ∙ sym (ap (λ (n : ℕ). answer n x) e)
+
+-- ---- what a `?` hands out: the refusal that came
+pub fault-out : {B : Type 0} {a : ℕ} (r : Result B Refusal) (e : Refusal) → IsErrAnd r (λ x. x ≡ e) → number_of e ≡ a → fault_in r ≡ a
+fault-out (Ok x) e h k = absurd h
+fault-out (Err x) e h k = ap number_of h ∙ k
+
+pub kept-out : (b : ℕ) {B : Type 0} {a : ℕ} (r : Result B Refusal) (e : Refusal) → IsErrAnd r (λ x. x ≡ e) → number_of e ≡ a → fault_in r ≡ or_else a b
+kept-out b r e h k = fault-out r e h (kept b k (number-some e))
+
+pub answer-out : (x : ℤ) {a : ℕ} (r : Result Ticks Refusal) (e : Refusal) → IsErrAnd r (λ y. y ≡ e) → number_of e ≡ a → answer_of r ≡ answer a x
+answer-out x (Ok y) e h k = absurd h
+answer-out x (Err y) e h k = ap (λ (z : Refusal). Refused (number_of z)) h ∙ answer-fault x k (number-some e)
 
 -- ---- equal amounts
 pub same_true : (x y : ℤ) → x ≡ y → sameℤ x y ≡ true
@@ -99,12 +138,47 @@ same-is x y e = let a = and-true (le_z x y) (le_z y x) e in ≤ℤ-antisym x y (
 pub same-as : (x y : ℤ) {z : ℤ} {r t : Bool} → z ≡ y → r ≡ sameℤ x z → r ≡ t → sameℤ x y ≡ t
 same-as x y p q k = ap (λ (n : ℤ). sameℤ x n) (sym p) ∙ sym q ∙ k
 
+int-same : (x y : ℤ) → int_eq x y ≡ sameℤ x y
+int-same x y = same_from_decides (int_eq x y) (sameℤ x y) (Decides-int_eq x y) (same-is x y, same_true x y)
+
+-- what `!=` of two amounts says
+pub differs-as : (x y : ℤ) {z : ℤ} {r t : Bool} → z ≡ y → r ≡ not (int_eq x z) → r ≡ t → sameℤ x y ≡ not t
+differs-as x y {z = z} {r = r} {t = t} p q k = ap (λ (n : ℤ). sameℤ x n) (sym p) ∙ sym (int-same x z) ∙ sym (twice (int_eq x z)) ∙ ap (λ (b : Bool). not b) (sym q ∙ k)
+  where
+    twice : (b : Bool) → not (not b) ≡ b
+    twice true = refl
+    twice false = refl
+
+-- what `<` of two pairs says, an amount first
+pub less-first : (x y : ℤ) (o : Ordering) {b : Bool} → is_lt o ≡ b → is_some_and is_lt (partial_ordering_then (Some (int_cmp x y)) (Some o)) ≡ cond (lt_z x y) true (cond (lt_z y x) false b)
+less-first x y o {b = b} e = go (lt_z x y) (lt_z y x)
+  where
+    go : (s t : Bool) → is_some_and is_lt (partial_ordering_then (Some (cond s Less (cond t Greater Equal))) (Some o)) ≡ cond s true (cond t false b)
+    go true t = refl
+    go false true = refl
+    go false false = e
+
 -- ---- -min(0, x), by the test that code makes
 pub lacks : (x : ℤ) → x <ℤ pos 0 → neg_ℤ x ≡ neg_ℤ (minℤ (pos 0) x)
 lacks = by₁ _ (λ a a'. simp ints (omega arith))
 
 pub lacks-none : (x : ℤ) → pos 0 ≤ℤ x → pos 0 ≡ neg_ℤ (minℤ (pos 0) x)
 lacks-none = by₁ _ (λ a a'. simp ints (omega arith))
+
+lacks-of : (x : ℤ) → maxℤ (pos 0) (neg_ℤ x) ≡ neg_ℤ (minℤ (pos 0) x)
+lacks-of = by₁ _ (λ a a'. simp ints (omega arith))
+
+min-back : (x y : ℤ) → minℤ y x ≡ minℤ x y
+min-back = by₂ _ (λ a a' b b'. simp ints (omega arith))
+
+-- the same of std's greater and lesser
+pub lacks-as : (x : ℤ) → int_max (neg_ℤ x) (pos 0) ≡ neg_ℤ (minℤ (pos 0) x)
+unfolding maxℤ
+lacks-as x = lacks-of x
+
+pub min-as : (x y : ℤ) → int_min x y ≡ minℤ x y
+unfolding minℤ
+min-as x y = min-back x y
 
 -- ---- the magnitude of 64 bits, of which -2^63 has no negative there
 pub flip-abs : (x : ℤ) → x <ℤ pos 0 → nat_abs (negsuc 0 -ℤ x) + 1 ≡ nat_abs x
@@ -205,7 +279,7 @@ same_from i (suc n) f g h =
     let t = same_from (i + 1) n f g (λ k l. ap f (omega arith) ∙ h (suc k) (omega arith) ∙ ap g (omega arith)) in
     (λ x. record { 0 = a x } ∷ t x)
 
-built-from : (i n : ℕ) (f : ℕ → ℕ) (series : List Quantity) → length series ≡ n → ((k : ℕ) → k < n → quantity_at series k ≡ f (i + k)) → series ≡ series_of i n f
+pub built-from : (i n : ℕ) (f : ℕ → ℕ) (series : List Quantity) → length series ≡ n → ((k : ℕ) → k < n → quantity_at series k ≡ f (i + k)) → series ≡ series_of i n f
 unfolding series_of
 built-from i zero f [] e h = refl
 built-from i zero f (q ∷ series) e h = absurd (omega arith)

@@ -1,9 +1,6 @@
--- What the code's numbers hold: amounts that can be added up, the largest amount, an array's element, what two quantities give, an interval's speed
--- no-load.
-use Rattle.std.specs.Prelude.{cond, List, ℕ, ◌+◌, ◌-◌, ◌*◌, ◌≤◌, min, max, ltb, ℤ, pos, nat_abs, get_or}
+-- What the code's numbers hold: amounts that can be added up, the largest amount, an array's element, an interval's speed no-load.
+use Rattle.std.specs.Prelude.{cond, List, ℕ, ◌+◌, ◌*◌, ◌≤◌, ltb, ℤ, pos, nat_abs, get_or}
 use Rattle.money.specs.declared.units.Ticks.{Ticks}
-use Rattle.money.specs.declared.production.Pick.{Pick}
-use Rattle.money.specs.declared.production.Pick.TheVariants.{Lesser, Greater, Above}
 use Rattle.money.specs.Units.{day_hours, ticks_per_cent, noload_ticks, max_cents}
 use Rattle.money.specs.Production.{max_hour}
 
@@ -29,12 +26,6 @@ Fits n = n ≤ 4294967295
 -- element i of an array of ticks
 abbrev pub ticks_at : List Ticks → ℕ → ℤ
 ticks_at ts i = (get_or ts i (record { 0 = pos 0 })).0
-
--- what two quantities give
-abbrev pub pick_of : Pick → ℕ → ℕ → ℕ
-pick_of Lesser x y = min x y
-pick_of Greater x y = max x y
-pick_of Above x y = x - y
 
 -- an interval's speed no-load, where something is delivered
 abbrev pub running : ℕ → ℕ → ℤ

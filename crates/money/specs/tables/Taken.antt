@@ -2,7 +2,7 @@
 use Rattle.std.specs.Prelude.{cond, List, [], ◌∷◌, ◌+◌, ltb, pos, set, replicate}
 use Rattle.money.specs.declared.units.Price.{Price}
 use Rattle.money.specs.declared.units.Quantity.{Quantity}
-use Rattle.money.specs.declared.units.Answer.{Answer}
+use Rattle.money.specs.Answers.{Answer}
 use Rattle.money.specs.declared.imports.Import.{Import}
 use Rattle.money.specs.declared.offset.Taken.{Taken}
 use Rattle.money.specs.Units.{intervals}

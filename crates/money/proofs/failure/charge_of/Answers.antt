@@ -1,6 +1,3 @@
-use mathlib.Core.Path.{ap, ◌∙◌}
-use lib.IntN.{ℤ, pos, ◌*ℤ◌}
-use Rattle.money.specs.Units.{intervals}
 use Rattle.money.proofs.laws.FailureLaws.{lesser-size}
 use Rattle.money.proofs.failure.charge_of.Goals as goal
 
@@ -10,6 +7,3 @@ for_an_hour-requires c = record {
       c.lesser.ensures;
   q_in = c.requires.dev_in;
 }
-
-pub returns : goal.returns
-returns c = c.for_an_hour.ensures ∙ ap (λ (z : ℤ). z *ℤ pos c.args.dev.0 *ℤ pos intervals) c.lesser.ensures

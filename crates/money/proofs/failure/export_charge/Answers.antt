@@ -1,13 +1,8 @@
-use mathlib.Core.Path.{sym, ap, ◌∙◌}
-use lib.IntN.{ℤ, ◌-ℤ◌}
-use native.Mathlib.Omega.{arith}
-use Rattle.money.specs.declared.units.Answer.TheVariants.{Amount}
+use Rattle.std.proofs.Common.{sym, ap, ◌∙◌, ℤ, ◌-ℤ◌, arith}
+use Rattle.money.specs.Answers.{Amount}
 use Rattle.money.specs.Failure.{dev}
 use Rattle.money.proofs.laws.FailureLaws.{sound-of, gap-size, charge-is}
 use Rattle.money.proofs.failure.export_charge.Goals as goal
-
-pub returns-then-not-failure_ok : goal.returns-then-not-failure_ok
-returns-then-not-failure_ok c = rw (sym c.failure_ok.ensures ∙ c.if-not-failure_ok.true)
 
 pub gap-requires : goal.gap-requires
 gap-requires c =

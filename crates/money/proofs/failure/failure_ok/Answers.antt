@@ -1,45 +1,11 @@
-use mathlib.Core.Path.{sym, ◌∙◌}
+use Rattle.std.proofs.Common.{rules}
 use Rattle.money.specs.Failure.{failure_ok}
 use Rattle.money.proofs.failure.failure_ok.Goals as goal
 
-pub returns-then-not-in_range : goal.returns-then-not-in_range
+pub returns-then-in_range-4 : goal.returns-then-in_range-4
 unfolding failure_ok
-returns-then-not-in_range c = rw (sym c.in_range.ensures ∙ c.if-not-in_range.true)
+returns-then-in_range-4 c = search rules
 
-pub returns-then-not-in_range-2 : goal.returns-then-not-in_range-2
+pub returns-else-in_range-4 : goal.returns-else-in_range-4
 unfolding failure_ok
-returns-then-not-in_range-2 c =
-    rw (sym c.in_range.ensures ∙ c.if-not-in_range.false, sym c.in_range-2.ensures ∙ c.if-not-in_range-2.true)
-
-pub returns-then-not-in_range-3 : goal.returns-then-not-in_range-3
-unfolding failure_ok
-returns-then-not-in_range-3 c =
-    rw (
-      sym c.in_range.ensures ∙ c.if-not-in_range.false,
-      sym c.in_range-2.ensures ∙ c.if-not-in_range-2.false,
-      sym
-          c.in_range-3.ensures ∙ c.if-not-in_range-3.true,
-    )
-
-pub returns-then-not-in_range-4 : goal.returns-then-not-in_range-4
-unfolding failure_ok
-returns-then-not-in_range-4 c =
-    rw (
-      sym c.in_range.ensures ∙ c.if-not-in_range.false,
-      sym c.in_range-2.ensures ∙ c.if-not-in_range-2.false,
-      sym
-          c.in_range-3.ensures ∙ c.if-not-in_range-3.false,
-      sym c.in_range-4.ensures ∙ c.if-not-in_range-4.true,
-    )
-
-pub returns : goal.returns
-unfolding failure_ok
-returns c =
-    rw (
-      sym c.in_range.ensures ∙ c.if-not-in_range.false,
-      sym c.in_range-2.ensures ∙ c.if-not-in_range-2.false,
-      sym
-          c.in_range-3.ensures ∙ c.if-not-in_range-3.false,
-      sym c.in_range-4.ensures ∙ c.if-not-in_range-4.false,
-    )
-    c.in_range-5.ensures
+returns-else-in_range-4 c = search rules

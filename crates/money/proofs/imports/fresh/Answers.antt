@@ -1,23 +1,20 @@
-use mathlib.Core.Path.{sym, ◌∙◌, ap}
-use mathlib.Core.Bool.{Bool, not}
-use Rattle.laws.specs.SumLaws.{passed_none, passed-more, passed-all, every-no}
-use Rattle.money.specs.Names.{same_name}
-use Rattle.money.specs.Offset.{entry, fresh_name}
+use Rattle.std.proofs.Common.{◌∙◌, take, nat_eq, not, ap, Bool, rules, tests}
+use Rattle.std.specs.Ordering.{on as by_key}
+use Rattle.std.specs.Cmp.Lexicographic.{pointwise}
+use Rattle.std.proofs.lemmas.Iterator.{YieldsList-from_slice}
+use Rattle.std.proofs.lemmas.Iterator.Search.{all_from_yields_List}
+use Rattle.laws.specs.SumLaws.{every-front, every-ext}
+use Rattle.money.specs.declared.imports.Import.{Import}
+use Rattle.money.specs.Names.{same_name, decoded_bytes}
+use Rattle.money.specs.Offset.{fresh_name, entry, no_import}
+use Rattle.money.proofs.laws.NameLaws.{name-eq}
 use Rattle.money.proofs.imports.fresh.Goals as goal
-
-pub loop-j-init : goal.loop-j-init
-loop-j-init c = passed_none _ _
-
-pub returns-then-same_name : goal.returns-then-same_name
-unfolding fresh_name
-returns-then-same_name c =
-    sym (every-no _ _ (λ a. not (same_name (entry c.args.entries c.args.i).name (entry c.args.entries a).name)) c.loop-j-test.true
-    (ap (λ (b : Bool). not b) (sym c.same_name.ensures ∙ c.if-same_name.true)))
-
-pub loop-j-preserved : goal.loop-j-preserved
-loop-j-preserved c =
-    passed-more c.loop-j.invariant c.loop-j-test.true (ap (λ (b : Bool). not b) (sym c.same_name.ensures ∙ c.if-same_name.false))
 
 pub returns : goal.returns
 unfolding fresh_name
-returns c = sym (passed-all c.loop-j.invariant c.loop-j-test.false)
+returns c =
+    let p = λ (a : Import). not (by_key decoded_bytes (pointwise nat_eq) (entry c.args.entries c.args.i).name a.name) in
+    all_from_yields_List p _ _ _ c.all.ensures.ran (YieldsList-from_slice (take c.args.i c.args.entries) cc) (λ x b q k. search (rules, tests))
+    ∙ every-front c.args.i p no_import c.args.entries (search rules)
+    ∙ every-ext c.args.i (λ j. p (entry c.args.entries j)) (λ j. not (same_name (entry c.args.entries c.args.i).name (entry c.args.entries j).name))
+    (λ j l. ap (λ (b : Bool). not b) (name-eq (entry c.args.entries c.args.i).name (entry c.args.entries j).name))

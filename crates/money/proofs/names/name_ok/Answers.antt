@@ -1,36 +1,21 @@
-use mathlib.Core.Path.{sym, ◌∙◌}
-use lib.ListN.{get_or}
-use borrow.Author.Tests.{le-leb, lt-leb}
-use Rattle.laws.specs.SumLaws.{passed_none, passed-more, passed-all, every-no}
-use Rattle.money.specs.Names.{name_ok, name_byte_ok}
+use Rattle.std.proofs.Common.{◌≡◌, ◌≤◌, ◌∙◌, ◌&&◌, true, false, leb, rules, tests}
+use Rattle.std.proofs.lemmas.Iterator.{YieldsList-from_slice}
+use Rattle.std.proofs.lemmas.Iterator.Search.{all_from_yields_List}
+use Rattle.laws.specs.SumLaws.{every-front}
+use Rattle.money.specs.Names.{decoded_bytes, name_byte_ok, name_ok}
 use Rattle.money.proofs.names.name_ok.Goals as goal
 
-pub returns-then-n-lt1 : goal.returns-then-n-lt1
+pub returns-then-contains : goal.returns-then-contains
 unfolding name_ok
-returns-then-n-lt1 c = rw (lt-leb _ _ c.if-n-lt1.true)
+returns-then-contains c =
+    let v : (leb 1 c.args.a.len && leb c.args.a.len 12) ≡ true = search rules in
+    let w : c.args.a.len ≤ 12 = search rules in
+    let e = all_from_yields_List name_byte_ok _ _ _ c.all.ensures.ran (YieldsList-from_slice (decoded_bytes c.args.a) cc) (λ x b q k. search (rules, tests))
+    ∙ every-front c.args.a.len name_byte_ok 0 c.args.a.bytes (search rules) in
+    e ∙ rw v
 
-pub returns-then-n-gt-NAME_MAX : goal.returns-then-n-gt-NAME_MAX
+pub returns-else-contains : goal.returns-else-contains
 unfolding name_ok
-returns-then-n-gt-NAME_MAX c = rw (le-leb _ _ c.if-n-lt1.false, lt-leb _ _ c.if-n-gt-NAME_MAX.true)
-
-pub loop-i-init : goal.loop-i-init
-loop-i-init c = passed_none _ _
-
-pub returns-then-not-byte_ok : goal.returns-then-not-byte_ok
-unfolding name_ok
-returns-then-not-byte_ok c =
-    rw (
-      le-leb _ _ c.if-n-lt1.false,
-      le-leb _ _ c.if-n-gt-NAME_MAX.false,
-      every-no _ _ (λ j. name_byte_ok (get_or c.args.a.bytes j 0)) c.loop-i-test.true
-          (sym c.byte_ok.ensures ∙ c.if-not-byte_ok.true),
-    )
-
-pub loop-i-preserved : goal.loop-i-preserved
-loop-i-preserved c =
-    passed-more c.loop-i.invariant c.loop-i-test.true (sym c.byte_ok.ensures ∙ c.if-not-byte_ok.false)
-
-pub returns : goal.returns
-unfolding name_ok
-returns c =
-    rw (le-leb _ _ c.if-n-lt1.false, le-leb _ _ c.if-n-gt-NAME_MAX.false, passed-all c.loop-i.invariant c.loop-i-test.false)
+returns-else-contains c =
+    let v : (leb 1 c.args.a.len && leb c.args.a.len 12) ≡ false = search rules in
+    c.if-contains.false ∙ rw v

@@ -1,10 +1,6 @@
-use Prim.Native.Nat.{◌-◌}
 use Rattle.laws.specs.SumLaws.{Passed}
 use Rattle.money.specs.Offers.{number_ok}
 use Rattle.money.proofs.offers.numbers_ok.Given as goal
 
 abbrev pub invariant-loop-i : goal.invariant-loop-i
 invariant-loop-i l = Passed l.o.count (number_ok l.o) l.i
-
-abbrev pub decreases-loop-i : goal.decreases-loop-i
-decreases-loop-i l = l.n - l.i

@@ -1,6 +1,6 @@
-use mathlib.Core.Path.{sym, ◌∙◌}
-use borrow.Author.Tests.{le-leb, lt-leb}
-use Rattle.laws.specs.SumLaws.{passed_none, passed-more, passed-all, every-no}
+use Rattle.std.proofs.Common.{sym, ◌∙◌, le-leb}
+use Rattle.std.proofs.lemmas.Bool.{lt-leb}
+use Rattle.laws.specs.SumLaws.{passed-all, every-no}
 use Rattle.money.specs.Offers.{rises_at, order_ok}
 use Rattle.money.proofs.offers.order_ok.Goals as goal
 
@@ -8,21 +8,13 @@ pub returns-then-first-lt1 : goal.returns-then-first-lt1
 unfolding order_ok
 returns-then-first-lt1 c = rw (lt-leb _ _ c.if-first-lt1.true)
 
-pub loop-i-init : goal.loop-i-init
-loop-i-init c = passed_none _ _
-
 pub returns-then-not-pair_rises : goal.returns-then-not-pair_rises
 unfolding order_ok
 returns-then-not-pair_rises c =
     rw (
       le-leb _ _ c.if-first-lt1.false,
-      every-no _ _ (rises_at c.args.o) c.loop-i-test.true
-          (sym c.pair_rises.ensures ∙ c.if-not-pair_rises.true),
+      every-no _ _ (rises_at c.args.o) c.loop-i-test.true (sym c.pair_rises.ensures ∙ c.if-not-pair_rises.true),
     )
-
-pub loop-i-preserved : goal.loop-i-preserved
-loop-i-preserved c =
-    passed-more c.loop-i.invariant c.loop-i-test.true (sym c.pair_rises.ensures ∙ c.if-not-pair_rises.false)
 
 pub returns : goal.returns
 unfolding order_ok

@@ -1,10 +1,6 @@
-use mathlib.Core.Path.{sym, ◌∙◌}
-use native.Mathlib.Omega.{arith}
+use Rattle.std.proofs.Common.{sym, ◌∙◌, arith}
 use Rattle.money.proofs.laws.OffsetLaws.{counted-yes, counted-no}
 use Rattle.money.proofs.offset.counted_in.Goals as goal
-
-pub series_sum-requires : goal.series_sum-requires
-series_sum-requires c = c.requires
 
 pub returns-then-up_to : goal.returns-then-up_to
 returns-then-up_to c =

@@ -14,12 +14,12 @@ fold_end : (t : Taken) (ys : List Import) (i : ℕ) → length ys ≤ i → fold
 unfolding fold_of
 fold_end t ys i h = rw (drop_of_length-le ys h)
 
-pub loop-i-preserved : goal.loop-i-preserved
-loop-i-preserved c =
-    ap (λ (s : Taken). fold_of s (drop (c.loop-i.i + 1) c.args.entries.now)) c.add-t.ensures
-    ∙ sym (fold_step c.loop-i.t c.args.entries.now c.loop-i.i _ (omega arith)) ∙ c.loop-i.invariant
+pub loop-e-preserved : goal.loop-e-preserved
+loop-e-preserved c =
+    ap (λ (s : Taken). fold_of s (drop (c.loop-e.e-index + 1) c.args.entries.now)) c.add-t.ensures
+    ∙ sym (fold_step c.loop-e.t c.args.entries.now c.loop-e.e-index _ (omega arith)) ∙ c.loop-e.invariant
 
 pub returns : goal.returns
 returns c =
-    c.finish.ensures ∙ ap finish_of (sym (fold_end c.loop-i.t c.args.entries.now c.loop-i.i (omega arith)) ∙ c.loop-i.invariant
+    c.finish.ensures ∙ ap finish_of (sym (fold_end c.loop-e.t c.args.entries.now c.loop-e.e-index (omega arith)) ∙ c.loop-e.invariant
     ∙ ap (λ (s : Taken). fold_of s c.args.entries.now) c.start-t.ensures) ∙ whole c.args.entries.now c.args.prices c.args.totals

@@ -1,4 +1,4 @@
-use native.Mathlib.Omega.{arith}
+use Rattle.std.proofs.Common.{arith}
 use Rattle.laws.specs.SumLaws.{summed-none, summed-more}
 use Rattle.money.proofs.laws.OffsetLaws.{adj-ready, offsets-room, gives-is, gives-room, offsets-all}
 use Rattle.money.proofs.laws.GuaranteeLaws.{credit-room}
@@ -8,32 +8,24 @@ use Rattle.money.proofs.offset.offset_of.Goals as goal
 pub loop-i-init : goal.loop-i-init
 loop-i-init c = summed-none _ _
 
-pub adj_series-series-requires : goal.adj_series-series-requires
-adj_series-series-requires c = record { listed = c.requires.listed; i_in = c.loop-i-test.true }
-
-pub credit_of-requires : goal.credit_of-requires
-credit_of-requires c =
-    adj-ready c.args.prices c.args.totals c.requires.listed c.requires.rates {q = quantity_at c.adj_series-series.result} {i = c.loop-i.i}
-    c.loop-i-test.true c.adj_series-series.ensures
-
 pub minus-requires : goal.minus-requires
 minus-requires c =
-    let r = adj-ready c.args.prices c.args.totals c.requires.listed c.requires.rates {q = quantity_at c.adj_series-series.result} {i = c.loop-i.i}
+    let r = adj-ready c.args.hour.prices c.args.totals (c.requires) c.args.hour.rates {q = quantity_at c.adj_series-series.result} {i = c.loop-i.i}
     c.loop-i-test.true c.adj_series-series.ensures in
-    record { self_moderate = omega (arith, (c.requires.listed.each c.loop-i.i c.loop-i-test.true).small); other_moderate = credit-room r c.credit_of.ensures }
+    record { self_moderate = omega (arith, ((c.requires).each c.loop-i.i c.loop-i-test.true).small); other_moderate = credit-room r c.credit_of.ensures }
 
 pub plus-sum-requires : goal.plus-sum-requires
 plus-sum-requires c = record {
-  self_moderate = offsets-room c.args.prices c.args.totals c.requires.listed c.requires.rates c.loop-i.invariant;
-  other_moderate = gives-room c.args.prices
-      c.args.totals c.requires.listed c.requires.rates c.loop-i.invariant c.loop-i-test.true c.adj_series-series.ensures c.credit_of.ensures
-      c.minus.ensures;
+  self_moderate = offsets-room c.args.hour.prices c.args.totals (c.requires) c.args.hour.rates c.loop-i.invariant;
+  other_moderate = gives-room c.args.hour.prices
+      c.args.totals (c.requires) c.args.hour.rates c.loop-i.invariant c.loop-i-test.true c.adj_series-series.ensures c.credit_of.ensures
+      c.minus.ensures.value;
 }
 
 pub loop-i-preserved : goal.loop-i-preserved
 loop-i-preserved c =
-    summed-more c.loop-i.invariant c.loop-i-test.true c.plus-sum.ensures (gives-is c.args.prices c.args.totals c.requires.listed
-    c.requires.rates c.loop-i.invariant c.loop-i-test.true c.adj_series-series.ensures c.credit_of.ensures c.minus.ensures)
+    summed-more c.loop-i.invariant c.loop-i-test.true c.plus-sum.ensures.value (gives-is c.args.hour.prices c.args.totals (c.requires)
+    c.args.hour.rates c.loop-i.invariant c.loop-i-test.true c.adj_series-series.ensures c.credit_of.ensures c.minus.ensures.value)
 
 pub returns : goal.returns
 returns c = offsets-all _ _ _ _ c.loop-i.invariant c.loop-i-test.false

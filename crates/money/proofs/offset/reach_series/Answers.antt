@@ -1,16 +1,20 @@
+use Rattle.std.proofs.Common.{rules, ◌<◌}
+use Rattle.std.proofs.lemmas.List.{get_or-take}
 use Rattle.money.proofs.laws.UnitLaws.{zeros}
-use Rattle.money.proofs.laws.OffsetLaws.{reached-none, reached-room, reached-more, reached-all}
+use Rattle.money.proofs.laws.OffsetLaws.{reached-none, reached-room, reached-more}
 use Rattle.money.specs.Units.{intervals}
+use Rattle.money.specs.Offset.{no_import}
 use Rattle.money.proofs.offset.reach_series.Goals as goal
 
-pub loop-j-init : goal.loop-j-init
-loop-j-init c = reached-none _ _ _ _ (λ k l. zeros intervals k)
+pub loop-a-init : goal.loop-a-init
+loop-a-init c = reached-none _ _ _ _ (λ k l. zeros intervals k)
 
 pub counted_in-next-requires : goal.counted_in-next-requires
-counted_in-next-requires c = reached-room c.loop-j.invariant c.loop-j-test.true c.requires.listed
+counted_in-next-requires c =
+    let l : c.loop-a.a-index < c.args.n = search rules in
+    rw (get_or-take c.args.n c.args.entries c.loop-a.a-index no_import l) (reached-room c.loop-a.invariant l c.requires.listed)
 
-pub loop-j-preserved : goal.loop-j-preserved
-loop-j-preserved c = reached-more c.loop-j.invariant c.loop-j-test.true c.counted_in-next.ensures
-
-pub returns : goal.returns
-returns c = reached-all c.loop-j.invariant c.loop-j-test.false
+pub loop-a-preserved : goal.loop-a-preserved
+loop-a-preserved c =
+    let l : c.loop-a.a-index < c.args.n = search rules in
+    reached-more c.loop-a.invariant l (rw (← get_or-take c.args.n c.args.entries c.loop-a.a-index no_import l) c.counted_in-next.ensures)

@@ -1,4 +1,3 @@
-use Prim.Native.Nat.{◌-◌}
 use Rattle.laws.specs.SumLaws.{Summed}
 use Rattle.money.specs.Production.{hour_part}
 use Rattle.money.specs.Units.{day_hours}
@@ -6,6 +5,3 @@ use Rattle.money.proofs.production.day_sum.Given as goal
 
 abbrev pub invariant-loop-i : goal.invariant-loop-i
 invariant-loop-i l = Summed day_hours (hour_part l.amounts l.starts) l.sum.0 l.i
-
-abbrev pub decreases-loop-i : goal.decreases-loop-i
-decreases-loop-i l = day_hours - l.i

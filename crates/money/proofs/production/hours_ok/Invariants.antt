@@ -1,5 +1,4 @@
-use Prim.Native.Nat.{◌-◌}
-use lib.ListN.{get_or}
+use Rattle.std.proofs.Common.{get_or}
 use Rattle.laws.specs.SumLaws.{Passed}
 use Rattle.money.specs.Production.{amount_ok, no_ticks, no_start}
 use Rattle.money.specs.Units.{day_hours}
@@ -7,6 +6,3 @@ use Rattle.money.proofs.production.hours_ok.Given as goal
 
 abbrev pub invariant-loop-i : goal.invariant-loop-i
 invariant-loop-i l = Passed day_hours (λ j. amount_ok (get_or l.amounts j no_ticks) (get_or l.starts j no_start)) l.i
-
-abbrev pub decreases-loop-i : goal.decreases-loop-i
-decreases-loop-i l = day_hours - l.i

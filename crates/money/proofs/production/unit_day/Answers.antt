@@ -1,22 +1,14 @@
-use mathlib.Core.Path.{sym, ◌∙◌}
-use Rattle.money.specs.declared.production.DayAnswer.TheVariants as day-variants
+use Rattle.std.proofs.Common.{sym, ◌∙◌}
+use Rattle.money.specs.Answers.{Day}
 use Rattle.money.specs.Production.{day_answer}
 use Rattle.money.proofs.laws.ProductionLaws.{day-of, reversal-is}
 use Rattle.money.proofs.production.unit_day.Goals as goal
 
-pub returns-then-not-hours_ok : goal.returns-then-not-hours_ok
-unfolding day_answer
-returns-then-not-hours_ok c = rw (sym c.hours_ok.ensures ∙ c.if-not-hours_ok.true)
-
 pub day_sum-total-requires : goal.day_sum-total-requires
-day_sum-total-requires c =
-    day-of c.args.amounts c.args.starts (sym c.hours_ok.ensures ∙ c.if-not-hours_ok.false)
-
-pub deficit-requires : goal.deficit-requires
-deficit-requires c = c.day_sum-total.ensures.moderate
+day_sum-total-requires c = day-of c.args.amounts c.args.starts (sym c.hours_ok.ensures ∙ c.if-not-hours_ok.false)
 
 pub returns : goal.returns
 unfolding day_answer
 returns c =
-    rw (sym c.hours_ok.ensures ∙ c.if-not-hours_ok.false) (λ i. day-variants.Day (record { 0 = c.day_sum-total.ensures.value i })
-    (record { 0 = reversal-is c.day_sum-total.ensures.value c.deficit.ensures i }))
+    rw (sym c.hours_ok.ensures ∙ c.if-not-hours_ok.false) (λ i. Day (record { 0 = c.day_sum-total.ensures.value i })
+    (record { 0 = reversal-is c.day_sum-total.ensures.value c.deficit-reversal.ensures i }))

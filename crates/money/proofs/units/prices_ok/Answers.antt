@@ -1,22 +1,12 @@
-use mathlib.Core.Path.{sym, ◌∙◌}
-use lib.ListN.{get_or}
-use Rattle.laws.specs.SumLaws.{passed_none, passed-more, passed-all, every-no}
-use Rattle.money.specs.Units.{prices_ok, price_ok, no_price}
+use Rattle.std.proofs.Common.{◌∙◌, rules, tests}
+use Rattle.std.proofs.lemmas.Iterator.{YieldsList-from_slice}
+use Rattle.std.proofs.lemmas.Iterator.Search.{all_from_yields_List}
+use Rattle.laws.specs.SumLaws.{every-list}
+use Rattle.money.specs.Units.{intervals, prices_ok, price_ok, no_price}
 use Rattle.money.proofs.units.prices_ok.Goals as goal
-
-pub loop-k-init : goal.loop-k-init
-loop-k-init c = passed_none _ _
-
-pub returns-then-not-in_range : goal.returns-then-not-in_range
-unfolding prices_ok
-returns-then-not-in_range c =
-    sym (every-no _ _ (λ j. price_ok (get_or c.args.prices j no_price)) c.loop-k-test.true
-    (sym c.in_range.ensures ∙ c.if-not-in_range.true))
-
-pub loop-k-preserved : goal.loop-k-preserved
-loop-k-preserved c =
-    passed-more c.loop-k.invariant c.loop-k-test.true (sym c.in_range.ensures ∙ c.if-not-in_range.false)
 
 pub returns : goal.returns
 unfolding prices_ok
-returns c = sym (passed-all c.loop-k.invariant c.loop-k-test.false)
+returns c =
+    all_from_yields_List price_ok _ _ _ c.all.ensures.ran (YieldsList-from_slice c.args.prices cc) (λ x b q k. search (rules, tests))
+    ∙ every-list intervals price_ok no_price c.args.prices (search rules)

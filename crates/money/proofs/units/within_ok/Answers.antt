@@ -1,22 +1,14 @@
-use mathlib.Core.Path.{sym}
-use lib.Dec.{leb}
-use borrow.Author.Tests.{le-leb, lt-leb}
-use Rattle.laws.specs.SumLaws.{passed_none, passed-more, passed-all, every-no}
-use Rattle.money.specs.Units.{within_ok, quantity_at}
+use Rattle.std.proofs.Common.{◌∙◌, leb, rules, tests}
+use Rattle.std.proofs.lemmas.Iterator.{YieldsList-from_slice}
+use Rattle.std.proofs.lemmas.Iterator.Search.{all_from_yields_List}
+use Rattle.laws.specs.SumLaws.{every-list}
+use Rattle.money.specs.declared.units.Quantity.{Quantity}
+use Rattle.money.specs.Units.{intervals, within_ok, no_quantity}
 use Rattle.money.proofs.units.within_ok.Goals as goal
-
-pub loop-k-init : goal.loop-k-init
-loop-k-init c = passed_none _ _
-
-pub returns-then-last-q : goal.returns-then-last-q
-unfolding within_ok
-returns-then-last-q c =
-    sym (every-no _ _ (λ j. leb (quantity_at c.args.qs j) c.args.last.0) c.loop-k-test.true (lt-leb _ _ c.if-last-q.true))
-
-pub loop-k-preserved : goal.loop-k-preserved
-loop-k-preserved c =
-    passed-more c.loop-k.invariant c.loop-k-test.true (le-leb _ _ c.if-last-q.false)
 
 pub returns : goal.returns
 unfolding within_ok
-returns c = sym (passed-all c.loop-k.invariant c.loop-k-test.false)
+returns c =
+    let p = λ (q : Quantity). leb q.0 c.args.last.0 in
+    all_from_yields_List p _ _ _ c.all.ensures.ran (YieldsList-from_slice c.args.qs cc) (λ x b q k. search (rules, tests))
+    ∙ every-list intervals p no_quantity c.args.qs (search rules)
