@@ -1,7 +1,10 @@
 -- Laws of sums, tests and first faults over the numbers below n, as loops cite them.
-use Rattle.std.specs.Prelude.{◌≡◌, refl, Bool, true, false, cond, ◌&&◌, ◌||◌, ℕ, zero, suc, ◌+◌, ◌*◌, ◌≤◌, ◌<◌, ◌⊎◌, eqb, ℤ, pos, nat_abs, ◌+ℤ◌, ◌-ℤ◌}
-use Rattle.std.proofs.Common.{sym, ap, ◌∙◌, subst, zero-le, add-one, arith, inl, inr, eq-eqb, ne_eqb}
+use Rattle.std.specs.Prelude.{◌≡◌, refl, Bool, true, false, cond, ◌&&◌, ◌||◌, List, [], ◌∷◌, length, get_or, take, ℕ, zero, suc, ◌+◌, ◌*◌, ◌≤◌, ◌<◌, ◌⊎◌, eqb, ℤ, pos, nat_abs, ◌+ℤ◌, ◌-ℤ◌}
+use Rattle.std.specs.List.{list_all}
+use Rattle.std.proofs.Common.{sym, ap, ◌∙◌, subst, zero-le, length-take-le, add-one, arith, inl, inr, eq-eqb, ne_eqb}
 use Rattle.std.proofs.Math.Decide.{dec_lt, ℕ_discrete}
+use Rattle.std.proofs.lemmas.List.{get_or-take}
+use Rattle.std.proofs.Math.Bool.{and-true as and-idr, and_assoc}
 use Rattle.std.proofs.Math.IntN.{+ℤ_idr}
 use Rattle.laws.specs.IntLaws.{ints, by₄, add-within}
 use Rattle.laws.specs.Sums.{Σℤ, Σℕ, every, or_else, first_of}
@@ -151,6 +154,39 @@ pub every-ext : (n : ℕ) (f g : ℕ → Bool) → ((j : ℕ) → j < n → f j 
 unfolding every
 every-ext zero f g h = refl
 every-ext (suc n) f g h = λ i. every-ext n f g (λ j k. h j (omega arith)) i && h n (omega arith) i
+
+-- two tests of each index
+pub every-both : (n : ℕ) (f g : ℕ → Bool) → every n (λ k. f k && g k) ≡ every n f && every n g
+unfolding every
+every-both zero f g = refl
+every-both (suc n) f g = ap (λ b. b && (f n && g n)) (every-both n f g) ∙ swap (every n f) (every n g) (f n) (g n)
+  where
+    swap : (a b c d : Bool) → a && b && (c && d) ≡ a && c && (b && d)
+    swap true true c d = refl
+    swap true false true d = refl
+    swap true false false d = refl
+    swap false b c d = refl
+
+-- the first test apart
+every-first : (n : ℕ) (f : ℕ → Bool) → every (suc n) f ≡ f 0 && every n (λ k. f (suc k))
+unfolding every
+every-first zero f = sym (and-idr (f 0))
+every-first (suc n) f = ap (λ b. b && f (suc n)) (every-first n f) ∙ and_assoc (f 0) (every n (λ k. f (suc k))) (f (suc n))
+
+-- what `all` over a list answers
+pub every-list : {X : Type 0} (n : ℕ) (p : X → Bool) (d : X) (xs : List X) → length xs ≡ n → list_all p xs ≡ every n (λ k. p (get_or xs k d))
+unfolding every
+every-list {X} n p d xs e = go xs ∙ ap (λ (m : ℕ). every m (λ k. p (get_or xs k d))) e
+  where
+    go : (ys : List X) → list_all p ys ≡ every (length ys) (λ k. p (get_or ys k d))
+    go [] = refl
+    go (y ∷ ys) = ap (λ (b : Bool). p y && b) (go ys) ∙ sym (every-first (length ys) (λ k. p (get_or (y ∷ ys) k d)))
+
+-- the same over the first n of a list
+pub every-front : {X : Type 0} (n : ℕ) (p : X → Bool) (d : X) (xs : List X) → n ≤ length xs → list_all p (take n xs) ≡ every n (λ k. p (get_or xs k d))
+every-front n p d xs h =
+    every-list n p d (take n xs) (length-take-le n xs h)
+    ∙ every-ext n (λ k. p (get_or (take n xs) k d)) (λ k. p (get_or xs k d)) (λ k l. ap p (get_or-take n xs k d l))
 
 -- ---- first faults
 pub first_of-ext : (n : ℕ) (f g : ℕ → ℕ) → ((j : ℕ) → j < n → f j ≡ g j) → first_of n f ≡ first_of n g

@@ -4,11 +4,13 @@
 #![tactic(auto)]
 
 use records::marks::Wanted;
-use records::parse::parse_any;
-use records::scan::is_record;
+use records::parse::{Act, parse_any};
 use records::writing::put;
 
 const DIGITS: [u8; 16] = *b"0123456789ABCDEF";
+
+// So many cases at most are read: a program has to end.
+const CASES_MAX: u32 = 100000;
 
 fn print_byte(b: u8) {
     let pair = [DIGITS[(b / 16) as usize], DIGITS[(b % 16) as usize]];
@@ -16,10 +18,8 @@ fn print_byte(b: u8) {
 }
 
 fn print_bytes(s: &[u8]) {
-    let mut i: usize = 0;
-    while i < s.len() {
-        print_byte(s[i]);
-        i = i + 1;
+    for b in s {
+        print_byte(*b);
     }
 }
 
@@ -32,26 +32,18 @@ fn print_written(s: &[u8], len: usize) {
 }
 
 fn show(s: &[u8]) {
-    let p = parse_any(s);
-    let n = p.number;
-    if n != 0 {
-        io::print_decimal(1, n as u64);
-        io::write_all(1, b"\n");
-        return;
+    match parse_any(s) {
+        Ok(Act::Change(view)) => {
+            let mut out = io::buffer();
+            put(&mut out, 0, s, Wanted::Any).is_ok();
+            print_written(&out, view.len);
+        }
+        Ok(Act::TakeBack | Act::Close) => print_written(s, s.len()),
+        Err(refusal) => {
+            io::print_decimal(1, refusal.number() as u64);
+            io::write_all(1, b"\n");
+        }
     }
-    let v = p.view;
-    let len = v.len;
-    if !is_record(v) {
-        print_written(s, s.len());
-        return;
-    }
-    let mut out = io::buffer();
-    put(&mut out, 0, s, Wanted::Any);
-    print_written(&out, len);
-}
-
-fn joined(low: u8, high: u8) -> usize {
-    (low as usize) + 256 * (high as usize)
 }
 
 fn case_in(part: &mut [u8]) {
@@ -65,7 +57,7 @@ fn next_case() -> bool {
     if io::read_full(0, &mut head) < 2 {
         return false;
     }
-    let n = joined(head[0], head[1]);
+    let n = u16::from_le_bytes(head) as usize;
     if 2048 < n {
         return false;
     }
@@ -75,11 +67,9 @@ fn next_case() -> bool {
 }
 
 fn main() {
-    let mut left: u32 = 100000;
-    while 0 < left {
+    for _ in 0..CASES_MAX {
         if !next_case() {
             return;
         }
-        left = left - 1;
     }
 }

@@ -1,3 +1,2 @@
-pub mod Some
 pub mod Lemmas
 pub mod SpellName

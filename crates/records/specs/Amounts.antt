@@ -14,8 +14,7 @@ use Rattle.money.specs.Failure.{import_charge, export_charge, import_charge_answ
 use Rattle.money.specs.declared.units.Ticks.{Ticks}
 use Rattle.money.specs.declared.units.Quantity.{Quantity}
 use Rattle.money.specs.declared.names.Name.{Name}
-use Rattle.money.specs.declared.units.Answer.{Answer}
-use Rattle.money.specs.declared.units.Answer.TheVariants.{Amount, Refused}
+use Rattle.money.specs.Answers.{Answer, Amount, Refused}
 use Rattle.money.specs.declared.imports.Import.{Import}
 use Rattle.money.specs.declared.failure.Failure.{Failure}
 use Rattle.records.specs.Reading.{Res, bad, got, Reader, ◌>>=◌}
@@ -23,15 +22,12 @@ use Rattle.records.specs.Numbers.{pad}
 use Rattle.records.specs.Names.{empty_name}
 use Rattle.records.specs.Layouts.{import, export, unit}
 use Rattle.records.specs.Changes.{Rec}
-use Rattle.records.specs.Views.{import_of, unit_hour_of, failure_of, no_offer, value_or, fault_of, ahead, viewed, viewed_failure}
+use Rattle.records.specs.Views.{import_of, unit_hour_of, failure_of, no_offer, value_or, ahead, viewed, viewed_failure}
 use Rattle.records.specs.declared.marks.Mark.{Mark}
 use Rattle.records.specs.declared.marks.Mark.TheVariants.{Pr, Im, Ex, Gh, Fi, Fe}
 use Rattle.records.specs.declared.layouts.HourPrices.{HourPrices}
 use Rattle.records.specs.declared.layouts.Import.{Import as ImportFields}
 use Rattle.records.specs.declared.amounts.UnitPart.{UnitPart}
-use Rattle.records.specs.declared.amounts.EntryAnswer.{EntryAnswer}
-use Rattle.records.specs.declared.amounts.PartAnswer.{PartAnswer}
-use Rattle.records.specs.declared.amounts.TotalsAnswer.{TotalsAnswer}
 use Rattle.money.specs.Units.{intervals}
 
 -- "An import's credit for an hour"
@@ -120,11 +116,9 @@ entry_read p s = ahead Im s >>= λ n t. import t >>= λ i u. given (credit_for i
 abbrev pub no_entry : Import
 no_entry = record { name = empty_name; credit = no_ticks; quantities = pad no_quantity intervals []; offer = no_offer }
 
-abbrev pub entry_answer : Res Import → EntryAnswer
-entry_answer r = record { number = fault_of r; entry = value_or no_entry r }
-
-abbrev pub offset_entry_in : List ℕ → HourPrices → EntryAnswer
-offset_entry_in s p = entry_answer (entry_read p s)
+-- the entry, zeros of bytes that give none
+abbrev pub entry_in : List ℕ → HourPrices → Import
+entry_in s p = value_or no_entry (entry_read p s)
 
 -- what a unit's hour adds to its day
 abbrev pub part_read : HourPrices → Reader UnitPart
@@ -133,18 +127,14 @@ part_read p s = viewed Gh unit s >>= λ u t. given (hour_answer u p.emp) (λ a. 
 abbrev pub no_part : UnitPart
 no_part = record { ticks = no_ticks; start = no_start }
 
-abbrev pub part_answer : Res UnitPart → PartAnswer
-part_answer r = record { number = fault_of r; part = value_or no_part r }
-
-abbrev pub unit_part_in : List ℕ → HourPrices → PartAnswer
-unit_part_in s p = part_answer (part_read p s)
+-- the part, zeros of bytes that give none
+abbrev pub part_in : List ℕ → HourPrices → UnitPart
+part_in s p = value_or no_part (part_read p s)
 
 -- an hour's export totals with the quantities of one more export
 abbrev pub totals_read : List Quantity → Reader (List Quantity)
 totals_read ts s = viewed Ex export s >>= λ x t. got (totals_with ts x.mqsw) t
 
-abbrev pub totals_answer : Res (List Quantity) → TotalsAnswer
-totals_answer r = record { number = fault_of r; totals = value_or (pad no_quantity intervals []) r }
-
-abbrev pub totals_with_in : List ℕ → List Quantity → TotalsAnswer
-totals_with_in s ts = totals_answer (totals_read ts s)
+-- the totals, zeros of bytes that give none
+abbrev pub totals_more : List ℕ → List Quantity → List Quantity
+totals_more s ts = value_or (pad no_quantity intervals []) (totals_read ts s)

@@ -1,5 +1,5 @@
 -- 01, "Records" and "Numbers a call can bring back": changes, read and written. Assumes nothing.
-use Rattle.std.specs.Prelude.{◌≡◌, List, [], ◌∷◌, ◌++◌, Bool, true, false, cond, ◌&&◌, ℕ, ◌+◌, ◌-◌, leb, eqb, length}
+use Rattle.std.specs.Prelude.{◌≡◌, List, [], ◌∷◌, ◌++◌, Bool, true, false, cond, ◌&&◌, ℕ, ◌+◌, leb, eqb, length}
 use Rattle.std.proofs.lemmas.List.Edits.{sets}
 use Rattle.laws.specs.Text.{bytes}
 use Rattle.money.specs.Refusals.{ends_early, mark_unknown, name_fault, bytes_left_over, no_space}
@@ -10,17 +10,11 @@ use Rattle.records.specs.Names.{spell, name_field, empty_name, bytes_of, stored_
 use Rattle.records.specs.Marks.{is, mark_bytes, mark, has_name}
 use Rattle.records.specs.Layouts.{layout, taken}
 use Rattle.records.specs.declared.marks.Mark.{Mark}
-use Rattle.records.specs.declared.marks.Mark.TheVariants.{Pr}
 use Rattle.records.specs.declared.marks.Kind.{Kind}
 use Rattle.records.specs.declared.marks.Kind.TheVariants.{File, Correct, Withdraw}
 use Rattle.records.specs.declared.marks.Wanted.{Wanted}
 use Rattle.records.specs.declared.marks.Wanted.TheVariants.{Any, Only}
-use Rattle.records.specs.declared.marks.Act.{Act}
-use Rattle.records.specs.declared.marks.Act.TheVariants.{Record, TakeBack, Close, Nothing}
 use Rattle.records.specs.declared.keys.Key.{Key}
-use Rattle.records.specs.declared.scan.View.{View}
-use Rattle.records.specs.declared.parse.Parsed.{Parsed}
-use Rattle.records.specs.declared.parse.Front.{Front}
 
 -- a record: "Key: mark, hour, decoded name", and its fields as they stand in the bytes
 pub record Rec : Type 0 where
@@ -246,57 +240,3 @@ scan s = written s (change Any s)
 -- a change that is read back wherever it is written
 unfoldable pub Good : Change → Type 0
 Good c = (t : List ℕ) → change Any (write c ++ t) ≡ got c t
-
--- ---- what the code answers
-
--- the key beside a number
-abbrev pub no_key : Key
-no_key = record { mark = Pr; hour = 0; name = empty_name }
-
--- a change of a record
-abbrev pub is_record : Act → Bool
-is_record (Record k) = true
-is_record TakeBack = false
-is_record Close = false
-is_record Nothing = false
-
--- and its kind; `File` where it is none
-abbrev pub kind_in : Act → Kind
-kind_in (Record k) = k
-kind_in TakeBack = File
-kind_in Close = File
-kind_in Nothing = File
-
--- a change as its view
-abbrev pub view_of : Scan → View
-view_of (seen c n) = record { act = Record (kind c); key = key_of c; len = n }
-view_of unseen = record { act = Nothing; key = no_key; len = 0 }
-
--- an entry as its view
-abbrev pub entry_view : Entry → View
-entry_view (changed c) = view_of (seen c (length (write c)))
-entry_view taking_back = record { act = TakeBack; key = no_key; len = 0 }
-entry_view closing = record { act = Close; key = no_key; len = 0 }
-
--- a reader's result with its change as the code answers it
-abbrev pub change_view : Res Change → Res View
-change_view r = r >>= λ c t. got (view_of (seen c (length (write c)))) t
-
--- the first of several, as its view
-abbrev pub entry_read : Res Entry → Res View
-entry_read r = r >>= λ x t. got (entry_view x) t
-
--- an argument as its view, or its number
-abbrev pub parsed_of : Input Change → Parsed
-parsed_of (fine c) = record { number = 0; view = view_of (seen c (length (write c))) }
-parsed_of (fault n) = record { number = n; view = view_of unseen }
-
--- the same of any mark
-abbrev pub entry_of : Input Entry → Parsed
-entry_of (fine x) = record { number = 0; view = entry_view x }
-entry_of (fault n) = record { number = n; view = view_of unseen }
-
--- the first of several changes, and the place where it ends
-abbrev pub front_of : List ℕ → Res Entry → Front
-front_of s (bad n) = record { number = n; view = view_of unseen; end = 0 }
-front_of s (got x t) = record { number = 0; view = entry_view x; end = length s - length t }

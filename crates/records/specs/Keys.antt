@@ -8,12 +8,9 @@ use Rattle.records.specs.Reading.{Res, bad, got, ◌>>=◌, check}
 use Rattle.records.specs.Numbers.{between}
 use Rattle.records.specs.Names.{decode_name, empty_name, stored_name, spell, bytes_of}
 use Rattle.records.specs.Marks.{mark, has_name, is_failure, same_mark, key_mark}
-use Rattle.records.specs.Changes.{no_key}
 use Rattle.records.specs.declared.marks.Mark.{Mark}
-use Rattle.records.specs.declared.marks.Mark.TheVariants.{Gh}
+use Rattle.records.specs.declared.marks.Mark.TheVariants.{Pr, Gh}
 use Rattle.records.specs.declared.keys.Key.{Key}
-use Rattle.records.specs.declared.keys.KeyAnswer.{KeyAnswer}
-use Rattle.records.specs.declared.keys.NameAnswer.{NameAnswer}
 
 -- marks whose records stand under one key
 abbrev pub same_key_mark : Key → Key → Bool
@@ -44,9 +41,13 @@ ask_name m n = cond (has_name m) (stored_name (decode_name n)) (check (eqb (leng
 unfoldable pub ask_failure_mark : List ℕ → Res Mark
 ask_failure_mark ms = ask_mark ms >>= λ m t. check (is_failure m) mark_unknown (got m t)
 
+-- after the mark the hour, then the name
+abbrev pub ask_key_of : Mark → ℕ → List ℕ → Res Key
+ask_key_of m h ns = check (between 1 day_hours h) hour_outside (ask_name m ns >>= λ n u. got (record { mark = m; hour = h; name = n }) [])
+
 -- a mark, then the hour, then the name
 unfoldable pub ask_from : Res Mark → ℕ → List ℕ → Res Key
-ask_from x h ns = x >>= λ m t. check (between 1 day_hours h) hour_outside (ask_name m ns >>= λ n u. got (record { mark = m; hour = h; name = n }) [])
+ask_from x h ns = x >>= λ m t. ask_key_of m h ns
 
 -- the key of a record
 abbrev pub ask : List ℕ → ℕ → List ℕ → Res Key
@@ -68,16 +69,10 @@ ask_hour ms h = ask_mark ms >>= λ m t. ask_hour_of m h
 unfoldable pub ask_unit : List ℕ → Res Key
 ask_unit ns = stored_name (decode_name ns) >>= λ n u. got (record { mark = Gh; hour = 1; name = n }) []
 
--- a key, or the number of what is wrong with it
-abbrev pub key_answer : Res Key → KeyAnswer
-key_answer (bad n) = record { number = n; key = no_key }
-key_answer (got k t) = record { number = 0; key = k }
-
--- a name, or its number
-abbrev pub name_answer : Res Name → NameAnswer
-name_answer (bad n) = record { number = n; name = empty_name }
-name_answer (got x t) = record { number = 0; name = x }
-
 -- the bytes that ask for a key's name: its written spelling, none where the mark has none
 abbrev pub ask_bytes : Key → List ℕ
 ask_bytes k = cond (has_name k.mark) (spell (bytes_of k.name)) []
+
+-- what stands where bytes begin with no key: never met
+abbrev pub no_key : Key
+no_key = record { mark = Pr; hour = 0; name = empty_name }

@@ -4,6 +4,7 @@ pub mod Names
 pub mod Marks
 pub mod Layouts
 pub mod Changes
+pub mod Answers
 pub mod Keys
 pub mod Hours
 pub mod HourRecord

@@ -5,8 +5,8 @@
 -- `of_hour` (HourRecord), `body_most` (LengthLaws).
 -- Laws: `order-back` (MarkLaws), `head-again` for each kind (ChangeLaws), `head-file` and a `Layout` (ViewLaws), `ask_mark-bytes` (KeyLaws), `lawful-layout` (ReaderLaws),
 -- `firm-layout` (FirmLaws), `brief-layout` (LengthLaws).
--- Code: `Mark`, `MARKS`, `bytes_of`, `listed`, `has_name`, `is_failure`, `order`, `key_mark`, `limit` (marks.rt), `of_hour` (hour_records.rt); with an arm in their proofs
--- `layout_then` (layouts.rt) and `charge_for` (amounts.rt).
+-- Code: `Mark`, `LISTING`, `bytes_of`, `has_name`, `is_failure`, `order`, `key_mark`, `limit` (marks.rt), `of_hour` (hour_records.rt); with an arm in their proofs
+-- `layout_at` (layouts.rt) and `charge_for` (amounts.rt).
 -- In other crates: `book/specs/Layer.antt` hands the names on; hour_offset has `add_fault` and `adding` (Tally), the two `go` of TallyLaws, and with an arm in its proof `with_record`
 -- (tally.rt). A mark with an amount: `standing-*` (FitLaws), `*-view` (ViewLaws), `has_amount`, `amount_in` (bridge/Bridge), `has_amount`, `amount_of` (bridge).
 -- One that is printed: `statement/Statement`.

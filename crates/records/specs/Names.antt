@@ -1,12 +1,11 @@
 -- 01, "Records": names, percent-decoded exactly once (RFC 3986), and their one written spelling. Assumes nothing.
-use Rattle.std.specs.Prelude.{List, [], ◌∷◌, ◌++◌, Bool, cond, ◌||◌, ℕ, zero, suc, ◌+◌, ◌*◌, ◌-◌, ◌/◌, ◌%◌, ltb, eqb, length, take}
+use Rattle.std.specs.Prelude.{List, [], ◌∷◌, ◌++◌, Bool, cond, ◌||◌, ℕ, zero, suc, ◌+◌, ◌*◌, ◌-◌, ◌/◌, ◌%◌, ltb, eqb, length, take, Option, Some, None}
 use Rattle.laws.specs.Text.{char}
 use Rattle.money.specs.Refusals.{name_fault}
-use Rattle.money.specs.Names.{name_ok, max_name}
+use Rattle.money.specs.Names.{max_name}
 use Rattle.money.specs.declared.names.Name.{Name}
 use Rattle.records.specs.Reading.{Res, bad, got, Reader, ◌>>=◌, check, byte, some}
 use Rattle.records.specs.Numbers.{between, pad}
-use Rattle.records.specs.declared.names.Spelling.{Spelling}
 
 -- a written name is "1 to 36 bytes"
 abbrev pub max_spelling : ℕ
@@ -21,6 +20,10 @@ unfoldable pub hex_val : ℕ → ℕ
 hex_val x =
     cond (between (char "0") (char "9") x) (x - char "0")
     (cond (between (char "A") (char "F") x) (10 + (x - char "A")) (cond (between (char "a") (char "f") x) (10 + (x - char "a")) 16))
+
+-- the value of a byte that is a hex digit
+abbrev pub hex_digit : ℕ → Option ℕ
+hex_digit x = cond (ltb (hex_val x) 16) (Some (hex_val x)) None
 
 -- "`%` only before two hex digits": what these two stand for
 unfoldable pub escaped : Reader ℕ
@@ -88,13 +91,3 @@ empty_name = name_from []
 -- a name that was read, as a key holds it
 abbrev pub stored_name : Res (List ℕ) → Res Name
 stored_name r = r >>= λ n t. got (name_from n) t
-
--- ---- a name as it is written, with zeros behind it: number 0, or "name breaks its rule" of one that is none, and no bytes
-
--- a number, and bytes with zeros behind them
-abbrev pub spelling_bytes : ℕ → List ℕ → Spelling
-spelling_bytes k s = record { number = k; len = length s; bytes = pad 0 max_spelling s }
-
--- 4 of a name that breaks its rule
-unfoldable pub spelling_of : Name → Spelling
-spelling_of n = cond (name_ok n) (spelling_bytes 0 (spell (bytes_of n))) (spelling_bytes name_fault [])

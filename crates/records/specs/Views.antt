@@ -19,11 +19,6 @@ use Rattle.records.specs.declared.marks.Wanted.TheVariants.{Only}
 use Rattle.records.specs.declared.layouts.HourPrices.{HourPrices}
 use Rattle.records.specs.declared.layouts.Import.{Import}
 use Rattle.records.specs.declared.layouts.Export.{Export}
-use Rattle.records.specs.declared.views.PricesAnswer.{PricesAnswer}
-use Rattle.records.specs.declared.views.ImportAnswer.{ImportAnswer}
-use Rattle.records.specs.declared.views.ExportAnswer.{ExportAnswer}
-use Rattle.records.specs.declared.views.UnitAnswer.{UnitAnswer}
-use Rattle.records.specs.declared.views.FailureAnswer.{FailureAnswer}
 
 -- what was read, and d where nothing was
 abbrev pub value_or : {A : Type 0} → A → Res A → A
@@ -105,20 +100,3 @@ viewed_failure m s = check (is_failure m) mark_unknown (viewed m failure s)
 -- the prices, zeros in bytes that begin with no `PR`
 abbrev pub prices_in : List ℕ → HourPrices
 prices_in s = value_or no_prices (viewed Pr hour_prices s)
-
--- ---- what the code answers: number 0 and the value, or the number of the first fault and zeros throughout
-
-abbrev pub prices_answer : Res HourPrices → PricesAnswer
-prices_answer r = record { number = fault_of r; prices = value_or no_prices r }
-
-abbrev pub import_answer : Res Import → ImportAnswer
-import_answer r = record { number = fault_of r; import = value_or no_import r }
-
-abbrev pub export_answer : Res Export → ExportAnswer
-export_answer r = record { number = fault_of r; export = value_or no_export r }
-
-abbrev pub unit_answer : Res UnitHour → UnitAnswer
-unit_answer r = record { number = fault_of r; unit = value_or no_unit r }
-
-abbrev pub failure_answer : Res Failure → FailureAnswer
-failure_answer r = record { number = fault_of r; failure = value_or no_failure r }

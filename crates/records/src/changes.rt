@@ -1,99 +1,91 @@
 // A change as it is read: mark, hour, name and fields.
-ghost use Rattle.std.specs.Prelude.{◌≡◌};
-ghost use Rattle.records.specs.Names.{empty_name};
+ghost use Rattle.std.specs.Prelude.{◌≡◌, ◌≤◌, length, IfOk};
+ghost use Rattle.money.specs.Names.{max_name};
+ghost use Rattle.records.specs.Reading.{from};
 ghost use Rattle.records.specs.Changes.{nameless, name_for};
-ghost use Rattle.records.specs.tables.Inner.{shown, EndIn, then, Named, layout_for, ReadIs};
+ghost use Rattle.records.specs.tables.Inner.{read_as, InBytes, layout_for, ReadIs};
 
-use crate::fields::{End, hour_then, place};
+use crate::fields::{Got, byte_at, hour_at};
 use crate::keys::Key;
-use crate::layouts::layout_then;
-use crate::marks::{Kind, Mark, Wanted, has_name, head_at};
-use crate::names::{NameRead, name_field_then, unnamed};
-use money::refusals::{ENDS_EARLY, NAME_FAULT};
+use crate::layouts::layout_at;
+use crate::marks::{Head, Kind, Mark, Wanted, has_name, head_at};
+use crate::names::{name_at, no_name};
+use money::names::Name;
+use money::refusals::Refusal;
 
-// A change that was read: its body stands from `body` to the end.
+// A change that was read: its body stands from `body` to `end`.
 #[derive(Clone, Copy)]
-pub struct Read {
-    pub end: End,
-    pub kind: Kind,
-    pub key: Key,
-    pub body: usize,
+pub(crate) struct Read {
+    pub(crate) kind: Kind,
+    pub(crate) key: Key,
+    pub(crate) body: usize,
+    pub(crate) end: usize,
 }
 
-fn zero_then(s: &[u8], e: End) -> End
-    ensures { (shown s.now result (empty_name) ≡ then s.now e (nameless Kind.Withdraw)) × EndIn s.now result }
+// Where a mark has no name: nothing, or the length byte 0 of a withdrawal.
+fn nameless_at(s: &[u8], at: usize, kind: Kind) -> Result<Got<Name>, Refusal>
+    requires { at ≤ length s.now }
+    ensures value { read_as s.now result ≡ nameless kind (from s.now at) }
+    ensures placed { InBytes s.now result }
+    ensures few { IfOk result (λ r. r.value.len ≤ max_name) }
 {
-    match e {
-        End::At(at) => {
-            if s.len() <= at {
-                return End::No(ENDS_EARLY);
-            }
-            if s[at] == 0 {
-                End::At(at + 1)
-            } else {
-                End::No(NAME_FAULT)
-            }
-        }
-        End::No(k) => End::No(k),
+    let value = no_name();
+    if kind != Kind::Withdraw {
+        return Ok(Got { value, next: at });
     }
+    let Got { value: len, next } = byte_at(s, at)?;
+    if len != 0 {
+        return Err(Refusal::NameFault);
+    }
+    Ok(Got { value, next })
 }
 
-// Where nothing is read, the end that came is handed on: it has to lie within the bytes.
-fn nameless_then(s: &[u8], e: End, kind: Kind) -> NameRead
-    requires { EndIn s.now e }
-    ensures { Named s.now (then s.now e (nameless kind)) result }
-{
-    match kind {
-        Kind::File => unnamed(e),
-        Kind::Correct => unnamed(e),
-        Kind::Withdraw => {
-            let d = zero_then(s, e);
-            unnamed(d)
-        }
-    }
-}
-
-pub(crate) fn name_then(s: &[u8], e: End, kind: Kind, mark: Mark) -> NameRead
-    requires { EndIn s.now e }
-    ensures { Named s.now (then s.now e (name_for kind mark)) result }
+#[tactic(auto, unfolding(crate::specs::Changes::name_for))]
+pub(crate) fn name_for_at(s: &[u8], at: usize, kind: Kind, mark: Mark) -> Result<Got<Name>, Refusal>
+    requires { at ≤ length s.now }
+    ensures value { read_as s.now result ≡ name_for kind mark (from s.now at) }
+    ensures placed { InBytes s.now result }
+    ensures few { IfOk result (λ r. r.value.len ≤ max_name) }
 {
     if has_name(mark) {
-        return name_field_then(s, e);
+        return name_at(s, at);
     }
-    nameless_then(s, e, kind)
+    nameless_at(s, at, kind)
 }
 
-// A withdrawal has no fields: the end that came is handed on.
-fn fields_then(s: &[u8], e: End, kind: Kind, mark: Mark) -> End
-    requires { EndIn s.now e }
-    ensures { (shown s.now result tt ≡ then s.now e (layout_for kind mark)) × EndIn s.now result }
+// A withdrawal has no fields.
+#[tactic(auto, unfolding(crate::specs::tables::Inner::layout_for))]
+fn fields_at(s: &[u8], at: usize, kind: Kind, mark: Mark) -> Result<Got<()>, Refusal>
+    requires { at ≤ length s.now }
+    ensures value { read_as s.now result ≡ layout_for kind mark (from s.now at) }
+    ensures placed { InBytes s.now result }
 {
-    match kind {
-        Kind::File => layout_then(s, e, mark),
-        Kind::Correct => layout_then(s, e, mark),
-        Kind::Withdraw => e,
+    if kind == Kind::Withdraw {
+        return Ok(Got {
+            value: (),
+            next: at,
+        });
     }
+    layout_at(s, at, mark)
 }
 
-pub(crate) fn read_change(s: &[u8], want: Wanted) -> Read
+#[tactic(auto, using(crate::proofs::changes::Lemmas::faults))]
+pub(crate) fn read_change(s: &[u8], want: Wanted) -> Result<Read, Refusal>
     ensures { ReadIs s.now want result }
 {
-    let h = head_at(s, want);
-    let e1 = h.end;
-    let kind = h.kind;
-    let mark = h.mark;
-    let o = hour_then(s, e1);
-    let e2 = o.end;
-    let hour = o.hour;
-    let n = name_then(s, e2, kind, mark);
-    let e3 = n.end;
-    let name = n.name;
-    let end = fields_then(s, e3, kind, mark);
-    let body = place(e3);
-    Read {
-        end,
+    let Got { value: head, next } = head_at(s, want)?;
+    let Head { kind, mark } = head;
+    let Got { value: hour, next } = hour_at(s, next)?;
+    let Got {
+        value: name,
+        next: body,
+    } = name_for_at(s, next, kind, mark)?;
+    let Got { next: end, .. } = fields_at(s, body, kind, mark)?;
+    let key = Key { mark, hour, name };
+    Ok(Read {
         kind,
-        key: Key { mark, hour, name },
+        key,
         body,
-    }
+        end,
+    })
 }

@@ -1,75 +1,55 @@
 // The head of a change, which is its mark, hour and name: read by itself, and the bytes by which the records of a name are found.
 ghost use Rattle.std.specs.Prelude.{◌≡◌};
-ghost use Rattle.records.specs.Keys.{key_answer};
+ghost use Rattle.records.specs.Answers.{told, input_of};
 ghost use Rattle.records.specs.tables.Heads.{head_key, nameable, NameHeadIs};
 
-use crate::changes::name_then;
-use crate::fields::{End, hour_then};
-use crate::keys::{Key, KeyAnswer, key_no};
-use crate::marks::{Kind, Wanted, has_name, head_at};
+use crate::changes::name_for_at;
+use crate::fields::{Got, hour_at};
+use crate::keys::Key;
+use crate::marks::{Head, Kind, Wanted, has_name, head_at};
 use crate::writing::{NAME_HEAD_MAX, write_key_name};
 use money::names::name_ok;
+use money::refusals::Refusal;
 
-// The key of the change that bytes begin with, or the number of the first fault in its head. Its fields are not read.
-pub fn head_key(s: &[u8]) -> KeyAnswer
-    ensures { result ≡ key_answer (head_key s.now) }
+// The key of the change that bytes begin with, or the first fault in its head. Its fields are not read.
+#[tactic(auto, using(crate::proofs::heads::Lemmas::keys))]
+pub fn head_key(s: &[u8]) -> Result<Key, Refusal>
+    ensures { told result ≡ input_of (head_key s.now) }
 {
-    let h = head_at(s, Wanted::Any);
-    let e1 = h.end;
-    let kind = h.kind;
-    let mark = h.mark;
-    let o = hour_then(s, e1);
-    let e2 = o.end;
-    let hour = o.hour;
-    let n = name_then(s, e2, kind, mark);
-    let e3 = n.end;
-    let name = n.name;
-    match e3 {
-        End::At(_a) => KeyAnswer {
-            number: 0,
-            key: Key { mark, hour, name },
-        },
-        End::No(j) => key_no(j),
-    }
+    let Got { value: head, next } = head_at(s, Wanted::Any)?;
+    let Head { kind, mark } = head;
+    let Got { value: hour, next } = hour_at(s, next)?;
+    let Got { value: name, .. } = name_for_at(s, next, kind, mark)?;
+    Ok(Key { mark, hour, name })
 }
 
-// The bytes by which the records of a mark and name are told from others of the mark: those behind the hour. Not known of a name that none can have.
+// The bytes by which the records of a mark and name are told from others of the mark: those behind the hour.
 #[derive(Clone, Copy)]
 pub struct NameHead {
-    pub known: bool,
     pub len: usize,
     pub bytes: [u8; NAME_HEAD_MAX],
 }
 
 // Whether a record of the key's mark can have its name.
+#[tactic(auto, unfolding(crate::specs::tables::Heads::nameable))]
 fn nameable(key: Key) -> bool
     ensures { result ≡ nameable key }
 {
-    let mark = key.mark;
-    let name = key.name;
-    if has_name(mark) {
-        return name_ok(name);
+    if has_name(key.mark) {
+        return name_ok(key.name);
     }
-    name.len == 0
+    key.name.len == 0
 }
 
-pub fn name_head(key: Key) -> NameHead
+// None of a name that no record of the mark can have.
+#[tactic(auto, using(crate::proofs::heads::Lemmas::able_short))]
+pub fn name_head(key: Key) -> Option<NameHead>
     ensures { NameHeadIs key result }
 {
+    if !nameable(key) {
+        return None;
+    }
     let mut bytes = [0u8; NAME_HEAD_MAX];
-    if nameable(key) {
-        let mark = key.mark;
-        let name = key.name;
-        let len = write_key_name(Kind::File, mark, name, &mut bytes, 0);
-        return NameHead {
-            known: true,
-            len,
-            bytes,
-        };
-    }
-    NameHead {
-        known: false,
-        len: 0,
-        bytes,
-    }
+    let len = write_key_name(Kind::File, key.mark, key.name, &mut bytes, 0);
+    Some(NameHead { len, bytes })
 }

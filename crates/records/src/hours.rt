@@ -6,19 +6,18 @@ use crate::keys::{Key, same_key};
 use crate::marks::limit;
 
 // How many records of the key's mark an hour may hold.
+#[tactic(auto, unfolding(crate::specs::Hours::limit_of))]
 pub fn limit_of(key: Key) -> usize
     ensures { result ≡ limit_of key }
 {
-    let m = key.mark;
-    limit(m) as usize
+    limit(key.mark) as usize
 }
 
 // The same mark and name, in any hours.
+#[tactic(auto, unfolding(crate::specs::Hours::same_name, crate::specs::Hours::at_hour))]
 pub fn same_name(a: Key, b: Key) -> bool
     ensures { result ≡ same_name a b }
 {
-    let mark = b.mark;
     let hour = a.hour;
-    let name = b.name;
-    same_key(a, Key { mark, hour, name })
+    same_key(a, Key { hour, ..b })
 }

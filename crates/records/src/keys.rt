@@ -1,15 +1,14 @@
 // Keys, and the key that a question asks for.
-ghost use Rattle.std.specs.Prelude.{◌≡◌, List, ℕ, false};
+ghost use Rattle.std.specs.Prelude.{◌≡◌};
+ghost use Rattle.records.specs.Answers.{told, input_of};
 ghost use Rattle.records.specs.Names.{decode_name, empty_name, stored_name};
-ghost use Rattle.records.specs.Changes.{no_key};
-ghost use Rattle.records.specs.Keys.{same_hour, same, ask_mark, ask_name, ask_failure_mark, ask_from, ask, ask_failure, ask_hour_of, ask_hour, ask_unit, key_answer, name_answer};
-ghost use Rattle.records.specs.tables.Inner.{shown, EndIn, Named};
+ghost use Rattle.records.specs.Keys.{same_hour, same, ask_mark, ask_name, ask_failure_mark, ask_key_of, ask, ask_failure, ask_hour_of, ask_hour, ask_unit};
 
-use crate::fields::{End, guard_end, hour_ok};
-use crate::marks::{Mark, MarkRead, has_name, is_failure, key_mark, mark_at, mark_no, same_mark};
-use crate::names::{NameRead, decode, no_name, unnamed};
-use money::names::{NAME_MAX, Name, same_name};
-use money::refusals::{HOUR_OUTSIDE, MARK_UNKNOWN, NAME_FAULT};
+use crate::fields::hour_ok;
+use crate::marks::{Mark, has_name, is_failure, key_mark, mark_at};
+use crate::names::{decode, no_name};
+use money::names::Name;
+use money::refusals::Refusal;
 
 #[derive(Clone, Copy)]
 pub struct Key {
@@ -18,205 +17,129 @@ pub struct Key {
     pub name: Name,
 }
 
-// A key, or the number of the first fault in what was asked.
-#[derive(Clone, Copy)]
-pub struct KeyAnswer {
-    pub number: u8,
-    pub key: Key,
-}
-
-#[derive(Clone, Copy)]
-pub struct NameAnswer {
-    pub number: u8,
-    pub name: Name,
-}
-
 // The same mark and hour.
+#[tactic(auto, unfolding(crate::specs::Keys::same_hour))]
 pub fn same_hour(a: Key, b: Key) -> bool
     ensures { result ≡ same_hour a b }
 {
-    let x = a.mark;
-    let y = b.mark;
-    if same_mark(key_mark(x), key_mark(y)) {
-        return a.hour == b.hour;
-    }
-    false
+    key_mark(a.mark) == key_mark(b.mark) && a.hour == b.hour
 }
 
 // The same mark, hour and decoded name.
+#[tactic(auto, unfolding(crate::specs::Keys::same))]
 pub fn same_key(a: Key, b: Key) -> bool
     ensures { result ≡ same a b }
 {
-    if same_hour(a, b) {
-        let x = a.name;
-        let y = b.name;
-        return same_name(x, y);
-    }
-    false
+    same_hour(a, b) && a.name == b.name
 }
 
 // ---- the key of a question
 
-fn asked_mark(mark: &[u8]) -> MarkRead
-    ensures { (shown mark.now result.end result.mark ≡ ask_mark mark.now) × EndIn mark.now result.end }
+#[tactic(auto, using(crate::proofs::keys::Lemmas::asks))]
+fn asked_mark(mark: &[u8]) -> Result<Mark, Refusal>
+    ensures { told result ≡ input_of (ask_mark mark.now) }
 {
-    if mark.len() == 2 {
-        return mark_at(mark, 0);
+    if mark.len() != 2 {
+        return Err(Refusal::MarkUnknown);
     }
-    mark_no(MARK_UNKNOWN)
+    let m = mark_at(mark, 0)?;
+    Ok(m.value)
 }
 
-fn asked_name(name: &[u8], mark: Mark) -> NameRead
-    ensures { Named name.now (ask_name mark name.now) result }
+#[tactic(auto, unfolding(crate::specs::Keys::ask_name))]
+fn asked_name(name: &[u8], mark: Mark) -> Result<Name, Refusal>
+    ensures { told result ≡ input_of (ask_name mark name.now) }
 {
     if has_name(mark) {
-        return decode(name);
+        return ask_name(name);
     }
-    if name.len() == 0 {
-        return unnamed(End::At(0));
+    if !name.is_empty() {
+        return Err(Refusal::NameFault);
     }
-    unnamed(End::No(NAME_FAULT))
+    Ok(no_name())
 }
 
 // A mark and an hour, as a key without a name.
 pub fn key_of(mark: Mark, hour: u8) -> Key
     ensures { result ≡ record { mark = mark; hour = hour; name = empty_name } }
 {
-    let bytes = [0u8; NAME_MAX];
-    Key {
-        mark,
-        hour,
-        name: Name { len: 0, bytes },
-    }
+    let name = no_name();
+    Key { mark, hour, name }
 }
 
-pub(crate) fn key_no(n: u8) -> KeyAnswer
-    ensures { result ≡ record { number = n; key = no_key } }
+fn key_from(mark: Mark, hour: u8, name: &[u8]) -> Result<Key, Refusal>
+    ensures { told result ≡ input_of (ask_key_of mark hour name.now) }
 {
-    let bytes = [0u8; NAME_MAX];
-    KeyAnswer {
-        number: n,
-        key: Key {
-            mark: Mark::Pr,
-            hour: 0,
-            name: Name { len: 0, bytes },
-        },
+    if !hour_ok(hour) {
+        return Err(Refusal::HourOutside);
     }
-}
-
-fn key_from(m: MarkRead, hour: u8, name: &[u8]) -> KeyAnswer
-    ensures { (s : List ℕ) → result ≡ key_answer (ask_from (shown s m.end m.mark) hour name.now) }
-{
-    let e = m.end;
-    let k = m.mark;
-    match e {
-        End::At(_a) => {
-            if hour_ok(hour) {
-                let n = asked_name(name, k);
-                let f = n.end;
-                let x = n.name;
-                match f {
-                    End::At(_b) => KeyAnswer {
-                        number: 0,
-                        key: Key {
-                            mark: k,
-                            hour,
-                            name: x,
-                        },
-                    },
-                    End::No(j) => key_no(j),
-                }
-            } else {
-                key_no(HOUR_OUTSIDE)
-            }
-        }
-        End::No(j) => key_no(j),
-    }
+    let name = asked_name(name, mark)?;
+    Ok(Key { mark, hour, name })
 }
 
 // The key that a mark, an hour and a spelled name without its length byte ask for.
-pub fn ask_key(mark: &[u8], hour: u8, name: &[u8]) -> KeyAnswer
-    ensures { result ≡ key_answer (ask mark.now hour name.now) }
+#[tactic(auto, unfolding(crate::specs::Keys::ask_from))]
+pub fn ask_key(mark: &[u8], hour: u8, name: &[u8]) -> Result<Key, Refusal>
+    ensures { told result ≡ input_of (ask mark.now hour name.now) }
 {
-    key_from(asked_mark(mark), hour, name)
+    key_from(asked_mark(mark)?, hour, name)
 }
 
-fn asked_failure_mark(mark: &[u8]) -> MarkRead
-    ensures { (shown mark.now result.end result.mark ≡ ask_failure_mark mark.now) × EndIn mark.now result.end }
+#[tactic(auto, unfolding(crate::specs::Keys::ask_failure_mark))]
+fn asked_failure_mark(mark: &[u8]) -> Result<Mark, Refusal>
+    ensures { told result ≡ input_of (ask_failure_mark mark.now) }
 {
-    let m = asked_mark(mark);
-    let e = m.end;
-    let k = m.mark;
-    let end = guard_end(e, is_failure(k), MARK_UNKNOWN);
-    MarkRead { end, mark: k }
+    let m = asked_mark(mark)?;
+    if !is_failure(m) {
+        return Err(Refusal::MarkUnknown);
+    }
+    Ok(m)
 }
 
 // The same of a failure: another mark than FI or FE gives 2.
-pub fn ask_failure(mark: &[u8], hour: u8, name: &[u8]) -> KeyAnswer
-    ensures { result ≡ key_answer (ask_failure mark.now hour name.now) }
+#[tactic(auto, unfolding(crate::specs::Keys::ask_from))]
+pub fn ask_failure(mark: &[u8], hour: u8, name: &[u8]) -> Result<Key, Refusal>
+    ensures { told result ≡ input_of (ask_failure mark.now hour name.now) }
 {
-    key_from(asked_failure_mark(mark), hour, name)
+    key_from(asked_failure_mark(mark)?, hour, name)
 }
 
 // The same of an hour of the day; any other gives 3.
-pub fn hour_key(mark: Mark, hour: u8) -> KeyAnswer
-    ensures { result ≡ key_answer (ask_hour_of mark hour) }
+#[tactic(auto, unfolding(crate::specs::Keys::ask_hour_of))]
+pub fn hour_key(mark: Mark, hour: u8) -> Result<Key, Refusal>
+    ensures { told result ≡ input_of (ask_hour_of mark hour) }
 {
-    if hour_ok(hour) {
-        let key = key_of(mark, hour);
-        return KeyAnswer { number: 0, key };
+    if !hour_ok(hour) {
+        return Err(Refusal::HourOutside);
     }
-    key_no(HOUR_OUTSIDE)
+    Ok(key_of(mark, hour))
 }
 
 // The same, asked for by the mark's bytes.
-pub fn ask_hour(mark: &[u8], hour: u8) -> KeyAnswer
-    ensures { result ≡ key_answer (ask_hour mark.now hour) }
+#[tactic(auto, unfolding(crate::specs::Keys::ask_hour))]
+pub fn ask_hour(mark: &[u8], hour: u8) -> Result<Key, Refusal>
+    ensures { told result ≡ input_of (ask_hour mark.now hour) }
 {
-    let m = asked_mark(mark);
-    let e = m.end;
-    let k = m.mark;
-    match e {
-        End::At(_a) => hour_key(k, hour),
-        End::No(j) => key_no(j),
-    }
+    hour_key(asked_mark(mark)?, hour)
 }
 
 // The key of a unit that a spelled name asks for: its day has a name only, so the hour of this key is not used.
-pub fn unit_key(name: &[u8]) -> KeyAnswer
-    ensures { result ≡ key_answer (ask_unit name.now) }
+#[tactic(auto, unfolding(crate::specs::Keys::ask_unit))]
+pub fn unit_key(name: &[u8]) -> Result<Key, Refusal>
+    ensures { told result ≡ input_of (ask_unit name.now) }
 {
-    let n = decode(name);
-    let e = n.end;
-    let x = n.name;
-    match e {
-        End::At(_a) => KeyAnswer {
-            number: 0,
-            key: Key {
-                mark: Mark::Gh,
-                hour: 1,
-                name: x,
-            },
-        },
-        End::No(j) => key_no(j),
-    }
+    let name = ask_name(name)?;
+    Ok(Key {
+        mark: Mark::Gh,
+        hour: 1,
+        name,
+    })
 }
 
 // The name that spelled bytes without a length byte ask for.
-pub fn ask_name(name: &[u8]) -> NameAnswer
-    ensures { result ≡ name_answer (stored_name (decode_name name.now)) }
+pub fn ask_name(name: &[u8]) -> Result<Name, Refusal>
+    ensures { told result ≡ input_of (stored_name (decode_name name.now)) }
 {
-    let n = decode(name);
-    let e = n.end;
-    let x = n.name;
-    match e {
-        End::At(_a) => NameAnswer { number: 0, name: x },
-        End::No(j) => {
-            let none = no_name();
-            NameAnswer {
-                number: j,
-                name: none,
-            }
-        }
-    }
+    let n = decode(name)?;
+    Ok(n.value)
 }

@@ -1,17 +1,20 @@
 // The fields of each record, one layout for each mark.
-ghost use Rattle.std.specs.Prelude.{◌≡◌, ◌≤◌};
+ghost use Rattle.std.specs.Prelude.{◌≡◌, ◌≤◌, IfOk};
 ghost use Rattle.money.specs.Offers.{max_pairs};
-ghost use Rattle.records.specs.Layouts.{hour_prices, import, export, failure, schedules, reserve_series, fewest, lists, within, all_within, unit_of, unit, layout};
-ghost use Rattle.records.specs.tables.Inner.{shown, EndIn, Few, ListsIs, then};
+ghost use Rattle.records.specs.Reading.{from, many};
+ghost use Rattle.records.specs.Numbers.{price, quantity};
+ghost use Rattle.money.specs.Units.{intervals};
+ghost use Rattle.records.specs.Layouts.{hour_prices, import, export, failure, schedules, reserve_series, fewest, lists, within, all_within, unit_of, reserve_of, unit, skip, layout};
+ghost use Rattle.records.specs.tables.Inner.{read_as, InBytes, Few};
 
-use crate::fields::{End, amount_then, guard_end, price_then, quantity_then};
-use crate::lists::{last_quantity, list_then};
+use crate::fields::{Field, Got, amount_at};
+use crate::lists::{last_quantity, list_at};
 use crate::marks::Mark;
-use crate::series::{prices_then, quantities_then};
+use crate::series::series_at;
 use money::failure::Failure;
 use money::offers::Offer;
 use money::production::{Reserve, UnitHour};
-use money::refusals::BEYOND_LIST;
+use money::refusals::Refusal;
 use money::units::{CentsPerHour, CentsPerStart, INTERVALS, Price, Quantity, within_ok};
 
 // The hour's energy prices, and its pre-dispatch price.
@@ -32,36 +35,6 @@ pub struct Export {
     pub mqsw: [Quantity; INTERVALS],
 }
 
-#[derive(Clone, Copy)]
-pub struct HourPricesRead {
-    pub end: End,
-    pub prices: HourPrices,
-}
-
-#[derive(Clone, Copy)]
-pub struct ImportRead {
-    pub end: End,
-    pub import: Import,
-}
-
-#[derive(Clone, Copy)]
-pub struct ExportRead {
-    pub end: End,
-    pub export: Export,
-}
-
-#[derive(Clone, Copy)]
-pub struct FailureRead {
-    pub end: End,
-    pub failure: Failure,
-}
-
-#[derive(Clone, Copy)]
-pub struct UnitRead {
-    pub end: End,
-    pub unit: UnitHour,
-}
-
 // ---- the parts of a unit's hour
 
 #[derive(Clone, Copy)]
@@ -76,21 +49,9 @@ pub struct Schedules {
 }
 
 #[derive(Clone, Copy)]
-pub struct SchedulesRead {
-    pub end: End,
-    pub schedules: Schedules,
-}
-
-#[derive(Clone, Copy)]
 pub struct ReserveSeries {
     pub prices: [Price; INTERVALS],
     pub schedules: [Quantity; INTERVALS],
-}
-
-#[derive(Clone, Copy)]
-pub struct ReserveSeriesRead {
-    pub end: End,
-    pub series: ReserveSeries,
 }
 
 #[derive(Clone, Copy)]
@@ -102,138 +63,148 @@ pub struct Lists {
     pub thirty: Offer,
 }
 
-#[derive(Clone, Copy)]
-pub struct ListsRead {
-    pub end: End,
-    pub lists: Lists,
-}
-
 // ---- a reader for each layout
 
-pub(crate) fn hour_prices_then(s: &[u8], e: End) -> HourPricesRead
-    ensures { (shown s.now result.end result.prices ≡ then s.now e hour_prices) × EndIn s.now result.end }
+fn prices_at(s: &[u8], at: usize) -> Result<Got<[Price; INTERVALS]>, Refusal>
+    ensures value { read_as s.now result ≡ many intervals price (from s.now at) }
+    ensures placed { InBytes s.now result }
 {
-    let v = prices_then(s, e);
-    let e1 = v.end;
-    let p = price_then(s, e1);
-    let end = p.end;
-    let emp = v.values;
-    let pd = p.price;
-    HourPricesRead {
-        end,
-        prices: HourPrices { emp, pd },
+    series_at(s, at, Price(0))
+}
+
+fn quantities_at(s: &[u8], at: usize) -> Result<Got<[Quantity; INTERVALS]>, Refusal>
+    ensures value { read_as s.now result ≡ many intervals quantity (from s.now at) }
+    ensures placed { InBytes s.now result }
+{
+    series_at(s, at, Quantity(0))
+}
+
+impl Field for HourPrices {
+    ghost reader = { hour_prices };
+
+    fn read(s: &[u8], at: usize) -> Result<Got<HourPrices>, Refusal> {
+        let Got { value: emp, next } = prices_at(s, at)?;
+        let Got { value: pd, next } = Price::read(s, next)?;
+        let value = HourPrices { emp, pd };
+        Ok(Got { value, next })
     }
 }
 
-pub(crate) fn import_then(s: &[u8], e: End) -> ImportRead
-    ensures { (shown s.now result.end result.import ≡ then s.now e import) × EndIn s.now result.end }
-{
-    let v = quantities_then(s, e);
-    let e1 = v.end;
-    let o = list_then(s, e1, 1);
-    let e2 = o.end;
-    let mqsi = v.values;
-    let offer = o.offer;
-    let last = Quantity(last_quantity(offer));
-    let ok = within_ok(mqsi, last);
-    let end = guard_end(e2, ok, BEYOND_LIST);
-    ImportRead {
-        end,
-        import: Import { mqsi, offer },
+impl Field for Import {
+    ghost reader = { import };
+
+    fn read(s: &[u8], at: usize) -> Result<Got<Import>, Refusal> {
+        let Got { value: mqsi, next } = quantities_at(s, at)?;
+        let Got { value: offer, next } = list_at(s, next, 1)?;
+        if !inside_list(offer, mqsi) {
+            return Err(Refusal::BeyondList);
+        }
+        let value = Import { mqsi, offer };
+        Ok(Got { value, next })
     }
 }
 
-pub(crate) fn export_then(s: &[u8], e: End) -> ExportRead
-    ensures { (shown s.now result.end result.export ≡ then s.now e export) × EndIn s.now result.end }
-{
-    let v = quantities_then(s, e);
-    let end = v.end;
-    let mqsw = v.values;
-    ExportRead {
-        end,
-        export: Export { mqsw },
+impl Field for Export {
+    ghost reader = { export };
+
+    fn read(s: &[u8], at: usize) -> Result<Got<Export>, Refusal> {
+        let Got { value: mqsw, next } = quantities_at(s, at)?;
+        let value = Export { mqsw };
+        Ok(Got { value, next })
     }
 }
 
-pub(crate) fn failure_then(s: &[u8], e: End) -> FailureRead
-    ensures { (shown s.now result.end result.failure ≡ then s.now e failure) × EndIn s.now result.end }
-{
-    let x = quantity_then(s, e);
-    let e1 = x.end;
-    let y = quantity_then(s, e1);
-    let e2 = y.end;
-    let p = price_then(s, e2);
-    let e3 = p.end;
-    let q = price_then(s, e3);
-    let end = q.end;
-    let day_ahead_quantity = x.quantity;
-    let pre_dispatch_quantity = y.quantity;
-    let day_ahead_price = p.price;
-    let pre_dispatch_price = q.price;
-    FailureRead {
-        end,
-        failure: Failure {
+impl Field for Failure {
+    ghost reader = { failure };
+
+    fn read(s: &[u8], at: usize) -> Result<Got<Failure>, Refusal> {
+        let Got {
+            value: day_ahead_quantity,
+            next,
+        } = Quantity::read(s, at)?;
+        let Got {
+            value: pre_dispatch_quantity,
+            next,
+        } = Quantity::read(s, next)?;
+        let Got {
+            value: day_ahead_price,
+            next,
+        } = Price::read(s, next)?;
+        let Got {
+            value: pre_dispatch_price,
+            next,
+        } = Price::read(s, next)?;
+        let value = Failure {
             day_ahead_quantity,
             pre_dispatch_quantity,
             day_ahead_price,
             pre_dispatch_price,
-        },
+        };
+        Ok(Got { value, next })
     }
 }
 
-fn schedules_then(s: &[u8], e: End) -> SchedulesRead
-    ensures { (shown s.now result.end result.schedules ≡ then s.now e schedules) × EndIn s.now result.end }
-{
-    let a0 = amount_then(s, e, CentsPerStart::MAX.0);
-    let e0 = a0.end;
-    let a1 = amount_then(s, e0, CentsPerHour::MAX.0);
-    let e1 = a1.end;
-    let v2 = quantities_then(s, e1);
-    let e2 = v2.end;
-    let v3 = quantities_then(s, e2);
-    let e3 = v3.end;
-    let v4 = quantities_then(s, e3);
-    let e4 = v4.end;
-    let v5 = quantities_then(s, e4);
-    let e5 = v5.end;
-    let v6 = quantities_then(s, e5);
-    let end = v6.end;
-    let startup = CentsPerStart(a0.value);
-    let noload = CentsPerHour(a1.value);
-    let ahead = v2.values;
-    let constrained = v3.values;
-    let unconstrained = v4.values;
-    let metered = v5.values;
-    let capacity = v6.values;
-    let schedules = Schedules {
-        startup,
-        noload,
-        ahead,
-        constrained,
-        unconstrained,
-        metered,
-        capacity,
-    };
-    SchedulesRead { end, schedules }
+impl Field for Schedules {
+    ghost reader = { schedules };
+
+    fn read(s: &[u8], at: usize) -> Result<Got<Schedules>, Refusal> {
+        let Got {
+            value: startup,
+            next,
+        } = amount_at(s, at, CentsPerStart::MAX.0)?;
+        let Got {
+            value: noload,
+            next,
+        } = amount_at(s, next, CentsPerHour::MAX.0)?;
+        let Got { value: ahead, next } = quantities_at(s, next)?;
+        let Got {
+            value: constrained,
+            next,
+        } = quantities_at(s, next)?;
+        let Got {
+            value: unconstrained,
+            next,
+        } = quantities_at(s, next)?;
+        let Got {
+            value: metered,
+            next,
+        } = quantities_at(s, next)?;
+        let Got {
+            value: capacity,
+            next,
+        } = quantities_at(s, next)?;
+        let value = Schedules {
+            startup: CentsPerStart(startup),
+            noload: CentsPerHour(noload),
+            ahead,
+            constrained,
+            unconstrained,
+            metered,
+            capacity,
+        };
+        Ok(Got { value, next })
+    }
 }
 
-fn reserve_series_then(s: &[u8], e: End) -> ReserveSeriesRead
-    ensures { (shown s.now result.end result.series ≡ then s.now e reserve_series) × EndIn s.now result.end }
-{
-    let p = prices_then(s, e);
-    let e1 = p.end;
-    let q = quantities_then(s, e1);
-    let end = q.end;
-    let prices = p.values;
-    let schedules = q.values;
-    ReserveSeriesRead {
-        end,
-        series: ReserveSeries { prices, schedules },
+impl Field for ReserveSeries {
+    ghost reader = { reserve_series };
+
+    fn read(s: &[u8], at: usize) -> Result<Got<ReserveSeries>, Refusal> {
+        let Got {
+            value: prices,
+            next,
+        } = prices_at(s, at)?;
+        let Got {
+            value: schedules,
+            next,
+        } = quantities_at(s, next)?;
+        let value = ReserveSeries { prices, schedules };
+        Ok(Got { value, next })
     }
 }
 
 // The least count of a reserve's list: 0 if its schedules are all 0.
-fn fewest_of(schedules: [Quantity; INTERVALS]) -> u32
+fn fewest_of(schedules: [Quantity; INTERVALS]) -> u8
     ensures { result ≡ fewest schedules }
 {
     if within_ok(schedules, Quantity(0)) {
@@ -243,86 +214,71 @@ fn fewest_of(schedules: [Quantity; INTERVALS]) -> u32
     }
 }
 
-fn lists_then(
+// The lists of a unit's hour, of which the reserves' may be empty where their schedules are all 0.
+fn lists_at(
     s: &[u8],
-    e: End,
-    s1: [Quantity; INTERVALS],
-    s2: [Quantity; INTERVALS],
-    s3: [Quantity; INTERVALS],
-) -> ListsRead
-    ensures { ListsIs s.now (then s.now e (lists s1 s2 s3)) result }
+    at: usize,
+    r1: ReserveSeries,
+    r2: ReserveSeries,
+    r3: ReserveSeries,
+) -> Result<Got<Lists>, Refusal>
+    ensures value { read_as s.now result ≡ lists r1.schedules r2.schedules r3.schedules (from s.now at) }
+    ensures placed { InBytes s.now result }
+    ensures few { IfOk result (λ r. Few r.value) }
 {
-    let o1 = list_then(s, e, 1);
-    let e1 = o1.end;
-    let o2 = list_then(s, e1, 1);
-    let e2 = o2.end;
-    let o3 = list_then(s, e2, fewest_of(s1));
-    let e3 = o3.end;
-    let o4 = list_then(s, e3, fewest_of(s2));
-    let e4 = o4.end;
-    let o5 = list_then(s, e4, fewest_of(s3));
-    let end = o5.end;
-    let ahead = o1.offer;
-    let real = o2.offer;
-    let spinning = o3.offer;
-    let nonspinning = o4.offer;
-    let thirty = o5.offer;
-    ListsRead {
-        end,
-        lists: Lists {
-            ahead,
-            real,
-            spinning,
-            nonspinning,
-            thirty,
-        },
-    }
+    let Got { value: ahead, next } = list_at(s, at, 1)?;
+    let Got { value: real, next } = list_at(s, next, 1)?;
+    let Got {
+        value: spinning,
+        next,
+    } = list_at(s, next, fewest_of(r1.schedules))?;
+    let Got {
+        value: nonspinning,
+        next,
+    } = list_at(s, next, fewest_of(r2.schedules))?;
+    let Got {
+        value: thirty,
+        next,
+    } = list_at(s, next, fewest_of(r3.schedules))?;
+    let value = Lists {
+        ahead,
+        real,
+        spinning,
+        nonspinning,
+        thirty,
+    };
+    Ok(Got { value, next })
 }
 
 fn inside_list(o: Offer, values: [Quantity; INTERVALS]) -> bool
     requires { o.count ≤ max_pairs }
     ensures { result ≡ within o values }
 {
-    let q = last_quantity(o);
-    within_ok(values, Quantity(q))
+    within_ok(values, last_quantity(o))
 }
 
 // D within both lists, each reserve schedule within its own.
 fn all_inside(
     l: Lists,
     d: [Quantity; INTERVALS],
-    s1: [Quantity; INTERVALS],
-    s2: [Quantity; INTERVALS],
-    s3: [Quantity; INTERVALS],
+    r1: ReserveSeries,
+    r2: ReserveSeries,
+    r3: ReserveSeries,
 ) -> bool
     requires { Few l }
-    ensures { result ≡ all_within l d s1 s2 s3 }
+    ensures { result ≡ all_within l d r1.schedules r2.schedules r3.schedules }
 {
-    let da = l.ahead;
-    let rt = l.real;
-    let l1 = l.spinning;
-    let l2 = l.nonspinning;
-    let l3 = l.thirty;
-    if inside_list(da, d) {
-        if inside_list(rt, d) {
-            if inside_list(l1, s1) {
-                if inside_list(l2, s2) {
-                    return inside_list(l3, s3);
-                }
-                return false;
-            }
-            return false;
-        }
-        return false;
-    }
-    false
+    inside_list(l.ahead, d)
+        && inside_list(l.real, d)
+        && inside_list(l.spinning, r1.schedules)
+        && inside_list(l.nonspinning, r2.schedules)
+        && inside_list(l.thirty, r3.schedules)
 }
 
 fn reserve(series: ReserveSeries, offer: Offer) -> Reserve
-    ensures { result ≡ record { prices = series.prices; schedules = series.schedules; offer = offer } }
+    ensures { result ≡ reserve_of series offer }
 {
-    let prices = series.prices;
-    let schedules = series.schedules;
+    let ReserveSeries { prices, schedules } = series;
     Reserve {
         prices,
         schedules,
@@ -330,23 +286,25 @@ fn reserve(series: ReserveSeries, offer: Offer) -> Reserve
     }
 }
 
+// A unit's hour of its parts.
 fn unit_of(
     h: Schedules,
-    spinning: Reserve,
-    nonspinning: Reserve,
-    thirty: Reserve,
-    aheadoffer: Offer,
-    realoffer: Offer,
+    l: Lists,
+    r1: ReserveSeries,
+    r2: ReserveSeries,
+    r3: ReserveSeries,
 ) -> UnitHour
-    ensures { result ≡ unit_of h spinning nonspinning thirty aheadoffer realoffer }
+    ensures { result ≡ unit_of h (reserve_of r1 l.spinning) (reserve_of r2 l.nonspinning) (reserve_of r3 l.thirty) l.ahead l.real }
 {
-    let startup = h.startup;
-    let noload = h.noload;
-    let ahead = h.ahead;
-    let constrained = h.constrained;
-    let unconstrained = h.unconstrained;
-    let metered = h.metered;
-    let capacity = h.capacity;
+    let Schedules {
+        startup,
+        noload,
+        ahead,
+        constrained,
+        unconstrained,
+        metered,
+        capacity,
+    } = h;
     UnitHour {
         startup,
         noload,
@@ -355,74 +313,51 @@ fn unit_of(
         unconstrained,
         metered,
         capacity,
-        spinning,
-        nonspinning,
-        thirty,
-        aheadoffer,
-        realoffer,
+        spinning: reserve(r1, l.spinning),
+        nonspinning: reserve(r2, l.nonspinning),
+        thirty: reserve(r3, l.thirty),
+        aheadoffer: l.ahead,
+        realoffer: l.real,
     }
 }
 
-pub(crate) fn unit_then(s: &[u8], e: End) -> UnitRead
-    ensures { (shown s.now result.end result.unit ≡ then s.now e unit) × EndIn s.now result.end }
-{
-    let h = schedules_then(s, e);
-    let e0 = h.end;
-    let v1 = reserve_series_then(s, e0);
-    let e1 = v1.end;
-    let v2 = reserve_series_then(s, e1);
-    let e2 = v2.end;
-    let v3 = reserve_series_then(s, e2);
-    let e3 = v3.end;
-    let g = h.schedules;
-    let w1 = v1.series;
-    let w2 = v2.series;
-    let w3 = v3.series;
-    let d = g.ahead;
-    let s1 = w1.schedules;
-    let s2 = w2.schedules;
-    let s3 = w3.schedules;
-    let k = lists_then(s, e3, s1, s2, s3);
-    let e4 = k.end;
-    let l = k.lists;
-    let ok = all_inside(l, d, s1, s2, s3);
-    let end = guard_end(e4, ok, BEYOND_LIST);
-    let l1 = l.spinning;
-    let l2 = l.nonspinning;
-    let l3 = l.thirty;
-    let da = l.ahead;
-    let rt = l.real;
-    let unit = unit_of(g, reserve(w1, l1), reserve(w2, l2), reserve(w3, l3), da, rt);
-    UnitRead { end, unit }
+impl Field for UnitHour {
+    ghost reader = { unit };
+
+    fn read(s: &[u8], at: usize) -> Result<Got<UnitHour>, Refusal> {
+        let Got { value: h, next } = Schedules::read(s, at)?;
+        let Got { value: r1, next } = ReserveSeries::read(s, next)?;
+        let Got { value: r2, next } = ReserveSeries::read(s, next)?;
+        let Got { value: r3, next } = ReserveSeries::read(s, next)?;
+        let Got { value: l, next } = lists_at(s, next, r1, r2, r3)?;
+        if !all_inside(l, h.ahead, r1, r2, r3) {
+            return Err(Refusal::BeyondList);
+        }
+        let value = unit_of(h, l, r1, r2, r3);
+        Ok(Got { value, next })
+    }
 }
 
-pub(crate) fn layout_then(s: &[u8], e: End, mark: Mark) -> End
-    ensures { (shown s.now result tt ≡ then s.now e (layout mark)) × EndIn s.now result }
+// The place behind a layout's fields.
+fn skip<T: Field>(s: &[u8], at: usize) -> Result<Got<()>, Refusal>
+    ensures value { read_as s.now result ≡ skip T.reader (from s.now at) }
+    ensures placed { InBytes s.now result }
+{
+    let Got { next, .. } = T::read(s, at)?;
+    Ok(Got { value: (), next })
+}
+
+// The same of the layout of a mark.
+pub(crate) fn layout_at(s: &[u8], at: usize, mark: Mark) -> Result<Got<()>, Refusal>
+    ensures value { read_as s.now result ≡ layout mark (from s.now at) }
+    ensures placed { InBytes s.now result }
 {
     match mark {
-        Mark::Pr => {
-            let p = hour_prices_then(s, e);
-            p.end
-        }
-        Mark::Im => {
-            let i = import_then(s, e);
-            i.end
-        }
-        Mark::Ex => {
-            let x = export_then(s, e);
-            x.end
-        }
-        Mark::Gh => {
-            let u = unit_then(s, e);
-            u.end
-        }
-        Mark::Fi => {
-            let f = failure_then(s, e);
-            f.end
-        }
-        Mark::Fe => {
-            let f = failure_then(s, e);
-            f.end
-        }
+        Mark::Pr => skip::<HourPrices>(s, at),
+        Mark::Im => skip::<Import>(s, at),
+        Mark::Ex => skip::<Export>(s, at),
+        Mark::Gh => skip::<UnitHour>(s, at),
+        Mark::Fi => skip::<Failure>(s, at),
+        Mark::Fe => skip::<Failure>(s, at),
     }
 }

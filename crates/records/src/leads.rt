@@ -2,14 +2,11 @@
 ghost use Rattle.std.specs.Prelude.{◌≡◌, [], ◌∷◌};
 ghost use Rattle.records.specs.Changes.{begins};
 
-use crate::marks::is;
+use crate::marks::starts;
 
 // Whether some bytes begin with the mark x y.
 pub fn begins_with(s: &[u8], x: u8, y: u8) -> bool
     ensures { result ≡ begins (x ∷ y ∷ []) s.now }
 {
-    if s.len() < 2 {
-        return false;
-    }
-    is(s[0], s[1], x, y)
+    starts(s, &[x, y])
 }

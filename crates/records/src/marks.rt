@@ -1,22 +1,19 @@
 // Marks: of records, and of the changes that bear them.
-ghost use Rattle.std.specs.Prelude.{◌≡◌, [], ◌∷◌, ◌<◌, length, get_or};
+ghost use Rattle.std.specs.Prelude.{◌≡◌};
 ghost use Rattle.records.specs.Reading.{from};
-ghost use Rattle.records.specs.Marks.{mark_bytes, is, listing, mark, has_name, is_failure, order, same_mark, key_mark, key_order, limit};
-ghost use Rattle.records.specs.Changes.{allowed, inside, head, is_filing, is_correction, is_withdrawal, same_kind};
-ghost use Rattle.records.specs.tables.Inner.{shown, EndIn, headed};
+ghost use Rattle.records.specs.Marks.{mark_bytes, mark, has_name, is_failure, order, same_mark, key_mark, key_order, limit};
+ghost use Rattle.records.specs.Changes.{allowed, begins, inside, head, is_filing, is_correction, is_withdrawal};
+ghost use Rattle.records.specs.tables.Inner.{read_as, InBytes, headed};
 
-use crate::fields::End;
-use money::refusals::{ENDS_EARLY, MARK_UNKNOWN};
-
-// How many marks the listing has.
-const MARKS: usize = 6;
+use crate::fields::Got;
+use money::refusals::Refusal;
 
 // The most records of a mark in an hour, and of `GH`.
 pub const HOUR_LIMIT: u8 = 16;
 
 pub const UNIT_LIMIT: u8 = 8;
 
-#[derive(Clone, Copy)]
+#[derive(Clone, Copy, PartialEq, Eq)]
 pub enum Mark {
     Pr,
     Im,
@@ -26,24 +23,11 @@ pub enum Mark {
     Fe,
 }
 
-#[derive(Clone, Copy)]
+#[derive(Clone, Copy, PartialEq, Eq)]
 pub enum Kind {
     File,
     Correct,
     Withdraw,
-}
-
-// The two bytes of a mark.
-#[derive(Clone, Copy)]
-pub(crate) struct MarkBytes(pub(crate) u8, pub(crate) u8);
-
-// What some bytes are: a change of a record, a mark that stands alone, or nothing that is written so.
-#[derive(Clone, Copy)]
-pub enum Act {
-    Record(Kind),
-    TakeBack,
-    Close,
-    Nothing,
 }
 
 // What a method asks for: a change of any kind, or of its own only.
@@ -53,129 +37,71 @@ pub enum Wanted {
     Only(Kind),
 }
 
+// What a change does, and the mark of its record.
 #[derive(Clone, Copy)]
-pub struct MarkRead {
-    pub end: End,
-    pub mark: Mark,
-}
-
-#[derive(Clone, Copy)]
-pub struct HeadRead {
-    pub end: End,
+pub struct Head {
     pub kind: Kind,
     pub mark: Mark,
 }
 
-pub(crate) fn is(a: u8, b: u8, x: u8, y: u8) -> bool
-    ensures { result ≡ is (x ∷ y ∷ []) a b }
-{
-    if a != x {
-        return false;
-    }
-    b == y
-}
-
-pub(crate) fn bytes_of(m: Mark) -> MarkBytes
-    ensures { (result.0 ≡ get_or (mark_bytes m) 0 0) × (result.1 ≡ get_or (mark_bytes m) 1 0) }
+pub(crate) fn bytes_of(m: Mark) -> [u8; 2]
+    ensures { result ≡ mark_bytes m }
 {
     match m {
-        Mark::Pr => MarkBytes(b'P', b'R'),
-        Mark::Im => MarkBytes(b'I', b'M'),
-        Mark::Ex => MarkBytes(b'E', b'X'),
-        Mark::Gh => MarkBytes(b'G', b'H'),
-        Mark::Fi => MarkBytes(b'F', b'I'),
-        Mark::Fe => MarkBytes(b'F', b'E'),
+        Mark::Pr => *b"PR",
+        Mark::Im => *b"IM",
+        Mark::Ex => *b"EX",
+        Mark::Gh => *b"GH",
+        Mark::Fi => *b"FI",
+        Mark::Fe => *b"FE",
     }
 }
 
-// The mark at a place of the listing.
-fn listed(i: usize) -> Mark
-    requires { i < length listing }
-    ensures { result ≡ get_or listing i Mark.Pr }
+// The marks in the listing's order.
+const LISTING: [Mark; 6] = [Mark::Pr, Mark::Im, Mark::Ex, Mark::Gh, Mark::Fi, Mark::Fe];
+
+// Whether bytes begin with others.
+pub fn starts(s: &[u8], front: &[u8]) -> bool
+    ensures { result ≡ begins front.now s.now }
 {
-    let listing = [Mark::Pr, Mark::Im, Mark::Ex, Mark::Gh, Mark::Fi, Mark::Fe];
-    listing[i]
+    s.starts_with(front)
 }
 
-pub(crate) fn mark_no(k: u8) -> MarkRead
-    ensures { result.end ≡ End.No k }
+#[tactic(auto, using(crate::proofs::marks::Lemmas::listed))]
+pub(crate) fn mark_at(s: &[u8], at: usize) -> Result<Got<Mark>, Refusal>
+    ensures value { read_as s.now result ≡ mark (from s.now at) }
+    ensures placed { InBytes s.now result }
 {
-    MarkRead {
-        end: End::No(k),
-        mark: Mark::Pr,
+    if s.len() < at || s.len() - at < 2 {
+        return Err(Refusal::EndsEarly);
     }
-}
-
-fn marked(mark: Mark, next: usize) -> MarkRead
-    ensures { result ≡ record { end = End.At next; mark = mark } }
-{
-    MarkRead {
-        end: End::At(next),
-        mark,
-    }
-}
-
-pub(crate) fn mark_at(s: &[u8], at: usize) -> MarkRead
-    ensures { (shown s.now result.end result.mark ≡ mark (from s.now at)) × EndIn s.now result.end }
-{
-    if s.len() <= at {
-        return mark_no(ENDS_EARLY);
-    }
-    if s.len() - at < 2 {
-        return mark_no(ENDS_EARLY);
-    }
-    let a = s[at];
-    let b = s[at + 1];
-    let mut i: usize = 0;
-    while i < MARKS {
-        let mark = listed(i);
-        let bytes = bytes_of(mark);
-        if is(a, b, bytes.0, bytes.1) {
-            return marked(mark, at + 2);
+    for value in LISTING {
+        if starts(&s[at..], &bytes_of(value)) {
+            return Ok(Got {
+                value,
+                next: at + 2,
+            });
         }
-        i += 1;
     }
-    mark_no(MARK_UNKNOWN)
+    Err(Refusal::MarkUnknown)
 }
 
 pub fn is_filing(k: Kind) -> bool
     ensures { result ≡ is_filing k }
 {
-    match k {
-        Kind::File => true,
-        Kind::Correct => false,
-        Kind::Withdraw => false,
-    }
+    k == Kind::File
 }
 
 pub fn is_correction(k: Kind) -> bool
     ensures { result ≡ is_correction k }
 {
-    match k {
-        Kind::File => false,
-        Kind::Correct => true,
-        Kind::Withdraw => false,
-    }
+    k == Kind::Correct
 }
 
 pub fn is_withdrawal(k: Kind) -> bool
     ensures { result ≡ is_withdrawal k }
 {
-    match k {
-        Kind::File => false,
-        Kind::Correct => false,
-        Kind::Withdraw => true,
-    }
-}
-
-fn same_kind(a: Kind, b: Kind) -> bool
-    ensures { result ≡ same_kind a b }
-{
-    match a {
-        Kind::File => is_filing(b),
-        Kind::Correct => is_correction(b),
-        Kind::Withdraw => is_withdrawal(b),
-    }
+    k == Kind::Withdraw
 }
 
 fn allowed(want: Wanted, k: Kind) -> bool
@@ -183,43 +109,34 @@ fn allowed(want: Wanted, k: Kind) -> bool
 {
     match want {
         Wanted::Any => true,
-        Wanted::Only(w) => same_kind(w, k),
+        Wanted::Only(w) => w == k,
     }
 }
 
-fn inside_at(s: &[u8], at: usize, want: Wanted, kind: Kind) -> HeadRead
-    ensures { (headed s.now result ≡ inside want kind (from s.now at)) × EndIn s.now result.end }
+fn inside_at(s: &[u8], at: usize, want: Wanted, kind: Kind) -> Result<Got<Head>, Refusal>
+    ensures value { headed (read_as s.now result) ≡ inside want kind (from s.now at) }
+    ensures placed { InBytes s.now result }
 {
-    if allowed(want, kind) {
-        let m = mark_at(s, at);
-        let end = m.end;
-        let mark = m.mark;
-        HeadRead { end, kind, mark }
-    } else {
-        HeadRead {
-            end: End::No(MARK_UNKNOWN),
-            kind,
-            mark: Mark::Pr,
-        }
+    if !allowed(want, kind) {
+        return Err(Refusal::MarkUnknown);
     }
+    let Got { value: mark, next } = mark_at(s, at)?;
+    let value = Head { kind, mark };
+    Ok(Got { value, next })
 }
 
-pub(crate) fn head_at(s: &[u8], want: Wanted) -> HeadRead
-    ensures { (headed s.now result ≡ head want s.now) × EndIn s.now result.end }
+#[tactic(auto, using(crate::proofs::marks::Lemmas::heads))]
+pub(crate) fn head_at(s: &[u8], want: Wanted) -> Result<Got<Head>, Refusal>
+    ensures value { headed (read_as s.now result) ≡ head want s.now }
+    ensures placed { InBytes s.now result }
 {
     if s.len() < 2 {
-        return HeadRead {
-            end: End::No(ENDS_EARLY),
-            kind: Kind::File,
-            mark: Mark::Pr,
-        };
+        return Err(Refusal::EndsEarly);
     }
-    let a = s[0];
-    let b = s[1];
-    if is(a, b, b'C', b'O') {
+    if starts(s, b"CO") {
         return inside_at(s, 2, want, Kind::Correct);
     }
-    if is(a, b, b'W', b'D') {
+    if starts(s, b"WD") {
         return inside_at(s, 2, want, Kind::Withdraw);
     }
     inside_at(s, 0, want, Kind::File)
@@ -228,27 +145,13 @@ pub(crate) fn head_at(s: &[u8], want: Wanted) -> HeadRead
 pub(crate) fn has_name(m: Mark) -> bool
     ensures { result ≡ has_name m }
 {
-    match m {
-        Mark::Pr => false,
-        Mark::Im => true,
-        Mark::Ex => true,
-        Mark::Gh => true,
-        Mark::Fi => true,
-        Mark::Fe => true,
-    }
+    m != Mark::Pr
 }
 
 pub fn is_failure(m: Mark) -> bool
     ensures { result ≡ is_failure m }
 {
-    match m {
-        Mark::Pr => false,
-        Mark::Im => false,
-        Mark::Ex => false,
-        Mark::Gh => false,
-        Mark::Fi => true,
-        Mark::Fe => true,
-    }
+    m == Mark::Fi || m == Mark::Fe
 }
 
 // The place of a mark in the listing.
@@ -268,7 +171,7 @@ pub fn order(m: Mark) -> u8
 pub fn same_mark(a: Mark, b: Mark) -> bool
     ensures { result ≡ same_mark a b }
 {
-    order(a) == order(b)
+    a == b
 }
 
 // The mark under whose key a record of a mark stands.
@@ -296,12 +199,9 @@ pub fn key_order(m: Mark) -> u8
 pub fn limit(m: Mark) -> u8
     ensures { result ≡ limit m }
 {
-    match m {
-        Mark::Pr => HOUR_LIMIT,
-        Mark::Im => HOUR_LIMIT,
-        Mark::Ex => HOUR_LIMIT,
-        Mark::Gh => UNIT_LIMIT,
-        Mark::Fi => HOUR_LIMIT,
-        Mark::Fe => HOUR_LIMIT,
+    if m == Mark::Gh {
+        UNIT_LIMIT
+    } else {
+        HOUR_LIMIT
     }
 }

@@ -1,194 +1,138 @@
 // What the bytes of an argument are: a change, or any of the ten marks.
-ghost use Rattle.std.specs.Prelude.{◌≡◌, [], ◌∷◌};
-ghost use Rattle.records.specs.Changes.{change, change_view, entry, entry_read, parse, parse_any, bare, take_back_bytes, close_bytes, unseen, view_of, parsed_of, entry_of, front_of};
-ghost use Rattle.records.specs.tables.Inner.{ViewIs};
+ghost use Rattle.std.specs.Prelude.{◌≡◌};
+ghost use Rattle.money.specs.Answers.{fault_in};
+ghost use Rattle.records.specs.Changes.{change, entry, parse, parse_any, bare, take_back_bytes, close_bytes};
+ghost use Rattle.records.specs.Answers.{told, seen_view, seen_act, front_of};
+ghost use Rattle.records.specs.tables.Inner.{read_as, InBytes, change_view, entry_act};
 
-use crate::changes::read_change;
-use crate::fields::End;
-use crate::marks::{Act, Wanted, is};
-use crate::scan::{View, nothing};
+use crate::changes::{Read, read_change};
+use crate::fields::Got;
+use crate::marks::{Wanted, starts};
+use crate::scan::View;
 use crate::writing::head_of;
-use money::refusals::{BYTES_LEFT_OVER, ENDS_EARLY, MARK_UNKNOWN};
+use money::refusals::Refusal;
 
-// What an argument is, or the number of its first fault.
+// What some bytes are: a change of a record, or a mark that stands alone.
 #[derive(Clone, Copy)]
-pub struct Parsed {
-    pub number: u8,
-    pub view: View,
+pub enum Act {
+    Change(View),
+    TakeBack,
+    Close,
 }
 
 // The first of several changes, and the place where it ends.
 #[derive(Clone, Copy)]
 pub struct Front {
-    pub number: u8,
-    pub view: View,
+    pub act: Act,
     pub end: usize,
 }
 
-#[derive(Clone, Copy)]
-pub struct ViewRead {
-    pub end: End,
-    pub view: View,
-}
-
-fn view_no(k: u8) -> ViewRead
-    ensures { result.end ≡ End.No k }
+#[tactic(auto, using(crate::proofs::writing::Lemmas::view_full))]
+fn change_at(s: &[u8], want: Wanted) -> Result<Got<View>, Refusal>
+    ensures value { read_as s.now result ≡ change_view (change want s.now) }
+    ensures placed { InBytes s.now result }
 {
-    let view = nothing();
-    ViewRead {
-        end: End::No(k),
-        view,
-    }
+    let Read {
+        kind,
+        key,
+        body,
+        end: next,
+    } = read_change(s, want)?;
+    let len = head_of(kind, key).len + (next - body);
+    let value = View { kind, key, len };
+    Ok(Got { value, next })
 }
 
-fn change_at(s: &[u8], want: Wanted) -> ViewRead
-    ensures { ViewIs s.now (change_view (change want s.now)) result }
-{
-    let c = read_change(s, want);
-    let e = c.end;
-    match e {
-        End::At(n) => {
-            let kind = c.kind;
-            let key = c.key;
-            let h = head_of(kind, key);
-            let len = h.len + (n - c.body);
-            ViewRead {
-                end: End::At(n),
-                view: View {
-                    act: Act::Record(kind),
-                    key,
-                    len,
-                },
-            }
-        }
-        End::No(k) => view_no(k),
-    }
-}
-
-// A mark by itself, as a view.
-fn bare_view(act: Act) -> ViewRead
-    ensures { result ≡ record { end = End.At 2; view = record { act = act; key = (view_of unseen).key; len = 0 } } }
-{
-    let v = nothing();
-    let key = v.key;
-    ViewRead {
-        end: End::At(2),
-        view: View { act, key, len: 0 },
-    }
-}
-
-fn entry_at(s: &[u8]) -> ViewRead
-    ensures { ViewIs s.now (entry_read (entry s.now)) result }
+#[tactic(auto, using(crate::proofs::parse::Lemmas::entries))]
+fn act_at(s: &[u8]) -> Result<Got<Act>, Refusal>
+    ensures value { read_as s.now result ≡ entry_act (entry s.now) }
+    ensures placed { InBytes s.now result }
 {
     if s.len() < 2 {
-        return view_no(ENDS_EARLY);
+        return Err(Refusal::EndsEarly);
     }
-    let a = s[0];
-    let b = s[1];
-    if is(a, b, b'T', b'B') {
-        return bare_view(Act::TakeBack);
+    if starts(s, b"TB") {
+        return Ok(Got {
+            value: Act::TakeBack,
+            next: 2,
+        });
     }
-    if is(a, b, b'C', b'L') {
-        return bare_view(Act::Close);
+    if starts(s, b"CL") {
+        return Ok(Got {
+            value: Act::Close,
+            next: 2,
+        });
     }
-    change_at(s, Wanted::Any)
+    let Got { value: view, next } = change_at(s, Wanted::Any)?;
+    Ok(Got {
+        value: Act::Change(view),
+        next,
+    })
 }
 
-fn fault(n: u8) -> Parsed
-    ensures { result ≡ record { number = n; view = view_of unseen } }
+// The change that an argument's bytes are, of the kind that is wanted, or their first fault.
+#[tactic(auto, using(crate::proofs::parse::Lemmas::parses))]
+pub fn parse_change(s: &[u8], want: Wanted) -> Result<View, Refusal>
+    ensures { told result ≡ seen_view (parse want s.now) }
 {
-    let view = nothing();
-    Parsed { number: n, view }
+    let Got { value: view, next } = change_at(s, want)?;
+    if next < s.len() {
+        return Err(Refusal::BytesLeftOver);
+    }
+    Ok(view)
 }
 
-// The change that an argument's bytes are, of the kind that is wanted, or the number of their first fault.
-pub fn parse_change(s: &[u8], want: Wanted) -> Parsed
-    ensures { result ≡ parsed_of (parse want s.now) }
+// The change of any mark that an argument's bytes are, or their first fault.
+#[tactic(auto, using(crate::proofs::parse::Lemmas::parses))]
+pub fn parse_any(s: &[u8]) -> Result<Act, Refusal>
+    ensures { told result ≡ seen_act (parse_any s.now) }
 {
-    let c = change_at(s, want);
-    let e = c.end;
-    match e {
-        End::At(n) => {
-            if n < s.len() {
-                return fault(BYTES_LEFT_OVER);
-            }
-            let view = c.view;
-            Parsed { number: 0, view }
-        }
-        End::No(k) => fault(k),
+    let Got { value: act, next } = act_at(s)?;
+    if next < s.len() {
+        return Err(Refusal::BytesLeftOver);
     }
-}
-
-// The change of any mark that an argument's bytes are, or the number of their first fault.
-pub fn parse_any(s: &[u8]) -> Parsed
-    ensures { result ≡ entry_of (parse_any s.now) }
-{
-    let c = entry_at(s);
-    let e = c.end;
-    match e {
-        End::At(n) => {
-            if n < s.len() {
-                return fault(BYTES_LEFT_OVER);
-            }
-            let view = c.view;
-            Parsed { number: 0, view }
-        }
-        End::No(k) => fault(k),
-    }
+    Ok(act)
 }
 
 // The first of the changes that stand back to back, and where it ends.
-pub fn first_change(s: &[u8]) -> Front
-    ensures { result ≡ front_of s.now (entry s.now) }
+#[tactic(auto, using(crate::proofs::parse::Lemmas::fronts))]
+pub fn first_change(s: &[u8]) -> Result<Front, Refusal>
+    ensures { told result ≡ front_of s.now (entry s.now) }
 {
-    let c = entry_at(s);
-    let e = c.end;
-    match e {
-        End::At(end) => {
-            let view = c.view;
-            Front {
-                number: 0,
-                view,
-                end,
-            }
-        }
-        End::No(k) => {
-            let view = nothing();
-            Front {
-                number: k,
-                view,
-                end: 0,
-            }
-        }
-    }
+    let Got {
+        value: act,
+        next: end,
+    } = act_at(s)?;
+    Ok(Front { act, end })
 }
 
-// The number of the first fault in an argument that is the mark x y only; 0 where there is none.
-fn bare_mark(s: &[u8], x: u8, y: u8) -> u8
-    ensures { result ≡ bare (x ∷ y ∷ []) s.now }
+// Whether an argument is a mark and no more, or its first fault.
+#[tactic(auto, using(crate::proofs::parse::Lemmas::bares))]
+fn mark_alone(s: &[u8], mark: &[u8; 2]) -> Result<(), Refusal>
+    ensures { fault_in result ≡ bare mark.now s.now }
 {
     if s.len() < 2 {
-        return ENDS_EARLY;
+        return Err(Refusal::EndsEarly);
     }
-    if is(s[0], s[1], x, y) {
-        if s.len() == 2 {
-            return 0;
-        }
-        return BYTES_LEFT_OVER;
+    if !starts(s, mark) {
+        return Err(Refusal::MarkUnknown);
     }
-    MARK_UNKNOWN
+    if 2 < s.len() {
+        return Err(Refusal::BytesLeftOver);
+    }
+    Ok(())
 }
 
-// The number of the first fault in what is lent to take back, 0 for none.
-pub fn parse_take_back(s: &[u8]) -> u8
-    ensures { result ≡ bare take_back_bytes s.now }
+// Whether what is lent to take back is its mark, or the first fault in it.
+pub fn parse_take_back(s: &[u8]) -> Result<(), Refusal>
+    ensures { fault_in result ≡ bare take_back_bytes s.now }
 {
-    bare_mark(s, b'T', b'B')
+    mark_alone(s, b"TB")
 }
 
 // The same for close.
-pub fn parse_close(s: &[u8]) -> u8
-    ensures { result ≡ bare close_bytes s.now }
+pub fn parse_close(s: &[u8]) -> Result<(), Refusal>
+    ensures { fault_in result ≡ bare close_bytes s.now }
 {
-    bare_mark(s, b'C', b'L')
+    mark_alone(s, b"CL")
 }

@@ -1,22 +1,13 @@
 -- Readers at a place of a list.
-use mathlib.Core.Path.{◌≡◌, refl, sym, ap, ◌∙◌}
-use mathlib.Core.List.{List, [], ◌∷◌, ◌++◌}
-use Prim.Native.Nat.{ℕ, suc, ◌+◌, ◌-◌, ◌≤◌, ◌<◌}
-use native.Mathlib.Omega.{arith}
-use native.Mathlib.Numerals.{add-one, towards_suc}
-use lib.ListN.{length, take, drop, get_or, length-drop}
-use lib.Seq.{drop-cons, take-suc-set, take_all}
-use lib.ListN.{drop_of_length-le, set}
-use mathlib.Core.Bool.{Bool, true, false}
-use mathlib.Core.List.{append_assoc, append-nil}
-use native.Mathlib.Nat.{sub-zero}
-use Rattle.money.specs.Units.{price_ok, quantity_ok, price_read, quantity_read}
+use Rattle.std.proofs.Common.{◌≡◌, refl, sym, ap, ◌∙◌, List, [], ◌∷◌, ◌++◌, ℕ, suc, ◌+◌, ◌-◌, ◌≤◌, ◌<◌, Bool, true, false, cond, ltb, ℤ, pos, negsuc, Result, Ok, Err, SFits, w32, to_z, of_z, to_z-of_z, arith, add-one, length, take, drop, get_or, set, length-drop, drop-cons, take-suc-set, take_all, drop_of_length-le, append_assoc, append-nil}
+use Rattle.std.proofs.Math.Numerals.{towards_suc}
+use Rattle.money.specs.Refusals.{number_of, number_outside}
+use Rattle.money.specs.Units.{price_ok, price_read}
+use Rattle.money.specs.declared.refusals.Refusal.{Refusal}
+use Rattle.money.specs.declared.refusals.Refusal.TheVariants.{NumberOutside}
 use Rattle.money.specs.declared.units.Price.{Price}
-use Rattle.money.specs.declared.units.Quantity.{Quantity}
-use Rattle.money.specs.declared.units.PriceRead.TheVariants as price-variants
-use Rattle.money.specs.declared.units.QuantityRead.TheVariants as quantity-variants
-use Rattle.records.specs.Reading.{Res, Reader, bad, got, ◌>>=◌, byte, from, many}
-use Rattle.records.specs.Numbers.{word, le32, signed, price, quantity}
+use Rattle.records.specs.Reading.{Res, Reader, bad, got, ◌>>=◌, check, byte, from, many}
+use Rattle.records.specs.Numbers.{word, le32, signed}
 
 word-short : (l : List ℕ) → length l < 4 → word l ≡ bad 1
 unfolding word
@@ -37,10 +28,6 @@ byte_past s at h = rw (drop_of_length-le s {i = at} h)
 pub byte_at : (s : List ℕ) (at : ℕ) → at < length s → byte (from s at) ≡ got (get_or s at 0) (from s (at + 1))
 unfolding from byte
 byte_at s at h = rw (add-one, drop-cons s at 0 h)
-
-pub word-past : (s : List ℕ) (at : ℕ) → length s < at → word (from s at) ≡ bad 1
-unfolding from word
-word-past s at h = rw (drop_of_length-le s {i = at} (omega arith))
 
 pub word_at : (s : List ℕ) (at : ℕ) → at ≤ length s → 4 ≤ length s - at
     → word (from s at) ≡ got (le32 (get_or s at 0) (get_or s (at + 1) 0) (get_or s (at + 2) 0) (get_or s (at + 3) 0)) (from s (at + 4))
@@ -72,9 +59,6 @@ pub record Filled {A : Type 0} (f : Reader A) (s : List ℕ) (n at₀ : ℕ) (xs
   pub so_far : many n f (from s at₀) ≡ before (take i xs) (many (n - i) f (from s at))
 
 module _ {A : Type 0} {f : Reader A} {s : List ℕ} where
-  pub filled_none : {n at : ℕ} {xs : List A} → Filled f s n at xs 0 at
-  filled_none {n} {at} {xs} = record { so_far = rw sub-zero (sym (before-none (many n f (from s at)))) }
-
   pub filled_more : {n at₀ i at at₁ : ℕ} {xs : List A} {v : A} → Filled f s n at₀ xs i at → i < n → i < length xs
       → f (from s at) ≡ got v (from s at₁) → Filled f s n at₀ (set xs i v) (i + 1) at₁
   unfolding many
@@ -103,45 +87,37 @@ module _ {A : Type 0} {f : Reader A} {s : List ℕ} where
       let e : i ≡ n = omega arith in
       sym (h.so_far ∙ rw (d, append-nil, e))
 
--- ---- numbers, by what money's constructors say of them
+-- ---- numbers, by what money's constructors answer
 
-module _ (s : List ℕ) (at u next : ℕ) (w : word (from s at) ≡ got u (from s next)) where
-  pub price-good : (p : Price) → price_read (signed u) ≡ price-variants.Good p → got p (from s next) ≡ price (from s at)
-  unfolding price
-  price-good p e = go (price_ok (record { 0 = signed u })) refl
-    where
-      go : (b : Bool) → price_ok (record { 0 = signed u }) ≡ b → got p (from s next) ≡ price (from s at)
-      go true q = let r : ◌≡◌ {A = Price} (record { 0 = signed u }) p = cc (rw q at e) in rw (w, q, r)
-      go false q = absurd (let z : ◌≡◌ {A = ℕ} 0 1 = cc (rw q at e) in omega arith)
+-- an i32 by its bits
+signed-is : (u : ℕ) → to_z w32 u ≡ signed u
+signed-is u = go (ltb u 2147483648)
+  where
+    e : 4294967296 - suc u ≡ 4294967295 - u
+    e = omega arith
 
-  pub price-refused : (k : ℕ) → price_read (signed u) ≡ price-variants.Refused k → bad k ≡ price (from s at)
-  unfolding price
-  price-refused k e = go (price_ok (record { 0 = signed u })) refl
-    where
-      go : (b : Bool) → price_ok (record { 0 = signed u }) ≡ b → bad k ≡ price (from s at)
-      go true q = absurd (let z : ◌≡◌ {A = ℕ} 0 1 = cc (rw q at e) in omega arith)
-      go false q = let r : 5 ≡ k = cc (rw q at e) in rw (w, q, r)
+    go : (b : Bool) → cond b (pos u) (negsuc (4294967296 - suc u)) ≡ cond b (pos u) (negsuc (4294967295 - u))
+    go true = refl
+    go false = ap negsuc e
 
-  pub quantity-good : (v : Quantity) → quantity_read u ≡ quantity-variants.Good v → got v (from s next) ≡ quantity (from s at)
-  unfolding quantity
-  quantity-good v e = go (quantity_ok (record { 0 = u })) refl
-    where
-      go : (b : Bool) → quantity_ok (record { 0 = u }) ≡ b → got v (from s next) ≡ quantity (from s at)
-      go true q = let r : ◌≡◌ {A = Quantity} (record { 0 = u }) v = cc (rw q at e) in rw (w, q, r)
-      go false q = absurd (let z : ◌≡◌ {A = ℕ} 0 1 = cc (rw q at e) in omega arith)
+-- a constructor's answer as a reader's
+abbrev pub kept : {A : Type 0} → List ℕ → Result A Refusal → Res A
+kept t (Ok v) = got v t
+kept t (Err e) = bad (number_of e)
 
-  pub quantity-refused : (k : ℕ) → quantity_read u ≡ quantity-variants.Refused k → bad k ≡ quantity (from s at)
-  unfolding quantity
-  quantity-refused k e = go (quantity_ok (record { 0 = u })) refl
-    where
-      go : (b : Bool) → quantity_ok (record { 0 = u }) ≡ b → bad k ≡ quantity (from s at)
-      go true q = absurd (let z : ◌≡◌ {A = ℕ} 0 1 = cc (rw q at e) in omega arith)
-      go false q = let r : 5 ≡ k = cc (rw q at e) in rw (w, q, r)
+pub kept-check : {A : Type 0} (b : Bool) (x : A) (k : Refusal) (t : List ℕ) (r : Result A Refusal) → r ≡ cond b (Ok x) (Err k) → kept t r ≡ check b (number_of k) (got x t)
+kept-check true x k t r e = ap (kept t) e
+kept-check false x k t r e = ap (kept t) e
 
-pub price-bad : (s : List ℕ) (at k : ℕ) → word (from s at) ≡ bad k → bad k ≡ price (from s at)
-unfolding price
-price-bad s at k w = rw w
+pub price-kept : (u : ℕ) {z : ℤ} (t : List ℕ) (r : Result Price Refusal) → r ≡ price_read (to_z w32 (of_z w32 z)) → SFits w32 z → z ≡ to_z w32 u
+    → kept t r ≡ check (price_ok (record { 0 = signed u })) number_outside (got (record { 0 = signed u }) t)
+price-kept u {z} t r e f i =
+    kept-check _ _ NumberOutside t r (e ∙ ap price_read (to_z-of_z f ∙ i ∙ signed-is u))
 
-pub quantity-bad : (s : List ℕ) (at k : ℕ) → word (from s at) ≡ bad k → bad k ≡ quantity (from s at)
-unfolding quantity
-quantity-bad s at k w = rw w
+-- ---- tests of a reader
+
+pub check-yes : {A : Type 0} (k : ℕ) (r : Res A) {b : Bool} → b ≡ true → check b k r ≡ r
+check-yes k r h = ap (λ (b : Bool). check b k r) h
+
+pub check-no : {A : Type 0} (k : ℕ) (r : Res A) {b : Bool} → b ≡ false → check b k r ≡ bad k
+check-no k r h = ap (λ (b : Bool). check b k r) h

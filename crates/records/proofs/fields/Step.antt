@@ -1,40 +1,31 @@
--- Readers one after the other, each handed the end of the one before it.
-use mathlib.Core.Path.{◌≡◌, refl, ap}
-use mathlib.Core.List.{List}
-use mathlib.Core.Bool.{Bool, true, false}
-use native.Mathlib.Omega.{arith}
-use Prim.Native.Nat.{ℕ}
-use Rattle.records.specs.Reading.{Res, bad, got, Reader, ◌>>=◌, check, from}
-use Rattle.records.specs.tables.Inner.{shown, EndIn, then, guarded}
-use Rattle.records.specs.declared.fields.End.{End}
-use Rattle.records.specs.declared.fields.End.TheVariants.{At, No}
+-- Readers one after the other: what the rest of a chain makes of a value that was read, or of a fault; and what a `?` hands out.
+use Rattle.std.specs.Prelude.{◌≡◌, List, ℕ, Result, Ok, Err, IsErrAnd}
+use Rattle.std.proofs.Common.{sym, ap}
+use Rattle.money.specs.Refusals.{number_of}
+use Rattle.money.specs.Answers.{fault_in}
+use Rattle.money.specs.declared.refusals.Refusal.{Refusal}
+use Rattle.records.specs.Reading.{Res, bad, got, Reader, ◌>>=◌}
+use Rattle.records.specs.Changes.{fault}
+use Rattle.records.specs.Answers.{told}
+use Rattle.records.specs.tables.Inner.{read_as}
+use Rattle.records.specs.declared.fields.Got.{Got}
 
-pub first : {A B : Type 0} (s : List ℕ) (e : End) (v : A) (x : Res A) (k : A → Reader B) → shown s e v ≡ x → (x >>= k) ≡ then s e (λ t. k v t)
-first s (At n) v x k h = rw (← h)
-first s (No j) v x k h = rw (← h)
+-- the value and the rest go to what follows
+pub bind-ok : {A B : Type 0} {x : Res A} {v : A} {t : List ℕ} (g : A → Reader B) → got v t ≡ x → (x >>= g) ≡ g v t
+bind-ok g h = ap (λ r. r >>= g) (sym h)
 
--- f was run at the end e, and ended at d with v
-pub next : {A B : Type 0} (s : List ℕ) (e d : End) (v : A) (f : Reader A) (k : A → Reader B) → shown s d v ≡ then s e f
-    → then s e (λ t. f t >>= k) ≡ then s d (λ t. k v t)
-next s (At n) d v f k h = first s d v (f (from s n)) k h
-next s (No j) (At m) v f k h = absurd (let z : ◌≡◌ {A = ℕ} 0 1 = cc in omega arith)
-next s (No j) (No m) v f k h = let e : j ≡ m = cc in ap bad e
+-- a fault is the fault of the whole
+pub bind-err : {A B : Type 0} {x : Res A} {k : ℕ} (g : A → Reader B) → bad k ≡ x → (x >>= g) ≡ bad k
+bind-err g h = ap (λ r. r >>= g) (sym h)
 
-pub test : {A : Type 0} (s : List ℕ) (e : End) (b : Bool) (j : ℕ) (k : Reader A) → then s e (λ t. check b j (k t)) ≡ then s (guarded e b j) k
-test s (At n) true j k = refl
-test s (At n) false j k = refl
-test s (No i) b j k = refl
+pub read-out : {A : Type 0} (s : List ℕ) (r : Result (Got A) Refusal) (e : Refusal) → IsErrAnd r (λ x. x ≡ e) → read_as s r ≡ bad (number_of e)
+read-out s (Ok x) e h = absurd h
+read-out s (Err x) e h = ap (λ (y : Refusal). bad (number_of y)) h
 
-pub last : {A : Type 0} (s : List ℕ) (e : End) (v : A) → then s e (λ t. got v t) ≡ shown s e v
-last s (At n) v = refl
-last s (No j) v = refl
+pub told-out : {A : Type 0} (r : Result A Refusal) (e : Refusal) → IsErrAnd r (λ x. x ≡ e) → told r ≡ fault (number_of e)
+told-out (Ok x) e h = absurd h
+told-out (Err x) e h = ap (λ (y : Refusal). fault (number_of y)) h
 
--- a test moves no end
-pub guarded-in : (s : List ℕ) (e : End) (b : Bool) (k : ℕ) → EndIn s e → EndIn s (guarded e b k)
-guarded-in s (At n) true k h = h
-guarded-in s (At n) false k h = tt
-guarded-in s (No j) b k h = tt
-
-pub guard-yes : (e : End) (k : ℕ) → e ≡ guarded e true k
-guard-yes (At n) k = refl
-guard-yes (No j) k = refl
+pub fault-out : {A : Type 0} (r : Result A Refusal) (e : Refusal) → IsErrAnd r (λ x. x ≡ e) → fault_in r ≡ number_of e
+fault-out (Ok x) e h = absurd h
+fault-out (Err x) e h = ap number_of h

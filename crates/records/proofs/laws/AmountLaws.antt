@@ -14,8 +14,7 @@ use Rattle.money.proofs.laws.ProductionLaws.{reserve-full, reserve-empty, number
 use Rattle.money.proofs.laws.FailureLaws.{failure-fine, import-charged, export-charged}
 use Rattle.money.proofs.laws.SizeLaws.{no-amount, answered-credit, answered-import-charge, answered-export-charge, part-bounded}
 use Rattle.money.specs.declared.units.Ticks.{Ticks}
-use Rattle.money.specs.declared.units.Answer.{Answer}
-use Rattle.money.specs.declared.units.Answer.TheVariants.{Amount}
+use Rattle.money.specs.Answers.{Answer, Amount}
 use Rattle.money.specs.declared.units.Quantity.{Quantity}
 use Rattle.money.specs.declared.production.Reserve.{Reserve}
 use Rattle.money.specs.declared.production.UnitHour.{UnitHour}
@@ -28,7 +27,7 @@ use Rattle.records.specs.Reading.{Res, got, ◌>>=◌}
 use Rattle.records.specs.Layouts.{import}
 use Rattle.records.specs.Changes.{Rec, Change, filed, key_of, write, Good}
 use Rattle.records.specs.Views.{import_of, export_of, unit_hour_of, failure_of, no_import}
-use Rattle.records.specs.Amounts.{credit_for, credit_of, unit_amount_of, charge_for, charge_of, credit_ticks, unit_ticks, start_cents, charge_ticks_for, charge_ticks, given, entry_from, entry_answer, part_answer, totals_answer, totals_with, offset_entry, offset_entry_in, unit_part_in, totals_with_in, charge_in}
+use Rattle.records.specs.Amounts.{credit_for, credit_of, unit_amount_of, charge_for, charge_of, credit_ticks, unit_ticks, start_cents, charge_ticks_for, charge_ticks, given, entry_from, entry_read, part_read, totals_read, totals_with, offset_entry, charge_in}
 use Rattle.records.proofs.laws.NameLaws.{Visible}
 use Rattle.records.proofs.laws.KeyLaws.{name-decoded}
 use Rattle.records.proofs.laws.ViewLaws.{view-import, written-ahead, body-view, export-view, failed-import-charge, failed-export-charge, unit-view}
@@ -75,18 +74,18 @@ module _ (r : Rec) (p : HourPrices) (g : Good (filed r)) (e : r.key.mark ≡ Im)
 
 -- bytes that begin with a filed import, whatever follows, give its entry
 pub entry-view : (r : Rec) (p : HourPrices) (u : List ℕ) → Good (filed r) → r.key.mark ≡ Im → PricesFit p
-    → offset_entry_in (write (filed r) ++ u) p ≡ record { number = 0; entry = offset_entry p r }
+    → entry_read p (write (filed r) ++ u) ≡ got (offset_entry p r) u
 entry-view r p u g e f =
-    ap (λ (x : Res Name). entry_answer (x >>= λ n t. import t >>= λ i v. given (credit_for i p) (entry_from n i) v)) (written-ahead import Im view-import r e g u)
-    ∙ ap (λ (x : Res Import). entry_answer (x >>= λ i v. given (credit_for i p) (entry_from r.key.name i) v))
+    ap (λ (x : Res Name). x >>= λ n t. import t >>= λ i v. given (credit_for i p) (entry_from n i) v) (written-ahead import Im view-import r e g u)
+    ∙ ap (λ (x : Res Import). x >>= λ i v. given (credit_for i p) (entry_from r.key.name i) v)
     (body-view import Im view-import r e g u no_import)
-    ∙ ap (λ (a : Answer). entry_answer (given a (entry_from r.key.name (import_of r)) u)) (credit-amount r p g e f)
+    ∙ ap (λ (a : Answer). given a (entry_from r.key.name (import_of r)) u) (credit-amount r p g e f)
 
 -- ---- an export
 
 pub totals-written : (r : Rec) (ts : List Quantity) (u : List ℕ) → Good (filed r) → r.key.mark ≡ Ex
-    → totals_with_in (write (filed r) ++ u) ts ≡ record { number = 0; totals = totals_with ts (export_of r).mqsw }
-totals-written r ts u g e = ap (λ (x : Res Export). totals_answer (x >>= λ y t. got (totals_with ts y.mqsw) t)) (export-view r g u e)
+    → totals_read ts (write (filed r) ++ u) ≡ got (totals_with ts (export_of r).mqsw) u
+totals-written r ts u g e = ap (λ (x : Res Export). x >>= λ y t. got (totals_with ts y.mqsw) t) (export-view r g u e)
 
 -- ---- a unit's hour
 
@@ -167,7 +166,7 @@ charge-written r p u g h f =
     Same m = charge_in m (write (filed r) ++ u) p ≡ charge_of r p
 
 pub unit-written : (r : Rec) (p : HourPrices) (u : List ℕ) → Good (filed r) → r.key.mark ≡ Gh → PricesFit p
-    → unit_part_in (write (filed r) ++ u) p ≡ record { number = 0; part = record { ticks = record { 0 = unit_ticks r p }; start = (unit_hour_of r).startup } }
+    → part_read p (write (filed r) ++ u) ≡ got (record { ticks = record { 0 = unit_ticks r p }; start = (unit_hour_of r).startup }) u
 unit-written r p u g e f =
-    ap (λ (x : Res UnitHour). part_answer (x >>= λ h t. given (hour_answer h p.emp) (λ a. record { ticks = a; start = h.startup }) t)) (unit-view r g u e)
-    ∙ ap (λ (a : Answer). part_answer (given a (λ y. record { ticks = y; start = (unit_hour_of r).startup }) u)) (unit-amount r p g e f)
+    ap (λ (x : Res UnitHour). x >>= λ h t. given (hour_answer h p.emp) (λ a. record { ticks = a; start = h.startup }) t) (unit-view r g u e)
+    ∙ ap (λ (a : Answer). given a (λ y. record { ticks = y; start = (unit_hour_of r).startup }) u) (unit-amount r p g e f)

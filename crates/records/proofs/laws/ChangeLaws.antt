@@ -1,7 +1,7 @@
 -- What the record layer promises of its definitions.
 -- Assumes nothing.
-use Rattle.std.specs.Prelude.{◌≡◌, refl, List, [], ◌∷◌, ◌++◌, Bool, true, false, cond, ◌&&◌, ℕ, zero, suc, ◌+◌, ◌*◌, ◌<◌, ltb, leb, eqb, length, take, drop}
-use Rattle.std.proofs.Common.{sym, ap, ap₂, ◌∙◌, subst, append_assoc, true≢false, arith, length-append, eq-eqb, eqb-true}
+use Rattle.std.specs.Prelude.{◌≡◌, refl, List, [], ◌∷◌, ◌++◌, Bool, true, false, cond, ◌&&◌, ℕ, zero, suc, ◌+◌, ◌*◌, ◌<◌, ltb, leb, eqb, length, take, drop, Option, Some, None}
+use Rattle.std.proofs.Common.{sym, ap, ap₂, ◌∙◌, subst, append_assoc, arith, length-append, eq-eqb, eqb-true}
 use Rattle.money.specs.declared.names.Name.{Name}
 use Rattle.records.specs.Reading.{Res, bad, got, ◌>>=◌, check, byte, some}
 use Rattle.records.specs.Numbers.{between, hour}
@@ -9,7 +9,8 @@ use Rattle.records.specs.Names.{decode_name, up_to, one, escaped, hex_val, visib
 use Rattle.records.specs.Marks.{is, listing, mark_among, mark, mark_bytes, has_name}
 use Rattle.records.proofs.laws.MarkLaws.{mark-two}
 use Rattle.records.specs.Layouts.{layout}
-use Rattle.records.specs.Changes.{Rec, Change, filed, corrected, withdrawn, key_of, kind, is_record, body_of, made, Head, allowed, inside, head, nameless, name_for, body_for, rest, change, lead_bytes, no_name, name_bytes, head_bytes, write, fine, fault, whole, parse, Scan, seen, unseen, begins, written, scan, Good, bare, view_of}
+use Rattle.records.specs.Changes.{Rec, Change, filed, corrected, withdrawn, key_of, kind, body_of, made, Head, allowed, inside, head, nameless, name_for, body_for, rest, change, lead_bytes, no_name, name_bytes, head_bytes, write, fine, fault, whole, parse, Scan, seen, unseen, begins, written, scan, Good, bare}
+use Rattle.records.specs.Answers.{view_of, view, view_in}
 use Rattle.records.proofs.laws.NameLaws.{take-pad, field-again, field-spelled}
 use Rattle.records.specs.declared.marks.Mark.{Mark}
 use Rattle.records.specs.declared.marks.Mark.TheVariants.{Pr, Im, Ex, Gh, Fi, Fe}
@@ -17,7 +18,6 @@ use Rattle.records.specs.declared.marks.Kind.{Kind}
 use Rattle.records.specs.declared.marks.Kind.TheVariants.{File, Correct, Withdraw}
 use Rattle.records.specs.declared.marks.Wanted.{Wanted}
 use Rattle.records.specs.declared.marks.Wanted.TheVariants.{Any}
-use Rattle.records.specs.declared.marks.Act.TheVariants.{Record}
 use Rattle.records.specs.declared.keys.Key.{Key}
 use Rattle.records.specs.declared.scan.View.{View}
 use Rattle.records.proofs.laws.ReaderLaws.{bad-got, check-got, bind-got, Counted, counted-got, counted-bad, counted-bind, counted-check, counted-cond, lawful-byte, lawful-layout, taken-got, counted-taken}
@@ -424,26 +424,27 @@ write-co r = (omega arith, refl)
 pub record Read (s : List ℕ) (v : View) : Type 0 where
   pub what : Change
   pub scanned : scan s ≡ seen what v.len
-  pub view-is : v ≡ record { act = Record (kind what); key = key_of what; len = length (write what) }
+  pub view-is : v ≡ view what
 
-pub view-bad : (s : List ℕ) (v : View) → v ≡ view_of (scan s) → is_record v.act ≡ false → scan s ≡ unseen
-view-bad s v e h = go (scan s) e
+pub view-bad : (s : List ℕ) → None ≡ view_in (scan s) → scan s ≡ unseen
+view-bad s h = go (scan s) h
   where
-    go : (r : Scan) → v ≡ view_of r → r ≡ unseen
+    go : (r : Scan) → None ≡ view_in r → r ≡ unseen
     go unseen p = refl
-    go (seen c n) p = absurd (true≢false (sym (ap (λ (x : View). is_record x.act) p) ∙ h))
+    go (seen c n) p = absurd (let z : ◌≡◌ {A = ℕ} 0 1 = cc in omega arith)
 
-pub view-got : (s : List ℕ) (v : View) → v ≡ view_of (scan s) → is_record v.act ≡ true → Read s v
-view-got s v e h = go (scan s) refl
+pub view-got : (s : List ℕ) (v : View) → Some v ≡ view_in (scan s) → Read s v
+view-got s v h = go (scan s) refl
   where
     go : (r : Scan) → scan s ≡ r → Read s v
-    go unseen q = absurd (true≢false (sym h ∙ ap (λ (x : View). is_record x.act) (e ∙ ap view_of q)))
+    go unseen q = absurd (let p : ◌≡◌ {A = Option View} (Some v) None = h ∙ ap view_in q in let z : ◌≡◌ {A = ℕ} 0 1 = cc p in omega arith)
     go (seen c n) q =
-        let p = e ∙ ap view_of q in
+        let o : ◌≡◌ {A = Option View} (Some v) (Some (view_of c n)) = h ∙ ap view_in q in
+        let p : v ≡ view_of c n = cc o in
         record {
           what = c;
           scanned = q ∙ ap (seen c) (sym (ap (λ (x : View). x.len) p));
-          view-is = p ∙ ap (λ (m : ℕ). view_of (seen c m)) (scan-got s c n q).len;
+          view-is = p ∙ ap (view_of c) (scan-got s c n q).len;
         }
 
 pub good-kept : (c : Change) → Good c → Kept c

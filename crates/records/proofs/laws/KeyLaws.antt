@@ -9,8 +9,9 @@ use Rattle.records.specs.Numbers.{between}
 use Rattle.records.specs.Names.{decode_name, name_field, spell, name_from, empty_name, bytes_of, stored_name}
 use Rattle.records.specs.Marks.{mark_bytes, mark_among, mark, has_name, is_failure, order, same_mark, key_mark}
 use Rattle.records.proofs.laws.MarkLaws.{order_same, sole, sole-is}
-use Rattle.records.specs.Changes.{Change, key_of, kind, Good, nameless, name_for, no_name, name_bytes}
-use Rattle.records.specs.Keys.{same_key_mark, same_hour, same, ask_mark, ask_name, ask_failure_mark, ask_from, ask, ask_failure, ask_hour_of, ask_hour, ask_unit, key_answer, ask_bytes}
+use Rattle.records.specs.Changes.{Change, key_of, kind, Good, nameless, name_for, no_name, name_bytes, fine}
+use Rattle.records.specs.Answers.{input_of}
+use Rattle.records.specs.Keys.{same_key_mark, same_hour, same, ask_mark, ask_name, ask_failure_mark, ask_from, ask, ask_failure, ask_hour_of, ask_hour, ask_unit, ask_bytes}
 pub use Rattle.records.specs.tables.Formed.{Padded, Wellformed}
 use Rattle.records.proofs.laws.ReaderLaws.{bad-got, check-got, bind-got}
 use Rattle.records.proofs.laws.NameLaws.{take-pad, field-spelled, Valid, decoded-valid}
@@ -20,7 +21,6 @@ use Rattle.records.specs.declared.marks.Mark.TheVariants.{Pr, Im, Ex, Gh, Fi, Fe
 use Rattle.records.specs.declared.marks.Kind.{Kind}
 use Rattle.records.specs.declared.marks.Kind.TheVariants.{File, Correct, Withdraw}
 use Rattle.records.specs.declared.keys.Key.{Key}
-use Rattle.records.specs.declared.keys.KeyAnswer.{KeyAnswer}
 
 -- marks whose records stand under one key
 pub one-mark : (a b : Key) → same_key_mark a b ≡ true → key_mark a.mark ≡ key_mark b.mark
@@ -334,15 +334,12 @@ failure-marked ms h ns k t e =
     let d = check-got (is_failure w.0) 2 (got w.0 w.1) x.0 x.1 w.3 in
     ap (λ (z : Key). is_failure z.mark) (sym (got-value y.3)) ∙ ap is_failure (sym (got-value d.1)) ∙ d.0
 
--- ---- the key of a question has an hour of the day and a name with zeros behind its bytes; so has the key of no question
+-- ---- the key of a question has an hour of the day and a name with zeros behind its bytes
 -- (`Wellformed`, of `specs/tables/Formed.antt`)
 
-answer-formed : (a : Res Key) → ((k : Key) (t : List ℕ) → a ≡ got k t → Wellformed k) → (r : KeyAnswer) → r ≡ key_answer a → Wellformed r.key
-answer-formed a f r e = subst Wellformed (sym (ap (λ (y : KeyAnswer). y.key) e)) (go a f)
-  where
-    go : (a : Res Key) → ((k : Key) (t : List ℕ) → a ≡ got k t → Wellformed k) → Wellformed (key_answer a).key
-    go (bad n) f = record { low = omega arith; padded = refl }
-    go (got k t) f = f k t refl
+answer-formed : (a : Res Key) → ((k : Key) (t : List ℕ) → a ≡ got k t → Wellformed k) → (k : Key) → fine k ≡ input_of a → Wellformed k
+answer-formed (bad n) f k e = cc
+answer-formed (got x t) f k e = let p : x ≡ k = cc in f k t (ap (λ (y : Key). got y t) p)
 
 in-day : (h : ℕ) → between 1 24 h ≡ true → h < 32
 in-day h t = omega (arith, leb-true h 24 (and_right (leb 1 h) (leb h 24) t))
@@ -355,11 +352,11 @@ formed-from x h ns k t e =
     let z = bind-got (ask_name y.0 ns) (λ n u. got (record { mark = y.0; hour = h; name = n }) []) k t c.1 in
     subst Wellformed (got-value z.3) (record { low = in-day h c.0; padded = asked-padded y.0 ns z.0 z.1 z.2 })
 
-pub key-formed : (ms : List ℕ) (h : ℕ) (ns : List ℕ) (r : KeyAnswer) → r ≡ key_answer (ask ms h ns) → Wellformed r.key
-key-formed ms h ns r e = answer-formed (ask ms h ns) (formed-from (ask_mark ms) h ns) r e
+pub key-formed : (ms : List ℕ) (h : ℕ) (ns : List ℕ) (k : Key) → fine k ≡ input_of (ask ms h ns) → Wellformed k
+key-formed ms h ns = answer-formed (ask ms h ns) (formed-from (ask_mark ms) h ns)
 
-pub failure-formed : (ms : List ℕ) (h : ℕ) (ns : List ℕ) (r : KeyAnswer) → r ≡ key_answer (ask_failure ms h ns) → Wellformed r.key
-failure-formed ms h ns r e = answer-formed (ask_failure ms h ns) (formed-from (ask_failure_mark ms) h ns) r e
+pub failure-formed : (ms : List ℕ) (h : ℕ) (ns : List ℕ) (k : Key) → fine k ≡ input_of (ask_failure ms h ns) → Wellformed k
+failure-formed ms h ns = answer-formed (ask_failure ms h ns) (formed-from (ask_failure_mark ms) h ns)
 
 formed-hour : (m : Mark) (h : ℕ) (k : Key) (t : List ℕ) → ask_hour_of m h ≡ got k t → Wellformed k
 unfolding ask_hour_of
@@ -367,12 +364,12 @@ formed-hour m h k t e =
     let c = check-got (between 1 24 h) 3 (got (record { mark = m; hour = h; name = empty_name }) []) k t e in
     subst Wellformed (got-value c.1) (record { low = in-day h c.0; padded = refl })
 
-pub mark-hour-formed : (m : Mark) (h : ℕ) (r : KeyAnswer) → r ≡ key_answer (ask_hour_of m h) → Wellformed r.key
-mark-hour-formed m h r e = answer-formed (ask_hour_of m h) (formed-hour m h) r e
+pub mark-hour-formed : (m : Mark) (h : ℕ) (k : Key) → fine k ≡ input_of (ask_hour_of m h) → Wellformed k
+mark-hour-formed m h = answer-formed (ask_hour_of m h) (formed-hour m h)
 
-pub hour-formed : (ms : List ℕ) (h : ℕ) (r : KeyAnswer) → r ≡ key_answer (ask_hour ms h) → Wellformed r.key
+pub hour-formed : (ms : List ℕ) (h : ℕ) (k : Key) → fine k ≡ input_of (ask_hour ms h) → Wellformed k
 unfolding ask_hour
-hour-formed ms h r e = answer-formed (ask_hour ms h) (λ k t g. let y = bind-got (ask_mark ms) (λ m u. ask_hour_of m h) k t g in formed-hour y.0 h k t y.3) r e
+hour-formed ms h = answer-formed (ask_hour ms h) (λ k t g. let y = bind-got (ask_mark ms) (λ m u. ask_hour_of m h) k t g in formed-hour y.0 h k t y.3)
 
 formed-unit : (ns : List ℕ) (k : Key) (t : List ℕ) → ask_unit ns ≡ got k t → Wellformed k
 unfolding ask_unit ask_name
@@ -380,5 +377,5 @@ formed-unit ns k t e =
     let y = bind-got (stored_name (decode_name ns)) (λ n u. got (record { mark = Gh; hour = 1; name = n }) []) k t e in
     subst Wellformed (got-value y.3) (record { low = omega arith; padded = asked-padded Gh ns y.0 y.1 y.2 })
 
-pub unit-formed : (ns : List ℕ) (r : KeyAnswer) → r ≡ key_answer (ask_unit ns) → Wellformed r.key
-unit-formed ns r e = answer-formed (ask_unit ns) (formed-unit ns) r e
+pub unit-formed : (ns : List ℕ) (k : Key) → fine k ≡ input_of (ask_unit ns) → Wellformed k
+unit-formed ns = answer-formed (ask_unit ns) (formed-unit ns)

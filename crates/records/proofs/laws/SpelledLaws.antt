@@ -3,7 +3,7 @@ use Rattle.std.specs.Prelude.{◌≡◌, List, ◌++◌, ℕ}
 use Rattle.std.proofs.Math.Path.{refl, ap, subst}
 use Rattle.std.proofs.Common.{sym, ◌∙◌, eq-eqb}
 use Rattle.money.specs.declared.names.Name.{Name}
-use Rattle.money.specs.declared.units.Answer.{Answer}
+use Rattle.money.specs.Answers.{Answer}
 use Rattle.money.specs.declared.units.Quantity.{Quantity}
 use Rattle.records.specs.Reading.{Res, got, Reader, ◌>>=◌, check}
 use Rattle.records.specs.Numbers.{hour}
@@ -11,7 +11,7 @@ use Rattle.records.specs.Marks.{order, same_mark}
 use Rattle.records.specs.Layouts.{hour_prices, import, export}
 use Rattle.records.specs.Changes.{Rec, filed, Head, head, rest, change, name_for, Good}
 use Rattle.records.specs.Views.{value_or, ahead, viewed, prices_of, import_of, export_of, prices_in, no_prices, no_import, no_export}
-use Rattle.records.specs.Amounts.{credit_for, given, entry_from, entry_answer, totals_answer, totals_with, offset_entry, offset_entry_in, totals_with_in}
+use Rattle.records.specs.Amounts.{credit_for, given, entry_from, totals_with, offset_entry, entry_read, totals_read}
 use Rattle.records.proofs.laws.ReaderLaws.{bind-got}
 use Rattle.records.proofs.laws.ChangeLaws.{rest-parts, filed-made, body-rest, change-good}
 use Rattle.records.proofs.laws.ViewLaws.{Layout, view-prices, view-import, view-export, body-view}
@@ -53,12 +53,11 @@ module _ (r : Rec) (s t : List ℕ) (q : change (Only File) s ≡ got (filed r) 
   pub read-prices : r.key.mark ≡ Pr → prices_in s ≡ prices_of r
   read-prices e = ap (value_or no_prices) (read_view hour_prices Pr view-prices e no_prices)
 
-  pub read-entry : r.key.mark ≡ Im → (p : HourPrices) → PricesFit p → offset_entry_in s p ≡ record { number = 0; entry = offset_entry p r }
+  pub read-entry : r.key.mark ≡ Im → (p : HourPrices) → PricesFit p → entry_read p s ≡ got (offset_entry p r) t
   read-entry e p f =
-      ap (λ (x : Res Name). entry_answer (x >>= λ n t. import t >>= λ i v. given (credit_for i p) (entry_from n i) v)) (read-ahead Im e)
-      ∙ ap (λ (x : Res Import). entry_answer (x >>= λ i v. given (credit_for i p) (entry_from r.key.name i) v))
-      (body-view import Im view-import r e good t no_import)
-      ∙ ap (λ (a : Answer). entry_answer (given a (entry_from r.key.name (import_of r)) t)) (credit-amount r p good e f)
+      ap (λ (x : Res Name). x >>= λ n t. import t >>= λ i v. given (credit_for i p) (entry_from n i) v) (read-ahead Im e)
+      ∙ ap (λ (x : Res Import). x >>= λ i v. given (credit_for i p) (entry_from r.key.name i) v) (body-view import Im view-import r e good t no_import)
+      ∙ ap (λ (a : Answer). given a (entry_from r.key.name (import_of r)) t) (credit-amount r p good e f)
 
-  pub read-totals : r.key.mark ≡ Ex → (ts : List Quantity) → totals_with_in s ts ≡ record { number = 0; totals = totals_with ts (export_of r).mqsw }
-  read-totals e ts = ap (λ (x : Res Export). totals_answer (x >>= λ y t. got (totals_with ts y.mqsw) t)) (read_view export Ex view-export e no_export)
+  pub read-totals : r.key.mark ≡ Ex → (ts : List Quantity) → totals_read ts s ≡ got (totals_with ts (export_of r).mqsw) t
+  read-totals e ts = ap (λ (x : Res Export). x >>= λ y t. got (totals_with ts y.mqsw) t) (read_view export Ex view-export e no_export)

@@ -1,15 +1,15 @@
--- A change that is written of its view is the one that is written of what was read; the first of several changes, by what its view says.
+-- A change that is written of its view is the one that is written of what was read.
 use Rattle.std.specs.Prelude.{◌≡◌, refl, List, [], ◌∷◌, ◌++◌, Bool, true, cond, ℕ, ◌+◌, ◌-◌, leb, length, drop}
 use Rattle.std.proofs.Common.{ap, ap₂, ◌∙◌, subst, append-nil, arith, length-append, drop_at, le-leb}
 use Rattle.money.specs.Refusals.{mark_unknown, no_space}
 use Rattle.records.specs.Reading.{Res, bad, got}
-use Rattle.records.specs.Changes.{Change, kind, key_of, body_of, head_bytes, change, write, put, put_number, put_bytes, Input, fine, fault, whole, parse, view_of, seen, parsed_of}
+use Rattle.records.specs.Changes.{Change, kind, key_of, body_of, head_bytes, change, write, put, put_number, put_bytes, Input, fine, fault, whole, parse}
+use Rattle.records.specs.Answers.{view, seen_view}
 use Rattle.records.specs.tables.Viewed.{is_view, view_written, viewed_number, viewed_bytes}
-use Rattle.records.proofs.laws.ChangeLaws.{change-good, parse-fault}
+use Rattle.records.proofs.laws.ChangeLaws.{change-good}
 use Rattle.records.proofs.laws.KeyLaws.{good-few}
 use Rattle.records.proofs.laws.FirmLaws.{change-ends}
 use Rattle.records.specs.declared.scan.View.{View}
-use Rattle.records.specs.declared.parse.Parsed.{Parsed}
 use Rattle.records.specs.declared.marks.Wanted.{Wanted}
 
 -- ---- writing
@@ -20,7 +20,7 @@ record Right (v : View) (s : List ℕ) (c : Change) : Type 0 where
   bytes : view_written v s ≡ write c
   len : v.len ≡ length (write c)
 
-right-view : (want : Wanted) (s : List ℕ) (c : Change) → change want s ≡ got c [] → Right (view_of (seen c (length (write c)))) s c
+right-view : (want : Wanted) (s : List ℕ) (c : Change) → change want s ≡ got c [] → Right (view c) s c
 unfolding is_view view_written write
 right-view want s c e =
     let hd : List ℕ = head_bytes (kind c) (key_of c) in
@@ -40,17 +40,17 @@ right-view want s c e =
       len = refl;
     }
 
-parse-right : (want : Wanted) (s : List ℕ) (c : Change) → parse want s ≡ fine c → Right (view_of (seen c (length (write c)))) s c
+parse-right : (want : Wanted) (s : List ℕ) (c : Change) → parse want s ≡ fine c → Right (view c) s c
 unfolding parse
 parse-right want s c = go (change want s) refl
   where
-    go : (r : Res Change) → change want s ≡ r → whole r ≡ fine c → Right (view_of (seen c (length (write c)))) s c
+    go : (r : Res Change) → change want s ≡ r → whole r ≡ fine c → Right (view c) s c
     go (bad k) q e = absurd (let z : ◌≡◌ {A = ℕ} 0 1 = cc in omega arith)
     go (got d []) q e = let p : d ≡ c = cc in right-view want s c (q ∙ ap (λ (x : Change). got x []) p)
     go (got d (x ∷ t)) q e = absurd (let z : ◌≡◌ {A = ℕ} 0 1 = cc in omega arith)
 
 -- a view of what an argument is writes what the argument is
-pub viewed-put : (want : Wanted) (s : List ℕ) (v : View) → parsed_of (parse want s) ≡ record { number = 0; view = v } → (at : ℕ) (d : List ℕ)
+pub viewed-put : (want : Wanted) (s : List ℕ) (v : View) → seen_view (parse want s) ≡ fine v → (at : ℕ) (d : List ℕ)
     → (viewed_number v at s d ≡ put_number (parse want s) at d) × (viewed_bytes v at s d ≡ put_bytes (parse want s) at d)
 viewed-put want s v e at d = go (parse want s) refl e
   where
@@ -62,9 +62,9 @@ viewed-put want s v e at d = go (parse want s) refl e
           (λ i. cond (leb (at + x.len i) (length d)) (put d at (x.bytes i)) d),
     )
 
-    go : (i : Input Change) → parse want s ≡ i → parsed_of i ≡ record { number = 0; view = v }
+    go : (i : Input Change) → parse want s ≡ i → seen_view i ≡ fine v
         → (viewed_number v at s d ≡ put_number i at d) × (viewed_bytes v at s d ≡ put_bytes i at d)
     go (fine c) q f =
-        let w : view_of (seen c (length (write c))) ≡ v = ap (λ (p : Parsed). p.view) f in
+        let w : view c ≡ v = cc f in
         both c v (subst (λ (x : View). Right x s c) w (parse-right want s c q))
-    go (fault n) q f = absurd (parse-fault want s n q (ap (λ (p : Parsed). p.number) f))
+    go (fault n) q f = absurd (let z : ◌≡◌ {A = ℕ} 0 1 = cc f in omega arith)

@@ -1,19 +1,30 @@
--- Arrays that are filled from the front, and two of them as one list of pairs.
-use mathlib.Core.Path.{◌≡◌, refl, sym, ap, ◌∙◌}
-use mathlib.Core.List.{List, [], ◌∷◌, ◌++◌, map}
-use Prim.Native.Nat.{ℕ, zero, suc, ◌+◌, ◌≤◌, ◌<◌}
-use native.Mathlib.Omega.{arith}
-use native.Mathlib.Nat.{not-suc-le-zero, le_of_suc-le-suc}
-use native.Mathlib.Numerals.{add-one}
-use lib.ListN.{length, take, set, length-set}
-use lib.Seq.{take-suc-set, length-take-le}
+-- Arrays that are filled from the front, two of them as one list of pairs, and the count of a list.
+use Rattle.std.proofs.Common.{◌≡◌, refl, sym, ap, ◌∙◌, List, [], ◌∷◌, ◌++◌, map, ℕ, zero, suc, ◌+◌, ◌≤◌, ◌<◌, arith, add-one, not-suc-le-zero, le_of_suc-le-suc, length, take, set, length-set, take-suc-set, length-take-le, true, false, le-leb}
+use Rattle.std.specs.List.{zip}
+use Rattle.std.proofs.lemmas.Bool.{lt-leb}
+use Rattle.std.proofs.lemmas.Slice.Zip.{length-zip}
 use Rattle.money.specs.Units.{no_price, no_quantity}
 use Rattle.money.specs.declared.units.Price.{Price}
 use Rattle.money.specs.declared.units.Quantity.{Quantity}
 use Rattle.money.specs.declared.offers.Offer.{Offer}
-use Rattle.records.specs.Reading.{bad, got, ◌>>=◌, from}
-use Rattle.records.specs.Numbers.{pad, offer_of, pair, pairs}
+use Rattle.records.specs.Reading.{Res, bad, got, ◌>>=◌, from}
+use Rattle.records.specs.Numbers.{between, pad, offer_of, pair, pairs}
+use Rattle.records.specs.tables.Inner.{pair_of}
+use Rattle.records.specs.declared.lists.Pair.{Pair}
 use Rattle.records.proofs.fields.Lemmas.{Filled, filled-bad, filled-first}
+
+-- ---- a pair as it was read
+
+abbrev pub unpaired : Res Pair → Res (Price × Quantity)
+unpaired (bad k) = bad k
+unpaired (got v t) = got (v.price, v.quantity) t
+
+pub pair-back : {r : Res (Price × Quantity)} {x : Res Pair} → x ≡ pair_of r → r ≡ unpaired x
+pair-back {r} e = sym (back r) ∙ ap unpaired (sym e)
+  where
+    back : (r : Res (Price × Quantity)) → unpaired (pair_of r) ≡ r
+    back (bad k) = refl
+    back (got x t) = refl
 
 -- ---- zeros behind what was stored
 
@@ -40,22 +51,12 @@ padded-more {A} {z} {n} {xs} {i} v h l =
 
 -- ---- two arrays as one list of pairs
 
-abbrev pub zip : {A B : Type 0} → List A → List B → List (A × B)
-zip [] qs = []
-zip (p ∷ ps) [] = []
-zip (p ∷ ps) (q ∷ qs) = (p, q) ∷ zip ps qs
-
 pub zip-set : {A B : Type 0} (ps : List A) (qs : List B) (i : ℕ) (p : A) (q : B) → zip (set ps i p) (set qs i q) ≡ set (zip ps qs) i (p, q)
 zip-set [] qs i p q = refl
 zip-set (x ∷ ps) [] zero p q = refl
 zip-set (x ∷ ps) [] (suc i) p q = refl
 zip-set (x ∷ ps) (y ∷ qs) zero p q = refl
 zip-set {A} {B} (x ∷ ps) (y ∷ qs) (suc i) p q = ap (λ (r : List (A × B)). (x, y) ∷ r) (zip-set ps qs i p q)
-
-pub length-zip : {A B : Type 0} (ps : List A) (qs : List B) → length ps ≡ length qs → length (zip ps qs) ≡ length ps
-length-zip [] qs e = refl
-length-zip (p ∷ ps) [] e = sym e
-length-zip (p ∷ ps) (q ∷ qs) e = ap suc (length-zip ps qs (omega arith))
 
 zip-left : {A B : Type 0} (n : ℕ) (ps : List A) (qs : List B) → length ps ≡ length qs → map (λ (x : A × B). x.0) (take n (zip ps qs)) ≡ take n ps
 zip-left zero ps qs e = refl
@@ -76,7 +77,7 @@ offer-is n ps qs h p q =
     let a = p.long in
     let b = q.long in
     let e : length ps ≡ length qs = a ∙ sym b in
-    let l : length (take n (zip ps qs)) ≡ n = length-take-le n (zip ps qs) (omega (arith, length-zip ps qs e)) in
+    let l : length (take n (zip ps qs)) ≡ n = length-take-le n (zip ps qs) (omega (arith, length-zip ps qs, e)) in
     let x : ps ≡ pad no_price 20 (map (λ (x : Price × Quantity). x.0) (take n (zip ps qs))) = p.behind ∙ ap (pad no_price 20) (sym (zip-left n ps qs e)) in
     let y : qs ≡ pad no_quantity 20 (map (λ (x : Price × Quantity). x.1) (take n (zip ps qs))) = q.behind ∙ ap (pad no_quantity 20)
     (sym (zip-right n ps qs e)) in
@@ -95,3 +96,14 @@ pub pairs-bad : {s : List ℕ} {n at₀ i at k : ℕ} {xs : List (Price × Quant
     → bad k ≡ pairs n (from s at₀)
 unfolding pairs
 pairs-bad h l e = ap (λ r. r >>= λ xs t. got (offer_of xs) t) (filled-bad h l e)
+
+-- ---- a count
+
+pub count-in : (lo hi n : ℕ) → lo ≤ n → n ≤ hi → between lo hi n ≡ true
+count-in lo hi n h k = rw (le-leb lo n h, le-leb n hi k)
+
+pub count-few : (lo hi n : ℕ) → n < lo → between lo hi n ≡ false
+count-few lo hi n h = rw (lt-leb lo n h)
+
+pub count-many : (lo hi n : ℕ) → lo ≤ n → hi < n → between lo hi n ≡ false
+count-many lo hi n h k = rw (le-leb lo n h, lt-leb n hi k)

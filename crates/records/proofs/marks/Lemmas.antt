@@ -1,162 +1,134 @@
--- Mark, hour and name at a place of some bytes, by the tests that the code makes.
-use mathlib.Core.Path.{◌≡◌, refl, sym, ap, ap₂, ◌∙◌}
-use mathlib.Core.List.{List, [], ◌∷◌}
-use mathlib.Core.Bool.{Bool, true, false, cond, ◌&&◌}
-use Prim.Native.Nat.{ℕ, suc, ◌+◌, ◌-◌, ◌≤◌, ◌<◌}
-use native.Mathlib.Omega.{arith}
-use native.Mathlib.Numerals.{add-one}
-use lib.Dec.{eqb}
-use lib.ListN.{length, drop, get_or, drop_of_length-le}
-use lib.Seq.{drop-cons}
-use borrow.Author.Tests.{ne_eqb, eq-eqb, eqb-true, eqb-false}
-use Rattle.money.specs.Refusals.{hour_outside}
-use Rattle.money.specs.Units.{day_hours}
-use Rattle.records.specs.Reading.{Res, bad, got, ◌>>=◌, check, byte, from}
-use Rattle.records.specs.Numbers.{between, hour}
-use Rattle.records.specs.Names.{stored_name, name_field, empty_name}
-use Rattle.records.specs.Marks.{mark_bytes, is, listing, mark_among, mark, has_name}
-use Rattle.records.specs.Changes.{Head, allowed, inside, head, nameless, name_for, bare}
-use Rattle.records.proofs.laws.MarkLaws.{bytes-are}
-use Rattle.records.specs.tables.Inner.{shown, then}
-use Rattle.records.specs.declared.fields.End.{End}
-use Rattle.records.proofs.fields.Step.{first, last}
-use Rattle.records.proofs.names.Lemmas.{at-end, at_next, at-two, at_last}
+-- The mark at a place of some bytes, and the head of a change, by the tests that the code makes.
+use Rattle.std.proofs.Common.{◌≡◌, refl, sym, ap, ◌∙◌, List, [], ◌∷◌, Bool, true, false, cond, ◌&&◌, ℕ, suc, ◌+◌, ◌-◌, ◌≤◌, ◌<◌, eqb, arith, add-one, length, take, drop, get_or, drop-cons, length-drop, drop-drop, take_all, drop_of_length-le, eq-eqb, ne_eqb, eqb-true}
+use Rattle.std.proofs.lemmas.Bool.{eqb-false}
+use Rattle.std.specs.Cmp.Lexicographic.{pointwise}
+use Rattle.money.specs.Refusals.{ends_early, mark_unknown}
+use Rattle.records.specs.Reading.{Res, bad, got, from}
+use Rattle.records.specs.Marks.{mark_bytes, is, listing, mark_among, mark}
+use Rattle.records.specs.Changes.{inside, head, lead_bytes, begins}
+use Rattle.records.proofs.laws.MarkLaws.{two_bytes}
 use Rattle.records.specs.declared.marks.Mark.{Mark}
 use Rattle.records.specs.declared.marks.Mark.TheVariants.{Pr}
-use Rattle.records.specs.declared.marks.Kind.{Kind}
 use Rattle.records.specs.declared.marks.Kind.TheVariants.{File, Correct, Withdraw}
 use Rattle.records.specs.declared.marks.Wanted.{Wanted}
 
-pub is-no : (a b x y : ℕ) → (a ≡ x → ⊥) → false ≡ is (x ∷ y ∷ []) a b
-is-no a b x y h = simp (ne_eqb a x h)
+-- what the slice's own test says
+pub begins-pointwise : (xs s : List ℕ) → pointwise eqb xs (take (length xs) s) ≡ begins xs s
+begins-pointwise [] s = refl
+begins-pointwise (x ∷ xs) [] = refl
+begins-pointwise (x ∷ xs) (y ∷ s) = ap (λ b. eqb x y && b) (begins-pointwise xs s)
 
-pub is-yes : (a b x y : ℕ) → a ≡ x → eqb b y ≡ is (x ∷ y ∷ []) a b
-is-yes a b x y h = simp (eq-eqb a x h)
+-- ---- two bytes are a mark's
 
--- ---- the mark of two bytes, looked for in a list of marks: i of them are none of it
+turned : (a x : ℕ) → eqb a x ≡ eqb x a
+turned a x = go (eqb a x) refl
+  where
+    go : (b : Bool) → eqb a x ≡ b → b ≡ eqb x a
+    go true e = sym (eq-eqb x a (sym (eqb-true a x e)))
+    go false e = sym (ne_eqb x a (λ h. eqb-false a x e (sym h)))
 
-module _ (ms : List Mark) (a b : ℕ) (t : List ℕ) where
-  found-is : (n : Mark) (ns : List Mark) (p : Bool) → is (mark_bytes n) a b ≡ p → mark_among (n ∷ ns) a b t ≡ cond p (got n t) (mark_among ns a b t)
-  unfolding mark_among
-  found-is n ns p e = ap (λ (x : Bool). cond x (got n t) (mark_among ns a b t)) e
+and_one : (a b : Bool) → (a && b) ≡ (a && (b && true))
+and_one true true = refl
+and_one true false = refl
+and_one false b = refl
 
-  among_next : (i : ℕ) → i < length ms → (n : Mark) → n ≡ get_or ms i Pr → (p : Bool) → is (mark_bytes n) a b ≡ p
-      → mark_among (drop i ms) a b t ≡ cond p (got n t) (mark_among (drop (i + 1) ms) a b t)
-  among_next i h n e p f =
-      rw add-one
-      (ap (λ (l : List Mark). mark_among l a b t) (drop-cons ms i Pr h ∙ ap (λ (x : Mark). x ∷ drop (suc i) ms) (sym e)) ∙ found-is n (drop (suc i) ms) p f)
+pub is-lead : (x y a b : ℕ) (s : List ℕ) → is (x ∷ y ∷ []) a b ≡ begins (x ∷ y ∷ []) (a ∷ b ∷ s)
+is-lead x y a b s = (λ i. turned a x i && turned b y i) ∙ and_one (eqb x a) (eqb y b)
 
-  pub among-test : (i : ℕ) → i < length ms → (n : Mark) → n ≡ get_or ms i Pr → (x y : ℕ) → (x ≡ get_or (mark_bytes n) 0 0) × (y ≡ get_or (mark_bytes n) 1 0)
-      → (p : Bool) → p ≡ is (x ∷ y ∷ []) a b → (q : Bool) → p ≡ q → mark_among (drop i ms) a b t ≡ cond q (got n t) (mark_among (drop (i + 1) ms) a b t)
-  among-test i h n e x y f p g q k = among_next i h n e q (ap (λ (l : List ℕ). is l a b) (bytes-are n x y f) ∙ sym g ∙ k)
+is-begins : (m : Mark) (a b : ℕ) (s : List ℕ) → is (mark_bytes m) a b ≡ begins (mark_bytes m) (a ∷ b ∷ s)
+is-begins m a b s =
+    ap (λ l. is l a b) (two_bytes m) ∙ is-lead (get_or (mark_bytes m) 0 0) (get_or (mark_bytes m) 1 0) a b s ∙ sym
+    (ap (λ l. begins l (a ∷ b ∷ s)) (two_bytes m))
 
-  pub among_none : (i : ℕ) → length ms ≤ i → mark_among (drop i ms) a b t ≡ bad 2
-  unfolding mark_among
-  among_none i h = ap (λ (l : List Mark). mark_among l a b t) (drop_of_length-le ms {i = i} h)
+mark-early : (s : List ℕ) → length s < 2 → bad ends_early ≡ mark s
+unfolding mark
+mark-early [] h = refl
+mark-early (a ∷ []) h = refl
+mark-early (a ∷ b ∷ s) h = absurd (omega arith)
 
+pub mark-short : (s : List ℕ) (at : ℕ) → length s - at < 2 → bad ends_early ≡ mark (from s at)
+unfolding from
+mark-short s at h = mark-early (drop at s) (rw length-drop h)
+
+-- ---- the mark of the first bytes, looked for in a list of marks
+
+abbrev pub among : List Mark → List ℕ → Res Mark
+among ms s = mark_among ms (get_or s 0 0) (get_or s 1 0) (drop 2 s)
+
+mark-among : (s : List ℕ) → 2 ≤ length s → mark s ≡ among listing s
+unfolding mark mark_among
+mark-among [] h = absurd (omega arith)
+mark-among (a ∷ []) h = absurd (omega arith)
+mark-among (a ∷ b ∷ s) h = refl
+
+found : (m : Mark) (ms : List Mark) (a b : ℕ) (s : List ℕ) (q : Bool) → begins (mark_bytes m) (a ∷ b ∷ s) ≡ q
+    → among (m ∷ ms) (a ∷ b ∷ s) ≡ cond q (got m s) (among ms (a ∷ b ∷ s))
+unfolding mark_among
+found m ms a b s q h = ap (λ (x : Bool). cond x (got m s) (among ms (a ∷ b ∷ s))) (is-begins m a b s ∙ h)
+
+among_next : (ms : List Mark) (i : ℕ) (m : Mark) (s : List ℕ) (q : Bool) → i < length ms → m ≡ get_or ms i Pr → 2 ≤ length s → begins (mark_bytes m) s ≡ q
+    → among (drop i ms) s ≡ cond q (got m (drop 2 s)) (among (drop (i + 1) ms) s)
+among_next ms i m [] q l e h k = absurd (omega arith)
+among_next ms i m (a ∷ []) q l e h k = absurd (omega arith)
+among_next ms i m (a ∷ b ∷ s) q l e h k =
+    rw add-one
+    (ap (λ (l : List Mark). among l (a ∷ b ∷ s)) (drop-cons ms i Pr l ∙ ap (λ (x : Mark). x ∷ drop (suc i) ms) (sym e)) ∙ found m (drop (suc i) ms) a b s q k)
+
+among_none : (ms : List Mark) (i : ℕ) (s : List ℕ) → length ms ≤ i → bad mark_unknown ≡ among (drop i ms) s
+unfolding mark_among
+among_none ms i s h = sym (ap (λ (l : List Mark). among l s) (drop_of_length-le ms {i = i} h))
+
+-- the same of the bytes at a place, by the tests of a list that is the listing
 module _ (s : List ℕ) (at : ℕ) where
-  pub mark-past : length s ≤ at → bad 1 ≡ mark (from s at)
-  unfolding mark
-  mark-past h = rw (at-end s at h)
+  two-there : 2 ≤ length s - at → 2 ≤ length (from s at)
+  unfolding from
+  two-there h = rw length-drop h
 
-  pub mark-short : at < length s → length s - at < 2 → bad 1 ≡ mark (from s at)
-  unfolding mark
-  mark-short h k = rw (at_last s at h k)
+  pub mark-first : 2 ≤ length s - at → mark (from s at) ≡ among listing (from s at)
+  mark-first h = mark-among (from s at) (two-there h)
 
-  pub mark-here : at < length s → 2 ≤ length s - at → mark (from s at) ≡ mark_among listing (get_or s at 0) (get_or s (at + 1) 0) (from s (at + 2))
-  unfolding mark
-  mark-here h k = rw (at-two s at h k)
+  pub mark_next : (q : Bool) → 2 ≤ length s - at → {ms : List Mark} → ms ≡ listing → {i : ℕ} → i < 6 → {xs : List ℕ} → xs ≡ mark_bytes (get_or ms i Pr) → {b : Bool}
+      → b ≡ begins xs (take (length s - at) (drop at s)) → b ≡ q
+      → among (drop i listing) (from s at) ≡ cond q (got (get_or ms i Pr) (from s (at + 2))) (among (drop (i + 1) listing) (from s at))
+  unfolding from
+  mark_next q h {ms = ms} e {i = i} l x k z =
+      let f : begins (mark_bytes (get_or ms i Pr)) (drop at s) ≡ q = ap (λ (l : List ℕ). begins (mark_bytes (get_or ms i Pr)) l) (sym (take_all (length s - at) (drop at s)
+      (rw length-drop (omega arith)))) ∙ ap (λ (l : List ℕ). begins l (take (length s - at) (drop at s))) (sym x) ∙ sym k ∙ z in
+      among_next listing i (get_or ms i Pr) (drop at s) q l (ap (λ (l : List Mark). get_or l i Pr) e) (two-there h) f
+      ∙ ap (λ (l : List ℕ). cond q (got (get_or ms i Pr) l) (among (drop (i + 1) listing) (drop at s))) (drop-drop 2 at s)
 
-  pub hour-past : length s ≤ at → bad 1 ≡ hour (from s at)
-  unfolding hour byte
-  hour-past h = rw (at-end s at h)
+  pub mark_none : {i : ℕ} → 6 ≤ i → bad mark_unknown ≡ among (drop i listing) (from s at)
+  mark_none {i = i} h = among_none listing i (from s at) h
 
-  pub hour-outside : at < length s → between 1 day_hours (get_or s at 0) ≡ false → bad hour_outside ≡ hour (from s at)
-  unfolding hour byte
-  hour-outside h k = rw (at_next s at h, k)
+-- for `mark_at`
+pub ruleset listed = (mark-short, mark-first, mark_next, mark_none)
 
-  pub hour-here : at < length s → between 1 day_hours (get_or s at 0) ≡ true → got (get_or s at 0) (from s (at + 1)) ≡ hour (from s at)
-  unfolding hour byte
-  hour-here h k = rw (at_next s at h, k)
+-- ---- the head of a change
 
-  pub zero-past : length s ≤ at → bad 1 ≡ nameless Withdraw (from s at)
-  unfolding byte
-  zero-past h = rw (at-end s at h)
-
-  pub zero-here : at < length s → get_or s at 0 ≡ 0 → got empty_name (from s (at + 1)) ≡ nameless Withdraw (from s at)
-  unfolding byte
-  zero-here h e = rw (at_next s at h, eq-eqb (get_or s at 0) 0 e)
-
-  pub zero-not : at < length s → (get_or s at 0 ≡ 0 → ⊥) → bad 4 ≡ nameless Withdraw (from s at)
-  unfolding byte
-  zero-not h e = rw (at_next s at h, ne_eqb (get_or s at 0) 0 e)
-
-pub inside_is : (s : List ℕ) (e : End) (m : Mark) (want : Wanted) (k : Kind) (x : Res Mark) → shown s e m ≡ x → allowed want k ≡ true
-    → ◌≡◌ {A = Res Head} (shown s e (record { kind = k; mark = m })) (check (allowed want k) 2 (x >>= λ n t. got (record { kind = k; mark = n }) t))
-inside_is s e m want k x h a =
-    sym (ap (λ b. check b 2 (x >>= λ n t. got (record { kind = k; mark = n }) t)) a ∙ first s e m x (λ n t. got (record { kind = k; mark = n }) t) h ∙ last s e
-    (record { kind = k; mark = m }))
-
-pub inside-not : (want : Wanted) (k : Kind) (x : Res Mark) → allowed want k ≡ false
-    → ◌≡◌ {A = Res Head} (bad 2) (check (allowed want k) 2 (x >>= λ n t. got (record { kind = k; mark = n }) t))
-inside-not want k x a = sym (ap (λ b. check b 2 (x >>= λ n t. got (record { kind = k; mark = n }) t)) a)
-
-pub head-short : (want : Wanted) (s : List ℕ) → length s < 2 → bad 1 ≡ head want s
+pub head-short : (want : Wanted) (s : List ℕ) → length s < 2 → bad ends_early ≡ head want s
 unfolding head
 head-short want [] h = refl
 head-short want (a ∷ []) h = refl
 head-short want (a ∷ b ∷ s) h = absurd (omega arith)
 
-pub head-is : (want : Wanted) (s : List ℕ) → 2 ≤ length s → (p q : Bool) → is (67 ∷ 79 ∷ []) (get_or s 0 0) (get_or s 1 0) ≡ p
-    → is (87 ∷ 68 ∷ []) (get_or s 0 0) (get_or s 1 0) ≡ q
-    → cond p (inside want Correct (from s 2)) (cond q (inside want Withdraw (from s 2)) (inside want File (from s 0))) ≡ head want s
+head-is : (want : Wanted) (s : List ℕ) → 2 ≤ length s → {p q : Bool} → begins (lead_bytes Correct) s ≡ p → begins (lead_bytes Withdraw) s ≡ q
+    → head want s ≡ cond p (inside want Correct (from s 2)) (cond q (inside want Withdraw (from s 2)) (inside want File (from s 0)))
 unfolding head from
-head-is want [] h p q e f = absurd (omega arith)
-head-is want (a ∷ []) h p q e f = absurd (omega arith)
-head-is want (a ∷ b ∷ s) h p q e f = sym (λ i. cond (e i) (inside want Correct s) (cond (f i) (inside want Withdraw s) (inside want File (a ∷ b ∷ s))))
+head-is want [] h e f = absurd (omega arith)
+head-is want (a ∷ []) h e f = absurd (omega arith)
+head-is want (a ∷ b ∷ s) h e f =
+    λ i. cond ((is-lead 67 79 a b s ∙ e) i) (inside want Correct s) (cond ((is-lead 87 68 a b s ∙ f) i) (inside want Withdraw s) (inside want File (a ∷ b ∷ s)))
 
--- ---- names
+module _ (want : Wanted) (s : List ℕ) (h : 2 ≤ length s) where
+  pub head-correct : begins (lead_bytes Correct) s ≡ true → head want s ≡ inside want Correct (from s 2)
+  head-correct e = head-is want s h e refl
 
-pub name-named : (s : List ℕ) (e : End) (k : Kind) (m : Mark) → has_name m ≡ true → then s e (λ t. stored_name (name_field t)) ≡ then s e (name_for k m)
-unfolding name_for
-name-named s e k m h = sym (ap (λ b. then s e (λ t. cond b (stored_name (name_field t)) (nameless k t))) h)
+  module _ (e : begins (lead_bytes Correct) s ≡ false) where
+    pub head-withdraw : begins (lead_bytes Withdraw) s ≡ true → head want s ≡ inside want Withdraw (from s 2)
+    head-withdraw f = head-is want s h e f
 
-pub name-less : (s : List ℕ) (e : End) (k : Kind) (m : Mark) → has_name m ≡ false → then s e (nameless k) ≡ then s e (name_for k m)
-unfolding name_for
-name-less s e k m h = sym (ap (λ b. then s e (λ t. cond b (stored_name (name_field t)) (nameless k t))) h)
+    pub head-file : begins (lead_bytes Withdraw) s ≡ false → head want s ≡ inside want File (from s 0)
+    head-file f = head-is want s h e f
 
--- ---- tests one after the other
-
-pub and-go : (p t z : Bool) → p ≡ true → z ≡ t → z ≡ (p && t)
-and-go p t z h e = e ∙ sym (ap (λ b. b && t) h)
-
-pub and-stop : (p t : Bool) → p ≡ false → false ≡ (p && t)
-and-stop p t h = sym (ap (λ b. b && t) h)
-
-pub least-yes : (b : Bool) → b ≡ true → ◌≡◌ {A = ℕ} 0 (cond b 0 1)
-least-yes b h = sym (ap (λ (c : Bool). cond {A = ℕ} c 0 1) h)
-
-pub least-no : (b : Bool) → b ≡ false → ◌≡◌ {A = ℕ} 1 (cond b 0 1)
-least-no b h = sym (ap (λ (c : Bool). cond {A = ℕ} c 0 1) h)
-
--- ---- a mark by itself
-
-module _ (x y : ℕ) where
-  pub bare-short : (s : List ℕ) → length s < 2 → 1 ≡ bare (x ∷ y ∷ []) s
-  unfolding bare
-  bare-short [] h = refl
-  bare-short (a ∷ []) h = refl
-  bare-short (a ∷ b ∷ s) h = absurd (omega arith)
-
-  pub bare-is : (s : List ℕ) → 2 ≤ length s → (p q : Bool) → is (x ∷ y ∷ []) (get_or s 0 0) (get_or s 1 0) ≡ p → eqb (length s) 2 ≡ q
-      → cond p (cond q 0 8) 2 ≡ bare (x ∷ y ∷ []) s
-  unfolding bare
-  bare-is [] h p q e f = absurd (omega arith)
-  bare-is (a ∷ []) h p q e f = absurd (omega arith)
-  bare-is (a ∷ b ∷ s) h p q e f =
-      let g : eqb (length (a ∷ b ∷ s)) 2 ≡ eqb (length s) 0 = go (eqb (length s) 0) refl in
-      sym (ap₂ (λ (u v : Bool). cond u (cond v 0 8) 2) e (sym g ∙ f))
-    where
-      go : (t : Bool) → eqb (length s) 0 ≡ t → eqb (length (a ∷ b ∷ s)) 2 ≡ t
-      go true k = eq-eqb (length (a ∷ b ∷ s)) 2 (omega (arith, eqb-true (length s) 0 k))
-      go false k = ne_eqb (length (a ∷ b ∷ s)) 2 (λ z. eqb-false (length s) 0 k (omega arith))
+-- for `head_at`
+pub ruleset heads = (head-short, head-correct, head-withdraw, head-file)

@@ -1,123 +1,170 @@
 -- What stands at the front of some bytes, as the code answers it.
-use mathlib.Core.Path.{◌≡◌, refl, sym, ap, ap₂, ◌∙◌}
-use mathlib.Core.List.{List, [], ◌∷◌}
-use mathlib.Core.Bool.{Bool, true, false, cond}
-use Prim.Native.Nat.{ℕ, suc, ◌-◌, ◌≤◌, ◌<◌}
-use native.Mathlib.Omega.{arith}
-use lib.ListN.{length, get_or}
+use Rattle.std.specs.Prelude.{◌≡◌, refl, List, [], ◌∷◌, Bool, true, false, cond, ℕ, ◌-◌, ◌≤◌, ◌<◌, eqb, length, drop}
+use Rattle.std.proofs.Common.{sym, ap, ap₂, ◌∙◌, true≢false, arith, length-drop, eq-eqb, ne_eqb, eqb-true}
+use Rattle.std.proofs.Math.Bool.{and-true}
+use Rattle.money.specs.Refusals.{ends_early, mark_unknown, bytes_left_over}
 use Rattle.records.specs.Reading.{Res, bad, got, ◌>>=◌, from}
 use Rattle.records.specs.Marks.{is}
-use Rattle.records.specs.Changes.{Change, Entry, changed, taking_back, closing, change, entry, take_back_bytes, close_bytes, Input, fine, fault, whole, parse, parse_any, seen, unseen, view_of, write, change_view, entry_view, entry_read, parsed_of, entry_of, front_of}
-use Rattle.records.proofs.laws.ReaderLaws.{bad-got}
+use Rattle.records.specs.Changes.{Change, Entry, changed, taking_back, closing, change, entry, begins, bare, take_back_bytes, close_bytes, fine, fault, whole, parse, parse_any}
+use Rattle.records.specs.Answers.{seen_view, seen_act, act_of, front_of}
+use Rattle.records.specs.tables.Inner.{change_view, entry_act}
 use Rattle.records.specs.declared.scan.View.{View}
-use Rattle.records.specs.declared.parse.Parsed.{Parsed}
-use Rattle.records.specs.declared.parse.Front.{Front}
+use Rattle.records.specs.declared.parse.Act.{Act}
+use Rattle.records.specs.declared.parse.Act.TheVariants as act
 use Rattle.records.specs.declared.marks.Wanted.{Wanted}
 use Rattle.records.specs.declared.marks.Wanted.TheVariants.{Any}
-use Rattle.records.proofs.changes.Lemmas.{length_from}
+use Rattle.records.proofs.fields.Step.{bind-ok, bind-err, read-out, told-out}
+use Rattle.records.proofs.laws.ReaderLaws.{bad-got}
+use Rattle.records.proofs.changes.Lemmas.{length_from, whole-left, whole-all}
 
-bad-is : {A : Type 0} {j k : ℕ} → ◌≡◌ {A = Res A} (bad j) (bad k) → j ≡ k
-bad-is e = cc
+whole-view : (r : Res Change) → whole (change_view r) ≡ seen_view (whole r)
+whole-view (bad k) = refl
+whole-view (got c []) = refl
+whole-view (got c (x ∷ t)) = refl
 
--- a result, seen through a view of its value
-module _ {A : Type 0} (g : A → View) (s : List ℕ) where
-  abbrev pub through : Res A → Res View
-  through r = r >>= λ a t. got (g a) t
-
-  pub whole-bad : (r : Res A) (k : ℕ) → bad k ≡ through r → whole r ≡ fault k
-  whole-bad (bad j) k e = ap fault (sym (bad-is e))
-  whole-bad (got a t) k e = absurd (bad-got e)
-
-  pub whole-8 : (r : Res A) (v : View) (n : ℕ) → got v (from s n) ≡ through r → n < length s → whole r ≡ fault 8
-  whole-8 (bad j) v n e l = absurd (bad-got (sym e))
-  whole-8 (got a []) v n e l =
-      let q : from s n ≡ [] = cc in
-      absurd (let p : length (from s n) ≡ 0 = ap length q in omega (arith, length_from s n))
-  whole-8 (got a (x ∷ t)) v n e l = refl
-
-  pub whole-fine : (r : Res A) (v : View) (n : ℕ) → got v (from s n) ≡ through r → length s ≤ n → (a : A) × (whole r ≡ fine a) × (v ≡ g a)
-  whole-fine (bad j) v n e l = absurd (bad-got (sym e))
-  whole-fine (got a []) v n e l = (a, refl, let p : v ≡ g a = cc in p)
-  whole-fine (got a (x ∷ t)) v n e l =
-      let q : from s n ≡ x ∷ t = cc in
-      absurd (let p : length (from s n) ≡ suc (length t) = ap length q in omega (arith, length_from s n))
+whole-act : (r : Res Entry) → whole (entry_act r) ≡ seen_act (whole r)
+whole-act (bad k) = refl
+whole-act (got c []) = refl
+whole-act (got c (x ∷ t)) = refl
 
 module _ (s : List ℕ) (want : Wanted) where
-  pub parsed-bad : (k : ℕ) → bad k ≡ change_view (change want s) → parse want s ≡ fault k
+  pub parsed-bad : {k : ℕ} → bad k ≡ change_view (change want s) → fault k ≡ seen_view (parse want s)
   unfolding parse
-  parsed-bad k e = whole-bad (λ c. view_of (seen c (length (write c)))) s (change want s) k e
+  parsed-bad e = ap whole e ∙ whole-view (change want s)
 
-  pub parsed-8 : (v : View) (n : ℕ) → got v (from s n) ≡ change_view (change want s) → n < length s → parse want s ≡ fault 8
-  unfolding parse
-  parsed-8 v n e l = whole-8 (λ c. view_of (seen c (length (write c)))) s (change want s) v n e l
+  module _ {v : View} (n : ℕ) (e : got v (from s n) ≡ change_view (change want s)) where
+    pub parsed-left : n < length s → fault bytes_left_over ≡ seen_view (parse want s)
+    unfolding parse
+    parsed-left l = whole-left s n e l ∙ whole-view (change want s)
 
-  pub parsed-fine : (v : View) (n : ℕ) → got v (from s n) ≡ change_view (change want s) → length s ≤ n
-      → ◌≡◌ {A = Parsed} (record { number = 0; view = v }) (parsed_of (parse want s))
-  unfolding parse
-  parsed-fine v n e l =
-      let x = whole-fine (λ c. view_of (seen c (length (write c)))) s (change want s) v n e l in
-      ap (λ (w : View). record { number = 0; view = w }) x.2 ∙ sym (ap parsed_of x.1)
+    pub parsed-all : length s ≤ n → fine v ≡ seen_view (parse want s)
+    unfolding parse
+    parsed-all l = whole-all s n e l ∙ whole-view (change want s)
 
 module _ (s : List ℕ) where
-  pub any-bad : (k : ℕ) → bad k ≡ entry_read (entry s) → parse_any s ≡ fault k
+  pub any-bad : {k : ℕ} → bad k ≡ entry_act (entry s) → fault k ≡ seen_act (parse_any s)
   unfolding parse_any
-  any-bad k e = whole-bad entry_view s (entry s) k e
+  any-bad e = ap whole e ∙ whole-act (entry s)
 
-  pub any-8 : (v : View) (n : ℕ) → got v (from s n) ≡ entry_read (entry s) → n < length s → parse_any s ≡ fault 8
-  unfolding parse_any
-  any-8 v n e l = whole-8 entry_view s (entry s) v n e l
+  module _ {a : Act} (n : ℕ) where
+    pub any-left : got a (from s n) ≡ entry_act (entry s) → n < length s → fault bytes_left_over ≡ seen_act (parse_any s)
+    unfolding parse_any
+    any-left e l = whole-left s n e l ∙ whole-act (entry s)
 
-  pub any-fine : (v : View) (n : ℕ) → got v (from s n) ≡ entry_read (entry s) → length s ≤ n
-      → ◌≡◌ {A = Parsed} (record { number = 0; view = v }) (entry_of (parse_any s))
-  unfolding parse_any
-  any-fine v n e l =
-      let x = whole-fine entry_view s (entry s) v n e l in
-      ap (λ (w : View). record { number = 0; view = w }) x.2 ∙ sym (ap entry_of x.1)
+    pub any-all : got a (from s n) ≡ entry_act (entry s) → length s ≤ n → fine a ≡ seen_act (parse_any s)
+    unfolding parse_any
+    any-all e l = whole-all s n e l ∙ whole-act (entry s)
 
-  front-go : (r : Res Entry) (v : View) (n : ℕ) → got v (from s n) ≡ entry_read r → n ≤ length s
-      → ◌≡◌ {A = Front} (record { number = 0; view = v; end = n }) (front_of s r)
-  front-go (bad k) v n e l = absurd (bad-got (sym e))
-  front-go (got x t) v n e l =
-      let p : v ≡ entry_view x = cc in
-      let q : from s n ≡ t = cc in
-      let m : length t ≡ length s - n = ap length (sym q) ∙ length_from s n in
-      let d : n ≡ length s - length t = omega arith in
-      λ i. record { number = 0; view = p i; end = d i }
+    front-go : (r : Res Entry) → got a (from s n) ≡ entry_act r → n ≤ length s → fine (record { act = a; end = n }) ≡ front_of s r
+    front-go (bad k) e l = absurd (bad-got (sym e))
+    front-go (got x t) e l =
+        let p : a ≡ act_of x = cc in
+        let q : from s n ≡ t = cc in
+        let m : length t ≡ length s - n = ap length (sym q) ∙ length_from s n in
+        let d : n ≡ length s - length t = omega arith in
+        λ i. fine (record { act = p i; end = d i })
 
-  pub front_at : (v : View) (n : ℕ) → got v (from s n) ≡ entry_read (entry s) → n ≤ length s
-      → ◌≡◌ {A = Front} (record { number = 0; view = v; end = n }) (front_of s (entry s))
-  front_at v n e l = front-go (entry s) v n e l
+    pub front-is : got a (from s n) ≡ entry_act (entry s) → n ≤ length s → fine (record { act = a; end = n }) ≡ front_of s (entry s)
+    front-is e l = front-go (entry s) e l
 
-  front-bad : (r : Res Entry) (k : ℕ) → bad k ≡ entry_read r → ◌≡◌ {A = Front} (record { number = k; view = view_of unseen; end = 0 }) (front_of s r)
-  front-bad (bad j) k e = ap (λ (n : ℕ). record { number = n; view = view_of unseen; end = 0 }) (bad-is e)
-  front-bad (got x t) k e = absurd (bad-got e)
+-- ---- marks that stand alone
 
-  pub front-no : (k : ℕ) → bad k ≡ entry_read (entry s) → ◌≡◌ {A = Front} (record { number = k; view = view_of unseen; end = 0 }) (front_of s (entry s))
-  front-no k e = front-bad (entry s) k e
+eqb-swap : (a x : ℕ) → eqb x a ≡ eqb a x
+eqb-swap a x = go (eqb x a) refl
+  where
+    go : (p : Bool) → eqb x a ≡ p → p ≡ eqb a x
+    go true e = sym (eq-eqb a x (sym (eqb-true x a e)))
+    go false e = sym (ne_eqb a x (λ q. true≢false (sym (eq-eqb x a (sym q)) ∙ e)))
 
-pub any-faulted : (p : Parsed) (n : ℕ) (i : Input Entry) → p ≡ record { number = n; view = view_of unseen } → i ≡ fault n → p ≡ entry_of i
-any-faulted p n i e f = e ∙ sym (ap entry_of f)
+-- some bytes begin with a mark where their first two are its
+begins-two : (x y a b : ℕ) (s : List ℕ) → begins (x ∷ y ∷ []) (a ∷ b ∷ s) ≡ is (x ∷ y ∷ []) a b
+begins-two x y a b s = rw (and-true (eqb y b), eqb-swap a x, eqb-swap b y)
 
-pub entry-short : (s : List ℕ) → length s < 2 → bad 1 ≡ entry_read (entry s)
+pub bare-short : (m s : List ℕ) → length s < 2 → ends_early ≡ bare m s
+unfolding bare
+bare-short m [] h = refl
+bare-short m (a ∷ []) h = refl
+bare-short m (a ∷ b ∷ s) h = absurd (omega arith)
+
+bare-is : (m s : List ℕ) → length m ≡ 2 → 2 ≤ length s → cond (begins m s) (cond (eqb (length (drop 2 s)) 0) 0 bytes_left_over) mark_unknown ≡ bare m s
+unfolding bare
+bare-is [] s e h = absurd (omega arith)
+bare-is (x ∷ []) s e h = absurd (omega arith)
+bare-is (x ∷ y ∷ z ∷ m) s e h = absurd (omega arith)
+bare-is (x ∷ y ∷ []) [] e h = absurd (omega arith)
+bare-is (x ∷ y ∷ []) (a ∷ []) e h = absurd (omega arith)
+bare-is (x ∷ y ∷ []) (a ∷ b ∷ s) e h = ap (λ p. cond p (cond (eqb (length s) 0) 0 bytes_left_over) mark_unknown) (begins-two x y a b s)
+
+module _ (m s : List ℕ) (e : length m ≡ 2) (h : 2 ≤ length s) where
+  pub bare-other : false ≡ begins m s → mark_unknown ≡ bare m s
+  bare-other f = ap (λ p. cond p (cond (eqb (length (drop 2 s)) 0) 0 bytes_left_over) mark_unknown) f ∙ bare-is m s e h
+
+  pub bare-left : true ≡ begins m s → 2 < length s → bytes_left_over ≡ bare m s
+  bare-left t l =
+      let d : length (drop 2 s) ≡ length s - 2 = length-drop 2 s in
+      sym (ap (λ p. cond p 0 bytes_left_over) (ne_eqb (length (drop 2 s)) 0 (λ q. omega (arith, q))))
+      ∙ ap (λ p. cond p (cond (eqb (length (drop 2 s)) 0) 0 bytes_left_over) mark_unknown) t ∙ bare-is m s e h
+
+  pub bare-alone : true ≡ begins m s → length s ≤ 2 → 0 ≡ bare m s
+  bare-alone t l =
+      let d : length (drop 2 s) ≡ length s - 2 = length-drop 2 s in
+      sym (ap (λ p. cond p 0 bytes_left_over) (eq-eqb (length (drop 2 s)) 0 (omega arith)))
+      ∙ ap (λ p. cond p (cond (eqb (length (drop 2 s)) 0) 0 bytes_left_over) mark_unknown) t ∙ bare-is m s e h
+
+-- ---- the first of several
+
+pub entry-short : (s : List ℕ) → length s < 2 → bad ends_early ≡ entry_act (entry s)
 unfolding entry
 entry-short [] h = refl
 entry-short (a ∷ []) h = refl
 entry-short (a ∷ b ∷ s) h = absurd (omega arith)
 
-pub entry-is : (s : List ℕ) → 2 ≤ length s → (p q : Bool) → is take_back_bytes (get_or s 0 0) (get_or s 1 0) ≡ p → is close_bytes (get_or s 0 0) (get_or s 1 0) ≡ q
-    → cond p (got (entry_view taking_back) (from s 2)) (cond q (got (entry_view closing) (from s 2)) (change_view (change Any s))) ≡ entry_read (entry s)
+-- a change among them, as the code answers it
+abbrev act_change : Res View → Res Act
+act_change r = r >>= λ v t. got (act.Change v) t
+
+entry-is : (s : List ℕ) → 2 ≤ length s → {p q : Bool} → p ≡ begins take_back_bytes s → q ≡ begins close_bytes s
+    → cond p (got act.TakeBack (from s 2)) (cond q (got act.Close (from s 2)) (act_change (change_view (change Any s)))) ≡ entry_act (entry s)
 unfolding entry from
-entry-is [] h p q e f = absurd (omega arith)
-entry-is (a ∷ []) h p q e f = absurd (omega arith)
-entry-is (a ∷ b ∷ s) h p q e f = go p q ∙ sym
-    (ap₂ (λ x y. entry_read (cond x (got taking_back s) (cond y (got closing s) (change Any (a ∷ b ∷ s) >>= λ c t. got (changed c) t)))) e f)
+entry-is [] h e f = absurd (omega arith)
+entry-is (a ∷ []) h e f = absurd (omega arith)
+entry-is (a ∷ b ∷ s) h {p} {q} e f =
+    go p q ∙ ap₂ (λ x y. entry_act (cond x (got taking_back s) (cond y (got closing s) (change Any (a ∷ b ∷ s) >>= λ c t. got (changed c) t))))
+    (e ∙ begins-two 84 66 a b s) (f ∙ begins-two 67 76 a b s)
   where
-    each : (r : Res Change) → change_view r ≡ entry_read (r >>= λ c t. got (changed c) t)
+    each : (r : Res Change) → act_change (change_view r) ≡ entry_act (r >>= λ c t. got (changed c) t)
     each (bad k) = refl
     each (got c t) = refl
 
-    go : (p q : Bool) → cond p (got (entry_view taking_back) s) (cond q (got (entry_view closing) s) (change_view (change Any (a ∷ b ∷ s))))
-        ≡ entry_read (cond p (got taking_back s) (cond q (got closing s) (change Any (a ∷ b ∷ s) >>= λ c t. got (changed c) t)))
+    go : (p q : Bool) → cond p (got act.TakeBack s) (cond q (got act.Close s) (act_change (change_view (change Any (a ∷ b ∷ s)))))
+        ≡ entry_act (cond p (got taking_back s) (cond q (got closing s) (change Any (a ∷ b ∷ s) >>= λ c t. got (changed c) t)))
     go true q = refl
     go false true = refl
     go false false = each (change Any (a ∷ b ∷ s))
+
+module _ (s : List ℕ) (h : 2 ≤ length s) where
+  pub entry-back : true ≡ begins take_back_bytes s → got act.TakeBack (from s 2) ≡ entry_act (entry s)
+  entry-back e = entry-is s h e refl
+
+  module _ (e : false ≡ begins take_back_bytes s) where
+    pub entry-close : true ≡ begins close_bytes s → got act.Close (from s 2) ≡ entry_act (entry s)
+    entry-close f = entry-is s h e f
+
+    module _ (f : false ≡ begins close_bytes s) where
+      pub entry-fault : {k : ℕ} → bad k ≡ change_view (change Any s) → bad k ≡ entry_act (entry s)
+      entry-fault q = sym (bind-err _ q) ∙ entry-is s h e f
+
+      pub entry-change : {v : View} {t : List ℕ} → got v t ≡ change_view (change Any s) → got (act.Change v) t ≡ entry_act (entry s)
+      entry-change q = sym (bind-ok _ q) ∙ entry-is s h e f
+
+-- for `mark_alone`
+pub ruleset bares = (bare-short, bare-other, bare-left, bare-alone)
+
+-- for `act_at`
+pub ruleset entries = (entry-short, entry-back, entry-close, entry-fault, entry-change, read-out)
+
+-- for `parse_change` and `parse_any`
+pub ruleset parses = (told-out, parsed-bad, parsed-left, parsed-all, any-bad, any-left, any-all)
+
+-- for `first_change`
+pub ruleset fronts = (told-out, front-is)

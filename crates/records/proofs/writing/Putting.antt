@@ -1,16 +1,9 @@
 -- Laws of writing.
-use mathlib.Core.Path.{◌≡◌, refl, sym, ap, ◌∙◌, subst}
-use mathlib.Core.List.{List, [], ◌∷◌, ◌++◌}
-use Prim.Native.Nat.{ℕ, suc, ◌+◌}
-use native.Mathlib.Omega.{arith}
-use native.Mathlib.Nat.{add-suc, suc-add, add-zero}
-use native.Mathlib.Numerals.{towards_suc}
-use lib.ListN.{length, get_or, set, length-append}
-use lib.Seq.{sets}
-use Rattle.records.proofs.laws.PutLaws.{put-length}
-use Rattle.records.specs.Marks.{mark_bytes}
-use Rattle.records.proofs.laws.MarkLaws.{bytes-are}
-use Rattle.records.specs.declared.marks.Mark.{Mark}
+use Rattle.std.specs.Prelude.{◌≡◌, refl, List, [], ◌∷◌, ◌++◌, ℕ, suc, ◌+◌, ◌-◌, ◌≤◌, length, set, take, drop}
+use Rattle.std.proofs.Common.{sym, ap, ◌∙◌, append_assoc, arith, add-suc, suc-add, add-zero, length-append, drop-drop}
+use Rattle.std.proofs.Math.Numerals.{towards_suc}
+use Rattle.std.proofs.lemmas.List.Edits.{sets}
+use Rattle.records.proofs.laws.PutLaws.{put-length, put_whole}
 use Rattle.records.specs.Changes.{put}
 use Rattle.records.specs.tables.Inner.{Wrote}
 
@@ -25,6 +18,13 @@ pub wrote_none : {d : List ℕ} {at : ℕ} → Wrote d d at at []
 unfolding put
 wrote_none = record { bytes = refl; after = omega arith }
 
+-- what was written over a part of as many bytes
+pub wrote_part : (d xs : List ℕ) (at : ℕ) (ys : List ℕ) → at + length xs ≤ length d → ys ≡ xs
+    → Wrote d (take at d ++ (ys ++ drop (at + length xs - at) (drop at d))) at (at + length xs) xs
+wrote_part d xs at ys h e =
+    let n : at + (at + length xs - at) ≡ at + length xs = omega arith in
+    record { bytes = rw (e, drop-drop, n) (sym (put_whole d at xs h ∙ append_assoc (take at d) xs (drop (at + length xs) d))); after = refl }
+
 pub wrote_then : {d e f : List ℕ} {at m next : ℕ} {xs ys : List ℕ} → Wrote d e at m xs → Wrote e f m next ys → Wrote d f at next (xs ++ ys)
 unfolding put
 wrote_then {d} {e} {f} {at} {m} {next} {xs} {ys} w v = record {
@@ -36,14 +36,9 @@ pub wrote_one : (d : List ℕ) (at x : ℕ) → Wrote d (set d at x) at (at + 1)
 unfolding put
 wrote_one d at x = record { bytes = refl; after = refl }
 
-pub wrote-two : (d : List ℕ) (at x y : ℕ) → Wrote d (set (set d at x) (at + 1) y) at (at + 2) (x ∷ y ∷ [])
-unfolding put
-wrote-two d at x y = record { bytes = simp towards_suc; after = refl }
-
-pub wrote-mark : (d : List ℕ) (at x y : ℕ) (m : Mark) → (x ≡ get_or (mark_bytes m) 0 0) × (y ≡ get_or (mark_bytes m) 1 0)
-    → Wrote d (set (set d at x) (at + 1) y) at (at + 2) (mark_bytes m)
-wrote-mark d at x y m e = subst (Wrote d (set (set d at x) (at + 1) y) at (at + 2)) (sym (bytes-are m x y e)) (wrote-two d at x y)
-
 pub wrote-three : (d : List ℕ) (at x y z : ℕ) → Wrote d (set (set (set d at x) (at + 1) y) (at + 2) z) at (at + 3) (x ∷ y ∷ z ∷ [])
 unfolding put
 wrote-three d at x y z = record { bytes = simp towards_suc; after = refl }
+
+-- for what writes a part of a head
+pub ruleset writes = (wrote_none, wrote_one)

@@ -1,5 +1,5 @@
 -- The head of a change, which is its mark, hour and name: read by itself, and the bytes by which the records of a name are found. Assumes nothing.
-use Rattle.std.specs.Prelude.{◌≡◌, List, Bool, true, cond, ℕ, ◌≤◌, eqb, length, take}
+use Rattle.std.specs.Prelude.{◌≡◌, List, Bool, true, false, cond, ℕ, ◌≤◌, eqb, length, take, Option, Some, None}
 use Rattle.money.specs.Names.{name_ok}
 use Rattle.records.specs.Reading.{got, Reader, ◌>>=◌}
 use Rattle.records.specs.Numbers.{hour}
@@ -22,7 +22,6 @@ nameable k = cond (has_name k.mark) (name_ok k.name) (eqb k.name.len 0)
 abbrev pub name_head : Key → List ℕ
 name_head k = name_bytes File k.mark k.name
 
-pub record NameHeadIs (k : Key) (h : NameHead) : Type 0 where
-  pub known : h.known ≡ nameable k
-  pub bytes : h.known ≡ true → take h.len h.bytes ≡ name_head k
-  pub few : h.len ≤ length h.bytes
+abbrev pub NameHeadIs : Key → Option NameHead → Type 0
+NameHeadIs k None = nameable k ≡ false
+NameHeadIs k (Some h) = (nameable k ≡ true) × (take h.len h.bytes ≡ name_head k) × (h.len ≤ length h.bytes)

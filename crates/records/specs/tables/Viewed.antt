@@ -2,11 +2,11 @@
 use Rattle.std.specs.Prelude.{List, ◌++◌, Bool, cond, ◌&&◌, ℕ, ◌+◌, ◌-◌, leb, length, drop}
 use Rattle.money.specs.Names.{max_name}
 use Rattle.money.specs.Refusals.{mark_unknown, no_space}
-use Rattle.records.specs.Changes.{is_record, kind_in, head_bytes, put}
+use Rattle.records.specs.Changes.{head_bytes, put}
 use Rattle.records.specs.declared.scan.View.{View}
 
 abbrev pub view_head : View → List ℕ
-view_head v = head_bytes (kind_in v.act) v.key
+view_head v = head_bytes v.kind v.key
 
 -- how many of the bytes are its body
 abbrev pub view_rest : View → ℕ
@@ -14,7 +14,7 @@ view_rest v = v.len - length (view_head v)
 
 -- a view of a filed, corrected or withdrawn record whose body n bytes have room for
 unfoldable pub is_view : View → ℕ → Bool
-is_view v n = is_record v.act && (leb v.key.name.len max_name && (leb (length (view_head v)) v.len && leb (view_rest v) n))
+is_view v n = leb v.key.name.len max_name && (leb (length (view_head v)) v.len && leb (view_rest v) n)
 
 unfoldable pub view_written : View → List ℕ → List ℕ
 view_written v s = view_head v ++ drop (length s - view_rest v) s

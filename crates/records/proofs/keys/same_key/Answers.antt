@@ -1,10 +1,10 @@
-use mathlib.Core.Path.{sym, ◌∙◌}
-use Rattle.records.proofs.keys.Lemmas.{other-hour, by_name}
+use Rattle.std.proofs.Common.{◌∙◌, ap, ◌&&◌}
+use Rattle.money.specs.Names.{same_name}
+use Rattle.money.proofs.laws.NameLaws.{name-eq}
+use Rattle.records.specs.Keys.{same}
 use Rattle.records.proofs.keys.same_key.Goals as goal
 
 pub returns-then-same_hour : goal.returns-then-same_hour
+unfolding same
 returns-then-same_hour c =
-    c.same_name.ensures ∙ by_name c.args.a c.args.b (sym c.same_hour.ensures ∙ c.if-same_hour.true)
-
-pub returns : goal.returns
-returns c = other-hour c.args.a c.args.b (sym c.same_hour.ensures ∙ c.if-same_hour.false)
+    c.eq.ensures ∙ name-eq c.args.a.name c.args.b.name ∙ ap (λ b. b && same_name c.args.a.name c.args.b.name) c.if-same_hour.ensures

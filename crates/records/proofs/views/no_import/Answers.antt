@@ -1,4 +1,0 @@
-use Rattle.records.proofs.views.no_import.Goals as goal
-
-pub returns : goal.returns
-returns c = rw c.no_offer-offer.ensures
