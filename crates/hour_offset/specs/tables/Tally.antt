@@ -1,10 +1,9 @@
 -- What the call for C programs keeps of an hour's records as it reads them: where they stand, by name. Assumes nothing.
-use Rattle.std.specs.Prelude.{List, [], ◌∷◌, Bool, true, false, cond, ℕ, ◌≤◌, eqb, ltb, pos, length, drop}
+use Rattle.std.specs.Prelude.{List, [], ◌∷◌, Bool, true, false, cond, ℕ, ◌≤◌, eqb, ltb, pos, length, drop, Option, Some, None}
 use Rattle.money.specs.Refusals.{mark_unknown, key_stands, hour_full, price_missing}
 use Rattle.money.specs.Names.{same_name}
 use Rattle.money.specs.declared.names.Name.{Name}
-use Rattle.money.specs.declared.units.Answer.{Answer}
-use Rattle.money.specs.declared.units.Answer.TheVariants.{Amount, Refused}
+use Rattle.money.specs.Answers.{Answer, Amount, Refused}
 use Rattle.records.specs.Views.{prices_in}
 use Rattle.records.specs.Amounts.{offset_answer}
 use Rattle.records.specs.declared.layouts.HourPrices.{HourPrices}
@@ -26,9 +25,18 @@ pub record Sheet : Type 0 where
 abbrev pub no_sheet : Sheet
 no_sheet = record { priced = false; price = 0; imports = []; exports = [] }
 
+-- whether there is a place, and which, 0 of none
+abbrev pub is_there : Option ℕ → Bool
+is_there None = false
+is_there (Some n) = true
+
+abbrev pub place_or : Option ℕ → ℕ
+place_or None = 0
+place_or (Some n) = n
+
 -- the places that a tally uses
 abbrev pub sheet_of : Tally → Sheet
-sheet_of t = record { priced = t.priced; price = t.price; imports = spots t.imports; exports = spots t.exports }
+sheet_of t = record { priced = is_there t.price; price = place_or t.price; imports = spots t.imports; exports = spots t.exports }
 
 -- no more than a mark's limit
 pub record Few (t : Tally) : Type 0 where
