@@ -1,5 +1,5 @@
 -- The names under which units stand, as `units` answers them.
-use Rattle.std.specs.Prelude.{ℕ, List, cond, take, eqb}
+use Rattle.std.specs.Prelude.{ℕ, List, ◌∷◌, ◌++◌, Option, None, Some, cond, take, drop, eqb}
 use Rattle.money.specs.Refusals.{not_together}
 use Rattle.book.specs.Layer.{Key, Name, Gh, empty_name}
 use Rattle.book.specs.declared.amounts.units.Units.{Units}
@@ -19,6 +19,11 @@ gh_key = unit_key empty_name
 -- the used places of a list of units
 abbrev pub names_in : Units → List Name
 names_in u = take u.n u.names
+
+-- names with a new one at its place, or as they are
+abbrev pub with_new : Option ℕ → Name → List Name → List Name
+with_new None n ns = ns
+with_new (Some i) n ns = take i ns ++ (n ∷ drop i ns)
 
 -- the answer: names, or a number
 pub data NameList : Type 0 where

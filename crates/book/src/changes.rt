@@ -1,35 +1,39 @@
 // The five changes. Each takes the bytes lent as its record, with its mark.
-ghost use Rattle.book.specs.Layer.{parse};
+ghost use Rattle.std.specs.Prelude.{◌≡◌};
+ghost use Rattle.book.specs.Layer.{parse, number_of};
 ghost use Rattle.book.specs.Register.{listed, file, correct, withdraw, take_back, close, change};
 ghost use Rattle.book.specs.Meaning.{Leaves, Meets, reply_of};
 
 use crate::answers::{Answer, Done};
 use crate::book::{Book, CHANGES_MAX};
-use money::refusals::NOT_TOGETHER;
+use money::refusals::Refusal;
 use records::marks::{Kind, Wanted};
 use records::parse::{parse_any, parse_change, parse_close, parse_take_back};
 
 impl Book {
+    // The book as it is, and a refusal.
+    pub(crate) fn refused(self, refusal: Refusal) -> Done
+        ensures { result ≡ record { book = self; answer = Answer.Refused (number_of refusal) } }
+    {
+        Done {
+            book: self,
+            answer: Answer::Refused(refusal.number()),
+        }
+    }
+
+    #[tactic(auto, using(crate::proofs::book::Together::together))]
     fn enter(mut self, log: &mut [u8], rec: &[u8], want: Wanted) -> Done
         ensures { Leaves (listed (parse want rec.now)) self log.old result.book (reply_of result.answer) log.new }
     {
         let mut rows = [0u32; CHANGES_MAX];
         if self.check_rows(log, &mut rows) {
-            let p = parse_change(rec, want);
-            if p.number != 0 {
-                return Done {
-                    book: self,
-                    answer: Answer::Refused(p.number),
-                };
-            }
-            let view = p.view;
             let n = self.changes as usize;
-            return self.checked_enter(log, &mut rows, n, view, rec);
+            return match parse_change(rec, want) {
+                Ok(view) => self.checked_enter(log, &mut rows, n, view, rec),
+                Err(fault) => self.refused(fault),
+            };
         }
-        Done {
-            book: self,
-            answer: Answer::Refused(NOT_TOGETHER),
-        }
+        self.refused(Refusal::NotTogether)
     }
 
     pub fn file(mut self, log: &mut [u8], rec: &[u8]) -> Done
@@ -50,66 +54,47 @@ impl Book {
         self.enter(log, rec, Wanted::Only(Kind::Withdraw))
     }
 
+    #[tactic(auto, using(crate::proofs::book::Together::together))]
     pub fn take_back(mut self, log: &[u8], rec: &[u8]) -> Done
         ensures { Meets (take_back rec.now) self log.now result.book (reply_of result.answer) log.now }
     {
         let mut rows = [0u32; CHANGES_MAX];
         if self.check_rows(log, &mut rows) {
-            let m = parse_take_back(rec);
-            if m != 0 {
-                return Done {
-                    book: self,
-                    answer: Answer::Refused(m),
-                };
-            }
-            return self.checked_take_back(log, &mut rows);
+            return match parse_take_back(rec) {
+                Ok(()) => self.checked_take_back(log, &mut rows),
+                Err(fault) => self.refused(fault),
+            };
         }
-        Done {
-            book: self,
-            answer: Answer::Refused(NOT_TOGETHER),
-        }
+        self.refused(Refusal::NotTogether)
     }
 
+    #[tactic(auto, using(crate::proofs::book::Together::together))]
     pub fn close(mut self, log: &[u8], rec: &[u8]) -> Done
         ensures { Meets (close rec.now) self log.now result.book (reply_of result.answer) log.now }
     {
         let mut rows = [0u32; CHANGES_MAX];
         if self.check_rows(log, &mut rows) {
-            let m = parse_close(rec);
-            if m != 0 {
-                return Done {
-                    book: self,
-                    answer: Answer::Refused(m),
-                };
-            }
-            return self.checked_close();
+            return match parse_close(rec) {
+                Ok(()) => self.checked_close(),
+                Err(fault) => self.refused(fault),
+            };
         }
-        Done {
-            book: self,
-            answer: Answer::Refused(NOT_TOGETHER),
-        }
+        self.refused(Refusal::NotTogether)
     }
 
     // A change of any mark.
+    #[tactic(auto, using(crate::proofs::book::Together::together))]
     pub fn change(mut self, log: &mut [u8], rec: &[u8]) -> Done
         ensures { Meets (change rec.now) self log.old result.book (reply_of result.answer) log.new }
     {
         let mut rows = [0u32; CHANGES_MAX];
         if self.check_rows(log, &mut rows) {
-            let p = parse_any(rec);
-            if p.number != 0 {
-                return Done {
-                    book: self,
-                    answer: Answer::Refused(p.number),
-                };
-            }
-            let view = p.view;
             let n = self.changes as usize;
-            return self.checked_change(log, &mut rows, n, view, rec);
+            return match parse_any(rec) {
+                Ok(act) => self.checked_change(log, &mut rows, n, act, rec),
+                Err(fault) => self.refused(fault),
+            };
         }
-        Done {
-            book: self,
-            answer: Answer::Refused(NOT_TOGETHER),
-        }
+        self.refused(Refusal::NotTogether)
     }
 }

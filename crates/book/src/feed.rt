@@ -2,7 +2,7 @@
 ghost use Rattle.std.specs.Prelude.{◌≡◌, List, ℕ, ◌≤◌, length};
 ghost use Rattle.book.specs.Layer.{Change};
 ghost use Rattle.book.specs.Meaning.{belongs, load};
-ghost use Rattle.book.specs.tables.Checked.{Checked};
+ghost use Rattle.book.specs.tables.Checked.{Checked, key_in};
 ghost use Rattle.book.specs.Feed.{feeding};
 ghost use Rattle.book.specs.FeedPromise.{Ends, Feeds};
 
@@ -10,7 +10,9 @@ use crate::answers::refusal_in;
 use crate::book::{Book, CHANGES_MAX};
 use crate::log::index::{BUCKETS, bucket_of};
 use money::refusals::NOT_TOGETHER;
-use records::parse::first_change;
+use records::keys::{Key, key_of};
+use records::marks::Mark;
+use records::parse::{Act, first_change};
 
 // The book with the records that it took, how many they were and how many bytes; and the number of the refusal that ended the reading, 0 for none.
 #[derive(Clone, Copy)]
@@ -42,6 +44,16 @@ fn search_from(latest: u16, changes: u16) -> usize
     changes as usize
 }
 
+// The key of a change of a record, and none of a mark that stands alone.
+fn key_in(act: Act) -> Key
+    ensures { result ≡ key_in act }
+{
+    match act {
+        Act::Change(view) => view.key,
+        Act::TakeBack | Act::Close => key_of(Mark::Pr, 0),
+    }
+}
+
 // Takes the records into a book that was checked, up to the first that is refused. Each is read once.
 fn feed_checked(mut book: Book, log: &mut [u8], rows: &mut [u32; CHANGES_MAX], input: &[u8]) -> Fed
     requires { Checked book log.old rows.old }
@@ -51,17 +63,18 @@ fn feed_checked(mut book: Book, log: &mut [u8], rows: &mut [u32; CHANGES_MAX], i
     let mut latest = [book.changes; BUCKETS];
     let mut count: u64 = 0;
     let mut at = 0;
+    // Each record says where the next begins, so no range or iterator counts the places.
     while at < input.len() {
-        let f = first_change(&input[at..]);
-        if f.number != 0 {
-            return fed_so(book, count, at, f.number);
-        }
+        let f = match first_change(&input[at..]) {
+            Ok(front) => front,
+            Err(fault) => return fed_so(book, count, at, fault.number()),
+        };
         let ordinal = count + 1;
         let end = at + f.end;
-        let view = f.view;
-        let bucket = bucket_of(view.key);
+        let act = f.act;
+        let bucket = bucket_of(key_in(act));
         let from = search_from(latest[bucket], book.changes);
-        let done = book.checked_change(log, rows, from, view, &input[at..end]);
+        let done = book.checked_change(log, rows, from, act, &input[at..end]);
         let answer = done.answer;
         let number = refusal_in(answer);
         let next = done.book;

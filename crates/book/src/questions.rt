@@ -11,17 +11,18 @@ use records::keys::{ask_hour, ask_key};
 
 impl Book {
     // Start and length of the written record of a key, without a CO mark.
+    #[tactic(auto, using(crate::proofs::book::Rows::asked))]
     pub fn record_of(self, log: &[u8], mark: &[u8], hour: u8, name: &[u8]) -> Answer
         ensures { Meets (ask (record_of mark.now hour name.now)) self log.now self (reply_of result) log.now }
     {
         let mut rows = [0u32; CHANGES_MAX];
         if self.check_rows(log, &mut rows) {
-            let q = ask_key(mark, hour, name);
-            if q.number != 0 {
-                return Answer::Refused(q.number);
-            }
+            let key = match ask_key(mark, hour, name) {
+                Ok(key) => key,
+                Err(fault) => return Answer::Refused(fault.number()),
+            };
             let n = self.changes as usize;
-            let s = find_in(log, &rows, n, n, q.key);
+            let s = find_in(log, &rows, n, n, key);
             if s.found {
                 let start = s.start;
                 return Answer::Place(start, written_len(log, start));
@@ -32,21 +33,22 @@ impl Book {
     }
 
     // How many records of a mark stand in an hour.
+    #[tactic(auto, using(crate::proofs::book::Rows::asked))]
     pub fn count_of(self, log: &[u8], mark: &[u8], hour: u8) -> Answer
         ensures { Meets (ask (count_of mark.now hour)) self log.now self (reply_of result) log.now }
     {
         let mut rows = [0u32; CHANGES_MAX];
         if self.check_rows(log, &mut rows) {
-            let q = ask_hour(mark, hour);
-            if q.number != 0 {
-                return Answer::Refused(q.number);
-            }
-            return Answer::Number(count_in(&rows, self.changes as usize, q.key));
+            return match ask_hour(mark, hour) {
+                Ok(key) => Answer::Number(count_in(&rows, self.changes as usize, key)),
+                Err(fault) => Answer::Refused(fault.number()),
+            };
         }
         Answer::Refused(NOT_TOGETHER)
     }
 
     // How many bytes are left of those lent, above 65,535 counted as 65,535.
+    #[tactic(auto, using(crate::proofs::book::Rows::asked))]
     pub fn free_bytes(self, log: &[u8]) -> Answer
         ensures { Meets (ask free_bytes) self log.now self (reply_of result) log.now }
     {

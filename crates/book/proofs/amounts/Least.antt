@@ -1,13 +1,5 @@
 -- Counts and places within a limit: a list holds no more than its length, and nothing is read from beyond the end.
-use Prim.Native.Nat.{ℕ, ◌-◌, min}
-use mathlib.Core.Path.{◌≡◌, refl, sym, ap, ◌∙◌}
-use mathlib.Core.Bool.{Bool, true, false}
-use mathlib.Core.List.{List}
-use native.Mathlib.Omega.{arith}
-use lib.Dec.{leb}
-use lib.ListN.{length, take, drop, drop_of_length-le}
-use lib.Seq.{take_all}
-use borrow.Author.Tests.{leb-true, leb-false}
+use Rattle.std.proofs.Common.{ℕ, ◌-◌, min, ◌≡◌, refl, sym, ap, ◌∙◌, Bool, true, false, List, arith, leb, length, take, drop, drop_of_length-le, take_all, leb-true, leb-false}
 use Rattle.book.proofs.log.Survey.{to_end}
 
 pub take-least : {A : Type 0} {m k : ℕ} (n : ℕ) (xs : List A) → length xs ≡ m → k ≡ min n m → take k xs ≡ take n xs

@@ -1,23 +1,20 @@
 -- What the reading loop rests on.
-use mathlib.Core.Path.{◌≡◌, refl, sym, ap, ◌∙◌, subst, subst⁻¹}
-use mathlib.Core.List.{List}
-use mathlib.Core.Bool.{Bool, cond}
-use Prim.Native.Nat.{ℕ, ◌+◌, ◌-◌, ◌≤◌, ◌<◌}
-use native.Mathlib.Omega.{arith}
-use lib.ListN.{length, take, drop, get_or, set, replicate, length-take, length-drop, length-set, length-replicate, get_or-replicate}
-use lib.Seq.{take_all, drop-drop, drop-length, get_or-set_same, get_or-set_other}
-use lib.Dec.{eqb}
-use borrow.Author.Tests.{ne_eqb, eq-eqb, eqb-true, eqb-false}
-use Rattle.book.specs.Layer.{Key, Change, Res, bad, got, Entry, read_entry, front_of, Front}
+use Rattle.std.specs.Prelude.{◌≡◌, refl, ℕ, ◌+◌, ◌-◌, ◌≤◌, ◌<◌, List, Bool, cond, length, take, drop, get_or, set, replicate, eqb}
+use Rattle.std.proofs.Common.{sym, ap, ◌∙◌, subst, arith, length-take, length-drop, length-set, take_all, drop-drop, get_or-set_same, get_or-set_other, eqb-true, eq-eqb}
+use Rattle.std.proofs.lemmas.List.{length-replicate, get_or-replicate}
+use Rattle.std.proofs.lemmas.Bool.{eqb-false}
+use Rattle.std.proofs.Math.Path.{subst⁻¹}
+use Rattle.std.proofs.Math.Seq.{drop-length}
+use Rattle.book.specs.Layer.{Key, Change, Res, bad, got, Input, fine, fault, Entry, read_entry, act_of, front_of, Front}
 use Rattle.book.specs.laws.LayerLaws.{entry-fault}
 use Rattle.book.specs.declared.book.Book.{Book}
 use Rattle.book.specs.declared.answers.Done.{Done}
 use Rattle.book.specs.declared.feed.Fed.{Fed as Result}
 use Rattle.book.specs.Register.{Reg, change, general, Reply, refused, Step, answered, becomes, called, after, write_all}
-use Rattle.book.specs.Meaning.{belongs, mismatched, load, Valid, book_of, Meets, reply_of}
+use Rattle.book.specs.Meaning.{belongs, load, Valid, book_of, Meets, reply_of}
 use Rattle.book.specs.Replies.{replied}
 use Rattle.book.specs.laws.ReplayLaws.{called-valid}
-use Rattle.book.specs.tables.Checked.{Checked, Makes, Since, IsEntry}
+use Rattle.book.specs.tables.Checked.{Checked, Makes, Since, IsEntry, key_in}
 use Rattle.book.specs.tables.Index.{bucket, latest_of}
 use Rattle.book.specs.laws.RegisterLaws.{by-test}
 use Rattle.book.specs.laws.LoadLaws.{Loaded, loaded-from}
@@ -30,29 +27,34 @@ use Rattle.book.proofs.log.checked.Lemmas.{unread-refused}
 
 -- ---- the first record
 
-module _ (s : List ℕ) (f : Front) (e : f ≡ front_of s (read_entry s)) where
-  front-unread : (f.number ≡ 0 → ⊥) → read_entry s ≡ bad f.number
-  front-unread z = go (read_entry s) refl
+module _ (s : List ℕ) where
+  front-unread : {n : ℕ} → fault n ≡ front_of s (read_entry s) → read_entry s ≡ bad n
+  front-unread {n} e = go (read_entry s) e
     where
-      go : (r : Res Entry) → read_entry s ≡ r → read_entry s ≡ bad f.number
-      go (bad k) q = q ∙ ap bad (sym (ap (λ (y : Front). y.number) (e ∙ ap (front_of s) q)))
-      go (got x t) q = absurd (z (ap (λ (y : Front). y.number) (e ∙ ap (front_of s) q)))
+      go : (r : Res Entry) → fault n ≡ front_of s r → r ≡ bad n
+      go (bad k) q = let p : k ≡ n = cc in ap bad p
+      go (got x t) q = cc
 
-  front-end : f.number ≡ 0 → f.end ≡ length (first_record s)
-  unfolding first_record
-  front-end z = go (read_entry s) refl e
-    where
-      go : (r : Res Entry) → read_entry s ≡ r → f ≡ front_of s r → f.end ≡ length (front s r)
-      go (bad k) q e = absurd (omega (arith, entry-fault s k q, sym (ap (λ (y : Front). y.number) e) ∙ z))
-      go (got x t) q e = ap (λ (y : Front). y.end) e ∙ omega (arith, length-take (length s - length t) s)
+  module _ {f : Front} (e : fine f ≡ front_of s (read_entry s)) where
+    front-end : f.end ≡ length (first_record s)
+    unfolding first_record
+    front-end = go (read_entry s) e
+      where
+        go : (r : Res Entry) → fine f ≡ front_of s r → f.end ≡ length (front s r)
+        go (bad k) q = cc
+        go (got x t) q =
+            let p : f ≡ record { act = act_of x; end = length s - length t } = cc in
+            ap (λ (y : Front). y.end) p ∙ omega (arith, length-take (length s - length t) s)
 
-  -- it was read whole
-  front_read : f.number ≡ 0 → IsEntry (first_record s) f.view
-  front_read z = go (read_entry s) refl
-    where
-      go : (r : Res Entry) → read_entry s ≡ r → IsEntry (first_record s) f.view
-      go (bad k) q = absurd (omega (arith, entry-fault s k q, sym (ap (λ (y : Front). y.number) (e ∙ ap (front_of s) q)) ∙ z))
-      go (got x t) q = record { what = x; input = first-whole s x t q; is = ap (λ (y : Front). y.view) (e ∙ ap (front_of s) q) }
+    -- it was read whole
+    front_read : IsEntry (first_record s) f.act
+    front_read = go (read_entry s) refl e
+      where
+        go : (r : Res Entry) → read_entry s ≡ r → fine f ≡ front_of s r → IsEntry (first_record s) f.act
+        go (bad k) q e = cc
+        go (got x t) q e =
+            let p : f ≡ record { act = act_of x; end = length s - length t } = cc in
+            record { what = x; input = first-whole s x t q; is = ap (λ (y : Front). y.act) p }
 
 -- ---- the loop
 
@@ -187,39 +189,43 @@ module _ {b₀ : Book} {s₀ input : List ℕ} {b : Book} {rows latest s : List 
   }
 
   -- what stands first in the rest of the input
-  module _ (some : at < length input) {f : Front}
-      (e₀ : f ≡ front_of (take (length input - at) (drop at input)) (read_entry (take (length input - at) (drop at input)))) where
-    front-is : f ≡ front_of (drop at input) (read_entry (drop at input))
-    front-is = e₀ ∙ ap (λ (l : List ℕ). front_of l (read_entry l)) (take_all (length input - at) (drop at input) (omega (arith, length-drop at input)))
+  module _ (some : at < length input) where
+    front-is : {i : Input Front} → i ≡ front_of (take (length input - at) (drop at input)) (read_entry (take (length input - at) (drop at input)))
+        → i ≡ front_of (drop at input) (read_entry (drop at input))
+    front-is e = e ∙ ap (λ (l : List ℕ). front_of l (read_entry l)) (take_all (length input - at) (drop at input) (omega (arith, length-drop at input)))
 
-    pub unread : (f.number ≡ 0 → ⊥) → (l : List Change) → load b₀ s₀ ≡ belongs l
-        → Ends (feeding (length s₀) (record { list = l; closed = b₀.closed }) input) s₀ (record { book = b; count = n; taken = at; number = f.number }) s
+    pub unread : {k : ℕ} → fault k ≡ front_of (take (length input - at) (drop at input)) (read_entry (take (length input - at) (drop at input)))
+        → (l : List Change) → load b₀ s₀ ≡ belongs l
+        → Ends (feeding (length s₀) (record { list = l; closed = b₀.closed }) input) s₀ (record { book = b; count = n; taken = at; number = k }) s
     unfolding first_record
-    unread z l e =
-        let q = front-unread (drop at input) f front-is z in
-        let m : Meets (change (first_record (drop at input))) b s b (refused f.number) s = subst⁻¹
-        (λ (p : List ℕ). Meets (change p) b s b (refused f.number) s) (ap (front (drop at input)) q)
-        (unread-refused g.checked (drop at input) f.number q) in
-        ends _ s₀ input b s n at (g.on l e) g.size g.kept some b (refused f.number) s m f.number refl z
+    unread {k} e₀ l e =
+        let q = front-unread (drop at input) (front-is e₀) in
+        let m : Meets (change (first_record (drop at input))) b s b (refused k) s = subst⁻¹
+        (λ (p : List ℕ). Meets (change p) b s b (refused k) s) (ap (front (drop at input)) q) (unread-refused g.checked (drop at input) k q) in
+        ends _ s₀ input b s n at (g.on l e) g.size g.kept some b (refused k) s m k refl (λ z. omega (arith, entry-fault (drop at input) k q, z))
 
     -- a record, which ends there
-    module _ (z : f.number ≡ 0) where
+    module _ {f : Front}
+        (e₀ : fine f ≡ front_of (take (length input - at) (drop at input)) (read_entry (take (length input - at) (drop at input)))) where
+      front-there : f.end ≡ length (first_record (drop at input))
+      front-there = front-end (drop at input) (front-is e₀)
+
       pub end-within : at + f.end ≤ length input
-      end-within = omega (arith, front-end (drop at input) f front-is z, first-within (drop at input), length-drop at input)
+      end-within = omega (arith, front-there, first-within (drop at input), length-drop at input)
 
       pub end_after : 0 < f.end
-      end_after = omega (arith, front-end (drop at input) f front-is z, first_some (drop at input) (omega (arith, length-drop at input)))
+      end_after = omega (arith, front-there, first_some (drop at input) (omega (arith, length-drop at input)))
 
       between : take (at + f.end - at) (drop at input) ≡ first_record (drop at input)
       between =
-          let k : at + f.end - at ≡ length (first_record (drop at input)) = omega (arith, front-end (drop at input) f front-is z) in
+          let k : at + f.end - at ≡ length (first_record (drop at input)) = omega (arith, front-there) in
           ap (λ (j : ℕ). take j (drop at input)) k ∙ first-front (drop at input)
 
-      pub read-there : IsEntry (take (at + f.end - at) (drop at input)) f.view
-      read-there = subst⁻¹ (λ (p : List ℕ). IsEntry p f.view) between (front_read (drop at input) f front-is z)
+      pub read-there : IsEntry (take (at + f.end - at) (drop at input)) f.act
+      read-there = subst⁻¹ (λ (p : List ℕ). IsEntry p f.act) between (front_read (drop at input) (front-is e₀))
 
       -- and what the book said to it
-      module _ {r : Done} {s' rows' : List ℕ} (m : Makes (general (take (at + f.end - at) (drop at input))) b s f.view.key r s' rows') {k : ℕ}
+      module _ {r : Done} {s' rows' : List ℕ} (m : Makes (general (take (at + f.end - at) (drop at input))) b s (key_in f.act) r s' rows') {k : ℕ}
           (q : k ≡ replied (reply_of r.answer)) where
         said : Meets (change (first_record (drop at input))) b s r.book (reply_of r.answer) s'
         said = subst (λ (p : List ℕ). Meets (change p) b s r.book (reply_of r.answer) s') between m.leaves
@@ -228,7 +234,7 @@ module _ {b₀ : Book} {s₀ input : List ℕ} {b : Book} {rows latest s : List 
             → Ends (feeding (length s₀) (record { list = l; closed = b₀.closed }) input) s₀ (record { book = r.book; count = n; taken = at; number = k }) s'
         stops y l e = ends _ s₀ input b s n at (g.on l e) g.size g.kept some r.book (reply_of r.answer) s' said k q y
 
-        pub continues : k ≡ 0 → {j : ℕ} → j ≡ bucket f.view.key → j < 8192
+        pub continues : k ≡ 0 → {j : ℕ} → j ≡ bucket (key_in f.act) → j < 8192
             → Going b₀ s₀ input r.book rows' (set latest j r.book.changes) s' (n + 1) (at + f.end)
         continues y {j} ej lt = record {
           size = m.leaves.size ∙ g.size;
@@ -255,7 +261,7 @@ module _ {b₀ : Book} {s₀ input : List ℕ} {b : Book} {rows latest s : List 
               ));
           on = λ l e. subst⁻¹
               (λ (j : ℕ). On (feeding (length s₀) (record { list = l; closed = b₀.closed }) input) (length s₀) input r.book s' (n + 1) (at + j))
-              (front-end (drop at input) f front-is z)
+              front-there
               (on-with _ s₀ input b s n at (g.on l e) g.size g.kept some r.book (reply_of r.answer) s' said (sym q ∙ y));
         }
 
@@ -268,18 +274,6 @@ fed-none b s input e = record {
   where
     on : (l : List Change) → load b s ≡ belongs l → On (feeding (length s) (record { list = l; closed = b.closed }) input) (length s) input b s 0 0
     on l d = first_of b s input l d (loaded-from b s l d)
-
-pub fed-checked : {b : Book} {s input rows : List ℕ} → Checked b s rows → {r : Result} {s' : List ℕ}
-    → ((l : List Change) → load b s ≡ belongs l → Ends (feeding (length s) (record { list = l; closed = b.closed }) input) s r s') → Feeds b s input r s'
-fed-checked h w = record { together = w; apart = λ d. let z : ◌≡◌ {A = ℕ} 0 1 = cc h.base.is in absurd (omega arith) }
-
--- book and bytes do not belong together
-pub fed-mismatched : (b : Book) (s input : List ℕ) → load b s ≡ mismatched → (length input ≡ 0 → ⊥)
-    → Feeds b s input (record { book = b; count = 0; taken = 0; number = 16 }) s
-fed-mismatched b s input e some = record {
-  together = λ l d. let z : ◌≡◌ {A = ℕ} 0 1 = cc in absurd (omega arith);
-  apart = λ d. record { count = refl; taken = refl; number = ap (λ (t : Bool). cond t 0 16) (sym (ne_eqb (length input) 0 some)); book = refl; bytes = refl };
-}
 
 -- a result that is the one shown
 pub ends_by : {f : FeedReply} {s s' : List ℕ} {r r' : Result} → r ≡ r' → Ends f s r' s' → Ends f s r s'

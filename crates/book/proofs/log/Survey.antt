@@ -1,12 +1,14 @@
 -- A part of the bytes to their end, and what a survey counts.
 use Prim.Native.Nat.{ℕ, zero, suc, ◌+◌, ◌-◌, ◌≤◌}
-use mathlib.Core.Path.{◌≡◌}
+use mathlib.Core.Path.{◌≡◌, sym, ap, ◌∙◌}
 use mathlib.Core.List.{List, [], ◌∷◌}
 use mathlib.Core.Bool.{Bool, true, false, cond}
 use native.Mathlib.Omega.{arith}
 use lib.ListN.{length, take, drop, length-drop}
 use lib.Seq.{take_all}
-use Rattle.book.specs.Layer.{Key, Change, key_of, kind_of, is_filing, is_withdrawal, same_hour}
+use Rattle.std.specs.Prelude.{Option, Some, None}
+use Rattle.book.specs.Layer.{Key, View, Change, key_of, kind_of, is_filing, is_withdrawal, same_hour, unseen, scan, view_in}
+use Rattle.book.specs.laws.LayerLaws.{Read, view-bad, view-got}
 use Rattle.book.specs.Register.{write_all}
 use Rattle.book.specs.Meaning.{Valid}
 use Rattle.book.specs.tables.Tables.{Survey, survey, noted}
@@ -15,6 +17,14 @@ pub use Rattle.book.specs.laws.ValidLaws.{judge-room, room-facts, valid-size}
 -- a part to the end is what is left
 pub to_end : (q : ℕ) (log : List ℕ) → take (length log - q) (drop q log) ≡ drop q log
 to_end q log = take_all (length log - q) (drop q log) (omega (arith, length-drop q log))
+
+-- what stands at a place, by what was answered of the bytes from there on
+module _ (log : List ℕ) (q : ℕ) {p : Option View} (e : p ≡ view_in (scan (take (length log - q) (drop q log)))) where
+  pub read_there : {v : View} → p ≡ Some v → Read (drop q log) v
+  read_there {v} h = view-got (drop q log) v (sym h ∙ e ∙ ap (λ y. view_in (scan y)) (to_end q log))
+
+  pub unread_there : p ≡ None → scan (drop q log) ≡ unseen
+  unread_there h = view-bad (drop q log) (sym h ∙ e ∙ ap (λ y. view_in (scan y)) (to_end q log))
 
 pub counted : (k : Key) (q : ℕ) (d : Change) (s : Survey) → (noted k q d s).count ≤ s.count + 1
 counted k q d s = go (same_hour k (key_of d)) (is_filing (kind_of d)) (is_withdrawal (kind_of d)) s.count

@@ -7,7 +7,7 @@ use Rattle.std.proofs.Math.Bool.{true, cond}
 use Rattle.std.proofs.Math.IntN.{pos}
 use Rattle.laws.specs.Sums.{every}
 use Rattle.laws.specs.SumLaws.{Σℤ-ext, every-at, every-ext}
-use Rattle.book.specs.Layer.{Key, Rec, Change, Gh, Ticks, CentsPerStart, UnitPart, PartAnswer, no_part, at_hour, unit_part_in, unit_ticks, start_cents, unit_hour_of, day_answer, amount_ok, no_ticks, no_start, hour_part, day_sum, reversal}
+use Rattle.book.specs.Layer.{Key, Rec, Change, Gh, Ticks, CentsPerStart, UnitPart, no_part, value_or, at_hour, part_in, unit_ticks, start_cents, unit_hour_of, day_answer, amount_ok, no_ticks, no_start, hour_part, day_sum, reversal}
 use Rattle.book.specs.laws.LayerLaws.{at-hour, sole, unit-written, unit-ready, day-amount, amount-ok, day-sum}
 use Rattle.book.specs.declared.amounts.hours.HourPlace.{HourPlace}
 use Rattle.book.specs.declared.amounts.hours.DayPlaces.{DayPlaces}
@@ -72,7 +72,7 @@ module _ {s : List ℕ} {l : List Change} (o : Begun s l) where
       taken : amount_ok (part_at j).ticks (part_at j).start ≡ true
 
     abbrev worked-at : ℕ → UnitPart
-    worked-at j = (unit_part_in (drop (place_in u j).start s) (price_for t j).prices).part
+    worked-at j = part_in (drop (place_in u j).start s) (price_for t j).prices
 
     not_known : (b : Bool) → not b ≡ true → b ≡ false
     not_known true h = sym h
@@ -107,9 +107,9 @@ module _ {s : List ℕ} {l : List Change} (o : Begun s l) where
         let mk : f.what.key.mark ≡ Gh = found-mark f (ap sole e-mark) ∙ e-mark in
         let q : part_at j ≡ record { ticks = record { 0 = unit_ticks f.what ps }; start = (unit_hour_of f.what).startup } =
         ap (λ (b : Bool). cond b (worked-at j) no_part) z
-        ∙ ap (λ (a : ℕ). (unit_part_in (drop a s) ps).part) (w.at z)
-        ∙ ap (λ (a : List ℕ). (unit_part_in a ps).part) f.at.bytes
-        ∙ ap (λ (a : PartAnswer). a.part) (unit-written f.what ps f.at.rest f.at.good mk (v.fits y)) in
+        ∙ ap (λ (a : ℕ). part_in (drop a s) ps) (w.at z)
+        ∙ ap (λ (a : List ℕ). part_in a ps) f.at.bytes
+        ∙ ap (value_or no_part) (unit-written f.what ps f.at.rest f.at.good mk (v.fits y)) in
         record {
           adds = ap (λ (a : UnitPart). a.ticks.0 +ℤ pos (a.start.0 * 120)) q
               ∙ ap (λ (a : Rec). unit_ticks a ps +ℤ pos (start_cents a * 120)) fr

@@ -9,4 +9,5 @@ pub use Rattle.records.proofs.laws.BookLaws.{credit-bounded, unit-bounded, charg
 pub use Rattle.records.proofs.laws.BookLaws.{key-formed, failure-formed, hour-formed, mark-hour-formed, unit-formed}
 pub use Rattle.records.proofs.laws.BookLaws.{Unread, bare-early, longest_record}
 pub use Rattle.records.proofs.laws.BookLaws.{same_by, price-name}
+pub use Rattle.money.proofs.laws.UnitLaws.{number-some}
 pub use Rattle.records.proofs.laws.PriceExample.{price_bytes, price_record, price-read, price-length, price-limit}

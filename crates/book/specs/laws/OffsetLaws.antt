@@ -5,7 +5,7 @@ use Rattle.std.proofs.Math.Path.{refl, ap, ap₂}
 use Rattle.std.proofs.Common.{sym, ◌∙◌, subst, arith, not-suc-le-zero, le_of_suc-le-suc}
 use mathlib.Core.List.{List, [], ◌∷◌, map}
 use Rattle.records.specs.Amounts.{same_name}
-use Rattle.book.specs.Layer.{Key, Name, Rec, Change, filed, Good, HourPrices, Quantity, Import, Amount, Pr, Im, Ex, decoded_bytes, name_before, quantity_at, series_of, totals_with, totals_with_in, entry, entry_fault, offset, offset_answer, offset_entry, export_of, same_hour}
+use Rattle.book.specs.Layer.{Key, Name, Rec, Change, filed, Good, HourPrices, Quantity, Import, Amount, Pr, Im, Ex, decoded_bytes, name_before, quantity_at, series_of, totals_with, totals_more, entry, entry_fault, offset, offset_answer, offset_entry, export_of, same_hour}
 use Rattle.book.specs.laws.LayerLaws.{PricesFit, series-none, series-at, series-same, totals-more, quantity-most, rates-ok, offset-amount, standing-export, entry-sound, same_names, hour-mark}
 use Rattle.book.specs.declared.amounts.places.Spot.{Spot}
 use Rattle.book.specs.Register.{standing, guarantees}
@@ -82,7 +82,7 @@ module _ (s : List ℕ) where
   pub record Adds (x : Spot) (r : Rec) : Type 0 where
     pub good : Good (filed r)
     pub mark : r.key.mark ≡ Ex
-    pub added : (ts : List Quantity) → (totals_with_in (drop x.start s) ts).totals ≡ totals_with ts (export_of r).mqsw
+    pub added : (ts : List Quantity) → totals_more (drop x.start s) ts ≡ totals_with ts (export_of r).mqsw
 
   totals-from : (m : ℕ) (f : ℕ → ℕ) {xs : List Spot} {rs : List Rec} → Each Adds xs rs → ((k : ℕ) → k < 12 → f k ≤ 100000 * m) → m + length rs ≤ 16
       → totals_from (series_of 0 12 f) s xs ≡ series_of 0 12 (λ (k : ℕ). f k + exported rs k)

@@ -1,7 +1,7 @@
 -- The loop that sums the exports at their places.
 use Rattle.std.specs.Prelude.{ℕ, zero, suc, ◌+◌, ◌≤◌, ◌<◌, ◌≡◌, refl, List, [], ◌∷◌, length, take, drop, get_or, replicate}
 use Rattle.std.proofs.Common.{sym, ap, ap₂, ◌∙◌, arith, drop-cons, get_or-take, length-take-le}
-use Rattle.book.specs.Layer.{Quantity, no_quantity, totals_with_in}
+use Rattle.book.specs.Layer.{Quantity, no_quantity, totals_more}
 use Rattle.book.specs.declared.amounts.places.Spot.{Spot}
 use Rattle.book.specs.tables.Worked.{totals_from, totals_in, no_spot}
 
@@ -14,7 +14,7 @@ pub totalling-start : (s : List ℕ) (n : ℕ) (at : List Spot) → Totalling s 
 totalling-start s n at = record { upto = omega arith; whole = refl }
 
 pub totalling-more : {s : List ℕ} {n : ℕ} {at : List Spot} {sums next : List Quantity} {i : ℕ} → Totalling s n at sums i → i < n → n ≤ length at
-    → next ≡ (totals_with_in (drop (get_or at i no_spot).start s) sums).totals → Totalling s n at next (i + 1)
+    → next ≡ totals_more (drop (get_or at i no_spot).start s) sums → Totalling s n at next (i + 1)
 unfolding totals_from
 totalling-more {s} {n} {at} {sums} {next} {i} t h l en =
     let one : suc i ≡ i + 1 = omega arith in

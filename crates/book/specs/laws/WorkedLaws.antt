@@ -3,7 +3,7 @@ use Rattle.std.specs.Prelude.{ℕ, ◌≤◌, ◌<◌, ◌≡◌, refl, List, []
 use Rattle.std.proofs.Common.{sym, ap, ◌∙◌, subst, arith, get_or-take, length-take-le}
 use Rattle.std.proofs.lemmas.List.{length-map}
 use Rattle.laws.specs.Lists.{All}
-use Rattle.book.specs.Layer.{Key, Rec, Change, HourPrices, Im, Ex, totals_with_in, offset_entry, offset_entry_in, EntryAnswer, TotalsAnswer, same_hour}
+use Rattle.book.specs.Layer.{Key, Rec, Change, HourPrices, Im, Ex, totals_more, offset_entry, entry_in, no_entry, no_quantity, pad, value_or, same_hour}
 use Rattle.book.specs.laws.LayerLaws.{PricesFit, totals-written, entry-view, hour-mark}
 use Rattle.book.specs.declared.answers.NamedAmount.{NamedAmount}
 use Rattle.book.specs.declared.amounts.places.Spot.{Spot}
@@ -63,8 +63,8 @@ module _ {s : List ℕ} {l : List Change} (o : Begun s l) where
       at : (r : Rec) → Here (hour_key Im h) r → entry_at s p (spot_of l r) ≡ offset_entry p r
       at r b =
           let w = b.0.at in
-          ap (λ (x : List ℕ). (offset_entry_in x p).entry) w.bytes
-          ∙ ap (λ (a : EntryAnswer). a.entry) (entry-view r p w.rest w.good (hour-mark (hour_key Im h) r.key refl b.1) f)
+          ap (λ (x : List ℕ). entry_in x p) w.bytes
+          ∙ ap (value_or no_entry) (entry-view r p w.rest w.good (hour-mark (hour_key Im h) r.key refl b.1) f)
 
   -- ---- export totals
 
@@ -78,6 +78,6 @@ module _ {s : List ℕ} {l : List Change} (o : Begun s l) where
           record {
             good = w.good;
             mark = mk;
-            added = λ ts. ap (λ (x : List ℕ). (totals_with_in x ts).totals) w.bytes ∙ ap (λ (a : TotalsAnswer). a.totals)
-                (totals-written r ts w.rest w.good mk);
+            added = λ ts. ap (λ (x : List ℕ). totals_more x ts) w.bytes
+                ∙ ap (value_or (pad no_quantity 12 [])) (totals-written r ts w.rest w.good mk);
           }

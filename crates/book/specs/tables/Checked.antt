@@ -1,6 +1,6 @@
 -- What a change owes on a book that was checked, and whose rows are carried along.
 use Rattle.std.specs.Prelude.{ℕ, ◌+◌, ◌-◌, ◌%◌, ◌≤◌, ◌<◌, ◌≡◌, List, ◌∷◌, true, length, drop}
-use Rattle.book.specs.Layer.{Key, View, Change, Entry, key_of, fine, parse, parse_any, entry_view, same, Wanted, kind_of}
+use Rattle.book.specs.Layer.{Key, View, Act, Changing, TakeBack, Close, no_key, Change, Entry, key_of, fine, parse, parse_any, act_of, same, Wanted, kind_of}
 use Rattle.book.specs.tables.LayerTables.{nameable, name_head}
 use Rattle.book.specs.declared.book.Book.{Book}
 use Rattle.book.specs.declared.answers.Done.{Done}
@@ -41,11 +41,17 @@ pub record Viewing (rec : List ℕ) (v : View) : Type 0 where
   pub want : Wanted
   pub change : IsChange want rec v
 
--- the bytes are a change of any mark, and this is its view
-pub record IsEntry (rec : List ℕ) (v : View) : Type 0 where
+-- the bytes are a change of any mark, and this is what they are
+pub record IsEntry (rec : List ℕ) (a : Act) : Type 0 where
   pub what : Entry
   pub input : parse_any rec ≡ fine what
-  pub is : v ≡ entry_view what
+  pub is : a ≡ act_of what
+
+-- the key of a change of a record, and none of a mark that stands alone
+abbrev pub key_in : Act → Key
+key_in (Changing v) = v.key
+key_in TakeBack = no_key
+key_in Close = no_key
 
 -- ---- the last change taken back
 

@@ -1,6 +1,6 @@
 -- The rows of a book that was checked: one number for each of its changes.
 use Rattle.std.specs.Prelude.{ℕ, ◌+◌, ◌*◌, ◌/◌, ◌%◌, ◌-◌, ◌≤◌, ◌<◌, ◌≡◌, List, [], ◌∷◌, Bool, true, cond, length, take, drop, get_or, set, leb, eqb}
-use Rattle.book.specs.Layer.{Kind, File, Correct, Withdraw, Key, Change, key_of, kind_of, key_answer, same}
+use Rattle.book.specs.Layer.{Kind, File, Correct, Withdraw, Key, Change, key_of, kind_of, value_or, no_key, same}
 use Rattle.book.specs.tables.LayerTables.{head_key, nameable, name_head}
 use Rattle.book.specs.tables.LayerTables.{Padded}
 use Rattle.book.specs.Register.{write_all, max_changes}
@@ -88,7 +88,7 @@ pub record Log (s rows : List ℕ) (n : ℕ) : Type 0 where
 
 -- the key of the record that is written at a place
 abbrev pub key_at : List ℕ → ℕ → Key
-key_at s x = (key_answer (head_key (drop x s))).key
+key_at s x = value_or no_key (head_key (drop x s))
 
 -- ---- the record that stands under a key: which change wrote it, and where
 

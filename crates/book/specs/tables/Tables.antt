@@ -1,12 +1,12 @@
 -- What the changes say of a key, and the refusal of a change by numbers.
 use Rattle.std.specs.Prelude.{ℕ, ◌+◌, ◌-◌, List, [], ◌∷◌, Bool, true, false, cond, not, length, ltb}
 use Rattle.money.specs.Refusals.{key_stands, no_such_key, hour_full}
-use Rattle.book.specs.Layer.{Key, View, Kind, Record, Change, key_of, kind_of, is_filing, is_correction, is_withdrawal, write, same, same_hour}
+use Rattle.book.specs.Layer.{Key, View, Kind, Change, key_of, kind_of, is_filing, is_correction, is_withdrawal, write, same, same_hour}
 use Rattle.book.specs.Register.{write_all, space_fault}
 use Rattle.book.specs.Meaning.{Load, belongs, mismatched}
 
 abbrev pub viewed : Change → View
-viewed c = record { act = Record (kind_of c); key = key_of c; len = length (write c) }
+viewed c = record { kind = kind_of c; key = key_of c; len = length (write c) }
 
 -- ---- what the changes say of a key, the newest last
 

@@ -1,7 +1,7 @@
 -- What the code works amounts from: places in the lent bytes where standing records are written.
 use Rattle.std.specs.Prelude.{ℕ, ◌≤◌, ◌<◌, ◌≡◌, List, [], ◌∷◌, map, Bool, true, false, cond, not, ◌||◌, length, take, drop, get_or, replicate, pos, eqb}
 use Rattle.money.specs.Units.{day_hours}
-use Rattle.book.specs.Layer.{Change, Mark, UnitPart, CentsPerStart, no_part, unit_part_in, HourPrices, Quantity, Ticks, Import, Answer, Amount, NoAmount, DayAnswer, Day, Refused, no_quantity, offset_entry_in, charge_in, totals_with_in, offset, offset_answer, no_ticks, no_start}
+use Rattle.book.specs.Layer.{Change, Mark, UnitPart, CentsPerStart, no_part, part_in, HourPrices, Quantity, Ticks, Import, Answer, Amount, NoAmount, DayAnswer, Day, NoDay, no_quantity, entry_in, charge_in, totals_more, offset, offset_answer, no_ticks, no_start}
 use Rattle.book.specs.declared.answers.NamedAmount.{NamedAmount}
 use Rattle.book.specs.declared.amounts.hours.HourPlace.{HourPlace}
 use Rattle.book.specs.declared.amounts.hours.DayPlaces.{DayPlaces}
@@ -36,7 +36,7 @@ pub record Inside (s : List ℕ) (p : Places) : Type 0 where
   pub each : (i : ℕ) → i < p.n → (get_or p.at i no_spot).start ≤ length s
 
 abbrev pub entry_at : List ℕ → HourPrices → Spot → Import
-entry_at s p x = (offset_entry_in (drop x.start s) p).entry
+entry_at s p x = entry_in (drop x.start s) p
 
 unfoldable pub entries_in : List ℕ → HourPrices → List Spot → List Import
 entries_in s p xs = map (entry_at s p) xs
@@ -47,7 +47,7 @@ entry_credit e = e.credit
 -- the quantities of each export added, from the first on
 unfoldable pub totals_from : List Quantity → List ℕ → List Spot → List Quantity
 totals_from sums s [] = sums
-totals_from sums s (x ∷ xs) = totals_from (totals_with_in (drop x.start s) sums).totals s xs
+totals_from sums s (x ∷ xs) = totals_from (totals_more (drop x.start s) sums) s xs
 
 abbrev pub totals_in : List ℕ → List Spot → List Quantity
 totals_in s xs = totals_from (replicate 12 no_quantity) s xs
@@ -111,7 +111,7 @@ price_for t j = get_or t.hours j no_price
 
 -- what an hour adds
 unfoldable pub part_of : List ℕ → HourPlace → HourPrice → UnitPart
-part_of s u p = cond u.known (unit_part_in (drop u.start s) p.prices).part no_part
+part_of s u p = cond u.known (part_in (drop u.start s) p.prices) no_part
 
 pub record Parts (s : List ℕ) (d : DayPlaces) (t : PriceTable) (ts : List Ticks) (ss : List CentsPerStart) (n : ℕ) : Type 0 where
   pub ticks : (j : ℕ) → j < n → get_or ts j no_ticks ≡ (part_of s (place_in d j) (price_for t j)).ticks
@@ -120,4 +120,4 @@ pub record Parts (s : List ℕ) (d : DayPlaces) (t : PriceTable) (ts : List Tick
 -- the total and the reversal, as the money rules answer them
 abbrev pub total_reply : DayAnswer → Reply
 total_reply (Day total reversal) = unit_day total.0 reversal.0
-total_reply (Refused n) = refused n
+total_reply (NoDay n) = refused n

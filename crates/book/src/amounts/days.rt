@@ -2,7 +2,7 @@
 ghost use Rattle.std.specs.Prelude.{◌≡◌, true, not, List, length, ℕ, ◌≤◌};
 ghost use Rattle.money.specs.Units.{day_hours};
 ghost use Rattle.laws.specs.Sums.{every};
-ghost use Rattle.book.specs.Layer.{Change, Gh};
+ghost use Rattle.book.specs.Layer.{Change, Gh, no_part, day_answer_of};
 ghost use Rattle.book.specs.tables.LayerTables.{Wellformed};
 ghost use Rattle.book.specs.Register.{standing, ask, day_of, refused};
 ghost use Rattle.book.specs.Meaning.{Meets, day_reply};
@@ -17,8 +17,8 @@ use crate::amounts::hours::{DayPlaces, HourPlace};
 use crate::amounts::prices::{HourPrice, PriceTable, price_table};
 use crate::answers::UnitDay;
 use crate::book::{Book, CHANGES_MAX};
-use money::production::DayAnswer;
-use money::refusals::{NO_SUCH_KEY, NOT_TOGETHER, PRICE_MISSING};
+use money::production::DayTotals;
+use money::refusals::{NO_SUCH_KEY, NOT_TOGETHER, PRICE_MISSING, Refusal};
 use money::units::{CentsPerStart, HOURS, Ticks};
 use records::amounts::{UnitPart, day_of, unit_part};
 use records::keys::{Key, unit_key};
@@ -34,15 +34,7 @@ struct DayParts {
 fn nowhere(d: DayPlaces) -> bool
     ensures { result ≡ every day_hours (λ (j : ℕ). not (place_in d j).known) }
 {
-    let mut j: usize = 0;
-    while j < HOURS {
-        let u = d.hours[j];
-        if u.known {
-            return false;
-        }
-        j = j + 1;
-    }
-    true
+    d.hours.iter().all(|u| !u.known)
 }
 
 // The hour has no record, or has its prices.
@@ -59,19 +51,25 @@ fn hour_payable(unit: HourPlace, price: HourPrice) -> bool
 fn payable(units: DayPlaces, table: PriceTable) -> bool
     ensures { result ≡ every day_hours (λ (j : ℕ). paid (place_in units j) (price_for table j)) }
 {
-    let mut j: usize = 0;
-    while j < HOURS {
-        let u = units.hours[j];
-        let p = table.hours[j];
-        if !hour_payable(u, p) {
-            return false;
-        }
-        j = j + 1;
+    units
+        .hours
+        .iter()
+        .zip(&table.hours)
+        .all(|(u, p)| hour_payable(*u, *p))
+}
+
+// What an hour without a record adds.
+fn no_part() -> UnitPart
+    ensures { result ≡ no_part }
+{
+    UnitPart {
+        ticks: Ticks(0),
+        start: CentsPerStart(0),
     }
-    true
 }
 
 // What an hour adds.
+#[tactic(auto, unfolding(crate::specs::tables::Worked::part_of))]
 fn part_at(log: &[u8], unit: HourPlace, price: HourPrice) -> UnitPart
     requires { unit.known ≡ true → unit.start ≤ length log.now }
     ensures { result ≡ part_of log.now unit price }
@@ -79,13 +77,9 @@ fn part_at(log: &[u8], unit: HourPlace, price: HourPrice) -> UnitPart
     if unit.known {
         let start = unit.start;
         let prices = price.prices;
-        let p = unit_part(&log[start..], prices);
-        return p.part;
+        return unit_part(&log[start..], prices).unwrap_or(no_part());
     }
-    UnitPart {
-        ticks: Ticks(0),
-        start: CentsPerStart(0),
-    }
+    no_part()
 }
 
 fn parts_of(log: &[u8], units: DayPlaces, table: PriceTable) -> DayParts
@@ -96,16 +90,10 @@ fn parts_of(log: &[u8], units: DayPlaces, table: PriceTable) -> DayParts
         ticks: [Ticks(0); HOURS],
         starts: [CentsPerStart(0); HOURS],
     };
-    let mut h: usize = 0;
-    while h < HOURS {
-        let u = units.hours[h];
-        let q = table.hours[h];
-        let p = part_at(log, u, q);
-        let t = p.ticks;
-        let s = p.start;
-        d.ticks[h] = t;
-        d.starts[h] = s;
-        h = h + 1;
+    for h in 0..HOURS {
+        let p = part_at(log, units.hours[h], table.hours[h]);
+        d.ticks[h] = p.ticks;
+        d.starts[h] = p.start;
     }
     d
 }
@@ -121,16 +109,16 @@ fn refused_day(number: u8) -> UnitDay
     }
 }
 
-fn answer_of(d: DayAnswer) -> UnitDay
-    ensures { result ≡ unit_day_from (total_reply d) }
+fn answer_of(d: Result<DayTotals, Refusal>) -> UnitDay
+    ensures { result ≡ unit_day_from (total_reply (day_answer_of d)) }
 {
     match d {
-        DayAnswer::Day(total, reversal) => UnitDay {
+        Ok(DayTotals { total, reversal }) => UnitDay {
             number: 0,
             total,
             reversal,
         },
-        DayAnswer::Refused(k) => refused_day(k),
+        Err(refusal) => refused_day(refusal.number()),
     }
 }
 
@@ -168,13 +156,13 @@ impl Book {
     {
         let mut rows = [0u32; CHANGES_MAX];
         if self.check_rows(log, &mut rows) {
-            let q = unit_key(name);
-            if q.number != 0 {
-                return refused_day(q.number);
-            }
+            let key = match unit_key(name) {
+                Ok(key) => key,
+                Err(fault) => return refused_day(fault.number()),
+            };
             let n = self.changes as usize;
             let table = price_table(log, &rows, n);
-            return of_unit(log, &rows, n, q.key, table);
+            return of_unit(log, &rows, n, key, table);
         }
         refused_day(NOT_TOGETHER)
     }

@@ -1,6 +1,6 @@
 // Failure charges.
 ghost use Rattle.std.specs.Prelude.{◌≡◌, true, List, [], take, ℕ, ◌≤◌, ◌<◌};
-ghost use Rattle.book.specs.Layer.{Change, is_failure};
+ghost use Rattle.book.specs.Layer.{Change, is_failure, answer_of};
 ghost use Rattle.book.specs.tables.LayerTables.{Wellformed};
 ghost use Rattle.book.specs.Register.{standing, ask, failure_charge};
 ghost use Rattle.book.specs.Meaning.{Meets, reply_of, load, charges_reply, hour_charges};
@@ -18,19 +18,19 @@ use crate::amounts::prices::{HourPrice, price_in};
 use crate::answers::{Answer, CHARGES_MAX, ChargeList, Charges, NamedAmount, no_amount};
 use crate::book::{Book, CHANGES_MAX};
 use crate::log::rows::find_in;
-use money::refusals::{MARK_UNKNOWN, NO_SUCH_KEY, NOT_TOGETHER, PRICE_MISSING};
-use money::units::{Answer as Charged, Ticks};
+use money::refusals::{MARK_UNKNOWN, NO_SUCH_KEY, NOT_TOGETHER, PRICE_MISSING, Refusal};
+use money::units::Ticks;
 use records::amounts::failure_charge;
 use records::keys::{Key, ask_failure, hour_key, key_of};
 use records::layouts::HourPrices;
 use records::marks::{Mark, is_failure};
 
-fn answer_of(a: Charged) -> Answer
-    ensures { reply_of result ≡ charge_reply a }
+fn answer_of(a: Result<Ticks, Refusal>) -> Answer
+    ensures { reply_of result ≡ charge_reply (answer_of a) }
 {
     match a {
-        Charged::Amount(ticks) => Answer::Charge(ticks),
-        Charged::Refused(k) => Answer::Refused(k),
+        Ok(ticks) => Answer::Charge(ticks),
+        Err(refusal) => Answer::Refused(refusal.number()),
     }
 }
 
@@ -61,13 +61,10 @@ pub(crate) fn of_key(
 }
 
 // The ticks of an amount. No charge of a standing record is refused.
-fn ticks_of(a: Charged) -> Ticks
-    ensures { result ≡ ticks_of a }
+fn ticks_of(a: Result<Ticks, Refusal>) -> Ticks
+    ensures { result ≡ ticks_of (answer_of a) }
 {
-    match a {
-        Charged::Amount(t) => t,
-        Charged::Refused(_k) => Ticks(0),
-    }
+    a.unwrap_or(Ticks(0))
 }
 
 // The charges of the failures at the places.
@@ -76,13 +73,9 @@ fn charges_at(log: &[u8], p: Places, mark: Mark, prices: HourPrices) -> [Ticks; 
     ensures { take p.n result ≡ charges_in log.now mark prices (take p.n p.at) }
 {
     let mut ticks = [Ticks(0); CHARGES_MAX];
-    let mut i: usize = 0;
-    while i < p.n {
-        let x = p.at[i];
-        let start = x.start;
-        let c = ticks_of(failure_charge(&log[start..], mark, prices));
-        ticks[i] = c;
-        i = i + 1;
+    for i in 0..p.n {
+        let start = p.at[i].start;
+        ticks[i] = ticks_of(failure_charge(&log[start..], mark, prices));
     }
     ticks
 }
@@ -104,13 +97,11 @@ fn named_charges(p: Places, ticks: [Ticks; CHARGES_MAX]) -> ChargeList
         × (result ≡ charge_list_of (take result.n result.list)) }
 {
     let mut a = no_charge_list();
-    let mut i: usize = 0;
-    while i < p.n {
-        let x = p.at[i];
-        let t = ticks[i];
-        let name = x.name;
-        a.list[i] = NamedAmount { name, ticks: t };
-        i = i + 1;
+    for i in 0..p.n {
+        a.list[i] = NamedAmount {
+            name: p.at[i].name,
+            ticks: ticks[i],
+        };
     }
     a.n = p.n;
     a
@@ -158,12 +149,11 @@ impl Book {
     {
         let mut rows = [0u32; CHANGES_MAX];
         if self.check_rows(log, &mut rows) {
-            let q = ask_failure(mark, hour, name);
-            if q.number != 0 {
-                return Answer::Refused(q.number);
-            }
+            let key = match ask_failure(mark, hour, name) {
+                Ok(key) => key,
+                Err(fault) => return Answer::Refused(fault.number()),
+            };
             let n = self.changes as usize;
-            let key = q.key;
             let price = price_in(log, &rows, n, key.hour);
             return of_key(log, &rows, n, key, price);
         }
@@ -180,9 +170,8 @@ impl Book {
             if !is_failure(mark) {
                 return no_charges(MARK_UNKNOWN);
             }
-            let q = hour_key(mark, hour);
-            if q.number != 0 {
-                return no_charges(q.number);
+            if let Err(fault) = hour_key(mark, hour) {
+                return no_charges(fault.number());
             }
             let n = self.changes as usize;
             let price = price_in(log, &rows, n, hour);

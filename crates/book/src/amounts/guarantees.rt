@@ -1,6 +1,6 @@
 // An hour's guarantees and its wheel offset.
 ghost use Rattle.std.specs.Prelude.{◌≡◌, List, [], map, take, ℕ, ◌≤◌, ◌<◌};
-ghost use Rattle.book.specs.Layer.{Change};
+ghost use Rattle.book.specs.Layer.{Change, no_entry};
 ghost use Rattle.book.specs.Register.{standing, ask, hour_guarantees};
 ghost use Rattle.book.specs.Meaning.{Meets, guarantees_reply};
 ghost use Rattle.book.specs.Amounts.{HourPricing, guarantees_of};
@@ -17,29 +17,43 @@ use crate::amounts::prices::{HourPrice, price_in};
 use crate::answers::{CREDITS_MAX, Credits, Guarantees, NamedAmount, no_amount};
 use crate::book::{Book, CHANGES_MAX};
 use money::imports::Import;
+use money::offers::{Offer, PAIRS_MAX};
 use money::refusals::{NOT_TOGETHER, PRICE_MISSING};
-use money::units::{Answer, INTERVALS, Quantity, Ticks};
+use money::units::{INTERVALS, Price, Quantity, Ticks};
 use records::amounts::{hour_offset, offset_entry, totals_with_export};
 use records::keys::{hour_key, key_of};
 use records::layouts::HourPrices;
 use records::marks::Mark;
+use records::names::no_name;
+
+// What stands for an entry where none is read.
+fn no_entry() -> Import
+    ensures { result ≡ no_entry }
+{
+    let offer = Offer {
+        count: 0,
+        prices: [Price(0); PAIRS_MAX],
+        quantities: [Quantity(0); PAIRS_MAX],
+    };
+    let name = no_name();
+    Import {
+        name,
+        credit: Ticks(0),
+        quantities: [Quantity(0); INTERVALS],
+        offer,
+    }
+}
 
 // The offset's entries of the imports at the places. A place beyond the log's end reads from the end.
 pub fn entries_at(log: &[u8], p: Places, prices: HourPrices) -> [Import; CREDITS_MAX]
     ensures { take p.n result ≡ entries_in log.now prices (take p.n p.at) }
 {
-    let blank = offset_entry(&log[..0], prices);
-    let none = blank.entry;
+    let none = no_entry();
     let mut entries = [none; CREDITS_MAX];
     let n = least(p.n, PLACES_MAX);
-    let mut i: usize = 0;
-    while i < n {
-        let x = p.at[i];
-        let start = least(x.start, log.len());
-        let a = offset_entry(&log[start..], prices);
-        let e = a.entry;
-        entries[i] = e;
-        i = i + 1;
+    for i in 0..n {
+        let start = least(p.at[i].start, log.len());
+        entries[i] = offset_entry(&log[start..], prices).unwrap_or(none);
     }
     entries
 }
@@ -50,14 +64,9 @@ pub fn totals_at(log: &[u8], p: Places) -> [Quantity; INTERVALS]
 {
     let mut sums = [Quantity(0); INTERVALS];
     let n = least(p.n, PLACES_MAX);
-    let mut i: usize = 0;
-    while i < n {
-        let x = p.at[i];
+    for x in &p.at[..n] {
         let start = least(x.start, log.len());
-        let a = totals_with_export(&log[start..], sums);
-        let next = a.totals;
-        sums = next;
-        i = i + 1;
+        sums = totals_with_export(&log[start..], sums).unwrap_or([Quantity(0); INTERVALS]);
     }
     sums
 }
@@ -67,12 +76,8 @@ fn credits_of(entries: [Import; CREDITS_MAX], n: usize) -> [Ticks; CREDITS_MAX]
     ensures { take n result ≡ map entry_credit (take n entries) }
 {
     let mut ticks = [Ticks(0); CREDITS_MAX];
-    let mut i: usize = 0;
-    while i < n {
-        let e = entries[i];
-        let c = e.credit;
-        ticks[i] = c;
-        i = i + 1;
+    for i in 0..n {
+        ticks[i] = entries[i].credit;
     }
     ticks
 }
@@ -94,13 +99,11 @@ fn named_credits(p: Places, ticks: [Ticks; CREDITS_MAX]) -> Credits
         × (result ≡ credits_of (take result.n result.list)) }
 {
     let mut a = no_credits();
-    let mut i: usize = 0;
-    while i < p.n {
-        let x = p.at[i];
-        let t = ticks[i];
-        let name = x.name;
-        a.list[i] = NamedAmount { name, ticks: t };
-        i = i + 1;
+    for i in 0..p.n {
+        a.list[i] = NamedAmount {
+            name: p.at[i].name,
+            ticks: ticks[i],
+        };
     }
     a.n = p.n;
     a
@@ -126,9 +129,8 @@ fn worked(log: &[u8], imports: Places, exports: Places, prices: HourPrices) -> G
 {
     let entries = entries_at(log, imports, prices);
     let totals = totals_at(log, exports);
-    let a = hour_offset(imports.n as u8, entries, prices, totals);
-    match a {
-        Answer::Amount(offset) => {
+    match hour_offset(imports.n as u8, entries, prices, totals) {
+        Ok(offset) => {
             let ticks = credits_of(entries, imports.n);
             let credits = named_credits(imports, ticks);
             Guarantees {
@@ -137,7 +139,7 @@ fn worked(log: &[u8], imports: Places, exports: Places, prices: HourPrices) -> G
                 offset,
             }
         }
-        Answer::Refused(k) => no_guarantees(k),
+        Err(refusal) => no_guarantees(refusal.number()),
     }
 }
 
@@ -174,9 +176,8 @@ impl Book {
     {
         let mut rows = [0u32; CHANGES_MAX];
         if self.check_rows(log, &mut rows) {
-            let q = hour_key(Mark::Im, hour);
-            if q.number != 0 {
-                return no_guarantees(q.number);
+            if let Err(fault) = hour_key(Mark::Im, hour) {
+                return no_guarantees(fault.number());
             }
             let n = self.changes as usize;
             let price = price_in(log, &rows, n, hour);

@@ -11,8 +11,7 @@ use crate::log::rows::{LIVE_UNIT, NAME_AT, ROW_MARK_SLOTS, ROW_SLOTS, SLOT_UNIT,
 use money::units::HOURS;
 use records::heads::name_head;
 use records::keys::Key;
-use records::marks::key_order;
-use records::scan::starts;
+use records::marks::{key_order, starts};
 
 // An hour's record: whether there is one, and where it is written.
 #[derive(Clone, Copy)]
@@ -67,16 +66,13 @@ fn day_named(log: &[u8], rows: &[u32; CHANGES_MAX], n: usize, mark: u32, name: &
         start: 0,
     };
     let mut hours = [none; HOURS];
-    let mut i: usize = 0;
-    while i < n {
-        let row = rows[i];
-        let hour = hour_for(log, row, mark, name);
+    for row in &rows[..n] {
+        let hour = hour_for(log, *row, mark, name);
         if hour != 0 {
-            let start = place_in(row);
+            let start = place_in(*row);
             let j = hour - 1;
             hours[j] = HourPlace { known: true, start };
         }
-        i = i + 1;
     }
     DayPlaces { hours }
 }
@@ -87,12 +83,9 @@ pub(crate) fn day_in(log: &[u8], rows: &[u32; CHANGES_MAX], n: usize, key: Key) 
     requires wellformed { Wellformed key }
     ensures { (l : List Change) → Logged log.now rows.now n l → DayIs key l result }
 {
-    let h = name_head(key);
-    if h.known {
-        let mark = key.mark;
-        let len = h.len;
-        let bytes = h.bytes;
-        return day_named(log, rows, n, key_order(mark) as u32, &bytes[..len]);
+    if let Some(head) = name_head(key) {
+        let mark = key_order(key.mark) as u32;
+        return day_named(log, rows, n, mark, &head.bytes[..head.len]);
     }
     let none = HourPlace {
         known: false,

@@ -38,16 +38,10 @@ fn position_for(p: Places, s: Spot) -> usize
     requires { p.n ≤ max_places }
     ensures { (result ≤ p.n) × (put_spot s (spots p) ≡ take result (spots p) ++ (s ∷ drop result (spots p))) }
 {
-    let n = p.n;
-    let mut i: usize = 0;
-    while i < n {
-        let x = p.at[i];
-        if comes_before(s.name, x.name) {
-            return i;
-        }
-        i = i + 1;
-    }
-    n
+    p.at[..p.n]
+        .iter()
+        .position(|x| comes_before(s.name, x.name))
+        .unwrap_or(p.n)
 }
 
 // With the spot at j, and those from there on one place further.
@@ -56,13 +50,7 @@ fn inserted(p: Places, j: usize, s: Spot) -> Places
     ensures { (result.n ≡ p.n + 1) × (spots result ≡ take j (spots p) ++ (s ∷ drop j (spots p))) }
 {
     let mut next = p;
-    let mut i = p.n;
-    while j < i {
-        let k = i - 1;
-        let x = p.at[k];
-        next.at[i] = x;
-        i = k;
-    }
+    next.at.copy_within(j..p.n, j + 1);
     next.at[j] = s;
     next.n = p.n + 1;
     next
@@ -106,8 +94,10 @@ pub(crate) fn name_at(log: &[u8], start: usize) -> Name
     requires { start ≤ length log.now }
     ensures { result ≡ (key_at log.now start).name }
 {
-    let a = head_key(&log[start..]);
-    a.key.name
+    match head_key(&log[start..]) {
+        Ok(key) => key.name,
+        Err(_) => no_name(),
+    }
 }
 
 // With the record of a row, before the first whose name comes after its own.
@@ -131,13 +121,10 @@ pub(crate) fn gather_rows(log: &[u8], rows: &[u32; CHANGES_MAX], n: usize, key: 
 {
     let slot = hour_slot(key);
     let mut p = no_spots();
-    let mut i: usize = 0;
-    while i < n {
-        let row = rows[i];
-        if stands_in(row, slot) {
-            p = with_row(log, p, row);
+    for row in &rows[..n] {
+        if stands_in(*row, slot) {
+            p = with_row(log, p, *row);
         }
-        i = i + 1;
     }
     p
 }

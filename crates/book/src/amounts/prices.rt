@@ -1,6 +1,6 @@
 // Prices: of an hour, and of each hour of the day.
 ghost use Rattle.std.specs.Prelude.{◌≡◌, false, List, length, drop, ◌≤◌, ◌<◌};
-ghost use Rattle.book.specs.Layer.{Change, prices_in};
+ghost use Rattle.book.specs.Layer.{Change, prices_in, no_prices};
 ghost use Rattle.book.specs.Register.{standing};
 ghost use Rattle.book.specs.Amounts.{price_of};
 ghost use Rattle.book.specs.tables.Rows.{Log, Logged};
@@ -29,11 +29,17 @@ pub(crate) struct PriceTable {
     pub(crate) hours: [HourPrice; HOURS],
 }
 
+fn no_prices() -> HourPrices
+    ensures { result ≡ no_prices }
+{
+    let emp = [Price(0); INTERVALS];
+    HourPrices { emp, pd: Price(0) }
+}
+
 fn no_price() -> HourPrice
     ensures { result.known ≡ false }
 {
-    let emp = [Price(0); INTERVALS];
-    let prices = HourPrices { emp, pd: Price(0) };
+    let prices = no_prices();
     HourPrice {
         known: false,
         prices,
@@ -45,8 +51,7 @@ pub fn prices_at(log: &[u8], at: usize) -> HourPrices
     ensures { result ≡ prices_in (drop at log.now) }
 {
     let start = least(at, log.len());
-    let p = prices_of(&log[start..]);
-    p.prices
+    prices_of(&log[start..]).unwrap_or(no_prices())
 }
 
 fn price_at(log: &[u8], at: usize) -> HourPrice
@@ -94,16 +99,13 @@ pub(crate) fn price_table(log: &[u8], rows: &[u32; CHANGES_MAX], n: usize) -> Pr
 {
     let none = no_price();
     let mut hours = [none; HOURS];
-    let mut i: usize = 0;
-    while i < n {
-        let row = rows[i];
-        let hour = price_hour(row);
+    for row in &rows[..n] {
+        let hour = price_hour(*row);
         if hour != 0 {
-            let p = price_at(log, place_in(row));
+            let p = price_at(log, place_in(*row));
             let j = hour - 1;
             hours[j] = p;
         }
-        i = i + 1;
     }
     PriceTable { hours }
 }

@@ -1,11 +1,11 @@
 // The names of the units: those under which a GH stands.
-ghost use Rattle.std.specs.Prelude.{◌≡◌, cond, ◌&&◌, List, [], ◌∷◌, ◌++◌, eqb, take, drop, ◌<◌, ◌≤◌, ◌+◌, ◌/◌};
+ghost use Rattle.std.specs.Prelude.{◌≡◌, ◌&&◌, List, [], ◌∷◌, ◌++◌, ℕ, Some, eqb, take, drop, ◌<◌, ◌≤◌, ◌+◌, ◌/◌};
 ghost use Rattle.book.specs.Layer.{Change};
 ghost use Rattle.book.specs.Register.{max_changes, standing};
 ghost use Rattle.book.specs.ByName.{add_name, names_of};
 ghost use Rattle.book.specs.Meaning.{load};
 ghost use Rattle.book.specs.tables.Rows.{row_live, row_slot, Log, Logged};
-ghost use Rattle.book.specs.UnitNames.{names_in, unit_names, unit_list_of};
+ghost use Rattle.book.specs.UnitNames.{names_in, with_new, unit_names, unit_list_of};
 ghost use Rattle.book.specs.Handed.{units_of, unit_list_from};
 ghost use Rattle.book.specs.tables.Index.{mark_slots};
 
@@ -32,13 +32,6 @@ pub struct UnitList {
     pub units: Units,
 }
 
-// A place among names, and whether the name is not yet there.
-#[derive(Clone, Copy)]
-struct Position {
-    at: usize,
-    new: bool,
-}
-
 // Whether the record that a row's change wrote stands, and is of the mark at a place of the listing.
 fn of_mark(row: u32, mark: usize) -> bool
     ensures { result ≡ (row_live row && eqb (row_slot row / mark_slots) mark) }
@@ -49,24 +42,22 @@ fn of_mark(row: u32, mark: usize) -> bool
     (row / SLOT_UNIT % ROW_SLOTS / ROW_MARK_SLOTS) as usize == mark
 }
 
-// Where a name is, or the first place whose name comes after it, n where none does.
-fn position_of(u: Units, name: Name) -> Position
+// The place of a name that is not yet there: the first whose name comes after it, n where none does.
+fn place_for(u: Units, name: Name) -> Option<usize>
     requires { u.n ≤ max_changes }
-    ensures { (result.at ≤ u.n) × (add_name name (names_in u) ≡ cond result.new (take result.at (names_in u) ++ (name ∷ drop result.at (names_in u))) (names_in u)) }
+    ensures in_reach { (i : ℕ) → result ≡ Some i → i ≤ u.n }
+    ensures added { add_name name (names_in u) ≡ with_new result name (names_in u) }
 {
-    let n = u.n;
-    let mut i: usize = 0;
-    while i < n {
+    for i in 0..u.n {
         let x = u.names[i];
         if comes_before(name, x) {
-            return Position { at: i, new: true };
+            return Some(i);
         }
         if !comes_before(x, name) {
-            return Position { at: i, new: false };
+            return None;
         }
-        i = i + 1;
     }
-    Position { at: n, new: true }
+    Some(u.n)
 }
 
 // With the name at j, and those from there on one place further.
@@ -76,13 +67,7 @@ fn inserted(u: Units, j: usize, name: Name) -> Units
         × (u ≡ units_of (names_in u) → result ≡ units_of (names_in result)) }
 {
     let mut next = u;
-    let mut i = u.n;
-    while j < i {
-        let k = i - 1;
-        let x = u.names[k];
-        next.names[i] = x;
-        i = k;
-    }
+    next.names.copy_within(j..u.n, j + 1);
     next.names[j] = name;
     next.n = u.n + 1;
     next
@@ -92,11 +77,10 @@ fn with_name(u: Units, name: Name) -> Units
     requires { u.n < max_changes }
     ensures { (result.n ≤ u.n + 1) × (names_in result ≡ add_name name (names_in u)) × (u ≡ units_of (names_in u) → result ≡ units_of (names_in result)) }
 {
-    let s = position_of(u, name);
-    if s.new {
-        return inserted(u, s.at, name);
+    match place_for(u, name) {
+        Some(i) => inserted(u, i, name),
+        None => u,
     }
-    u
 }
 
 fn no_names() -> Units
@@ -118,14 +102,11 @@ pub(crate) fn names_in(log: &[u8], rows: &[u32; CHANGES_MAX], n: usize, key: Key
     let wanted = key.mark;
     let mark = key_order(wanted) as usize;
     let mut u = no_names();
-    let mut i: usize = 0;
-    while i < n {
-        let row = rows[i];
-        if of_mark(row, mark) {
-            let name = name_at(log, place_in(row));
+    for row in &rows[..n] {
+        if of_mark(*row, mark) {
+            let name = name_at(log, place_in(*row));
             u = with_name(u, name);
         }
-        i = i + 1;
     }
     u
 }

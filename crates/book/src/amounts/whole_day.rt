@@ -62,8 +62,6 @@ fn hour_of(
     }
 }
 
-const LAST_HOUR: u8 = HOURS as u8;
-
 // Each hour, at the prices of a table.
 fn hours_of(
     log: &[u8],
@@ -77,13 +75,8 @@ fn hours_of(
 {
     let none = no_hour();
     let mut hours = [none; HOURS];
-    let mut i: u8 = 0;
-    while i < LAST_HOUR {
-        let j = i as usize;
-        let price = table.hours[j];
-        let x = hour_of(log, rows, n, i + 1, price);
-        hours[j] = x;
-        i = i + 1;
+    for i in 0..HOURS {
+        hours[i] = hour_of(log, rows, n, i as u8 + 1, table.hours[i]);
     }
     hours
 }
@@ -115,8 +108,7 @@ fn units_of(
 {
     let none = no_unit();
     let mut units = [none; CHANGES_MAX];
-    let mut i: usize = 0;
-    while i < u.n {
+    for i in 0..u.n {
         let name = u.names[i];
         let key = Key {
             mark: Mark::Gh,
@@ -125,7 +117,6 @@ fn units_of(
         };
         let day = days::of_unit(log, rows, n, key, table);
         units[i] = UnitAmounts { name, day };
-        i = i + 1;
     }
     units
 }

@@ -3,7 +3,7 @@ ghost use Rattle.std.specs.Prelude.{◌≡◌, not, ◌&&◌, List, ◌∷◌, e
 ghost use Rattle.book.specs.Layer.{Key, Change, key_of, is_withdrawal, parse};
 ghost use Rattle.book.specs.Register.{max_changes, listed, taken_back, closing, general};
 ghost use Rattle.book.specs.tables.Rows.{row_slot, row_kind, Rows, Logged, Log};
-ghost use Rattle.book.specs.tables.Checked.{Checked, Makes, Since, IsChange, Viewing, IsEntry, Undoing, Wrote};
+ghost use Rattle.book.specs.tables.Checked.{Checked, Makes, Since, IsChange, Viewing, IsEntry, Undoing, Wrote, key_in};
 
 use crate::answers::{Answer, Done};
 use crate::book::{Book, CHANGES_MAX};
@@ -16,8 +16,9 @@ use crate::log::rows::{
 use money::refusals::{CLOSED, NOTHING_TO_TAKE_BACK};
 use records::heads::{head_key, name_head};
 use records::hours::limit_of;
-use records::marks::{Act, Wanted, is_filing, is_withdrawal};
-use records::scan::{View, starts};
+use records::marks::{Wanted, is_filing, is_withdrawal, starts};
+use records::parse::Act;
+use records::scan::View;
 use records::writing::put_viewed;
 
 // Whether a change filed or corrected a record of the mark and hour.
@@ -43,9 +44,7 @@ fn written_before(
     ensures { (c : Change) (l : List Change) → Undoing log.now rows.now n slot name.now c l
         → Wrote (length l) (key_of c) result l }
 {
-    let mut i: usize = n - 1;
-    while 0 < i {
-        let j = i - 1;
+    for j in (0..n - 1).rev() {
         let row = rows[j];
         if wrote_in(row, slot) {
             let at = place_in(row) + NAME_AT;
@@ -53,7 +52,6 @@ fn written_before(
                 return j;
             }
         }
-        i = j;
     }
     0
 }
@@ -71,13 +69,13 @@ fn restore(log: &[u8], rows: &mut [u32; CHANGES_MAX], n: usize)
         return;
     }
     let start = start_in(row);
-    let a = head_key(&log[start..]);
-    let key = a.key;
-    let slot = hour_slot(key);
-    let h = name_head(key);
-    let len = h.len;
-    let bytes = h.bytes;
-    let at = written_before(log, rows, n, slot, &bytes[..len]);
+    let Ok(key) = head_key(&log[start..]) else {
+        return;
+    };
+    let Some(head) = name_head(key) else {
+        return;
+    };
+    let at = written_before(log, rows, n, hour_slot(key), &head.bytes[..head.len]);
     let was = rows[at];
     rows[at] = was % LIVE_UNIT + LIVE_UNIT;
 }
@@ -116,7 +114,7 @@ impl Book {
                 answer: Answer::Refused(refusal),
             };
         }
-        put_viewed(log, at, rec, view);
+        put_viewed(log, at, rec, view).is_ok();
         clear_row(rows, s);
         let hour = hour_slot(view.key);
         let row = row_for(view, hour, at);
@@ -179,20 +177,18 @@ impl Book {
         log: &mut [u8],
         rows: &mut [u32; CHANGES_MAX],
         from: usize,
-        view: View,
+        act: Act,
         rec: &[u8],
     ) -> Done
         requires checked { Checked self log.old rows.old }
-        requires since { Since self log.old view.key from }
-        requires entry_of_view { IsEntry rec.now view }
-        ensures { Makes (general rec.now) self log.old view.key result log.new rows.new }
+        requires since { Since self log.old (key_in act) from }
+        requires entry_of_act { IsEntry rec.now act }
+        ensures { Makes (general rec.now) self log.old (key_in act) result log.new rows.new }
     {
-        let act = view.act;
         match act {
-            Act::Record(_k) => self.checked_enter(log, rows, from, view, rec),
+            Act::Change(view) => self.checked_enter(log, rows, from, view, rec),
             Act::TakeBack => self.checked_take_back(log, rows),
             Act::Close => self.checked_close(),
-            Act::Nothing => self.checked_enter(log, rows, from, view, rec),
         }
     }
 }

@@ -2,7 +2,6 @@
 ghost use Rattle.std.specs.Prelude.{◌≡◌, ◌<◌};
 ghost use Rattle.book.specs.tables.Index.{slots, buckets, hour_slot, bucket};
 
-use money::names::NAME_MAX;
 use records::keys::Key;
 use records::marks::key_order;
 
@@ -34,11 +33,9 @@ pub(crate) fn bucket_of(key: Key) -> usize
     let bytes = name.bytes;
     let mut sum = hour_slot(key);
     let mut weight: usize = 449;
-    let mut i: usize = 0;
-    while i < NAME_MAX {
-        sum = sum + wide(bytes[i]) * weight;
+    for b in bytes {
+        sum += wide(b) * weight;
         weight = weight * 31 % BUCKETS;
-        i = i + 1;
     }
     sum % BUCKETS
 }

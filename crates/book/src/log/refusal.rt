@@ -1,13 +1,12 @@
 // The numbers 10 to 13.
 ghost use Rattle.std.specs.Prelude.{◌≡◌};
-ghost use Rattle.book.specs.Layer.{kind_in};
 ghost use Rattle.book.specs.Register.{capped, space_fault};
 ghost use Rattle.book.specs.tables.Tables.{change_fault};
 
 use crate::book::{CHANGES_MAX, USED_MAX};
 use money::refusals::{HOUR_FULL, KEY_STANDS, NO_SPACE, NO_SUCH_KEY};
 use records::marks::is_filing;
-use records::scan::{View, kind_of};
+use records::scan::View;
 
 pub(crate) fn capacity(lent: usize) -> usize
     ensures { result ≡ capped lent }
@@ -35,6 +34,7 @@ fn space_fault(changes: usize, used: usize, len: usize, lent: usize) -> u8
 }
 
 // The number with which a change is refused, by what stands and what is free.
+#[tactic(auto, unfolding(crate::specs::tables::Tables::change_fault))]
 pub(crate) fn change_fault(
     view: View,
     found: bool,
@@ -44,10 +44,9 @@ pub(crate) fn change_fault(
     used: usize,
     lent: usize,
 ) -> u8
-    ensures { result ≡ change_fault (kind_in view.act) found count most changes used view.len lent }
+    ensures { result ≡ change_fault view.kind found count most changes used view.len lent }
 {
-    let kind = kind_of(view);
-    if is_filing(kind) {
+    if is_filing(view.kind) {
         if found {
             return KEY_STANDS;
         }

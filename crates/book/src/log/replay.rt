@@ -1,6 +1,6 @@
 // The one pass over a book's used part.
 ghost use Rattle.std.specs.Prelude.{◌≡◌, cond, [], length, ◌<◌, ◌+◌, ◌-◌};
-ghost use Rattle.book.specs.Layer.{is_filing, is_withdrawal, kind_in};
+ghost use Rattle.book.specs.Layer.{is_filing, is_withdrawal};
 ghost use Rattle.book.specs.Meaning.{replay};
 ghost use Rattle.book.specs.tables.Rows.{slot_unit, Rowed};
 ghost use Rattle.book.specs.Register.{max_changes};
@@ -11,18 +11,17 @@ use crate::log::refusal::change_fault;
 use crate::log::rows::{clear_row, find_in, row_for};
 use records::hours::limit_of;
 use records::marks::{is_filing, is_withdrawal};
-use records::scan::{View, is_record, kind_of, peek};
+use records::scan::{View, peek};
 
 // How many records of a mark and hour stand after a change of theirs.
 fn count_with(view: View, count: usize) -> usize
     requires { count < slot_unit }
-    ensures { result ≡ cond (is_filing (kind_in view.act)) (count + 1) (cond (is_withdrawal (kind_in view.act)) (count - 1) count) }
+    ensures { result ≡ cond (is_filing view.kind) (count + 1) (cond (is_withdrawal view.kind) (count - 1) count) }
 {
-    let kind = kind_of(view);
-    if is_filing(kind) {
+    if is_filing(view.kind) {
         return count + 1;
     }
-    if is_withdrawal(kind) {
+    if is_withdrawal(view.kind) {
         if count == 0 {
             return 0;
         }
@@ -40,13 +39,10 @@ pub(crate) fn replayed_rows(part: &[u8], n: u16, rows: &mut [u32; CHANGES_MAX]) 
     let mut latest = [0u16; BUCKETS];
     let mut counts = [0usize; SLOTS];
     let mut q: usize = 0;
-    let mut i: usize = 0;
-    let end = n as usize;
-    while i < end {
-        let v = peek(&part[q..]);
-        if !is_record(v) {
+    for i in 0..n as usize {
+        let Some(v) = peek(&part[q..]) else {
             return false;
-        }
+        };
         let bucket = bucket_of(v.key);
         let near = latest[bucket] as usize;
         let s = find_in(part, rows, i, near, v.key);
@@ -61,8 +57,7 @@ pub(crate) fn replayed_rows(part: &[u8], n: u16, rows: &mut [u32; CHANGES_MAX]) 
         rows[i] = row;
         latest[bucket] = (i + 1) as u16;
         counts[hour] = count_with(v, count);
-        q = q + v.len;
-        i = i + 1;
+        q += v.len;
     }
     q == part.len()
 }

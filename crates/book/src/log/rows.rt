@@ -1,6 +1,6 @@
 // The rows of a checked book: one number for each change, lent and never copied.
-ghost use Rattle.std.specs.Prelude.{◌≡◌, true, false, cond, not, ◌&&◌, List, eqb, length, drop, ◌<◌, ◌≤◌, ◌+◌, ◌%◌, ◌/◌};
-ghost use Rattle.book.specs.Layer.{Key, Change, is_withdrawal, kind_in, scan, view_of};
+ghost use Rattle.std.specs.Prelude.{◌≡◌, true, false, not, ◌&&◌, List, eqb, length, drop, ◌<◌, ◌≤◌, ◌+◌, ◌%◌, ◌/◌};
+ghost use Rattle.book.specs.Layer.{Key, Change, is_withdrawal, scan, scanned_len};
 ghost use Rattle.book.specs.tables.LayerTables.{Padded};
 ghost use Rattle.book.specs.Register.{max_changes, standing, count};
 ghost use Rattle.book.specs.tables.Index.{slots, mark_slots, bucket, latest_of};
@@ -10,8 +10,8 @@ use crate::book::CHANGES_MAX;
 use crate::log::index::{MARK_SLOTS, SLOTS, hour_slot};
 use records::heads::name_head;
 use records::keys::Key;
-use records::marks::{Kind, is_correction, is_withdrawal};
-use records::scan::{View, kind_of, peek, starts};
+use records::marks::{Kind, is_correction, is_withdrawal, starts};
+use records::scan::{View, peek};
 
 // A row's units: below the first stands the place, then mark and hour, then the kind, then whether the record stands.
 pub(crate) const SLOT_UNIT: u32 = 65536;
@@ -78,38 +78,27 @@ pub(crate) fn stands_in(row: u32, slot: usize) -> bool
     (row / SLOT_UNIT % ROW_SLOTS) as usize == slot
 }
 
-fn counted(row: u32, slot: usize, count: usize) -> usize
-    requires { count < slot_unit }
-    ensures { result ≡ cond (row_live row && eqb (row_slot row) slot) (count + 1) count }
-{
-    if stands_in(row, slot) {
-        return count + 1;
-    }
-    count
-}
-
 // How many records of the key's mark and hour stand.
 pub(crate) fn count_in(rows: &[u32; CHANGES_MAX], n: usize, key: Key) -> usize
     requires { Rules rows.now n }
     ensures { (l : List Change) → Ruled rows.now n l → key.hour < mark_slots → result ≡ count key (standing l) }
 {
     let slot = hour_slot(key);
-    let mut sum: usize = 0;
-    let mut i: usize = 0;
-    while i < n {
-        sum = counted(rows[i], slot, sum);
-        i = i + 1;
-    }
-    sum
+    rows[..n]
+        .iter()
+        .filter(|row| stands_in(**row, slot))
+        .count()
 }
 
 // The length of the record that is written at a place.
 pub(crate) fn written_len(log: &[u8], start: usize) -> usize
     requires { start ≤ length log.now }
-    ensures { result ≡ (view_of (scan (drop start log.now))).len }
+    ensures { result ≡ scanned_len (scan (drop start log.now)) }
 {
-    let v = peek(&log[start..]);
-    v.len
+    match peek(&log[start..]) {
+        Some(view) => view.len,
+        None => 0,
+    }
 }
 
 // Whether a record of a key stands, which change wrote it, and where it is written.
@@ -144,9 +133,7 @@ fn find_named(
     ensures { (k : Key) (l : List Change) → Search log.now rows.now n from slot name.now k l
         → Sought rows.now n k result l }
 {
-    let mut i: usize = from;
-    while 0 < i {
-        let j = i - 1;
+    for j in (0..from).rev() {
         let row = rows[j];
         if stands_in(row, slot) {
             let start = place_in(row);
@@ -159,7 +146,6 @@ fn find_named(
                 };
             }
         }
-        i = j;
     }
     not_found()
 }
@@ -180,24 +166,19 @@ pub(crate) fn find_in(
     if from == 0 {
         return not_found();
     }
-    let h = name_head(key);
-    if h.known {
-        let slot = hour_slot(key);
-        let len = h.len;
-        let bytes = h.bytes;
-        return find_named(log, rows, n, from, slot, &bytes[..len]);
+    match name_head(key) {
+        Some(head) => find_named(log, rows, n, from, hour_slot(key), &head.bytes[..head.len]),
+        None => not_found(),
     }
-    not_found()
 }
 
 // A change at q whose record stands, unless it is a withdrawal.
 pub(crate) fn row_for(view: View, slot: usize, q: usize) -> u32
     requires { (slot < slots) × (q < slot_unit) }
-    ensures { result ≡ packed (not (is_withdrawal (kind_in view.act))) (kind_in view.act) slot q }
+    ensures { result ≡ packed (not (is_withdrawal view.kind)) view.kind slot q }
 {
-    let kind = kind_of(view);
-    let row = code_of(kind) * KIND_UNIT + slot as u32 * SLOT_UNIT + q as u32;
-    if is_withdrawal(kind) {
+    let row = code_of(view.kind) * KIND_UNIT + slot as u32 * SLOT_UNIT + q as u32;
+    if is_withdrawal(view.kind) {
         return row;
     }
     LIVE_UNIT + row

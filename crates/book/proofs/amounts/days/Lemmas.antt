@@ -1,15 +1,14 @@
 -- A unit's day: its loops, the places that they read, and its answer.
-use Prim.Native.Nat.{ℕ, ◌+◌, ◌-◌, ◌≤◌, ◌<◌}
-use mathlib.Core.Path.{◌≡◌, refl, sym, ap, ◌∙◌, subst}
-use mathlib.Core.List.{List}
-use mathlib.Core.Bool.{Bool, true, false, cond, not}
-use native.Mathlib.Omega.{arith}
-use lib.ListN.{length, take, drop, get_or, set, replicate, length-set}
-use lib.Seq.{get_or-set_same, get_or-set_other}
+use Rattle.std.proofs.Common.{ℕ, ◌+◌, ◌≤◌, ◌<◌, ◌≡◌, refl, sym, ap, ap₂, ◌∙◌, subst, List, Bool, true, false, cond, not, arith, length, get_or}
 use Rattle.laws.specs.Sums.{every}
-use Rattle.laws.specs.SumLaws.{every-ext, last_or}
-use Rattle.book.specs.Layer.{Key, KeyAnswer, Change, Gh, Ticks, CentsPerStart, UnitPart, PartAnswer, DayAnswer, no_part, unit_part_in, at_hour, day_answer, reversal, no_ticks, no_start, Asked, got, bad, ask_unit, key_answer}
-use Rattle.book.specs.laws.LayerLaws.{ask_unit-fault, unit-marked}
+use Rattle.std.proofs.lemmas.List.{get_or_default}
+use Rattle.laws.specs.SumLaws.{every-ext, every-yes, every-at}
+use Rattle.std.specs.List.{zip, list_all}
+use Rattle.std.proofs.lemmas.List.Sums.{AllPass-from_list_all, list_all-from_AllPass}
+use Rattle.std.proofs.lemmas.Slice.Zip.{get_or-zip, length-zip}
+use Rattle.book.specs.laws.RegisterLaws.{by-test}
+use Rattle.book.specs.Layer.{Key, Change, Gh, Ticks, CentsPerStart, input_of, fine, fault, DayAnswer, at_hour, day_answer, reversal, Asked, got, bad, ask_unit}
+use Rattle.book.specs.laws.LayerLaws.{unit-marked, ask_unit-fault}
 use Rattle.book.specs.declared.book.Book.{Book}
 use Rattle.book.specs.declared.answers.UnitDay.{UnitDay}
 use Rattle.book.specs.declared.amounts.hours.HourPlace.{HourPlace}
@@ -23,26 +22,34 @@ use Rattle.book.specs.tables.Hours.{DayIs}
 use Rattle.book.specs.tables.Prices.{TableOf}
 use Rattle.book.specs.Handed.{unit_day_from}
 use Rattle.book.specs.laws.HandedLaws.{day-whole, day-refused}
-use Rattle.book.specs.tables.Worked.{Begun, place_in, price_for, InDay, paid, part_of, Parts, total_reply}
+use Rattle.book.specs.tables.Worked.{Begun, no_place, no_price, place_in, price_for, InDay, paid, Parts, total_reply}
 use Rattle.book.specs.laws.StandLaws.{found_at}
 use Rattle.book.specs.laws.DayLaws.{places-in, payable-is, day-is}
 use Rattle.book.specs.laws.LoadLaws.{Loaded}
-use Rattle.book.proofs.log.Survey.{to_end}
-use Rattle.book.proofs.book.Lemmas.{step_is, leaves-answered, leaves-16}
+use Rattle.book.proofs.book.Lemmas.{step_is, leaves-answered, leaves-16, keyed-wrong, keyed-right}
 
--- ---- an hour
+-- ---- a test of all of a list, as one of each number
 
-module _ (u : HourPlace) (p : HourPrice) where
-  module _ (s : List ℕ) where
-    pub part-empty : u.known ≡ false → no_part ≡ part_of s u p
-    unfolding part_of
-    part-empty h = sym (ap (λ (b : Bool). cond b (unit_part_in (drop u.start s) p.prices).part no_part) h)
+every-all : {X : Type 0} (n : ℕ) (f : ℕ → Bool) (p : X → Bool) (xs : List X) (d : X) → length xs ≡ n → ((j : ℕ) (x : X) → j < n → p (get_or xs j x) ≡ f j)
+    → list_all p xs ≡ every n f
+every-all n f p xs d size is =
+    by-test (list_all p xs)
+    (λ t. t ∙ sym (every-yes n f (λ j h. sym (is j d h) ∙ AllPass-from_list_all p xs t j d (omega arith))))
+    (λ t. by-test (every n f)
+    (λ u. list_all-from_AllPass p xs (λ j x h. is j x (omega arith) ∙ every-at n f u j (omega arith)) ∙ sym u)
+    (λ u. t ∙ sym u))
 
-    pub part-there : u.known ≡ true → (r : PartAnswer) → r ≡ unit_part_in (take (length s - u.start) (drop u.start s)) p.prices → r.part ≡ part_of s u p
-    unfolding part_of
-    part-there h r e =
-        ap (λ (a : PartAnswer). a.part) (e ∙ ap (λ (y : List ℕ). unit_part_in y p.prices) (to_end u.start s))
-        ∙ sym (ap (λ (b : Bool). cond b (unit_part_in (drop u.start s) p.prices).part no_part) h)
+pub none-known : (d : DayPlaces) → length d.hours ≡ 24 → list_all (λ (u : HourPlace). not u.known) d.hours ≡ every 24 (λ (j : ℕ). not (place_in d j).known)
+none-known d size =
+    every-all 24 _ (λ (u : HourPlace). not u.known) d.hours no_place size
+    (λ j u h. ap (λ (v : HourPlace). not v.known) (get_or_default d.hours j u no_place (omega arith)))
+
+pub all-paid : (u : DayPlaces) (t : PriceTable) → length u.hours ≡ 24 → length t.hours ≡ 24
+    → list_all (λ (x : HourPlace × HourPrice). paid x.0 x.1) (zip u.hours t.hours) ≡ every 24 (λ (j : ℕ). paid (place_in u j) (price_for t j))
+all-paid u t eu et =
+    every-all 24 _ (λ (x : HourPlace × HourPrice). paid x.0 x.1) (zip u.hours t.hours) (no_place, no_price) (omega (arith, length-zip u.hours t.hours))
+    (λ j x h. ap (λ (y : HourPlace × HourPrice). paid y.0 y.1) (get_or-zip u.hours t.hours j x (omega arith) (omega arith))
+    ∙ ap₂ paid (get_or_default u.hours j x.0 no_place (omega arith)) (get_or_default t.hours j x.1 no_price (omega arith)))
 
 -- ---- the loop over the hours
 
@@ -51,41 +58,6 @@ pub record Filled (s : List ℕ) (u : DayPlaces) (t : PriceTable) (ts : List Tic
   pub all-ticks : length ts ≡ 24
   pub all-starts : length ss ≡ 24
   pub parts : Parts s u t ts ss j
-
-pub filled_none : (s : List ℕ) (u : DayPlaces) (t : PriceTable) → Filled s u t (replicate 24 no_ticks) (replicate 24 no_start) 0
-filled_none s u t =
-    record {
-      upto = omega arith;
-      all-ticks = refl;
-      all-starts = refl;
-      parts = record { ticks = λ j lt. absurd (omega arith); starts = λ j lt. absurd (omega arith) };
-    }
-
--- the values below i, and that of i
-pub set_below : {A : Type 0} (xs : List A) (d x : A) (f : ℕ → A) (i : ℕ) → i < length xs → ((j : ℕ) → j < i → get_or xs j d ≡ f j) → x ≡ f i → (j : ℕ) → j < i + 1
-    → get_or (set xs i x) j d ≡ f j
-set_below xs d x f i fits h e j lt =
-    last_or j i (omega arith)
-    (λ q. ap (λ (m : ℕ). get_or (set xs i x) m d) q ∙ get_or-set_same xs i x d fits ∙ e ∙ ap f (sym q))
-    (λ q. get_or-set_other xs i j x d (λ z. omega arith) ∙ h j q)
-
-module _ {s : List ℕ} {u : DayPlaces} {t : PriceTable} {ts : List Ticks} {ss : List CentsPerStart} {j : ℕ} (h : Filled s u t ts ss j) where
-  pub filled_more : j < 24 → (r : UnitPart) → r ≡ part_of s (place_in u j) (price_for t j) → Filled s u t (set ts j r.ticks) (set ss j r.start) (j + 1)
-  filled_more lt r e =
-      record {
-        upto = omega arith;
-        all-ticks = length-set ts j r.ticks ∙ h.all-ticks;
-        all-starts = length-set ss j r.start ∙ h.all-starts;
-        parts = record {
-          ticks = set_below ts no_ticks r.ticks (λ (i : ℕ). (part_of s (place_in u i) (price_for t i)).ticks) j (omega (arith, h.all-ticks)) h.parts.ticks
-              (ap (λ (x : UnitPart). x.ticks) e);
-          starts = set_below ss no_start r.start (λ (i : ℕ). (part_of s (place_in u i) (price_for t i)).start) j (omega (arith, h.all-starts)) h.parts.starts
-              (ap (λ (x : UnitPart). x.start) e);
-        };
-      }
-
-  pub filled-all : 24 ≤ j → Parts s u t ts ss 24
-  filled-all le = let e : j ≡ 24 = omega (arith, h.upto) in subst (Parts s u t ts ss) e h.parts
 
 -- ---- what a day is handed back in
 
@@ -137,26 +109,27 @@ pub unit-mismatched : (b : Book) (s name : List ℕ) → load b s ≡ mismatched
     → Meets (ask (day_of name)) b s b (day_reply d) s
 unit-mismatched b s name e d ed = subst (λ (y : Reply). Meets (ask (day_of name)) b s b y s) (sym (ap day_reply ed)) (leaves-16 (step_of (ask (day_of name))) b s e)
 
-module _ (b : Book) (s name : List ℕ) (x : Loaded b s) (r : KeyAnswer) (e : r ≡ key_answer (ask_unit name)) where
+module _ (b : Book) (s name : List ℕ) (x : Loaded b s) where
   abbrev unit-reply : Key → Reply
   unit-reply k = unit_day_of k (standing x.list) (price_of (standing x.list))
 
   unit-meets : (y : Reply) → keyed (ask_unit name) unit-reply ≡ y → Meets (ask (day_of name)) b s b y s
   unit-meets y h = leaves-answered _ b s y (step_is (step_of (ask (day_of name))) b s x ∙ ap answered h)
 
-  pub unit-wrong : (r.number ≡ 0 → ⊥) → (d : UnitDay) → d ≡ unit_day_from (refused r.number) → Meets (ask (day_of name)) b s b (day_reply d) s
-  unit-wrong z d ed = subst (λ (y : Reply). Meets (ask (day_of name)) b s b y s) (sym (ap day_reply ed ∙ day-refused r.number z))
-      (unit-meets (refused r.number) (go (ask_unit name) e))
+  pub unit-wrong : {n : ℕ} → fault n ≡ input_of (ask_unit name) → (d : UnitDay) → d ≡ unit_day_from (refused n) → Meets (ask (day_of name)) b s b (day_reply d) s
+  unit-wrong {n} e d ed = subst (λ (y : Reply). Meets (ask (day_of name)) b s b y s) (sym (ap day_reply ed ∙ day-refused n (fault-above e)))
+      (unit-meets (refused n) (keyed-wrong (ask_unit name) unit-reply e))
     where
-      go : (a : Asked) → r ≡ key_answer a → keyed a unit-reply ≡ refused r.number
-      go (got k t) q = absurd (z (ap (λ (y : KeyAnswer). y.number) q))
-      go (bad n) q = ap refused (sym (ap (λ (y : KeyAnswer). y.number) q))
+      fault-above : fault n ≡ input_of (ask_unit name) → n ≡ 0 → ⊥
+      fault-above e z = go (ask_unit name) refl e
+        where
+          go : (a : Asked) → ask_unit name ≡ a → fault n ≡ input_of a → ⊥
+          go (got k t) w q = cc
+          go (bad m) w q = let p : n ≡ m = cc in absurd (omega (arith, ask_unit-fault name m w, p, z))
 
-  pub unit-right : r.number ≡ 0 → (y : Reply) → (r.key.mark ≡ Gh → y ≡ unit-reply r.key) → Meets (ask (day_of name)) b s b y s
-  unit-right z y h = unit-meets y (go (ask_unit name) refl e)
+  pub unit-right : {k : Key} → fine k ≡ input_of (ask_unit name) → (y : Reply) → (k.mark ≡ Gh → y ≡ unit-reply k) → Meets (ask (day_of name)) b s b y s
+  unit-right {k} e y h = unit-meets y (keyed-right (ask_unit name) unit-reply e ∙ sym (h (go (ask_unit name) refl e)))
     where
-      go : (a : Asked) → ask_unit name ≡ a → r ≡ key_answer a → keyed a unit-reply ≡ y
-      go (got k t) w q =
-          let p : r.key ≡ k = ap (λ (v : KeyAnswer). v.key) q in
-          ap unit-reply (sym p) ∙ sym (h (ap (λ (v : Key). v.mark) p ∙ unit-marked name k t w))
-      go (bad m) w q = absurd (omega (arith, ask_unit-fault name m w, sym (ap (λ (v : KeyAnswer). v.number) q) ∙ z))
+      go : (a : Asked) → ask_unit name ≡ a → fine k ≡ input_of a → k.mark ≡ Gh
+      go (got j t) w q = let p : k ≡ j = cc in ap (λ (v : Key). v.mark) p ∙ unit-marked name j t w
+      go (bad m) w q = cc

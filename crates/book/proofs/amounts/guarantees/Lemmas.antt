@@ -1,17 +1,10 @@
 -- What an hour's guarantees rest on.
-use Prim.Native.Nat.{ℕ, ◌≤◌}
-use mathlib.Core.Path.{◌≡◌, refl, sym, ap, ap₂, ◌∙◌}
-use mathlib.Core.List.{List, [], ◌∷◌, map}
-use mathlib.Core.Bool.{Bool, true, false, cond}
-use native.Mathlib.Omega.{arith}
-use lib.ListN.{length, take, get_or, length-map}
-use lib.Seq.{get_or-take, length-take-le}
-use lib.IntN.{pos}
-use borrow.Author.Tests.{ne_eqb}
-use Rattle.money.specs.declared.units.Answer.TheVariants.{Amount, Refused}
+use Rattle.std.proofs.Common.{ℕ, ◌≤◌, ◌≡◌, refl, sym, ap, ap₂, ◌∙◌, List, [], ◌∷◌, map, Bool, true, false, cond, arith, length, take, get_or, get_or-take, length-take-le, pos, ne_eqb}
+use Rattle.std.proofs.lemmas.List.{length-map}
+use Rattle.money.specs.Answers.{Amount, Refused}
 use Rattle.records.specs.Amounts.{no_import}
-use Rattle.book.specs.Layer.{Key, KeyAnswer, Rec, Change, Asked, got, bad, ask_hour_of, key_answer, Im, Ex, HourPrices, Quantity, Ticks, Import, offset, offset_answer, offset_entry}
-use Rattle.book.specs.laws.LayerLaws.{hour-asked, ask_hour_of-fault, answer-front}
+use Rattle.book.specs.Layer.{Key, Rec, Change, ask_hour_of, input_of, fine, fault, Im, Ex, HourPrices, Quantity, Ticks, Import, offset, offset_answer, offset_entry}
+use Rattle.book.specs.laws.LayerLaws.{answer-front}
 use Rattle.book.specs.declared.answers.NamedAmount.{NamedAmount}
 use Rattle.book.specs.declared.answers.Credits.{Credits}
 use Rattle.book.specs.declared.amounts.places.Places.{Places}
@@ -29,8 +22,8 @@ use Rattle.book.specs.laws.PriceLaws.{known-priced, unknown-unpriced}
 use Rattle.book.specs.laws.OffsetLaws.{offset-given, priced-some}
 use Rattle.book.specs.laws.WorkedLaws.{here, entries-are, totals-are, named-are}
 use Rattle.book.specs.laws.LoadLaws.{Loaded}
-use Rattle.book.proofs.book.Lemmas.{step_is, leaves-answered, keyed-wrong}
-use Rattle.book.proofs.amounts.failures.Lemmas.{Passed, passed-size}
+use Rattle.book.proofs.book.Lemmas.{step_is, leaves-answered, keyed-wrong, keyed-right}
+use Rattle.book.proofs.amounts.failures.Lemmas.{Passed, passed-size, hour-is, hour-fault}
 
 -- the offset of the sixteen places is that of the entries
 pub worked-offset : (s : List ℕ) (is es : Places) (p : HourPrices) → Workable s p (spots is) (spots es) → is.n ≤ 16 → length is.at ≡ 16
@@ -121,20 +114,16 @@ module _ {s rows : List ℕ} {n h : ℕ} {i : Places} (wi : Passed s rows n Im h
 pub no-guarantees-for : (n : ℕ) → (n ≡ 0 → ⊥) → no_guarantees n ≡ refused n
 no-guarantees-for n z = ap (λ (b : Bool). cond b (guarantees [] (pos 0)) (refused n)) (ne_eqb n 0 z)
 
-module _ (b : Book) (s : List ℕ) (h : ℕ) (x : Loaded b s) (r : KeyAnswer) (e : r ≡ key_answer (ask_hour_of Im h)) where
+module _ (b : Book) (s : List ℕ) (h : ℕ) (x : Loaded b s) where
   abbrev hour-reply : Key → Reply
   hour-reply k = guarantees_of (standing x.list) (price_of (standing x.list)) k.hour
 
   hour-meets : (y : Reply) → keyed (ask_hour_of Im h) hour-reply ≡ y → Meets (ask (hour_guarantees h)) b s b y s
   hour-meets y q = leaves-answered _ b s y (step_is (step_of (ask (hour_guarantees h))) b s x ∙ ap answered q)
 
-  pub hour-wrong : (y : Reply) → y ≡ no_guarantees r.number → (r.number ≡ 0 → ⊥) → Meets (ask (hour_guarantees h)) b s b y s
-  hour-wrong y ey z = hour-meets y (keyed-wrong (ask_hour_of Im h) hour-reply r e z ∙ sym (no-guarantees-for r.number z) ∙ sym ey)
+  pub hour-wrong : {n : ℕ} → fault n ≡ input_of (ask_hour_of Im h) → (y : Reply) → y ≡ no_guarantees n → Meets (ask (hour_guarantees h)) b s b y s
+  hour-wrong {n} e y ey = hour-meets y (keyed-wrong (ask_hour_of Im h) hour-reply e ∙ sym (no-guarantees-for n (hour-fault Im h e)) ∙ sym ey)
 
-  pub hour-right : r.number ≡ 0 → (y : Reply) → y ≡ guarantees_of (standing x.list) (price_of (standing x.list)) h
+  pub hour-right : {k : Key} → fine k ≡ input_of (ask_hour_of Im h) → (y : Reply) → y ≡ guarantees_of (standing x.list) (price_of (standing x.list)) h
       → Meets (ask (hour_guarantees h)) b s b y s
-  hour-right z y ey = hour-meets y (go (ask_hour_of Im h) refl e)
-    where
-      go : (a : Asked) → ask_hour_of Im h ≡ a → r ≡ key_answer a → keyed a hour-reply ≡ y
-      go (got k t) w q = ap hour-reply (hour-asked Im h k t w) ∙ sym ey
-      go (bad m) w q = absurd (omega (arith, ask_hour_of-fault Im h m w, sym (ap (λ (v : KeyAnswer). v.number) q) ∙ z))
+  hour-right {k} e y ey = hour-meets y (keyed-right (ask_hour_of Im h) hour-reply e ∙ ap hour-reply (hour-is Im h e) ∙ sym ey)

@@ -1,12 +1,5 @@
 -- The loop that puts names to amounts.
-use Prim.Native.Nat.{ℕ, zero, suc, ◌+◌, ◌≤◌, ◌<◌}
-use mathlib.Core.Path.{◌≡◌, refl, sym, ap, ap₂, ◌∙◌, subst}
-use mathlib.Core.List.{List, [], ◌∷◌}
-use native.Mathlib.Omega.{arith}
-use native.Mathlib.Nat.{not-suc-le-zero, le_of_suc-le-suc}
-use lib.ListN.{length, take, drop, get_or, set, length-set}
-use lib.Seq.{get_or-set_same, get_or-set_other, drop-set-lt, drop-drop, length-take-le}
-use Rattle.laws.specs.SumLaws.{last_or}
+use Rattle.std.proofs.Common.{ℕ, zero, suc, ◌≤◌, ◌<◌, ◌≡◌, refl, sym, ap, ap₂, ◌∙◌, subst, List, [], ◌∷◌, arith, not-suc-le-zero, le_of_suc-le-suc, length, take, drop, get_or, length-take-le}
 use Rattle.book.specs.Layer.{Ticks, no_ticks, pad}
 use Rattle.book.specs.declared.answers.NamedAmount.{NamedAmount}
 use Rattle.book.specs.declared.answers.Credits.{Credits}
@@ -38,21 +31,6 @@ credits-start p ticks a e = naming-blank max_credits p ticks a.list (ap (λ (x :
 pub charges-start : (p : Places) (ticks : List Ticks) (a : ChargeList) → a ≡ charge_list_of [] → Naming max_charges p ticks a.list 0
 unfolding charge_list_of
 charges-start p ticks a e = naming-blank max_charges p ticks a.list (ap (λ (x : ChargeList). x.list) e)
-
-pub naming-more : {size : ℕ} {p : Places} {ticks : List Ticks} {row : List NamedAmount} {i : ℕ} → Naming size p ticks row i → i < p.n → p.n ≤ size
-    → Naming size p ticks (set row i (pair_of (get_or p.at i no_spot) (get_or ticks i no_ticks))) (i + 1)
-naming-more {size} {p} {ticks} {row} {i} n h few = record {
-  long = length-set row i v ∙ n.long;
-  upto = omega arith;
-  each = λ j l. last_or j i (let m : j < suc i = omega arith in m)
-      (λ z. subst (λ (k : ℕ). get_or (set row i v) k no_amount ≡ pair_of (get_or p.at k no_spot) (get_or ticks k no_ticks)) (sym z)
-      (get_or-set_same row i v no_amount (omega (arith, n.long))))
-      (λ m. get_or-set_other row i j v no_amount (λ z. omega arith) ∙ n.each j m);
-  behind = drop-set-lt (i + 1) row i v (omega arith) ∙ sym (drop-drop 1 i row) ∙ ap (drop 1) n.behind ∙ drop-drop 1 i (pad no_amount size []);
-}
-  where
-    v : NamedAmount
-    v = pair_of (get_or p.at i no_spot) (get_or ticks i no_ticks)
 
 zipped : (n : ℕ) (at : List Spot) (ticks : List Ticks) (row : List NamedAmount) → n ≤ length row → n ≤ length at → n ≤ length ticks
     → ((j : ℕ) → j < n → get_or row j no_amount ≡ pair_of (get_or at j no_spot) (get_or ticks j no_ticks)) → take n row ≡ named_of (take n at) (take n ticks)

@@ -1,18 +1,12 @@
 -- The loop over the rows that puts what it finds to the place of its hour, and the day that it finds so.
-use Prim.Native.Nat.{ℕ, zero, suc, ◌+◌, ◌-◌, ◌/◌, ◌%◌, ◌≤◌, ◌<◌}
-use mathlib.Core.Path.{◌≡◌, refl, sym, ap, ap₂, ◌∙◌, subst⁻¹}
-use mathlib.Core.List.{List, [], ◌∷◌, ◌++◌}
-use mathlib.Core.Bool.{Bool, true, false, cond, ◌&&◌}
-use native.Mathlib.Omega.{arith}
-use native.Mathlib.Nat.{not-suc-le-zero, le_of_suc-le-suc}
-use lib.ListN.{length, take, drop, get_or, set, replicate, length-set, drop_of_length-le}
-use lib.Seq.{drop-drop, get_or-set_same, get_or-set_other}
-use lib.Dec.{eqb}
-use borrow.Author.Tests.{eq-eqb, ne_eqb, eqb-true, eqb-false, le-leb, lt-leb}
+use Rattle.std.proofs.Common.{ℕ, zero, suc, ◌+◌, ◌-◌, ◌/◌, ◌%◌, ◌≤◌, ◌<◌, ◌≡◌, refl, sym, ap, ap₂, ◌∙◌, List, [], ◌∷◌, ◌++◌, Bool, true, false, cond, ◌&&◌, arith, not-suc-le-zero, le_of_suc-le-suc, length, take, drop, get_or, set, replicate, length-set, drop_of_length-le, drop-drop, get_or-set_same, get_or-set_other, eqb, eq-eqb, ne_eqb, eqb-true, le-leb}
+use Rattle.std.proofs.lemmas.Bool.{eqb-false, lt-leb}
+use Rattle.std.proofs.Math.Path.{subst⁻¹}
 use Rattle.money.specs.Names as names
+use Rattle.std.specs.Prelude.{Some}
 use Rattle.records.specs.declared.heads.NameHead.{NameHead}
 use Rattle.book.specs.Layer.{Key, Change, filed, key_of, kind_of, write, begins, key_mark, key_order, same_key_mark, same, same_name, at_hour}
-use Rattle.book.specs.tables.LayerTables.{NameHeadIs}
+use Rattle.book.specs.tables.LayerTables.{nameable, NameHeadIs}
 use Rattle.book.specs.laws.LayerLaws.{Padded, good-hour, same_at, at-hour, same_by, same_alike, one-mark, mark-one, parts-hour, name-told as told-name, name-untold}
 use Rattle.book.specs.declared.amounts.hours.HourPlace.{HourPlace}
 use Rattle.book.specs.Register.{write_all, standing}
@@ -25,7 +19,7 @@ use Rattle.book.specs.tables.Worked.{begun, no_place}
 use Rattle.book.specs.laws.RegisterLaws.{by-test, true≠false}
 use Rattle.book.specs.laws.StandLaws.{found_at, pick-key}
 use Rattle.book.specs.laws.GatherLaws.{Pass, gather}
-use Rattle.book.proofs.log.rows.Lemmas.{ruled-at, ruled-few, ruled-good, ruled-seen, and_left, and-turned, written_at, name-within, Hit, find_pass, hit-or, find-is}
+use Rattle.book.proofs.log.rows.Lemmas.{ruled-at, ruled-good, ruled-seen, and_left, and-turned, written_at, name-within, Hit, find_pass, hit-or, find-is}
 
 eqb-turned : (a b : ℕ) → eqb a b ≡ eqb b a
 eqb-turned a b = by-test (eqb b a)
@@ -181,9 +175,6 @@ pub dayed-start : (s rows : List ℕ) (n m : ℕ) (name : List ℕ) → Dayed s 
 dayed-start s rows n m name = record { size = refl; each = λ k w. timed-start (same_name k) place_at (replicate 24 no_place) s rows n }
 
 module _ {s rows : List ℕ} {n m : ℕ} {name : List ℕ} {i : ℕ} {hours : List HourPlace} (h : Dayed s rows n m name i hours) (lt : i < n) where
-  pub dayed-few : Log s rows n → i < 512
-  dayed-few o = ruled-few o.logged.ruled lt
-
   pub dayed-within : Log s rows n → (row_live (get_or rows i 0) && eqb (row_slot (get_or rows i 0) / 32) m) ≡ true → row_place (get_or rows i 0) + 3 ≤ length s
   dayed-within o = mark-within lt o.logged m
 
@@ -298,20 +289,18 @@ same-name-is k j f = sym (keep (same_at k j j.hour)) ∙ same_by (at_hour k j.ho
     keep : {b : Bool} → b ≡ (same_name k j && eqb j.hour j.hour) → b ≡ same_name k j
     keep e = e ∙ ap (λ (y : Bool). same_name k j && y) (eq-eqb j.hour j.hour refl) ∙ and-turned (same_name k j) true
 
-pub named-so : (k : Key) → Padded k.name → {m : ℕ} → m ≡ key_order k.mark → {h : NameHead} → NameHeadIs k h → h.known ≡ true
-    → Written k m (take h.len h.bytes)
-named-so k p em w t = record {
+pub named-so : (k : Key) → Padded k.name → {m : ℕ} → m ≡ key_order k.mark → (h : NameHead) → NameHeadIs k (Some h) → Written k m (take h.len h.bytes)
+named-so k p em h w = record {
   mark = em;
   told = λ r g mk u.
-      ap (λ (y : List ℕ). begins y (drop 3 (write (filed r) ++ u))) (w.bytes t) ∙ told-name k p r g mk (sym w.known ∙ t) u
-      ∙ sym (same-name-is k r.key mk);
+      ap (λ (y : List ℕ). begins y (drop 3 (write (filed r) ++ u))) w.1 ∙ told-name k p r g mk w.0 u ∙ sym (same-name-is k r.key mk);
 }
 
 -- no record can have the name
-pub day-none : (k : Key) → Padded k.name → {h : NameHead} → NameHeadIs k h → h.known ≡ false → {s rows : List ℕ} {n : ℕ} (l : List Change)
+pub day-none : (k : Key) → Padded k.name → nameable k ≡ false → {s rows : List ℕ} {n : ℕ} (l : List Change)
     → Logged s rows n l
     → DayIs k l (record { hours = replicate 24 no_place })
-day-none k p w z {s} l g = record {
+day-none k p z {s} l g = record {
   size = refl;
   each = λ j lt d. subst⁻¹ (PlaceIs (at_hour k (1 + j)) l) (blank-at 24 j lt d) (record { known = sym (absent-at (1 + j)); start = λ h. true≠false h refl });
 }
@@ -324,7 +313,7 @@ day-none k p w z {s} l g = record {
         (sym (ap (λ (x : Key). key_mark x.mark) (at-hour k h)) ∙ (same_alike (at_hour k h) f.what.key one).mark) in
         true≠false (sym (same-name-is k f.what.key mk) ∙ and_left (same_name k f.what.key) (eqb h f.what.key.hour)
         (sym (same_at k f.what.key h) ∙ one))
-        (name-untold k p f.what f.at.good mk (sym w.known ∙ z)))
+        (name-untold k p f.what f.at.good mk z))
         (λ t. t)
 
 -- ---- the hour of a row

@@ -1,11 +1,5 @@
 -- The loop over the rows that gathers the records of a mark and hour.
-use Prim.Native.Nat.{ℕ, ◌+◌, ◌-◌, ◌≤◌, ◌<◌}
-use mathlib.Core.Path.{◌≡◌, refl, sym, ap, ap₂, ◌∙◌}
-use mathlib.Core.List.{List, map}
-use mathlib.Core.Bool.{Bool, true, false, cond, ◌&&◌}
-use native.Mathlib.Omega.{arith}
-use lib.ListN.{length, take, drop, get_or, length-take, drop_of_length-le}
-use lib.Dec.{eqb}
+use Rattle.std.proofs.Common.{ℕ, ◌+◌, ◌-◌, ◌≤◌, ◌<◌, ◌≡◌, refl, sym, ap, ap₂, ◌∙◌, List, map, Bool, true, false, cond, ◌&&◌, arith, length, take, drop, get_or, length-take, drop_of_length-le, eqb}
 use Rattle.book.specs.Layer.{Key, Name, Change, key_of, kind_of, same_hour}
 use Rattle.book.specs.declared.amounts.places.Spot.{Spot}
 use Rattle.book.specs.declared.amounts.places.Places.{Places}
@@ -18,7 +12,7 @@ use Rattle.book.specs.tables.Rows.{row_slot, row_live, row_place, Logged, Log, k
 use Rattle.book.specs.laws.RegisterLaws.{by-test, true≠false, valid-new}
 use Rattle.book.specs.laws.GatherLaws.{gather, hour_pass, hour-standing}
 use Rattle.book.proofs.amounts.places.Lemmas.{put-length, gather-few}
-use Rattle.book.proofs.log.rows.Lemmas.{ruled-at, ruled-few, ruled-seen, picked, written_at, key-at}
+use Rattle.book.proofs.log.rows.Lemmas.{ruled-at, ruled-seen, picked, written_at, key-at}
 
 abbrev pub stands_in : ℕ → ℕ → Bool
 stands_in row slot = row_live row && eqb (row_slot row) slot
@@ -75,9 +69,6 @@ module _ {s rows : List ℕ} {n slot i : ℕ} {p : Places} (h : Gathered s rows 
         (λ t. ap (λ (y : Bool). cond y (put_spot (spot_in s row) (spots p)) (spots p)) t ∙ h.is l g k ek hk
         ∙ sym (ap (λ (y : Bool). cond y (put_spot (record { name = (key_of c).name; start = q + lead_length (kind_of c) }) old) old) (sym eb ∙ t)))
         ∙ ap (gather (hour_pass k) l) (sym w.rest)
-
-    pub gathered-few : Log s rows n → i < 512
-    gathered-few o = ruled-few o.logged.ruled lt
 
     -- there is a place left for a record that stands, and it is written within the bytes
     pub gathered-room : Log s rows n → (k : Key) → slot ≡ hour_slot k → k.hour < 32 → stands_in (get_or rows i 0) slot ≡ true

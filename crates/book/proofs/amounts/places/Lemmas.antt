@@ -1,11 +1,10 @@
 -- The standing records of a mark and hour by name: how many there are, and where one more is put.
-use Prim.Native.Nat.{ℕ, zero, suc, ◌+◌, ◌≤◌, ◌<◌}
-use mathlib.Core.Path.{◌≡◌, refl, sym, ap, ◌∙◌}
-use mathlib.Core.List.{List, [], ◌∷◌, ◌++◌}
-use mathlib.Core.Bool.{Bool, true, false, cond, ◌&&◌}
-use native.Mathlib.Omega.{arith}
-use lib.ListN.{length, take, drop, get_or}
-use Rattle.book.specs.Layer.{Kind, is_correction, Key, Rec, Change, kind_of, key_of, same_hour, decoded_bytes, name_before}
+use Rattle.std.proofs.Common.{ℕ, zero, suc, ◌+◌, ◌≤◌, ◌≡◌, refl, sym, ap, ap₂, ◌∙◌, List, [], ◌∷◌, ◌++◌, Bool, true, false, cond, not, ◌&&◌, arith, length, take, drop, length-take-le, ltb}
+use Rattle.std.specs.Prelude.{Option, Some, None, position, unwrap_or}
+use Rattle.std.specs.List.{position_or_len}
+use Rattle.std.proofs.lemmas.List.Sums.{prefix_len-le-length}
+use Rattle.std.proofs.lemmas.Bool.{ltb-false}
+use Rattle.book.specs.Layer.{Key, Rec, Change, kind_of, key_of, same_hour, decoded_bytes, name_before}
 use Rattle.book.specs.laws.LayerLaws.{limit-most}
 use Rattle.book.specs.declared.amounts.places.Spot.{Spot}
 use Rattle.book.specs.declared.amounts.places.Places.{Places}
@@ -13,15 +12,8 @@ use Rattle.book.specs.Register.{write_all, standing, count}
 use Rattle.book.specs.Meaning.{Valid}
 use Rattle.book.specs.tables.Tables.{survey}
 use Rattle.book.specs.tables.Places.{lead_length, live_at, spot_of, put_spot, spots}
-use Rattle.book.specs.laws.RegisterLaws.{valid-new, hour-few}
+use Rattle.book.specs.laws.RegisterLaws.{by-test, valid-new, hour-few}
 use Rattle.book.specs.laws.GatherLaws.{gather, collect, gather-standing, hour_pass}
-use Rattle.book.specs.laws.Inserting.{Sought, sought-here, sought-on, sought-end}
-
-pub place-co : (kind : Kind) (q : ℕ) → is_correction kind ≡ true → q + 2 ≡ q + lead_length kind
-place-co kind q h = simp h
-
-pub place-filed : (kind : Kind) (q : ℕ) → is_correction kind ≡ false → q ≡ q + lead_length kind
-place-filed kind q h = simp h (omega arith)
 
 -- ---- what is put to the rest, and what is not
 pub taken-up : {B : Type 0} (b : Bool) (x y : B) → b ≡ true → x ≡ cond b x y
@@ -68,19 +60,39 @@ pub gather-few : (k : Key) (l : List Change) → Valid l → (m : ℕ) → lengt
 gather-few k l v m =
     omega (arith, fewer k l m l, ap length (gather-standing (hour_pass k) l (valid-new l v)), collect-length k l (standing l), hour-few k l v, limit-most k)
 
--- ---- the place of a spot
-module _ (s : Spot) (p : Places) (i : ℕ) (h : Sought (put_spot s) p.at p.n i) (le : p.n ≤ length p.at) where
-  module _ (d : Spot) (lt : i < p.n) (b : Bool) (e : b ≡ name_before (decoded_bytes s.name) (decoded_bytes (get_or p.at i d).name)) where
-    pub slot-here : b ≡ true → put_spot s (spots p) ≡ take i (spots p) ++ (s ∷ drop i (spots p))
-    unfolding put_spot
-    slot-here t = sought-here h d le lt s (λ xs. ap (λ (y : Bool). cond y (s ∷ get_or p.at i d ∷ xs) (get_or p.at i d ∷ put_spot s xs)) (sym e ∙ t))
+-- ---- the place of a spot: the first whose name comes after its own, or the end
 
-    pub slot-on : b ≡ false → Sought (put_spot s) p.at p.n (i + 1)
-    unfolding put_spot
-    slot-on t = sought-on h d le lt (λ xs. ap (λ (y : Bool). cond y (s ∷ get_or p.at i d ∷ xs) (get_or p.at i d ∷ put_spot s xs)) (sym e ∙ t))
+abbrev pub after : Spot → Spot → Bool
+after s x = name_before (decoded_bytes s.name) (decoded_bytes x.name)
 
-  pub slot-end : p.n ≤ i → put_spot s (spots p) ≡ take p.n (spots p) ++ (s ∷ drop p.n (spots p))
-  unfolding put_spot
-  slot-end out =
-      let e : i ≡ p.n = omega (arith, h.inside) in
-      sought-end h s refl le out ∙ ap (λ (m : ℕ). take m (spots p) ++ (s ∷ drop m (spots p))) e
+put-first : (s : Spot) (xs : List Spot) → let k = position_or_len (after s) xs in put_spot s xs ≡ take k xs ++ (s ∷ drop k xs)
+unfolding put_spot
+put-first s [] = refl
+put-first s (x ∷ xs) = go (after s x) (put-first s xs)
+  where
+    k : ℕ
+    k = position_or_len (after s) xs
+
+    go : (b : Bool) → put_spot s xs ≡ take k xs ++ (s ∷ drop k xs) → let j = cond (not b) (1 + k) 0 in cond b (s ∷ x ∷ xs) (x ∷ put_spot s xs) ≡ take j (x ∷ xs) ++ (s ∷ drop j (x ∷ xs))
+    go true ih = refl
+    go false ih =
+        let e : suc k ≡ 1 + k = omega arith in
+        ap (λ (y : List Spot). x ∷ y) ih ∙ ap (λ (j : ℕ). take j (x ∷ xs) ++ (s ∷ drop j (x ∷ xs))) e
+
+first-or-end : (s : Spot) (xs : List Spot) → unwrap_or (position (after s) xs) (length xs) ≡ position_or_len (after s) xs
+first-or-end s xs =
+    let k = position_or_len (after s) xs in
+    by-test (ltb k (length xs))
+    (λ t. ap (λ (b : Bool). unwrap_or (cond b (Some k) None) (length xs)) t)
+    (λ t. ap (λ (b : Bool). unwrap_or (cond b (Some k) None) (length xs)) t
+    ∙ omega (arith, ltb-false k (length xs) t, prefix_len-le-length (λ (x : Spot). not (after s x)) xs))
+
+pub slot-found : (s : Spot) (p : Places) → p.n ≤ length p.at → (r : Option ℕ) → r ≡ position (after s) (spots p) → (k : ℕ) → k ≡ unwrap_or r p.n
+    → (k ≤ p.n) × (put_spot s (spots p) ≡ take k (spots p) ++ (s ∷ drop k (spots p)))
+slot-found s p le r er k ek =
+    let xs = spots p in
+    let size : length xs ≡ p.n = length-take-le p.n p.at le in
+    let e : k ≡ position_or_len (after s) xs = ek ∙ ap₂ unwrap_or er (sym size) ∙ first-or-end s xs in (
+      omega (arith, prefix_len-le-length (λ (x : Spot). not (after s x)) xs),
+      put-first s xs ∙ ap (λ (j : ℕ). take j xs ++ (s ∷ drop j xs)) (sym e),
+    )

@@ -1,14 +1,8 @@
 -- The price of an hour, and the loop over the rows that finds each hour's.
-use Prim.Native.Nat.{ℕ, zero, suc, ◌+◌, ◌-◌, ◌≤◌, ◌<◌}
-use mathlib.Core.Path.{◌≡◌, refl, sym, ap, ap₂, ◌∙◌, subst⁻¹}
-use mathlib.Core.List.{List, [], ◌∷◌}
-use mathlib.Core.Bool.{Bool, true, false, cond, ◌&&◌}
-use native.Mathlib.Omega.{arith}
-use native.Mathlib.Nat.{not-suc-le-zero, le_of_suc-le-suc}
-use lib.ListN.{length, drop, get_or, set, replicate, length-set, length-replicate, drop_of_length-le}
-use lib.Seq.{get_or-set_same, get_or-set_other}
-use lib.Dec.{eqb, ltb}
-use borrow.Author.Tests.{eqb-true, eqb-false, lt-ltb, le-ltb, lt-leb, le-leb}
+use Rattle.std.proofs.Common.{ℕ, zero, suc, ◌+◌, ◌-◌, ◌≤◌, ◌<◌, ◌≡◌, refl, sym, ap, ap₂, ◌∙◌, List, [], ◌∷◌, Bool, true, false, cond, ◌&&◌, arith, not-suc-le-zero, le_of_suc-le-suc, length, drop, get_or, set, replicate, length-set, drop_of_length-le, get_or-set_same, get_or-set_other, eqb, ltb, eqb-true, lt-ltb, le-ltb, le-leb}
+use Rattle.std.proofs.lemmas.List.{length-replicate}
+use Rattle.std.proofs.lemmas.Bool.{eqb-false, lt-leb}
+use Rattle.std.proofs.Math.Path.{subst⁻¹}
 use Rattle.laws.specs.Lists.{All, also}
 use Rattle.money.specs.Names.{same_name}
 use Rattle.records.specs.Marks.{has_name}
@@ -30,7 +24,7 @@ use Rattle.book.specs.laws.StandLaws.{Stands, all-stand}
 use Rattle.book.specs.laws.PriceLaws.{price-written, price-unknown, price-found, price-gone}
 use Rattle.book.specs.laws.GatherLaws.{Pass, gather, collect, gather-standing}
 use Rattle.book.proofs.log.index.Lemmas.{latest-few}
-use Rattle.book.proofs.log.rows.Lemmas.{Seen, ruled-at, ruled-few, ruled-good, ruled-seen, live-true, logged-at, and_right}
+use Rattle.book.proofs.log.rows.Lemmas.{Seen, ruled-at, ruled-good, ruled-seen, live-true, logged-at, and_right}
 
 -- ---- what was sought among all rows
 
@@ -192,9 +186,6 @@ price-row {row} {all} {q} {c} sn = ap₂ (λ (b : Bool) (x : ℕ). cond (b && lt
     go false false e = refl
 
 module _ {s rows : List ℕ} {n : ℕ} {none hours : List HourPrice} {i : ℕ} (h : Tabling s rows n none i hours) (lt : i < n) where
-  pub tabling-few : Log s rows n → i < 512
-  tabling-few o = ruled-few o.logged.ruled lt
-
   module _ (l : List Change) (g : Logged s rows n l) where
     abbrev c : Change
     c = (ruled-at g.ruled lt).what

@@ -1,13 +1,5 @@
 -- The loop over the rows that gathers the names of a mark, each once.
-use Prim.Native.Nat.{ℕ, ◌+◌, ◌-◌, ◌/◌, ◌≤◌, ◌<◌}
-use mathlib.Core.Path.{◌≡◌, refl, sym, ap, ap₂, ◌∙◌}
-use mathlib.Core.List.{List, [], ◌∷◌, ◌++◌}
-use mathlib.Core.Bool.{Bool, true, false, cond, ◌&&◌}
-use native.Mathlib.Omega.{arith}
-use lib.ListN.{length, take, drop, get_or, set, length-set, drop_of_length-le}
-use lib.Dec.{eqb}
-use borrow.Author.Tests.{eq-eqb, ne_eqb, eqb-true}
-use lib.Seq.{length-take-le}
+use Rattle.std.proofs.Common.{ℕ, ◌+◌, ◌-◌, ◌/◌, ◌≤◌, ◌<◌, ◌≡◌, refl, sym, ap, ap₂, ◌∙◌, List, [], ◌∷◌, ◌++◌, Bool, true, false, cond, ◌&&◌, arith, length, take, drop, get_or, set, length-set, drop_of_length-le, eqb, eq-eqb, ne_eqb, eqb-true, length-take-le}
 use Rattle.book.specs.Layer.{Key, Name, Change, key_of, key_order, same_key_mark, decoded_bytes, name_before, empty_name, pad, kind_of}
 use Rattle.book.specs.declared.amounts.units.Units.{Units}
 use Rattle.book.specs.Register.{write_all, standing}
@@ -22,7 +14,7 @@ use Rattle.book.specs.tables.Rows.{row_slot, row_live, row_place, Logged, Log, k
 use Rattle.book.specs.laws.RegisterLaws.{by-test, true≠false, valid-new}
 use Rattle.book.specs.laws.GatherLaws.{gather, mark_pass, mark-standing}
 use Rattle.book.proofs.log.Survey.{valid-size}
-use Rattle.book.proofs.log.rows.Lemmas.{Seen, ruled-at, ruled-few, ruled-seen, and-turned, written_at, key-at}
+use Rattle.book.proofs.log.rows.Lemmas.{Seen, ruled-at, ruled-seen, and-turned, written_at, key-at}
 use Rattle.book.proofs.amounts.places.Gathering.{left-of}
 use Rattle.book.specs.laws.Inserting.{Sought, sought-here, sought-there, sought-on, sought-end, Opened, opened-behind}
 
@@ -142,9 +134,6 @@ module _ {s rows : List ℕ} {n mark i : ℕ} {u : Units} (h : Listed s rows n m
             → cond b (add_name name xs) xs ≡ cond live (add_name own old) old
         go {own = own} {old = old} true e ex en = ap₂ add_name (en refl) ex ∙ sym (ap (λ (y : Bool). cond y (add_name own old) old) e)
         go {own = own} {old = old} false e ex en = ex ∙ sym (ap (λ (y : Bool). cond y (add_name own old) old) e)
-
-    pub listed_at : Log s rows n → i < 512
-    listed_at o = ruled-few o.logged.ruled lt
 
     -- a record of the mark that stands is written within the bytes
     pub listed-place : Log s rows n → of_mark (get_or rows i 0) mark ≡ true → row_place (get_or rows i 0) ≤ length s

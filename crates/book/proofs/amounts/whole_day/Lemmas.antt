@@ -1,14 +1,10 @@
 -- The loops over the hours and the units of a day, and the answer that they make.
-use Prim.Native.Nat.{ℕ, ◌+◌, ◌≤◌, ◌<◌}
-use mathlib.Core.Path.{◌≡◌, refl, sym, ap, ◌∙◌, subst}
-use mathlib.Core.List.{List, [], map, map-map}
-use native.Mathlib.Omega.{arith}
-use native.Mathlib.Nat.{not-suc-le-zero}
-use lib.ListN.{length, take, drop, get_or, set, replicate, length-set, length-map}
-use lib.Seq.{ext_get_or, drop-set-lt, drop-drop, get_or-take, length-take-le}
+use Rattle.std.proofs.Common.{ℕ, ◌+◌, ◌≤◌, ◌<◌, ◌≡◌, refl, sym, ap, ◌∙◌, subst, List, [], map, arith, length, take, drop, get_or, set, replicate, length-set, ext_get_or, drop-set-lt, drop-drop, get_or-take, length-take-le}
+use Rattle.std.proofs.lemmas.Simd.{map-map}
+use Rattle.std.proofs.lemmas.List.{length-map}
 use Rattle.laws.specs.Lists.{All}
 use Rattle.book.specs.Layer.{Name, Change, filed, Gh, Fi, Fe, empty_name, pad}
-use Rattle.book.specs.laws.LayerLaws.{Padded, Wellformed, good-padded}
+use Rattle.book.specs.laws.LayerLaws.{Padded, good-padded}
 use Rattle.book.specs.declared.answers.Guarantees.{Guarantees}
 use Rattle.book.specs.declared.answers.Charges.{Charges}
 use Rattle.book.specs.declared.answers.UnitDay.{UnitDay}
@@ -16,7 +12,6 @@ use Rattle.book.specs.declared.answers.HourAmounts.{HourAmounts}
 use Rattle.book.specs.declared.answers.UnitAmounts.{UnitAmounts}
 use Rattle.book.specs.declared.answers.DayAmounts.{DayAmounts}
 use Rattle.book.specs.declared.amounts.units.Units.{Units}
-use Rattle.book.specs.declared.amounts.prices.HourPrice.{HourPrice}
 use Rattle.book.specs.declared.amounts.prices.PriceTable.{PriceTable}
 use Rattle.book.specs.Register.{standing}
 use Rattle.book.specs.Amounts.{HourPricing, hour_key, price_of, guarantees_of, charges_of, unit_day_of}
@@ -26,15 +21,14 @@ use Rattle.book.specs.tables.Units.{Named}
 use Rattle.book.specs.UnitNames.{gh_key, unit_key, names_in}
 use Rattle.book.specs.Handed.{guarantees_from, charges_from, unit_day_from}
 use Rattle.book.specs.laws.HandedLaws.{pad-none, pad-length, pad-front}
-use Rattle.book.specs.laws.Built.{Built, built-none, built-more, built-all}
+use Rattle.book.specs.laws.Built.{Built, built-more, built-all}
 use Rattle.book.specs.tables.Worked.{no_guarantees, no_charges}
 use Rattle.book.specs.tables.Rows.{Logged}
-use Rattle.book.specs.tables.Prices.{PriceIs, TableOf}
+use Rattle.book.specs.tables.Prices.{TableOf}
 use Rattle.book.specs.laws.StandLaws.{all_map, all-at, all-names, standing-good}
 use Rattle.book.specs.laws.ChargeLaws.{get_or-same}
 use Rattle.book.specs.WholeDay.{hour_reply, unit_reply, hours_from, whole_of, day_amounts, hour_from, unit_from, no_hour, no_unit, whole_handed, day_from}
 use Rattle.book.specs.laws.WholeDayLaws.{hours-at}
-use Rattle.book.proofs.amounts.days.Lemmas.{set_below}
 
 -- ---- an hour and a unit, as they are handed back
 
@@ -67,22 +61,7 @@ pub record Hours (s rows : List ℕ) (n : ℕ) (t : PriceTable) (row : List Hour
   pub upto : i ≤ 24
   pub each : (l : List Change) → Logged s rows n l → (q : ℕ → HourPricing) → TableOf q t → (j : ℕ) → j < i → get_or row j no_hour ≡ hour_at l q (1 + j)
 
-pub hours-start : (s rows : List ℕ) (n : ℕ) (t : PriceTable) (row : List HourAmounts) → length row ≡ 24 → Hours s rows n t row 0
-hours-start s rows n t row e = record { long = e; upto = omega arith; each = λ l g q w j lt. absurd (not-suc-le-zero lt) }
-
 module _ {s rows : List ℕ} {n : ℕ} {t : PriceTable} {row : List HourAmounts} {i : ℕ} (h : Hours s rows n t row i) where
-  pub hours-more : i < 24 → (d : HourPrice) (x : HourAmounts)
-      → ((l : List Change) → Logged s rows n l → (q : ℕ → HourPricing) → PriceIs (q (i + 1)) (get_or t.hours i d) → x ≡ hour_at l q (i + 1)) → Hours s rows n t
-      (set row i x) (i + 1)
-  hours-more lt d x e =
-      let one : i + 1 ≡ 1 + i = omega arith in
-      record {
-        long = length-set row i x ∙ h.long;
-        upto = omega arith;
-        each = λ l g q w. set_below row no_hour x (λ (j : ℕ). hour_at l q (1 + j)) i (omega (arith, h.long)) (h.each l g q w)
-            (e l g q (subst (λ (m : ℕ). PriceIs (q m) (get_or t.hours i d)) (sym one) (w.each i lt d)) ∙ ap (hour_at l q) one);
-      }
-
   pub hours-end : 24 ≤ i → (l : List Change) → Logged s rows n l → (q : ℕ → HourPricing) → TableOf q t → row ≡ (day_from (whole_of (standing l) q)).hours
   unfolding whole_handed
   hours-end le l g q w =
@@ -99,11 +78,6 @@ pub record Dealt (s rows : List ℕ) (n : ℕ) (u : Units) (t : PriceTable) (row
   pub upto : i ≤ u.n
   pub built : (l : List Change) → Logged s rows n l → (q : ℕ → HourPricing) → TableOf q t → Built (unit_as l q) u.names empty_name row no_unit i
   pub behind : drop i row ≡ drop i (pad no_unit 512 [])
-
-pub dealt-start : (s rows : List ℕ) (n : ℕ) (u : Units) (t : PriceTable) (x : UnitAmounts) → x ≡ no_unit → length (replicate 512 x) ≡ 512
-    → Dealt s rows n u t (replicate 512 x) 0
-dealt-start s rows n u t x e size = record
-    { long = size; upto = omega arith; built = λ l g q w. built-none; behind = ap (replicate 512) e ∙ pad-none no_unit 512 }
 
 module _ {s rows : List ℕ} {n : ℕ} {u : Units} {t : PriceTable} {row : List UnitAmounts} {i : ℕ} (h : Dealt s rows n u t row i) (few : u.n ≤ 512)
     (size : length u.names ≡ 512) where
@@ -142,10 +116,6 @@ names-formed u few size l v e = record {
       (all-at (subst (All Padded) (sym e) (all-names gh_key (all_map (λ r g q. good-padded (filed r) g) (standing-good l v)))) d i
       (omega (arith, length-take-le u.n u.names (omega arith))));
 }
-
--- the key of a unit, by its name
-pub unit-keyed : {n : Name} → Padded n → Wellformed (unit_key n)
-unit-keyed p = record { low = omega arith; padded = p }
 
 -- ---- the answer
 

@@ -1,5 +1,4 @@
-use Prim.Native.Nat.{◌-◌}
-use lib.ListN.{length}
+use Rattle.std.specs.Prelude.{◌-◌, length}
 use Rattle.book.proofs.feed.Lemmas.{Going}
 use Rattle.book.proofs.feed.feed_checked.Given as goal
 

@@ -9,18 +9,18 @@ use lib.Seq.{take-append_seam, take-take}
 use lib.Dec.{eqb, ltb}
 use borrow.Author.Tests.{eq-eqb, ne_eqb, eqb-true, eqb-false}
 use Rattle.records.specs.Changes.{entry, whole, parse_any}
-use Rattle.book.specs.Layer.{Key, View, Parsed, Change, key_of, kind_of, write, Good, Input, fine, fault, parse, parsed_of, put_bytes, limit_of, Wanted, Any, Kind, Record, TakeBack, Close, Nothing, is_filing, is_withdrawal, kind_in}
+use Rattle.book.specs.Layer.{Key, View, Change, key_of, kind_of, write, Good, Input, fine, fault, parse, put_bytes, limit_of, Wanted, Any, Changing, TakeBack, Close, is_filing, is_withdrawal}
 use Rattle.book.specs.tables.LayerTables.{viewed_bytes}
-use Rattle.book.specs.laws.LayerLaws.{parse-fine, parse-fault, viewed-put, store-front, store_length, Padded, good-padded, good-hour}
-use Rattle.book.specs.Layer.{bad, Entry, changed, taking_back, closing_entry, entry_view, entry_of, mark_is, begins, take_back_bytes, close_bytes}
-use Rattle.book.specs.laws.LayerLaws.{entry-bad, any-fault, alone, as_entry, any-back, any-close, any-change}
+use Rattle.book.specs.laws.LayerLaws.{parse-fine, viewed-put, store-front, store_length, Padded, good-padded, good-hour}
+use Rattle.book.specs.Layer.{bad, Entry, changed, taking_back, closing_entry, act_of, mark_is, begins, take_back_bytes, close_bytes}
+use Rattle.book.specs.laws.LayerLaws.{entry-bad, alone, as_entry, any-back, any-close, any-change}
 use Rattle.book.specs.declared.book.Book.{Book}
 use Rattle.book.specs.declared.answers.Answer.TheVariants.{Accepted, Refused}
 use Rattle.book.specs.declared.answers.Done.{Done}
 use Rattle.book.specs.declared.log.rows.Seek.{Seek}
 use Rattle.book.specs.Register.{Reg, refused, Step, answered, becomes, listed, judged, taken_back, closing, general, shorter, after, bare_take_back, bare_close, write_all, refusal, space_fault, stands, standing, count}
 use Rattle.book.specs.Meaning.{belongs, load, Valid, book_of, stepped, Leaves}
-use Rattle.book.specs.tables.Tables.{change_fault}
+use Rattle.book.specs.tables.Tables.{viewed, change_fault}
 use Rattle.book.specs.tables.Index.{hour_slot, bucket, latest_of}
 use Rattle.book.specs.tables.Rows.{packed, row_start, Rows, Rowed, Ruled, Rules, Logged, Log, Sought, cleared}
 use Rattle.book.specs.tables.Checked.{Checked, Makes, Since, IsChange, IsEntry}
@@ -32,6 +32,7 @@ use Rattle.book.proofs.log.index.Lemmas.{latest-few}
 use Rattle.book.proofs.log.rows.Lemmas.{ruled-at, ruled-seen}
 use Rattle.book.proofs.log.replay.Lemmas.{cleared-size, rows_next}
 use Rattle.book.proofs.book.Rows.{is-rowed}
+use Rattle.book.specs.Layer.{Act, seen_view, seen_act}
 use Rattle.book.proofs.book.Lemmas.{reg_of, step_is, leaves-answered, leaves-accepted, bare-fault}
 
 -- ---- a checked book
@@ -91,11 +92,6 @@ older-less c l m = go (eqb (bucket (key_of c)) m) (latest-few m l)
     go true le = omega arith
     go false le = omega arith
 
--- all changes are among all
-pub since-all : {b : Book} {s rows : List ℕ} → Checked b s rows → (k : Key) → Since b s k b.changes
-since-all h k = record
-    { inside = omega arith; none = λ l p. omega (arith, latest-few (bucket k) l, ap length (belongs-one (sym h.base.is ∙ p)), h.base.count-is) }
-
 -- ---- a record that is listed
 
 judged-no : (c : Change) (g : Reg) (n : ℕ) → (n ≡ 0 → ⊥) → judged c g n ≡ answered (refused n)
@@ -132,7 +128,7 @@ module _ {b : Book} {s rows : List ℕ} (h : Checked b s rows) {want : Wanted} {
       (fs : (l : List Change) → Logged s rows b.changes l → v.key.hour < 32 → Padded v.key.name → latest_of (bucket v.key) l ≤ from → Sought rows
       b.changes v.key x l)
       {m : ℕ} (fm : (l : List Change) → Ruled rows b.changes l → v.key.hour < 32 → m ≡ count v.key (standing l))
-      {most : ℕ} (em : most ≡ limit_of v.key) {w : ℕ} (ew : w ≡ change_fault (kind_in v.act) x.found m most b.changes b.used v.len (length s))
+      {most : ℕ} (em : most ≡ limit_of v.key) {w : ℕ} (ew : w ≡ change_fault v.kind x.found m most b.changes b.used v.len (length s))
     where
       sought : Sought rows b.changes v.key x h.base.list
       sought = fs h.base.list (checked-logged h) low padded (sn.none h.base.list h.base.is)
@@ -145,7 +141,7 @@ module _ {b : Book} {s rows : List ℕ} (h : Checked b s rows) {want : Wanted} {
           let fd : x.found ≡ stands (key_of c) (standing l) = sought.found ∙ survey-found v.key l ∙ ap (λ (y : Key). stands y (standing l)) (sym key-is) in
           let cs : m ≡ count (key_of c) (standing l) = fm l (checked-logged h).ruled low ∙ ap (λ (y : Key). count y (standing l)) (sym key-is) in
           let ms : most ≡ limit_of (key_of c) = em ∙ ap limit_of (sym key-is) in
-          sym (ew ∙ (λ i. change_fault (kind_in (r.is i).act) (fd i) (cs i) (ms i) (sym h.base.count-is i) (sym h.base.size i) (r.is i).len (length s))
+          sym (ew ∙ (λ i. change_fault (r.is i).kind (fd i) (cs i) (ms i) (sym h.base.count-is i) (sym h.base.size i) (r.is i).len (length s))
           ∙ sym (refusal-judge l (length s) c))
 
       pub listed-refused : (w ≡ 0 → ⊥) → Makes (listed (parse want rec)) b s v.key (record { book = b; answer = Refused w }) s rows
@@ -158,7 +154,7 @@ module _ {b : Book} {s rows : List ℕ} (h : Checked b s rows) {want : Wanted} {
         unfolding change_fault
         listed-few =
             room-facts b.changes b.used v.len (length s)
-            (judge-room (is_filing (kind_in v.act)) x.found (ltb m most) (space_fault b.changes b.used v.len (length s)) (sym ew ∙ z))
+            (judge-room (is_filing v.kind) x.found (ltb m most) (space_fault b.changes b.used v.len (length s)) (sym ew ∙ z))
 
         pub listed-clear : x.found ≡ true → x.at < 512
         listed-clear f = omega (arith, sought.inside f, listed-few.0)
@@ -170,7 +166,7 @@ module _ {b : Book} {s rows : List ℕ} (h : Checked b s rows) {want : Wanted} {
         step-taken = open-or false t ∙ ap (judged r.what (reg_of b s h.base)) (judged-is ∙ z)
 
         pub makes-listed : {hour : ℕ} → hour ≡ hour_slot v.key → {s' : List ℕ} → s' ≡ viewed_bytes v b.used rec s
-            → {rows₁ : List ℕ} → rows₁ ≡ cleared rows x → {row : ℕ} → row ≡ packed (not (is_withdrawal (kind_in v.act))) (kind_in v.act) hour b.used
+            → {rows₁ : List ℕ} → rows₁ ≡ cleared rows x → {row : ℕ} → row ≡ packed (not (is_withdrawal v.kind)) v.kind hour b.used
             → Makes (listed (parse want rec)) b s v.key
             (record { book = record { changes = b.changes + 1; used = b.used + v.len; closed = b.closed }; answer = Accepted }) s'
             (set rows₁ b.changes row)
@@ -178,7 +174,7 @@ module _ {b : Book} {s rows : List ℕ} (h : Checked b s rows) {want : Wanted} {
         makes-listed {hour} eh {s'} ev {rows₁} ex {row} er =
             let c = r.what in
             let es : s' ≡ put_bytes (parse want rec) b.used s = ev ∙ (viewed-put want rec v
-            (ap parsed_of r.input ∙ (λ i. record { number = 0; view = sym r.is i })) b.used s).1 in
+            (ap seen_view r.input ∙ ap fine (sym r.is)) b.used s).1 in
             let y = h.base in
             let l = y.list in
             let g : Reg = record { list = c ∷ l; closed = b.closed } in
@@ -190,7 +186,7 @@ module _ {b : Book} {s rows : List ℕ} (h : Checked b s rows) {want : Wanted} {
             let f : Sought rows b.changes (key_of c) x l = subst (λ (k : Key). Sought rows b.changes k x l) (sym key-is) sought in
             let hr : hour ≡ hour_slot (key_of c) = eh ∙ ap hour_slot (sym key-is) in
             let er' : row ≡ packed (not (is_withdrawal (kind_of c))) (kind_of c) (hour_slot (key_of c)) (length (write_all l)) =
-            er ∙ (λ i. packed (not (is_withdrawal (kind_in (r.is i).act))) (kind_in (r.is i).act) (hr i) (sym y.size i)) in
+            er ∙ (λ i. packed (not (is_withdrawal (r.is i).kind)) (r.is i).kind (hr i) (sym y.size i)) in
             makes-accepted h g _ s' (set rows₁ b.changes row) step-taken
             (λ i. record { changes = u i; used = (ap (λ (k : ℕ). b.used + k) len ∙ sym n) i; closed = b.closed })
             (ap length es ∙ store_length (parse want rec) b.used s)
@@ -205,14 +201,12 @@ module _ {b : Book} {s rows : List ℕ} (h : Checked b s rows) {want : Wanted} {
 -- ---- what is refused before it is listed
 
 module _ (b : Book) (s : List ℕ) (x : Loaded b s) (rec : List ℕ) where
-  pub parse-refused : (want : Wanted) (p : Parsed) → p ≡ parsed_of (parse want rec) → (p.number ≡ 0 → ⊥)
-      → Leaves (listed (parse want rec)) b s b (refused p.number) s
-  parse-refused want p e z = leaves-answered (listed (parse want rec)) b s (refused p.number)
-      (step_is (listed (parse want rec)) b s x ∙ go (parse want rec) e)
+  pub parse-refused : (want : Wanted) {n : ℕ} → fault n ≡ seen_view (parse want rec) → Leaves (listed (parse want rec)) b s b (refused n) s
+  parse-refused want {n} e = leaves-answered (listed (parse want rec)) b s (refused n) (step_is (listed (parse want rec)) b s x ∙ go (parse want rec) e)
     where
-      go : (i : Input Change) → p ≡ parsed_of i → listed i (length s) (reg_of b s x) ≡ answered (refused p.number)
-      go (fine c) q = absurd (z (ap (λ (y : Parsed). y.number) q))
-      go (fault n) q = ap (λ (y : Parsed). answered (refused y.number)) (sym q)
+      go : (i : Input Change) → fault n ≡ seen_view i → listed i (length s) (reg_of b s x) ≡ answered (refused n)
+      go (fine c) q = absurd (let z : ◌≡◌ {A = ℕ} 0 1 = cc in omega arith)
+      go (fault m) q = let p : m ≡ n = cc in ap (λ (j : ℕ). answered (refused j)) p
 
 -- a mark by itself, with a fault
 module _ (b : Book) (s : List ℕ) (x : Loaded b s) (rec : List ℕ) {n : ℕ} where
@@ -225,13 +219,6 @@ module _ (b : Book) (s : List ℕ) (x : Loaded b s) (rec : List ℕ) {n : ℕ} w
   close-refused q z =
       leaves-answered (closing (bare_close rec)) b s (refused n)
       (bare-fault b s x (bare_close rec) n q (closing (bare_close rec)) (becomes (record { list = x.list; closed = true })) refl z)
-
-pub parse-taken : (want : Wanted) (rec : List ℕ) (p : Parsed) → p ≡ parsed_of (parse want rec) → p.number ≡ 0 → IsChange want rec p.view
-parse-taken want rec p e z = go (parse want rec) refl
-  where
-    go : (i : Input Change) → parse want rec ≡ i → IsChange want rec p.view
-    go (fine c) q = record { what = c; input = q; is = ap (λ (y : Parsed). y.view) (e ∙ ap parsed_of q) }
-    go (fault n) q = absurd (parse-fault want rec n q (sym (ap (λ (y : Parsed). y.number) (e ∙ ap parsed_of q)) ∙ z))
 
 -- ---- the last change taken back
 
@@ -432,65 +419,48 @@ module _ (rec : List ℕ) where
       go (is-close a p) = let w = (alone-taken closing_entry (changed c) (bare_close rec) (sym p ∙ e)).1 in absurd (let z : ◌≡◌ {A = ℕ} 0 1 = cc in omega arith)
       go (is-other a p) = (a, other (parse Any rec) (sym p ∙ e))
 
--- by what its view says that it is
-module _ {rec : List ℕ} {v : View} (r : IsEntry rec v) where
-  act-is : v.act ≡ (entry_view r.what).act
-  act-is = ap (λ (y : View). y.act) r.is
-
-  pub only-back : v.act ≡ TakeBack → general rec ≡ taken_back 0
-  only-back z = go r.what r.input (sym act-is ∙ z)
+-- by what was read of it
+module _ {rec : List ℕ} {a : Act} (r : IsEntry rec a) where
+  pub only-back : a ≡ TakeBack → general rec ≡ taken_back 0
+  only-back z = go r.what r.input (sym r.is ∙ z)
     where
-      go : (x : Entry) → parse_any rec ≡ fine x → (entry_view x).act ≡ TakeBack → general rec ≡ taken_back 0
+      go : (x : Entry) → parse_any rec ≡ fine x → act_of x ≡ TakeBack → general rec ≡ taken_back 0
       go (changed c) e k = absurd (let y : ◌≡◌ {A = ℕ} 0 1 = cc in omega arith)
       go taking_back e k = general-back rec e
       go closing_entry e k = absurd (let y : ◌≡◌ {A = ℕ} 0 1 = cc in omega arith)
 
-  pub only-close : v.act ≡ Close → general rec ≡ closing 0
-  only-close z = go r.what r.input (sym act-is ∙ z)
+  pub only-close : a ≡ Close → general rec ≡ closing 0
+  only-close z = go r.what r.input (sym r.is ∙ z)
     where
-      go : (x : Entry) → parse_any rec ≡ fine x → (entry_view x).act ≡ Close → general rec ≡ closing 0
+      go : (x : Entry) → parse_any rec ≡ fine x → act_of x ≡ Close → general rec ≡ closing 0
       go (changed c) e k = absurd (let y : ◌≡◌ {A = ℕ} 0 1 = cc in omega arith)
       go taking_back e k = absurd (let y : ◌≡◌ {A = ℕ} 0 1 = cc in omega arith)
       go closing_entry e k = general-close rec e
 
-  pub only-record : {k : Kind} → v.act ≡ Record k → (general rec ≡ listed (parse Any rec)) × IsChange Any rec v
-  only-record {k} z = go r.what r.input r.is (sym act-is ∙ z)
+  pub only-record : {v : View} → a ≡ Changing v → (general rec ≡ listed (parse Any rec)) × IsChange Any rec v
+  only-record {v} z = go r.what r.input (sym r.is ∙ z)
     where
-      go : (x : Entry) → parse_any rec ≡ fine x → v ≡ entry_view x → (entry_view x).act ≡ Record k → (general rec ≡ listed (parse Any rec)) × IsChange Any rec v
-      go (changed c) e i a = let g = general-change rec c e in (g.0, record { what = c; input = g.1; is = i })
-      go taking_back e i a = absurd (let y : ◌≡◌ {A = ℕ} 0 1 = cc in omega arith)
-      go closing_entry e i a = absurd (let y : ◌≡◌ {A = ℕ} 0 1 = cc in omega arith)
-
-  -- an entry is something
-  pub only_none : {A : Type 0} → v.act ≡ Nothing → A
-  only_none {A} z = go r.what (sym act-is ∙ z)
-    where
-      go : (x : Entry) → (entry_view x).act ≡ Nothing → A
-      go (changed c) a = absurd (let y : ◌≡◌ {A = ℕ} 0 1 = cc in omega arith)
-      go taking_back a = absurd (let y : ◌≡◌ {A = ℕ} 0 1 = cc in omega arith)
-      go closing_entry a = absurd (let y : ◌≡◌ {A = ℕ} 0 1 = cc in omega arith)
+      go : (x : Entry) → parse_any rec ≡ fine x → act_of x ≡ Changing v → (general rec ≡ listed (parse Any rec)) × IsChange Any rec v
+      go (changed c) e k =
+          let p : v ≡ viewed c = cc in
+          let g = general-change rec c e in (g.0, record { what = c; input = g.1; is = p })
+      go taking_back e k = absurd (let y : ◌≡◌ {A = ℕ} 0 1 = cc in omega arith)
+      go closing_entry e k = absurd (let y : ◌≡◌ {A = ℕ} 0 1 = cc in omega arith)
 
 pub makes-by : {f g : ℕ → Reg → Step} {b : Book} {s : List ℕ} {k : Key} {d : Done} {s' rows' : List ℕ} → g ≡ f → Makes f b s k d s' rows'
     → Makes g b s k d s' rows'
 makes-by {b = b} {s = s} {k = k} {d = d} {s' = s'} {rows' = rows'} e m = subst⁻¹ (λ (y : ℕ → Reg → Step). Makes y b s k d s' rows') e m
 
-pub any-refused : (b : Book) (s : List ℕ) (x : Loaded b s) (rec : List ℕ) (p : Parsed) → p ≡ entry_of (parse_any rec) → (p.number ≡ 0 → ⊥)
-    → Leaves (general rec) b s b (refused p.number) s
-any-refused b s x rec p e z = leaves-answered (general rec) b s (refused p.number) (step_is (general rec) b s x ∙ go (parse_any rec) refl)
+pub any-refused : (b : Book) (s : List ℕ) (x : Loaded b s) (rec : List ℕ) {n : ℕ} → fault n ≡ seen_act (parse_any rec)
+    → Leaves (general rec) b s b (refused n) s
+any-refused b s x rec {n} e = leaves-answered (general rec) b s (refused n) (step_is (general rec) b s x ∙ go (parse_any rec) refl e)
   where
-    go : (i : Input Entry) → parse_any rec ≡ i → general rec (length s) (reg_of b s x) ≡ answered (refused p.number)
-    go (fine y) q = absurd (z (ap (λ (k : Parsed). k.number) (e ∙ ap entry_of q)))
-    go (fault n) q = general-fault rec n q (length s) (reg_of b s x) ∙ ap (λ (k : Parsed). answered (refused k.number)) (sym (e ∙ ap entry_of q))
+    go : (i : Input Entry) → parse_any rec ≡ i → fault n ≡ seen_act i → general rec (length s) (reg_of b s x) ≡ answered (refused n)
+    go (fine y) q e = absurd (let z : ◌≡◌ {A = ℕ} 0 1 = cc in omega arith)
+    go (fault m) q e = let p : fault m ≡ fault n = cc in general-fault rec n (q ∙ p) (length s) (reg_of b s x)
 
 -- bytes of which no record can be read
 pub unread-refused : {b : Book} {s rows : List ℕ} → Checked b s rows → (rec : List ℕ) (j : ℕ) → entry rec ≡ bad j → Leaves (general rec) b s b (refused j) s
 unfolding parse_any
 unread-refused {b} {s} h rec j e = leaves-answered (general rec) b s (refused j)
     (step_is (general rec) b s h.base ∙ general-fault rec j (ap whole e) (length s) (reg_of b s h.base))
-
-pub any-taken : (rec : List ℕ) (p : Parsed) → p ≡ entry_of (parse_any rec) → p.number ≡ 0 → IsEntry rec p.view
-any-taken rec p e z = go (parse_any rec) refl
-  where
-    go : (i : Input Entry) → parse_any rec ≡ i → IsEntry rec p.view
-    go (fine x) q = record { what = x; input = q; is = ap (λ (y : Parsed). y.view) (e ∙ ap entry_of q) }
-    go (fault n) q = absurd (any-fault rec n q (sym (ap (λ (y : Parsed). y.number) (e ∙ ap entry_of q)) ∙ z))

@@ -1,16 +1,15 @@
 -- A correction or withdrawal taken back: the record that it replaced or removed stands again.
 use Prim.Native.Nat.{ℕ, suc, ◌+◌, ◌*◌, ◌-◌, ◌≤◌, ◌<◌}
 use mathlib.Core.Path.{◌≡◌, refl, sym, ap, ap₂, ◌∙◌, subst}
-use mathlib.Core.List.{List, [], ◌∷◌, ◌++◌}
+use mathlib.Core.List.{List, [], ◌∷◌}
 use mathlib.Core.Bool.{Bool, true, false, cond, not, ◌&&◌}
 use native.Mathlib.Omega.{arith}
 use lib.ListN.{length, take, drop, get_or, set, length-set, drop_of_length-le}
 use lib.Seq.{get_or-set_same, get_or-set_other}
 use lib.Dec.{eqb}
 use borrow.Author.Tests.{eq-eqb, eqb-true, eqb-false}
-use Rattle.records.specs.declared.heads.NameHead.{NameHead}
-use Rattle.book.specs.Layer.{Change, filed, corrected, withdrawn, key_of, kind_of, write, Good, begins, same, same_hour, order, KeyAnswer, key_answer, Kind, is_filing, is_correction, is_withdrawal}
-use Rattle.book.specs.tables.LayerTables.{head_key, nameable, name_head, NameHeadIs}
+use Rattle.book.specs.Layer.{Change, filed, corrected, withdrawn, key_of, kind_of, Good, begins, same, same_hour, order, Key, Input, fine, fault, input_of, Kind, is_filing, is_correction, is_withdrawal}
+use Rattle.book.specs.tables.LayerTables.{head_key, nameable, name_head}
 use Rattle.book.specs.laws.LayerLaws.{good-hour, good-padded, good-able, same-sym, same_alike, head-written}
 use Rattle.book.specs.Register.{write_all}
 use Rattle.book.specs.Meaning.{Valid}
@@ -121,15 +120,6 @@ pub record Backward (s rows : List ℕ) (n hs : ℕ) (name : List ℕ) (i : ℕ)
   pub inside : i < n
   pub is : (c : Change) (l : List Change) → Undoing s rows n hs name c l
       → ((survey (key_of c) (drop (n - i) (c ∷ l))).found ≡ true) × ((survey (key_of c) (drop (n - i) (c ∷ l))).start ≡ (survey (key_of c) l).start)
-
-pub backward-start : {s rows : List ℕ} {n hs : ℕ} {name : List ℕ} → 0 < n → Backward s rows n hs name (n - 1)
-backward-start {n = n} h = record {
-  inside = omega arith;
-  is = λ c l u.
-      let e : 1 ≡ n - (n - 1) = omega arith in
-      subst (λ (m : ℕ). ((survey (key_of c) (drop m (c ∷ l))).found ≡ true) × ((survey (key_of c) (drop m (c ∷ l))).start ≡ (survey (key_of c) l).start)) e
-      (u.stood, refl);
-}
 
 -- one of the changes has the key
 pub backward-end : {s rows : List ℕ} {n hs : ℕ} {name : List ℕ} {i : ℕ} → Backward s rows n hs name i → i ≤ 0 → (r : ℕ) (c : Change) (l : List Change)
@@ -311,21 +301,33 @@ module _ {s rows : List ℕ} {n : ℕ} {c : Change} {l : List Change} (g : Logge
   last_within : {x : ℕ} → x ≡ row_start (get_or rows (n - 1) 0) → x ≤ length s
   last_within ex = omega (arith, ex, last-seen.start, last-at.inside)
 
-  pub undoing : {kind : Kind} → kind ≡ row_kind (get_or rows (n - 1) 0) → is_filing kind ≡ false → {x : ℕ} → x ≡ row_start (get_or rows (n - 1) 0)
-      → {a : KeyAnswer} → a ≡ key_answer (head_key (take (length s - x) (drop x s))) → {hs : ℕ} → hs ≡ hour_slot a.key → {h : NameHead} → NameHeadIs a.key h
-      → Undoing s rows n hs (take h.len h.bytes) c l
+  -- the bytes from there on begin with it
+  last-read : {x : ℕ} → x ≡ row_start (get_or rows (n - 1) 0) → input_of (head_key (take (length s - x) (drop x s))) ≡ fine (key_of c)
   unfolding Valid
-  undoing {kind} ek z {x} ex {a} ea {hs} es {h} eh =
-      let start : drop x s ≡ write c ++ last-at.rest = ap (λ (m : ℕ). drop m s) (ex ∙ last-seen.start) ∙ last-at.bytes in
-      let key : a.key ≡ key_of c =
-      ap (λ (y : KeyAnswer). y.key) (ea ∙ ap (λ (y : List ℕ). key_answer (head_key y)) (to_end x s ∙ start)
-      ∙ ap key_answer (head-written c g.ruled.valid.0 last-at.rest)) in
-      let able = good-able c g.ruled.valid.0 in
+  last-read {x} ex =
+      ap (λ (y : List ℕ). input_of (head_key y)) (to_end x s ∙ ap (λ (m : ℕ). drop m s) (ex ∙ last-seen.start) ∙ last-at.bytes)
+      ∙ ap input_of (head-written c g.ruled.valid.0 last-at.rest)
+
+  last-key : {x : ℕ} → x ≡ row_start (get_or rows (n - 1) 0) → {key : Key} → fine key ≡ input_of (head_key (take (length s - x) (drop x s)))
+      → key ≡ key_of c
+  last-key ex {key} ea = let p : fine key ≡ fine (key_of c) = ea ∙ last-read ex in cc
+
+  last-able : {x : ℕ} → x ≡ row_start (get_or rows (n - 1) 0) → {key : Key} → fine key ≡ input_of (head_key (take (length s - x) (drop x s)))
+      → nameable key ≡ true
+  unfolding Valid
+  last-able ex ea = ap nameable (last-key ex ea) ∙ good-able c g.ruled.valid.0
+
+  pub undoing : {kind : Kind} → kind ≡ row_kind (get_or rows (n - 1) 0) → is_filing kind ≡ false → {x : ℕ} → x ≡ row_start (get_or rows (n - 1) 0)
+      → {key : Key} → fine key ≡ input_of (head_key (take (length s - x) (drop x s))) → {hs : ℕ} → hs ≡ hour_slot key
+      → {name : List ℕ} → name ≡ name_head key → Undoing s rows n hs name c l
+  unfolding Valid
+  undoing {kind} ek z {x} ex {key} ea {hs} es {name} en =
+      let key-is = last-key ex ea in
       record {
         logged = g;
-        slot_is = es ∙ ap hour_slot key;
-        able = able;
-        name-is = eh.bytes (eh.known ∙ ap nameable key ∙ able) ∙ ap name_head key;
+        slot_is = es ∙ ap hour_slot key-is;
+        able = good-able c g.ruled.valid.0;
+        name-is = en ∙ ap name_head key-is;
         stood = survey-found (key_of c) l ∙ refusal-found l 65535 c g.ruled.valid.1 ∙ ap not (ap is_filing (sym (ek ∙ last-seen.kind)) ∙ z);
       }
 
@@ -349,3 +351,13 @@ module _ {s rows : List ℕ} {n : ℕ} (o : Log s rows n) (h : 0 < n) where
   wrote-few f =
       let x = newest o h in
       omega (arith, (f x.what x.rest x.logged).inside, x.logged.ruled.count, (valid-size (x.what ∷ x.rest) x.logged.ruled.valid).0)
+
+  -- its key can be read, and its name written
+  pub newest-read : {x : ℕ} → x ≡ row_start (get_or rows (n - 1) 0) → {k : ℕ} → fault k ≡ input_of (head_key (take (length s - x) (drop x s))) → ⊥
+  newest-read ex {k} ea =
+      let p : ◌≡◌ {A = Input Key} (fault k) (fine (key_of (newest o h).what)) = ea ∙ last-read (newest o h).logged ex in
+      let z : ◌≡◌ {A = ℕ} 0 1 = cc in omega arith
+
+  pub newest-able : {x : ℕ} → x ≡ row_start (get_or rows (n - 1) 0) → {key : Key} → fine key ≡ input_of (head_key (take (length s - x) (drop x s)))
+      → nameable key ≡ false → ⊥
+  newest-able ex ea z = true≠false (last-able (newest o h).logged ex ea) z

@@ -1,6 +1,6 @@
 -- The index of a replay: its numbers, and the latest change of a number.
 use Prim.Native.Nat.{ℕ, suc, ◌+◌, ◌-◌, ◌*◌, ◌%◌, ◌≤◌, ◌<◌}
-use mathlib.Core.Path.{◌≡◌, refl, sym, ap, ◌∙◌}
+use mathlib.Core.Path.{◌≡◌, sym, ap, ◌∙◌}
 use mathlib.Core.List.{List, [], ◌∷◌}
 use mathlib.Core.Bool.{Bool, true, false, cond}
 use native.Mathlib.Nat.{mul-le-mul}
@@ -8,19 +8,15 @@ use native.Mathlib.Numerals.{add-one}
 use native.Mathlib.Omega.{arith}
 use lib.ListN.{length, drop, get_or, set, drop_of_length-le}
 use lib.Seq.{drop-cons, get_or-set_same, get_or-set_other}
-use lib.Dec.{leb, eqb}
-use borrow.Author.Tests.{eq-eqb, eqb-true, leb-true}
-use Rattle.book.specs.Layer.{Key, Change, Good, key_of, kind_of, same, same_hour, Mark, order, key_order, is_filing, is_withdrawal}
-use Rattle.book.specs.laws.LayerLaws.{every-mark, Padded, good-padded, same_alike, same-name, one-mark, hour-parts, parts-hour}
+use lib.Dec.{eqb}
+use borrow.Author.Tests.{eq-eqb, eqb-true}
+use Rattle.book.specs.Layer.{Key, Change, Good, key_of, kind_of, same, same_hour, order, key_order, is_filing, is_withdrawal}
+use Rattle.book.specs.laws.LayerLaws.{Padded, good-padded, same_alike, same-name, one-mark, hour-parts, parts-hour}
 use Rattle.book.specs.tables.Tables.{survey}
 use Rattle.book.specs.tables.Index.{hour_slot, hashed, bucket, latest_of}
 use Rattle.book.specs.laws.RegisterLaws.{by-test, true≠false}
 
 -- ---- the numbers
-
--- so many marks leave room for any hour byte
-pub order-low : (m : Mark) → key_order m ≤ 8
-order-low m = leb-true (key_order m) 8 (every-mark (λ (m : Mark). leb (key_order m) 8) refl m)
 
 -- the loop over a name's bytes, of which i are hashed
 pub record Hashing (start : ℕ) (bytes : List ℕ) (sum weight i : ℕ) : Type 0 where
@@ -28,9 +24,6 @@ pub record Hashing (start : ℕ) (bytes : List ℕ) (sum weight i : ℕ) : Type 
   pub most : sum ≤ 512 + i * 2097152
   pub light : weight < 8192
   pub inside : i ≤ 12
-
-pub hashing-start : (start : ℕ) (bytes : List ℕ) → start < 512 → Hashing start bytes start 449 0
-hashing-start start bytes h = record { so_far = refl; most = omega arith; light = omega arith; inside = omega arith }
 
 pub byte-hashes : (b weight : ℕ) → b < 256 → weight < 8192 → b * weight ≤ 2097152
 byte-hashes b weight h w = mul-le-mul {n₁ = b} {m₁ = weight} {n₂ = 256} {m₂ = 8192} (omega arith) (omega arith)

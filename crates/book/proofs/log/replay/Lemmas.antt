@@ -8,7 +8,7 @@ use lib.ListN.{length, take, drop, get_or, set, replicate, length-replicate, len
 use lib.Seq.{drop-drop, get_or-set_same, get_or-set_other, take-length, take-append-le}
 use lib.Dec.{eqb, ltb}
 use borrow.Author.Tests.{eq-eqb, ne_eqb, eqb-true, ltb-true, ltb-false}
-use Rattle.book.specs.Layer.{Key, View, Rec, Change, filed, corrected, withdrawn, key_of, kind_of, write, unseen, scan, limit_of, same, Kind, is_filing, is_correction, is_withdrawal, kind_in}
+use Rattle.book.specs.Layer.{Key, View, Rec, Change, filed, corrected, withdrawn, key_of, kind_of, write, unseen, scan, limit_of, same, Kind, is_filing, is_correction, is_withdrawal}
 use Rattle.book.specs.laws.LayerLaws.{write-pos, write-co, Found, scan-got, Read, good-hour, good-padded, Padded, same_refl}
 use Rattle.book.specs.Register.{write_all, refusal, space_fault, stands, count, standing}
 use Rattle.book.specs.Meaning.{Load, belongs, mismatched, replay_on, ended, replay, Valid}
@@ -16,7 +16,7 @@ use Rattle.book.specs.tables.Tables.{Survey, together, survey, change_fault}
 use Rattle.book.specs.tables.Index.{hour_slot, bucket, latest_of}
 use Rattle.book.specs.tables.Places.{lead_length, live_at}
 use Rattle.book.specs.declared.log.rows.Seek.{Seek}
-use Rattle.book.specs.tables.Rows.{packed, row_place, row_of, Rows, Rowed, Ruled, Logged, Log, Sought, row_gone, cleared}
+use Rattle.book.specs.tables.Rows.{packed, row_place, row_of, Rows, Rowed, Ruled, Logged, Sought, row_gone, cleared}
 use Rattle.book.specs.laws.RegisterLaws.{by-test, true≠false, survey-found, survey-count, refusal-judge, refusal-found}
 use Rattle.book.proofs.log.Survey.{survey-few, judge-room, room-facts}
 use Rattle.book.proofs.log.index.Lemmas.{latest-few, latest-next, counts-next}
@@ -294,9 +294,6 @@ module _ {part : List ℕ} {n : ℕ} {rows latest counts : List ℕ} {q i : ℕ}
         take-length (write_all h.acc);
   }
 
-  pub head-log : Log part rows i
-  head-log = record { list = h.acc; logged = head-logged }
-
   -- where the search for a key starts
   pub head_near : (s : ℕ) → get_or latest s 0 ≤ i
   head_near s = omega (arith, h.latest-is s, latest-few s h.acc, h.count)
@@ -361,7 +358,7 @@ module _ {part : List ℕ} {n : ℕ} {rows latest counts : List ℕ} {q i : ℕ}
       pub head-fewer : get_or counts hour 0 < 65536
       head-fewer = omega (arith, head-count, survey-few v.key h.acc, h.count, h.few)
 
-      module _ {most : ℕ} (em : most ≡ limit_of v.key) {w : ℕ} (e : w ≡ change_fault (kind_in v.act) x.found (get_or counts hour 0) most i q v.len 65535)
+      module _ {most : ℕ} (em : most ≡ limit_of v.key) {w : ℕ} (e : w ≡ change_fault v.kind x.found (get_or counts hour 0) most i q v.len 65535)
         where
           -- the code's judgement is the register's
           judged-is : refusal h.acc 65535 r.what ≡ w
@@ -372,7 +369,7 @@ module _ {part : List ℕ} {n : ℕ} {rows latest counts : List ℕ} {q i : ℕ}
               let cs : get_or counts hour 0 ≡ count (key_of c) (standing h.acc) = head-count ∙ ap (λ (y : Key). (survey y h.acc).count) (sym c-is) ∙
               survey-count (key_of c) h.acc h.valid in
               let ms : most ≡ limit_of (key_of c) = em ∙ ap limit_of (sym c-is) in
-              sym (e ∙ (λ s. change_fault (kind_in (r.view-is s).act) (fd s) (cs s) (ms s) (sym h.count s) (sym h.at s) (r.view-is s).len 65535) ∙ sym
+              sym (e ∙ (λ s. change_fault (r.view-is s).kind (fd s) (cs s) (ms s) (sym h.count s) (sym h.at s) (r.view-is s).len 65535) ∙ sym
               (refusal-judge h.acc 65535 c))
 
           pub head-refused : (w ≡ 0 → ⊥) → Rowed (replay n [] part) false rows
@@ -384,15 +381,15 @@ module _ {part : List ℕ} {n : ℕ} {rows latest counts : List ℕ} {q i : ℕ}
           -- it is taken
           module _ (z : w ≡ 0) where
             pub head_few : (i < 512) × (q + v.len ≤ 65535)
-            head_few = judge-few (kind_in v.act) x.found (get_or counts hour 0) most i q v.len (sym e ∙ z)
+            head_few = judge-few v.kind x.found (get_or counts hour 0) most i q v.len (sym e ∙ z)
 
             pub head-row : (hour < 512) × (q < 65536)
             head-row = (omega (arith, eh, slot-few v.key low-key), omega (arith, head_few.1))
 
             pub head-next : sl < 8192 → {rows' : List ℕ} → rows' ≡ cleared rows x → {row : ℕ}
-                → row ≡ packed (not (is_withdrawal (kind_in v.act))) (kind_in v.act) hour q
-                → {m : ℕ} → m ≡ cond (is_filing (kind_in v.act)) (get_or counts hour 0 + 1)
-                (cond (is_withdrawal (kind_in v.act)) (get_or counts hour 0 - 1) (get_or counts hour 0))
+                → row ≡ packed (not (is_withdrawal v.kind)) v.kind hour q
+                → {m : ℕ} → m ≡ cond (is_filing v.kind) (get_or counts hour 0 + 1)
+                (cond (is_withdrawal v.kind) (get_or counts hour 0 - 1) (get_or counts hour 0))
                 → Head part n (set rows' i row) (set latest sl (i + 1)) (set counts hour m) (q + v.len) (i + 1)
             unfolding Valid write_all
             head-next sl-in {rows'} ex {row} er {m} em' =
@@ -404,7 +401,7 @@ module _ {part : List ℕ} {n : ℕ} {rows latest counts : List ℕ} {q i : ℕ}
                 let hr : hour ≡ hour_slot (key_of c) = eh ∙ ap hour_slot (sym c-is) in
                 let f : Sought rows i (key_of c) x h.acc = subst (λ (k : Key). Sought rows i k x h.acc) (sym c-is) sought in
                 let er' : row ≡ packed (not (is_withdrawal (kind_of c))) (kind_of c) (hour_slot (key_of c)) (length (write_all h.acc)) =
-                er ∙ (λ t. packed (not (is_withdrawal (kind_in (r.view-is t).act))) (kind_in (r.view-is t).act) (hr t) (sym h.at t)) in
+                er ∙ (λ t. packed (not (is_withdrawal (r.view-is t).kind)) (r.view-is t).kind (hr t) (sym h.at t)) in
                 record {
                   acc = c ∷ h.acc;
                   valid = (good.good, y, h.valid);
@@ -419,8 +416,8 @@ module _ {part : List ℕ} {n : ℕ} {rows latest counts : List ℕ} {q i : ℕ}
                   counts-is = λ k lk. ap (λ (t : ℕ). get_or (set counts t m) (hour_slot k) 0) hr
                       ∙ counts-next counts c h.acc k m (omega (arith, hr, h.counts-size, head-row.0))
                       (omega (arith, low-key, ap (λ (t : Key). t.hour) c-is)) lk (h.counts-is k lk)
-                      (em' ∙ (λ j. cond (is_filing (kind_in (r.view-is j).act)) (get_or counts (hr j) 0 + 1)
-                      (cond (is_withdrawal (kind_in (r.view-is j).act)) (get_or counts (hr j) 0 - 1) (get_or counts (hr j) 0))));
+                      (em' ∙ (λ j. cond (is_filing (r.view-is j).kind) (get_or counts (hr j) 0 + 1)
+                      (cond (is_withdrawal (r.view-is j).kind) (get_or counts (hr j) 0 - 1) (get_or counts (hr j) 0))));
                   count = omega (arith, h.count);
                   at = length-append (write_all h.acc) (write c) ∙ ap₂ ◌+◌ h.at (sym good.len);
                   split = h.split ∙ ap (λ (t : List ℕ). write_all h.acc ++ t) (good.bytes ∙ ap (λ (t : List ℕ). write c ++ t) (drop-drop v.len q part))

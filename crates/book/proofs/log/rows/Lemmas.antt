@@ -4,11 +4,14 @@ use mathlib.Core.Path.{◌≡◌, refl, sym, ap, ap₂, ◌∙◌, subst}
 use mathlib.Core.List.{List, [], ◌∷◌, ◌++◌, append_assoc, append-nil}
 use mathlib.Core.Bool.{Bool, true, false, cond, not, ◌&&◌}
 use native.Mathlib.Omega.{arith}
-use lib.ListN.{length, take, drop, get_or, drop_of_length-le, length-drop, length-append, take-append-drop}
-use lib.Seq.{drop_at, drop-drop, drop-append-le}
+use lib.ListN.{length, take, drop, get_or, drop_of_length-le, length-drop, length-take, length-append, take-append-drop}
+use lib.Seq.{drop_at, drop-drop, drop-append-le, length-take-le, get_or-take}
+use native.Mathlib.Numerals.{add-one}
+use Rattle.std.specs.List.{count_by}
+use Rattle.std.proofs.lemmas.List.Sums.{count_by_more_yes, count_by_more_no}
 use lib.Dec.{eqb, leb}
 use borrow.Author.Tests.{eq-eqb, ne_eqb, eqb-true, le-leb, lt-leb, leb-true, leb-false}
-use Rattle.book.specs.Layer.{Key, Rec, Change, filed, corrected, withdrawn, kind_of, key_of, key_mark, write, begins, Good, key_answer, Res, same, same_hour, same_key_mark, order, Kind, File, Correct, Withdraw, is_filing, is_correction, is_withdrawal}
+use Rattle.book.specs.Layer.{Key, Rec, Change, filed, corrected, withdrawn, kind_of, key_of, key_mark, write, begins, Good, value_or, no_key, same, same_hour, same_key_mark, order, Kind, File, Correct, Withdraw, is_filing, is_correction, is_withdrawal}
 use Rattle.money.specs.Names.{same_name}
 use Rattle.book.specs.tables.LayerTables.{head_key, nameable, name_head}
 use Rattle.book.specs.laws.LayerLaws.{head-written, name-told, name-untold, write-long, write-co, good-co, same_by, same-sym, same_left, same_alike, Padded, same_hour-same, mark-one, good-hour, hour-parts, parts-hour, order-few}
@@ -21,7 +24,7 @@ use Rattle.book.specs.tables.Worked.{begun}
 use Rattle.book.specs.laws.StandLaws.{At, Found, found_at, pick-key}
 use Rattle.book.specs.laws.RegisterLaws.{by-test, true≠false, valid-new, survey-found}
 use Rattle.book.specs.laws.GatherLaws.{Pass, gather, collect, gather-standing}
-use Rattle.book.specs.tables.Rows.{kind_code, kind_at, packed, row_start, row_slot, row_kind, row_live, row_place, row_of, Rows, Ruled, Rules, Logged, Log, key_at, Search, Sought}
+use Rattle.book.specs.tables.Rows.{kind_code, kind_at, packed, row_start, row_slot, row_kind, row_live, row_place, row_of, Rows, Ruled, Logged, Log, key_at, Search, Sought}
 use Rattle.book.proofs.log.Survey.{to_end, valid-size, valid-drop}
 use Rattle.book.proofs.log.index.Lemmas.{other-slot, slot-hour}
 
@@ -154,6 +157,36 @@ module _ {rows : List ℕ} {n : ℕ} {l : List Change} (r : Ruled rows n l) {j :
   pub ruled-seen : Seen (get_or rows j 0) l (length (write_all (drop (n - j) l))) ruled-at.what
   ruled-seen = row_seen _ l (length (write_all (drop (n - j) l))) ruled-at.what ruled-at.row ruled-low ruled-start
 
+pub ruled-most : {rows : List ℕ} {n : ℕ} {l : List Change} → Ruled rows n l → n ≤ 512
+ruled-most {l = l} r = omega (arith, (valid-size l r.valid).0, r.count)
+
+pub log-few : {s rows : List ℕ} {n : ℕ} → Log s rows n → n ≤ 512
+log-few o = ruled-most o.logged.ruled
+
+-- the rows of the first n changes alone
+rows-front : (rows : List ℕ) (n : ℕ) (all l : List Change) → Rows rows all l → length l ≤ n → Rows (take n rows) all l
+unfolding Rows
+rows-front rows n all [] k le = tt
+rows-front rows n all (c ∷ l) k le = (get_or-take n rows (length l) 0 (omega arith) ∙ k.0, rows-front rows n all l k.1 (omega arith))
+
+pub logged-front : {s rows : List ℕ} {n : ℕ} {l : List Change} → Logged s rows n l → Logged s (take n rows) n l
+logged-front {rows = rows} {n = n} {l = l} g =
+    let r = g.ruled in
+    record {
+      ruled = record { valid = r.valid; kept = rows-front rows n l l r.kept (omega (arith, r.count)); count = r.count };
+      within = g.within;
+      bytes = g.bytes;
+    }
+
+pub log-front : {s rows : List ℕ} {n : ℕ} → Log s rows n → Log s (take n rows) n
+log-front o = record { list = o.list; logged = logged-front o.logged }
+
+pub row-in : (rows : List ℕ) (n : ℕ) {i : ℕ} → i < length (take n rows) → i < n
+row-in rows n h = omega (arith, length-take n rows)
+
+pub rows-out : (rows : List ℕ) (n : ℕ) {i : ℕ} → length (take n rows) ≤ i → n ≤ length rows → n ≤ i
+rows-out rows n h le = omega (arith, length-take-le n rows le)
+
 -- ---- mark and hour by their number
 
 pub and-turned : (a b : Bool) → (a && b) ≡ (b && a)
@@ -220,30 +253,33 @@ unfolding collect count
 collect-count k all [] = refl
 collect-count k all (r ∷ rs) = ap (λ (m : ℕ). cond (same_hour k r.key) (m + 1) m) (collect-count k all rs)
 
-pub record Counting (rows : List ℕ) (n slot i sum : ℕ) : Type 0 where
-  pub few : sum ≤ i
-  pub ran : Ran count_pass rows n slot i sum
+counted-more : (p : ℕ → Bool) (rows : List ℕ) (i : ℕ) → i < length rows
+    → count_by p (take (i + 1) rows) ≡ cond (p (get_or rows i 0)) (count_by p (take i rows) + 1) (count_by p (take i rows))
+counted-more p rows i lt =
+    let m = count_by p (take i rows) in
+    by-test (p (get_or rows i 0))
+    (λ t. count_by_more_yes p rows i 0 lt t ∙ sym (ap (λ (b : Bool). cond b (m + 1) m) t))
+    (λ t. count_by_more_no p rows i 0 lt t ∙ sym (ap (λ (b : Bool). cond b (m + 1) m) t))
 
-pub counting-start : (rows : List ℕ) (n slot : ℕ) → Counting rows n slot 0 0
-counting-start rows n slot = record { few = omega arith; ran = ran-start count_pass rows n slot 0 (λ k. refl) }
+module _ (rows : List ℕ) (n slot : ℕ) (long : n ≤ length rows) where
+  in_slot : ℕ → Bool
+  in_slot row = row_live row && eqb (row_slot row) slot
 
-pub counting-room : {rows : List ℕ} {n slot i sum : ℕ} → Counting rows n slot i sum → Rules rows n → i < n → (i < 512) × (sum < 65536)
-counting-room h s lt = let w = ruled-few s.ruled lt in (w, omega (arith, h.few))
+  counting : (i : ℕ) → i ≤ n → Ran count_pass rows n slot i (count_by in_slot (take i rows))
+  unfolding in_slot
+  counting zero le = ran-start count_pass rows n slot 0 (λ k. refl)
+  counting (suc i) le =
+      let lt : i < n = omega arith in
+      let m = count_by in_slot (take i rows) in
+      subst (λ (j : ℕ). Ran count_pass rows n slot j (count_by in_slot (take j rows))) (add-one i)
+      (ran-next (counting i (omega arith)) lt (count_by in_slot (take (i + 1) rows))
+      (λ l r k ek hk. counted-more in_slot rows i (omega arith) ∙ ap (λ (b : Bool). cond b (m + 1) m) (picked (ruled-seen r lt) k slot ek hk)))
 
-counted-most : (b : Bool) (m : ℕ) → cond b (m + 1) m ≤ m + 1
-counted-most true m = omega arith
-counted-most false m = omega arith
-
-pub counting-next : {rows : List ℕ} {n slot i sum : ℕ} → Counting rows n slot i sum → i < n → (m : ℕ)
-    → m ≡ cond (row_live (get_or rows i 0) && eqb (row_slot (get_or rows i 0)) slot) (sum + 1) sum → Counting rows n slot (i + 1) m
-counting-next {rows} {n} {slot} {i} {sum} h lt m e = record {
-  few = omega (arith, counted-most (row_live (get_or rows i 0) && eqb (row_slot (get_or rows i 0)) slot) sum, e, h.few);
-  ran = ran-next h.ran lt m (λ l r k ek hk. e ∙ ap (λ (b : Bool). cond b (sum + 1) sum) (picked (ruled-seen r lt) k slot ek hk));
-}
-
-pub counting-end : {rows : List ℕ} {n slot i sum : ℕ} → Counting rows n slot i sum → n ≤ i → (key : Key) → slot ≡ hour_slot key
-    → (l : List Change) → Ruled rows n l → key.hour < 32 → sum ≡ count key (standing l)
-counting-end h le key e l r hk = ran-end h.ran le l r key e hk ∙ collect-count key l (standing l)
+pub counted-all : {rows : List ℕ} {n slot : ℕ} {l : List Change} → Ruled rows n l → n ≤ length rows → (key : Key) → slot ≡ hour_slot key → key.hour < 32
+    → count_by (λ row. row_live row && eqb (row_slot row) slot) (take n rows) ≡ count key (standing l)
+unfolding in_slot
+counted-all {rows} {n} {slot} {l} r long key e hk =
+    ran-end (counting rows n slot long n (omega arith)) (omega arith) l r key e hk ∙ collect-count key l (standing l)
 
 -- ---- what is live, by the survey of its key
 
@@ -273,8 +309,7 @@ pub record WrittenAt (s : List ℕ) (x : ℕ) (k : Key) : Type 0 where
 
 -- its key is read there
 pub key-at : {s : List ℕ} {x : ℕ} {k : Key} → WrittenAt s x k → key_at s x ≡ k
-key-at w = ap (λ (y : List ℕ). (key_answer (head_key y)).key) w.at.bytes ∙ ap (λ (y : Res Key). (key_answer y).key)
-    (head-written (filed w.what) w.at.good w.at.rest) ∙ w.key
+key-at w = ap (λ (y : List ℕ). value_or no_key (head_key y)) w.at.bytes ∙ ap (value_or no_key) (head-written (filed w.what) w.at.good w.at.rest) ∙ w.key
 
 -- mark and hour come before its name
 pub name-within : {s : List ℕ} {x : ℕ} {k : Key} → WrittenAt s x k → x + 3 ≤ length s

@@ -1,19 +1,14 @@
-use mathlib.Core.Path.{sym, ap}
-use mathlib.Core.Bool.{not}
-use Prim.Native.Nat.{ℕ}
-use Rattle.laws.specs.SumLaws.{passed_none, passed-more, passed-all, every-no}
-use Rattle.book.specs.tables.Worked.{place_in}
+use Rattle.std.proofs.Common.{◌≡◌, ◌∙◌, not, length, rules, tests}
+use Rattle.std.proofs.lemmas.Iterator.{YieldsList-from_slice}
+use Rattle.std.proofs.lemmas.Iterator.Search.{all_from_yields_List}
+use Rattle.book.specs.declared.amounts.hours.HourPlace.{HourPlace}
+use Rattle.book.specs.laws.Inserting.{unmapped}
+use Rattle.book.proofs.amounts.days.Lemmas.{none-known}
 use Rattle.book.proofs.amounts.days.nowhere.Goals as goal
 
-pub loop-j-init : goal.loop-j-init
-loop-j-init c = passed_none _ _
-
-pub returns-then-u : goal.returns-then-u
-returns-then-u c =
-    sym (every-no 24 c.loop-j.j (λ (j : ℕ). not (place_in c.args.d j).known) c.loop-j-test.true (ap not c.if-u.true))
-
-pub loop-j-preserved : goal.loop-j-preserved
-loop-j-preserved c = passed-more c.loop-j.invariant c.loop-j-test.true (ap not c.if-u.false)
-
 pub returns : goal.returns
-returns c = sym (passed-all c.loop-j.invariant c.loop-j-test.false)
+returns c =
+    let size : length c.args.d.hours ≡ 24 = search (rules, unmapped) in
+    all_from_yields_List (λ (u : HourPlace). not u.known) _ _ c.all.result c.all.ensures.ran (YieldsList-from_slice c.args.d.hours cc)
+    (λ x b q k. search (rules, tests))
+    ∙ none-known c.args.d size

@@ -1,5 +1,6 @@
-use mathlib.Core.Path.{sym, ap, ◌∙◌}
+use Rattle.std.proofs.Common.{sym, ap, ◌∙◌}
 use Rattle.book.specs.declared.answers.UnitDay.{UnitDay}
+use Rattle.book.specs.Layer.{day_answer_of}
 use Rattle.book.specs.Register.{refused}
 use Rattle.book.specs.Meaning.{day_reply}
 use Rattle.book.specs.tables.Worked.{begun, total_reply}
@@ -29,7 +30,7 @@ pub returns : goal.returns
 returns c = (
   λ l g marked price w. day-worked (begun g) c.args.key c.day_in-units.result (c.day_in-units.ensures l g) price
       (sym c.nowhere.ensures ∙ c.if-nowhere.false) marked c.args.table w (sym c.payable.ensures ∙ c.if-not-payable.false)
-      c.parts_of-d.result.ticks c.parts_of-d.result.starts c.parts_of-d.ensures c.day_of.result c.day_of.ensures
+      c.parts_of-d.result.ticks c.parts_of-d.result.starts c.parts_of-d.ensures (day_answer_of c.day_of.result) c.day_of.ensures
       _ c.answer_of.ensures,
-  handed-whole (total_reply c.day_of.result) _ c.answer_of.ensures,
+  handed-whole (total_reply (day_answer_of c.day_of.result)) _ c.answer_of.ensures,
 )

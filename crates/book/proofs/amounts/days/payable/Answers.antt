@@ -1,20 +1,18 @@
-use mathlib.Core.Path.{sym, ◌∙◌}
-use Prim.Native.Nat.{ℕ}
-use Rattle.laws.specs.SumLaws.{passed_none, passed-more, passed-all, every-no}
-use Rattle.book.specs.tables.Worked.{place_in, price_for, paid}
+use Rattle.std.proofs.Common.{◌≡◌, ◌∙◌, length, rules, tests}
+use Rattle.std.proofs.lemmas.Iterator.{YieldsList-from_slice, YieldsList-from_zip}
+use Rattle.std.proofs.lemmas.Iterator.Search.{all_from_yields_List}
+use Rattle.book.specs.declared.amounts.hours.HourPlace.{HourPlace}
+use Rattle.book.specs.declared.amounts.prices.HourPrice.{HourPrice}
+use Rattle.book.specs.tables.Worked.{paid}
+use Rattle.book.specs.laws.Inserting.{unmapped}
+use Rattle.book.proofs.amounts.days.Lemmas.{all-paid}
 use Rattle.book.proofs.amounts.days.payable.Goals as goal
 
-pub loop-j-init : goal.loop-j-init
-loop-j-init c = passed_none _ _
-
-pub returns-then-not-hour_payable : goal.returns-then-not-hour_payable
-returns-then-not-hour_payable c =
-    sym (every-no 24 c.loop-j.j (λ (j : ℕ). paid (place_in c.args.units j) (price_for c.args.table j)) c.loop-j-test.true
-    (sym c.hour_payable.ensures ∙ c.if-not-hour_payable.true))
-
-pub loop-j-preserved : goal.loop-j-preserved
-loop-j-preserved c =
-    passed-more c.loop-j.invariant c.loop-j-test.true (sym c.hour_payable.ensures ∙ c.if-not-hour_payable.false)
-
 pub returns : goal.returns
-returns c = sym (passed-all c.loop-j.invariant c.loop-j-test.false)
+returns c =
+    let eu : length c.args.units.hours ≡ 24 = search (rules, unmapped) in
+    let et : length c.args.table.hours ≡ 24 = search (rules, unmapped) in
+    all_from_yields_List (λ (x : HourPlace × HourPrice). paid x.0 x.1) c.all.new.self _ c.all.result c.all.ensures.ran
+    (YieldsList-from_zip (YieldsList-from_slice c.args.units.hours cc) (YieldsList-from_slice c.args.table.hours cc))
+    (λ x b q k. search (rules, tests))
+    ∙ all-paid c.args.units c.args.table eu et

@@ -1,9 +1,5 @@
-use Prim.Native.Nat.{◌-◌}
 use Rattle.book.proofs.amounts.failures.Lemmas.{Charging}
 use Rattle.book.proofs.amounts.failures.charges_at.Given as goal
 
 abbrev pub invariant-loop-i : goal.invariant-loop-i
 invariant-loop-i l = Charging l.log l.mark l.prices l.p l.ticks l.i
-
-abbrev pub decreases-loop-i : goal.decreases-loop-i
-decreases-loop-i l = l.p.n - l.i

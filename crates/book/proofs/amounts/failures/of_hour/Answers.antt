@@ -1,14 +1,9 @@
-use mathlib.Core.Path.{◌≡◌, ap, ◌∙◌}
-use lib.ListN.{length}
-use borrow.Author.Rules.{rules}
+use Rattle.std.proofs.Common.{◌≡◌, ap, ◌∙◌, length, rules}
 use Rattle.book.specs.Amounts.{charged}
 use Rattle.book.specs.laws.Inserting.{unmapped}
-use Rattle.book.proofs.amounts.failures.Lemmas.{passed, passed-inside, key-low, hour-absent, hour-unpriced, hour-charged}
+use Rattle.book.proofs.amounts.failures.Lemmas.{passed, passed-inside, hour-absent, hour-unpriced, hour-charged}
 use Rattle.book.proofs.amounts.Handed.{with-charges}
 use Rattle.book.proofs.amounts.failures.of_hour.Goals as goal
-
-pub gather_rows-failures-requires : goal.gather_rows-failures-requires
-gather_rows-failures-requires c = record { log_rows = c.requires.log_rows; hour_in = key-low c.key_of.ensures c.requires.hour_in }
 
 pub returns-then-failures-eq0 : goal.returns-then-failures-eq0
 returns-then-failures-eq0 c = let la : length c.gather_rows-failures.result.at ≡ 16 = search

@@ -1,8 +1,5 @@
-use Prim.Native.Nat.{ℕ}
-use mathlib.Core.Path.{ap, ◌∙◌}
-use mathlib.Core.List.{List}
-use native.Mathlib.Omega.{arith}
-use Rattle.book.specs.Layer.{charge_in}
+use Rattle.std.proofs.Common.{ℕ, ap, ◌∙◌, List, arith}
+use Rattle.book.specs.Layer.{charge_in, answer_of}
 use Rattle.book.proofs.log.Survey.{to_end}
 use Rattle.book.proofs.amounts.prices.Lemmas.{sought-inside}
 use Rattle.book.proofs.amounts.failures.Lemmas.{key-absent, key-unpriced, key-charged}
@@ -19,7 +16,7 @@ slice_bounds-failure_charge-start c =
 pub returns-then-price : goal.returns-then-price
 returns-then-price c =
     λ l g b q w. c.answer_of.ensures ∙ key-charged c.find_in-f.ensures c.requires.wellformed c.if-f.true c.if-price.true
-    c.failure_charge.result (c.failure_charge.ensures ∙ ap
+    (answer_of c.failure_charge.result) (c.failure_charge.ensures ∙ ap
     (λ (u : List ℕ). charge_in c.args.key.mark u c.args.price.prices) (to_end c.find_in-f.result.start c.args.log.now)) l g b q
     w
 

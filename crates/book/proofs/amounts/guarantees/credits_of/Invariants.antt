@@ -1,4 +1,3 @@
-use Prim.Native.Nat.{◌-◌}
 use Rattle.records.specs.Amounts.{no_import}
 use Rattle.book.specs.laws.Built.{Filling}
 use Rattle.book.specs.tables.Worked.{entry_credit}
@@ -7,6 +6,3 @@ use Rattle.book.proofs.amounts.guarantees.credits_of.Given as goal
 
 abbrev pub invariant-loop-i : goal.invariant-loop-i
 invariant-loop-i l = Filling entry_credit l.entries no_import l.ticks no_ticks 16 l.n l.i
-
-abbrev pub decreases-loop-i : goal.decreases-loop-i
-decreases-loop-i l = l.n - l.i

@@ -1,10 +1,6 @@
-use Prim.Native.Nat.{◌-◌}
 use Rattle.book.specs.Handed.{max_credits}
 use Rattle.book.proofs.amounts.guarantees.Pairing.{Naming}
 use Rattle.book.proofs.amounts.guarantees.named_credits.Given as goal
 
 abbrev pub invariant-loop-i : goal.invariant-loop-i
 invariant-loop-i l = Naming max_credits l.p l.ticks l.a.list l.i
-
-abbrev pub decreases-loop-i : goal.decreases-loop-i
-decreases-loop-i l = l.p.n - l.i

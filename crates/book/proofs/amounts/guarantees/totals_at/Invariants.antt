@@ -1,9 +1,5 @@
-use Prim.Native.Nat.{◌-◌}
 use Rattle.book.specs.laws.Totalling.{Totalling}
 use Rattle.book.proofs.amounts.guarantees.totals_at.Given as goal
 
-abbrev pub invariant-loop-i : goal.invariant-loop-i
-invariant-loop-i l = Totalling l.log l.n l.p.at l.sums l.i
-
-abbrev pub decreases-loop-i : goal.decreases-loop-i
-decreases-loop-i l = l.n - l.i
+abbrev pub invariant-loop-x : goal.invariant-loop-x
+invariant-loop-x l = Totalling l.log l.n l.fn.p.at l.sums l.x-index

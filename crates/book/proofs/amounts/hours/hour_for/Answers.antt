@@ -1,8 +1,4 @@
-use Prim.Native.Nat.{ℕ, ◌+◌}
-use mathlib.Core.Path.{ap, ◌∙◌}
-use mathlib.Core.Bool.{true, false}
-use native.Mathlib.Omega.{arith}
-use lib.ListN.{drop}
+use Rattle.std.proofs.Common.{ℕ, ◌+◌, ap, ◌∙◌, true, false, arith, drop}
 use Rattle.book.specs.Layer.{begins}
 use Rattle.book.proofs.log.Survey.{to_end}
 use Rattle.book.proofs.amounts.hours.Lemmas.{hour-marked, name-hourless, name-starts}

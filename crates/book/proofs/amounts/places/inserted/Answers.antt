@@ -1,18 +1,13 @@
-use lib.ListN.{length}
-use mathlib.Core.Path.{◌≡◌, refl}
-use borrow.Author.Rules.{rules}
-use native.Mathlib.Omega.{arith}
-use Rattle.book.specs.laws.Inserting.{unmapped, opened-start, opened-next, opened-end}
+use Rattle.std.proofs.Common.{length, ◌≡◌, refl, rules, arith}
+use Rattle.std.proofs.Math.Path.{subst⁻¹}
+use Rattle.book.specs.laws.Inserting.{Opened, unmapped, opened-end}
+use Rattle.book.proofs.amounts.Opening.{opened-moved}
 use Rattle.book.proofs.amounts.places.inserted.Goals as goal
 
-pub loop-i-init : goal.loop-i-init
-loop-i-init c = let z : length c.args.p.at ≡ 16 = search (rules, unmapped) in opened-start c.args.p.at c.args.p.n c.args.j
-    (omega (arith, c.requires.1)) c.requires.0
-
-pub loop-i-preserved : goal.loop-i-preserved
-loop-i-preserved c = let z : length c.args.p.at ≡ 16 = search (rules, unmapped) in opened-next
-    (omega (arith, c.requires.1)) c.loop-i.invariant c.loop-i-test.true _
-
 pub returns : goal.returns
-returns c = let z : length c.args.p.at ≡ 16 = search (rules, unmapped) in
-    (refl, opened-end (omega (arith, c.requires.1)) c.loop-i.invariant c.loop-i-test.false _)
+returns c =
+    let z : length c.args.p.at ≡ 16 = search (rules, unmapped) in
+    let o : Opened c.args.p.at c.copy_within.new.self c.args.p.n c.args.j c.args.j =
+    subst⁻¹ (λ row. Opened c.args.p.at row c.args.p.n c.args.j c.args.j) c.copy_within.ensures.after
+    (opened-moved c.args.p.at c.args.p.n c.args.j (omega arith) c.requires.0) in
+    (refl, opened-end (omega arith) o (omega arith) _)

@@ -1,6 +1,4 @@
-use mathlib.Core.Path.{sym, ap, ◌∙◌}
-use native.Mathlib.Omega.{arith}
-use borrow.Author.Tests.{lt-ltb}
+use Rattle.std.proofs.Common.{sym, ap, ◌∙◌, arith, lt-ltb}
 use Rattle.book.specs.tables.Places.{put_spot, spots}
 use Rattle.book.proofs.amounts.places.Gathering.{spot-read}
 use Rattle.book.proofs.amounts.places.Lemmas.{taken-up}

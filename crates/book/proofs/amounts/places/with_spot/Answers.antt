@@ -1,6 +1,4 @@
-use mathlib.Core.Path.{sym, ◌∙◌}
-use native.Mathlib.Omega.{arith}
-use borrow.Author.Tests.{lt-ltb, le-ltb}
+use Rattle.std.proofs.Common.{sym, ◌∙◌, arith, lt-ltb, le-ltb}
 use Rattle.book.proofs.amounts.places.Lemmas.{taken-up, left_out}
 use Rattle.book.proofs.amounts.places.with_spot.Goals as goal
 

@@ -1,5 +1,4 @@
-use mathlib.Core.Path.{ap}
-use mathlib.Core.Bool.{true}
+use Rattle.std.proofs.Common.{ap, true}
 use Rattle.book.specs.Layer.{HourPrices}
 use Rattle.book.proofs.amounts.prices.price_at.Goals as goal
 

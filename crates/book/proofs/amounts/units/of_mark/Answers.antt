@@ -1,4 +1,5 @@
-use borrow.Author.Tests.{lt-leb, le-leb}
+use Rattle.std.proofs.Common.{le-leb}
+use Rattle.std.proofs.lemmas.Bool.{lt-leb}
 use Rattle.book.proofs.amounts.units.of_mark.Goals as goal
 
 pub returns-then-row-lt-LIVE_UNIT : goal.returns-then-row-lt-LIVE_UNIT

@@ -1,4 +1,4 @@
-use mathlib.Core.Path.{refl}
+use Rattle.std.proofs.Common.{refl}
 use Rattle.book.proofs.amounts.whole_day.Lemmas.{hour-made}
 use Rattle.book.proofs.amounts.whole_day.hour_of.Goals as goal
 

@@ -1,4 +1,4 @@
-use mathlib.Core.Path.{ap}
+use Rattle.std.proofs.Common.{ap}
 use Rattle.book.specs.Layer.{Name, no_ticks}
 use Rattle.book.proofs.amounts.whole_day.no_unit.Goals as goal
 

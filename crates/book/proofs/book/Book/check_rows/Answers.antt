@@ -1,5 +1,3 @@
-use mathlib.Core.Path.{sym}
-use lib.Seq.{length-take-le}
 use Rattle.book.proofs.book.Rows.{rowed-by}
 use Rattle.book.specs.laws.LoadLaws.{load-short, load-long}
 use Rattle.book.proofs.log.replay.Lemmas.{mismatched-rowed}
@@ -8,9 +6,6 @@ use Rattle.book.proofs.book.Book.check_rows.Goals as goal
 pub returns-then-log-used : goal.returns-then-log-used
 returns-then-log-used c =
     mismatched-rowed _ _ c.requires (load-short c.args.self c.args.log.now c.if-log-used.true)
-
-pub slice_bounds-replayed_rows-end : goal.slice_bounds-replayed_rows-end
-slice_bounds-replayed_rows-end c = sym (length-take-le _ _ c.if-log-used.false)
 
 pub returns : goal.returns
 returns c =

@@ -1,25 +1,23 @@
-use Rattle.book.specs.Layer.{Any}
-use Rattle.book.proofs.log.checked.Lemmas.{only-back, only-close, only-record, only_none, makes-by}
+use mathlib.Core.Path.{subst⁻¹}
+use Rattle.book.specs.Layer.{Act, Any}
+use Rattle.book.specs.Register.{general}
+use Rattle.book.specs.tables.Checked.{Makes, key_in}
+use Rattle.book.proofs.log.checked.Lemmas.{only-back, only-close, only-record, makes-by}
 use Rattle.book.proofs.book.Book.checked_change.Goals as goal
 
-pub checked_enter-requires : goal.checked_enter-requires
-checked_enter-requires c = record { checked = c.requires.checked; since = c.requires.since; viewed = record { want = Any; change = (only-record c.requires.entry_of_view c.in-Record.is).1 } }
+pub checked_enter-requires-clause-viewed : goal.checked_enter-requires-clause-viewed
+checked_enter-requires-clause-viewed c = record { want = Any; change = (only-record c.requires.entry_of_act c.in-Change.is).1 }
 
-pub checked_enter-requires-in-Nothing : goal.checked_enter-requires-in-Nothing
-checked_enter-requires-in-Nothing c = only_none c.requires.entry_of_view c.in-Nothing.is
-
-pub returns-in-Record : goal.returns-in-Record
-returns-in-Record c =
-    let w = only-record c.requires.entry_of_view c.in-Record.is in makes-by w.0 (c.checked_enter.ensures Any w.1)
+pub returns-in-Change : goal.returns-in-Change
+returns-in-Change c =
+    let w = only-record c.requires.entry_of_act c.in-Change.is in
+    subst⁻¹ (λ (a : Act). Makes (general c.args.rec.now) c.args.self c.args.log.now (key_in a) c.checked_enter.result c.checked_enter.new.log
+    c.checked_enter.new.rows) c.in-Change.is (makes-by w.0 (c.checked_enter.ensures Any w.1))
 
 pub returns-in-TakeBack : goal.returns-in-TakeBack
 returns-in-TakeBack c =
-    makes-by (only-back c.requires.entry_of_view c.in-TakeBack.is) (c.checked_take_back.ensures _)
+    makes-by (only-back c.requires.entry_of_act c.in-TakeBack.is) (c.checked_take_back.ensures _)
 
 pub returns-in-Close : goal.returns-in-Close
 returns-in-Close c =
-    makes-by (only-close c.requires.entry_of_view c.in-Close.is) (c.checked_close.ensures _ _ _ c.requires.checked)
-
-pub returns-in-Nothing : goal.returns-in-Nothing
-returns-in-Nothing c =
-    only_none c.requires.entry_of_view c.in-Nothing.is
+    makes-by (only-close c.requires.entry_of_act c.in-Close.is) (c.checked_close.ensures _ _ _ c.requires.checked)

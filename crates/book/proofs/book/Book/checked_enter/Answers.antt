@@ -59,5 +59,5 @@ overflow_add-self-2 c =
 pub returns : goal.returns
 returns c =
     λ want r. makes-listed c.requires.checked r c.if-self.false c.requires.since c.find_in-s.ensures c.count_in-count.ensures
-    c.limit_of-most.ensures c.change_fault-refusal.ensures c.if-refusal-ne0.false c.hour_slot-hour.ensures.0 c.put_viewed.ensures.1
+    c.limit_of-most.ensures c.change_fault-refusal.ensures c.if-refusal-ne0.false c.hour_slot-hour.ensures.0 c.put_viewed.ensures.log_after
     c.clear_row.ensures c.row_for-row.ensures

@@ -1,21 +1,18 @@
-use mathlib.Core.Path.{sym, ap, ◌∙◌}
-use Rattle.records.specs.Changes.{no_key}
+use Rattle.std.proofs.Common.{sym, ap}
+use Rattle.book.specs.Layer.{no_key}
 use Rattle.book.specs.Register.{closing}
-use Rattle.book.proofs.book.Lemmas.{leaves-16}
-use Rattle.book.proofs.book.Rows.{is-rowed, not-rowed}
+use Rattle.book.specs.laws.LayerLaws.{number-some}
+use Rattle.book.proofs.book.Lemmas.{refused-so}
+use Rattle.book.proofs.book.Rows.{is-rowed}
 use Rattle.book.proofs.log.checked.Lemmas.{checked-from, close-refused, makes-by}
 use Rattle.book.proofs.book.Book.close.Goals as goal
 
-pub returns-then-m-ne0 : goal.returns-then-m-ne0
-returns-then-m-ne0 c =
-    close-refused c.args.self c.args.log.now (is-rowed _ _ c.check_rows.ensures c.if-check_rows.true) c.args.rec.now
-    c.parse_close-m.ensures c.if-m-ne0.true
-
-pub returns-then-check_rows : goal.returns-then-check_rows
-returns-then-check_rows c =
-    (makes-by (ap closing (sym c.parse_close-m.ensures ∙ c.if-m-ne0.false))
+pub returns-in-Ok : goal.returns-in-Ok
+returns-in-Ok c =
+    (makes-by (ap closing (sym c.in-Ok.ensures))
     (c.checked_close.ensures _ _ no_key (checked-from _ _ c.check_rows.ensures c.if-check_rows.true))).leaves
 
-pub returns : goal.returns
-returns c =
-    leaves-16 _ c.args.self c.args.log.now (not-rowed _ _ c.check_rows.ensures c.if-check_rows.false)
+pub returns-in-Err : goal.returns-in-Err
+returns-in-Err c =
+    refused-so c.refused.ensures (close-refused c.args.self c.args.log.now (is-rowed _ _ c.check_rows.ensures c.if-check_rows.true) c.args.rec.now
+    c.in-Err.ensures (number-some c.in-Err.fault))

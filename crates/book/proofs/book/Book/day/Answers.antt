@@ -1,6 +1,4 @@
-use lib.ListN.{length}
-use mathlib.Core.Path.{◌≡◌, ◌∙◌, ap}
-use borrow.Author.Rules.{rules}
+use Rattle.std.proofs.Common.{length, ◌≡◌, ◌∙◌, ap, rules}
 use Rattle.book.specs.Layer.{Key}
 use Rattle.book.specs.Amounts.{price_of}
 use Rattle.book.specs.Meaning.{load}

@@ -1,5 +1,4 @@
-use mathlib.Core.List.{[]}
-use mathlib.Core.Path.{sym, ap}
+use Rattle.std.proofs.Common.{[], sym, ap}
 use Rattle.book.proofs.book.Rows.{is-rowed, not-rowed, rowed-log, rowed-logged}
 use Rattle.book.specs.Meaning.{load}
 use Rattle.book.specs.UnitNames.{unit_names, names_in}

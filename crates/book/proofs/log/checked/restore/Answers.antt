@@ -1,7 +1,6 @@
 use mathlib.Core.Path.{sym, ◌∙◌}
-use lib.Seq.{length-take-le}
 use native.Mathlib.Omega.{arith}
-use Rattle.book.proofs.log.checked.Restoring.{restored, back-rows, undoing, newest-few, newest-within, wrote-few}
+use Rattle.book.proofs.log.checked.Restoring.{restored, back-rows, undoing, newest-few, newest-within, newest-read, newest-able, wrote-few}
 use Rattle.book.proofs.log.checked.restore.Goals as goal
 
 pub offset_bounds-rows-n : goal.offset_bounds-rows-n
@@ -22,45 +21,43 @@ pub slice_bounds-head_key-start : goal.slice_bounds-head_key-start
 slice_bounds-head_key-start c =
     omega (arith, newest-within c.requires.log_rows c.requires.some_row c.start_in-start.ensures.0)
 
-pub slice_bounds-bytes-end : goal.slice_bounds-bytes-end
-slice_bounds-bytes-end c = c.name_head-h.ensures.few
+-- the row is of a change that is written there
+pub returns-in_default : goal.returns-in_default
+returns-in_default c =
+    absurd (newest-read c.requires.log_rows c.requires.some_row c.start_in-start.ensures.0 c.in_default.ensures)
 
-pub slice_bounds-written_before-end : goal.slice_bounds-written_before-end
-slice_bounds-written_before-end c =
-    sym (length-take-le c.name_head-h.result.len c.name_head-h.result.bytes c.name_head-h.ensures.few)
+-- and a change that is written has a name
+pub returns-in_default-name_head : goal.returns-in_default-name_head
+returns-in_default-name_head c =
+    absurd (newest-able c.requires.log_rows c.requires.some_row c.start_in-start.ensures.0 c.in-Ok.ensures c.in_default-name_head.ensures)
 
 pub offset_bounds-rows-at : goal.offset_bounds-rows-at
 offset_bounds-rows-at c =
     omega (
       arith,
       wrote-few c.requires.log_rows c.requires.some_row (λ d l g. c.written_before-at.ensures d l (undoing g c.kind_in.ensures
-          (sym c.is_filing.ensures ∙ c.if-is_filing.false) c.start_in-start.ensures.0 c.head_key-a.ensures c.hour_slot-slot.ensures.0
-          c.name_head-h.ensures)),
+          (sym c.is_filing.ensures ∙ c.if-is_filing.false) c.start_in-start.ensures.0 c.in-Ok.ensures c.hour_slot.ensures.0 c.in-Some.ensures.1)),
     )
 
 pub bounds-rows-at : goal.bounds-rows-at
 bounds-rows-at c =
     wrote-few c.requires.log_rows c.requires.some_row (λ d l g. c.written_before-at.ensures d l (undoing g c.kind_in.ensures
-    (sym c.is_filing.ensures ∙ c.if-is_filing.false) c.start_in-start.ensures.0 c.head_key-a.ensures c.hour_slot-slot.ensures.0
-    c.name_head-h.ensures))
+    (sym c.is_filing.ensures ∙ c.if-is_filing.false) c.start_in-start.ensures.0 c.in-Ok.ensures c.hour_slot.ensures.0 c.in-Some.ensures.1))
 
 pub offset_bounds-rows-at-2 : goal.offset_bounds-rows-at-2
 offset_bounds-rows-at-2 c =
     omega (
       arith,
       wrote-few c.requires.log_rows c.requires.some_row (λ d l g. c.written_before-at.ensures d l (undoing g c.kind_in.ensures
-          (sym c.is_filing.ensures ∙ c.if-is_filing.false) c.start_in-start.ensures.0 c.head_key-a.ensures c.hour_slot-slot.ensures.0
-          c.name_head-h.ensures)),
+          (sym c.is_filing.ensures ∙ c.if-is_filing.false) c.start_in-start.ensures.0 c.in-Ok.ensures c.hour_slot.ensures.0 c.in-Some.ensures.1)),
     )
 
 pub bounds-rows-at-2 : goal.bounds-rows-at-2
 bounds-rows-at-2 c =
     wrote-few c.requires.log_rows c.requires.some_row (λ d l g. c.written_before-at.ensures d l (undoing g c.kind_in.ensures
-    (sym c.is_filing.ensures ∙ c.if-is_filing.false) c.start_in-start.ensures.0 c.head_key-a.ensures c.hour_slot-slot.ensures.0
-    c.name_head-h.ensures))
+    (sym c.is_filing.ensures ∙ c.if-is_filing.false) c.start_in-start.ensures.0 c.in-Ok.ensures c.hour_slot.ensures.0 c.in-Some.ensures.1))
 
 pub returns : goal.returns
 returns c =
     restored c.requires.rows_whole c.written_before-at.result (λ d l g. c.written_before-at.ensures d l (undoing g c.kind_in.ensures
-    (sym c.is_filing.ensures ∙ c.if-is_filing.false) c.start_in-start.ensures.0 c.head_key-a.ensures c.hour_slot-slot.ensures.0
-    c.name_head-h.ensures))
+    (sym c.is_filing.ensures ∙ c.if-is_filing.false) c.start_in-start.ensures.0 c.in-Ok.ensures c.hour_slot.ensures.0 c.in-Some.ensures.1))

@@ -1,28 +1,19 @@
+use Prim.Native.Nat.{ℕ}
+use mathlib.Core.Path.{◌≡◌, ◌∙◌}
+use mathlib.Core.Bool.{◌&&◌}
+use lib.Dec.{eqb}
+use lib.ListN.{take}
+use borrow.Author.Rules.{rules}
 use native.Mathlib.Omega.{arith}
-use Rattle.book.proofs.log.rows.Lemmas.{counting-start, counting-room, counting-next, counting-end}
+use Rattle.std.specs.List.{count_by}
+use Rattle.book.specs.tables.Rows.{row_live, row_slot}
+use Rattle.book.proofs.log.rows.Lemmas.{ruled-most, counted-all}
 use Rattle.book.proofs.log.rows.count_in.Goals as goal
 
-pub loop-i-init : goal.loop-i-init
-loop-i-init c = counting-start _ _ _
-
-pub offset_bounds-rows-i : goal.offset_bounds-rows-i
-offset_bounds-rows-i c = omega (arith, (counting-room c.loop-i.invariant c.requires c.loop-i-test.true).0)
-
-pub bounds-rows-i : goal.bounds-rows-i
-bounds-rows-i c = (counting-room c.loop-i.invariant c.requires c.loop-i-test.true).0
-
-pub counted-sum-requires : goal.counted-sum-requires
-counted-sum-requires c = (counting-room c.loop-i.invariant c.requires c.loop-i-test.true).1
-
-pub overflow_add-i : goal.overflow_add-i
-overflow_add-i c =
-    omega (arith, (counting-room c.loop-i.invariant c.requires c.loop-i-test.true).0)
-
-pub loop-i-smaller : goal.loop-i-smaller
-loop-i-smaller c = omega (arith, c.loop-i-test.true)
-
-pub loop-i-preserved : goal.loop-i-preserved
-loop-i-preserved c = counting-next c.loop-i.invariant c.loop-i-test.true _ c.counted-sum.ensures
+pub shared_ref_as_front-iter : goal.shared_ref_as_front-iter
+shared_ref_as_front-iter c = ruled-most c.requires.ruled
 
 pub returns : goal.returns
-returns c = counting-end c.loop-i.invariant c.loop-i-test.false c.args.key c.hour_slot-slot.ensures.0
+returns c = λ l r hk.
+    let e : c.count.result ≡ count_by (λ (row : ℕ). row_live row && eqb (row_slot row) c.hour_slot-slot.result) (take c.args.n c.args.rows.now) = search rules in
+    e ∙ counted-all r (omega (arith, ruled-most r)) c.args.key c.hour_slot-slot.ensures.0 hk

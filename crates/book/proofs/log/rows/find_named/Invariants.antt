@@ -1,8 +1,5 @@
 use Rattle.book.proofs.log.rows.Lemmas.{Seeking}
 use Rattle.book.proofs.log.rows.find_named.Given as goal
 
-abbrev pub invariant-loop-i : goal.invariant-loop-i
-invariant-loop-i l = Seeking l.log l.rows l.n l.from l.slot l.name l.i
-
-abbrev pub decreases-loop-i : goal.decreases-loop-i
-decreases-loop-i l = l.i
+abbrev pub invariant-loop-j : goal.invariant-loop-j
+invariant-loop-j l = Seeking l.log l.rows l.n l.from l.slot l.name l.j

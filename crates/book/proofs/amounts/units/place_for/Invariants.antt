@@ -1,10 +1,6 @@
-use Prim.Native.Nat.{◌-◌}
 use Rattle.book.specs.ByName.{add_name}
 use Rattle.book.specs.laws.Inserting.{Sought}
-use Rattle.book.proofs.amounts.units.position_of.Given as goal
+use Rattle.book.proofs.amounts.units.place_for.Given as goal
 
 abbrev pub invariant-loop-i : goal.invariant-loop-i
 invariant-loop-i l = Sought (add_name l.name) l.u.names l.u.n l.i
-
-abbrev pub decreases-loop-i : goal.decreases-loop-i
-decreases-loop-i l = l.n - l.i

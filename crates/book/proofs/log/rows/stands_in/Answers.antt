@@ -1,8 +1,0 @@
-use borrow.Author.Tests.{lt-leb, le-leb}
-use Rattle.book.proofs.log.rows.stands_in.Goals as goal
-
-pub returns-then-row-lt-LIVE_UNIT : goal.returns-then-row-lt-LIVE_UNIT
-returns-then-row-lt-LIVE_UNIT c = simp (lt-leb 134217728 _ c.if-row-lt-LIVE_UNIT.true)
-
-pub returns : goal.returns
-returns c = simp (le-leb 134217728 _ c.if-row-lt-LIVE_UNIT.false)
