@@ -1,2 +1,3 @@
-pub mod Tell
-pub mod Changes
+pub mod Amounts
+pub mod Credits
+pub mod Names

@@ -1,18 +1,20 @@
 -- What the exported functions answer and what they leave in the places that are lent to them. Assumes nothing.
-use Rattle.std.specs.Prelude.{◌≡◌, Bool, false, cond, not, ◌||◌, List, [], ◌∷◌, ℕ, ◌+◌, ◌*◌, ◌%◌, ltb, eqb, ℤ, length, get_or, set, take}
+use Rattle.std.specs.Prelude.{◌≡◌, Bool, true, false, cond, not, ◌||◌, List, [], ◌∷◌, ℕ, ◌+◌, ◌*◌, ◌%◌, ltb, eqb, ℤ, length, get_or, set, take}
 use Rattle.laws.specs.Sums.{or_else}
 use Rattle.money.specs.Names.{decoded_bytes, name_before, same_name}
 use Rattle.money.specs.Refusals.{ends_early, mark_unknown, not_together}
 use Rattle.money.specs.declared.names.Name.{Name}
-use Rattle.money.specs.declared.units.Answer.{Answer}
-use Rattle.money.specs.declared.units.Answer.TheVariants.{Amount, Refused}
-use Rattle.records.specs.Names.{decode_name, stored_name, spelling_of}
-use Rattle.records.specs.Keys.{name_answer}
+use Rattle.money.specs.Answers.{Answer, Amount, Refused}
+use Rattle.records.specs.Names.{decode_name, stored_name, empty_name}
 use Rattle.records.specs.declared.marks.Mark.TheVariants.{Pr, Im, Gh, Fi, Fe}
 use Rattle.records.specs.Marks.{mark_bytes}
 use Rattle.records.specs.Views.{prices_in}
+use Rattle.records.specs.declared.layouts.HourPrices.{HourPrices}
 use Rattle.records.specs.Amounts.{credit_in, unit_amount_in, charge_in}
-use Rattle.records.specs.Changes.{begins, is_record, parsed_of, parse, parse_any, entry_of, put_number, put_bytes, bare, take_back_bytes, close_bytes}
+use Rattle.records.specs.Changes.{begins, write, Entry, changed, taking_back, closing, Input, fine, fault, parse, parse_any, put_number, put_bytes, bare, take_back_bytes, close_bytes}
+use Rattle.records.specs.Answers.{input_of, spelling_of}
+use Rattle.records.specs.declared.names.Spelling.{Spelling}
+use Rattle.records.specs.declared.parse.Front.{Front}
 use Rattle.records.specs.declared.marks.Kind.TheVariants.{File, Correct, Withdraw}
 use Rattle.records.specs.declared.marks.Wanted.{Wanted}
 use Rattle.records.specs.declared.marks.Wanted.TheVariants.{Any, Only}
@@ -39,37 +41,66 @@ told n x row = cond (eqb n 0) (stored row 0 x) row
 
 -- ---- records
 
+-- the number of what was read, 0 where it has no fault
+abbrev pub fault_of : {A : Type 0} → Input A → ℕ
+fault_of (fine x) = 0
+fault_of (fault n) = n
+
+-- and what it is, d where it has one
+abbrev pub fine_or : {A : Type 0} → A → Input A → A
+fine_or d (fine x) = x
+fine_or d (fault n) = d
+
 -- a spelled name: 4 where it has a fault
 abbrev pub name_fault : List ℕ → ℕ
-name_fault s = (name_answer (stored_name (decode_name s))).number
+name_fault s = fault_of (input_of (stored_name (decode_name s)))
 
 -- and the name that it spells
 abbrev pub name_in : List ℕ → Name
-name_in s = (name_answer (stored_name (decode_name s))).name
+name_in s = fine_or empty_name (input_of (stored_name (decode_name s)))
+
+-- the place where the first of several changes ends
+abbrev pub end_in : Input Front → ℕ
+end_in (fine f) = f.end
+end_in (fault n) = 0
+
+-- the written length of a change
+abbrev pub size_in : Input Change → ℕ
+size_in (fine c) = length (write c)
+size_in (fault n) = 0
 
 -- two spelled names: 4, of the first or of the second
 abbrev pub compare_fault : List ℕ → List ℕ → ℕ
 compare_fault a b = or_else (name_fault a) (name_fault b)
 
 -- by their decoded bytes: 0 before, 1 the same, 2 after
+abbrev pub order : Name → Name → ℕ
+order x y = cond (name_before (decoded_bytes x) (decoded_bytes y)) 0 (cond (same_name x y) 1 2)
+
 abbrev pub order_of : List ℕ → List ℕ → ℕ
-order_of a b = cond (name_before (decoded_bytes (name_in a)) (decoded_bytes (name_in b))) 0 (cond (same_name (name_in a) (name_in b)) 1 2)
+order_of a b = order (name_in a) (name_in b)
 
 -- whether a change that was read is `TB` or `CL`, which have no written form
+abbrev pub alone_in : Input Entry → Bool
+alone_in (fine (changed c)) = false
+alone_in (fine taking_back) = true
+alone_in (fine closing) = true
+alone_in (fault n) = true
+
 abbrev pub alone : List ℕ → Bool
-alone s = not (is_record (entry_of (parse_any s)).view.act)
+alone s = alone_in (parse_any s)
 
 -- a change of any mark, written at the start of d: its number
 abbrev pub any_fault : List ℕ → List ℕ → ℕ
-any_fault s d = or_else (entry_of (parse_any s)).number (cond (alone s) 0 (put_number (parse Any s) 0 d))
+any_fault s d = or_else (fault_of (parse_any s)) (cond (alone s) 0 (put_number (parse Any s) 0 d))
 
 -- what is then in d
 abbrev pub any_bytes : List ℕ → List ℕ → List ℕ
-any_bytes s d = cond (eqb (entry_of (parse_any s)).number 0) (cond (alone s) d (put_bytes (parse Any s) 0 d)) d
+any_bytes s d = cond (eqb (fault_of (parse_any s)) 0) (cond (alone s) d (put_bytes (parse Any s) 0 d)) d
 
 -- and the length told: of `TB` and `CL` 0
 abbrev pub any_size : List ℕ → ℕ
-any_size s = cond (alone s) 0 (parsed_of (parse Any s)).view.len
+any_size s = cond (alone s) 0 (size_in (parse Any s))
 
 -- what a method's number asks for, by its last two bits: 1 filing, 2 `CO`, 3 `WD`, 0 any of these
 unfoldable pub wanted_by : ℕ → Wanted
@@ -86,7 +117,7 @@ write_bytes m s d = cond (eqb m 0) (any_bytes s d) (cond (eqb m 4) d (cond (eqb 
 
 -- and the length told
 abbrev pub write_size : ℕ → List ℕ → ℕ
-write_size m s = cond (eqb m 0) (any_size s) (cond (eqb m 4) 0 (cond (eqb m 5) 0 (parsed_of (parse (wanted_by m) s)).view.len))
+write_size m s = cond (eqb m 0) (any_size s) (cond (eqb m 4) 0 (cond (eqb m 5) 0 (size_in (parse (wanted_by m) s))))
 
 -- ---- the book
 
@@ -165,8 +196,12 @@ amounts_told (unit_day t v) row = stored (stored row 0 t) 1 v
 amounts_told (charge t) row = stored row 0 t
 
 -- the bytes of a name as it is written
+abbrev pub spelled_in : Input Spelling → List ℕ
+spelled_in (fine s) = take s.len s.bytes
+spelled_in (fault n) = []
+
 abbrev pub spelled_bytes : Name → List ℕ
-spelled_bytes n = take (spelling_of n).len (spelling_of n).bytes
+spelled_bytes n = spelled_in (spelling_of n)
 
 -- the record of an hour's import, asked for by its name
 unfoldable pub import_place : Book → List ℕ → ℕ → Name → Reply
@@ -220,17 +255,20 @@ hour_amounts (charge t) row = row
 
 -- bytes that must be a record, of a mark that has been tested: the number of what is wrong with them
 abbrev pub filing_fault : List ℕ → Bool → ℕ
-filing_fault s marked = cond (ltb (length s) 2) ends_early (cond marked (parsed_of (parse (Only File) s)).number mark_unknown)
+filing_fault s marked = cond (ltb (length s) 2) ends_early (cond marked (fault_of (parse (Only File) s)) mark_unknown)
 
 -- an `IM`, `GH`, `FI` or `FE`
 abbrev pub has_amount : List ℕ → Bool
 has_amount s = begins (mark_bytes Im) s || (begins (mark_bytes Gh) s || (begins (mark_bytes Fi) s || begins (mark_bytes Fe) s))
 
 -- its amount at the prices of a `PR`, by its mark
+abbrev pub amount_at : HourPrices → List ℕ → Answer
+amount_at p s =
+    cond (begins (mark_bytes Im) s) (credit_in s p) (cond (begins (mark_bytes Gh) s) (unit_amount_in s p)
+    (cond (begins (mark_bytes Fi) s) (charge_in Fi s p) (charge_in Fe s p)))
+
 abbrev pub amount_in : List ℕ → List ℕ → Answer
-amount_in p s =
-    cond (begins (mark_bytes Im) s) (credit_in s (prices_in p)) (cond (begins (mark_bytes Gh) s) (unit_amount_in s (prices_in p))
-    (cond (begins (mark_bytes Fi) s) (charge_in Fi s (prices_in p)) (charge_in Fe s (prices_in p))))
+amount_in p s = amount_at (prices_in p) s
 
 -- an amount is no refusal
 abbrev pub answer_fault : Answer → ℕ

@@ -3,15 +3,17 @@
 // refusal what stood there.
 #![tactic(auto)]
 
-ghost use Rattle.std.specs.Prelude.{◌≡◌, ◌+◌, ◌≤◌, cond, eqb, take};
-ghost use Rattle.records.specs.Changes.{parse, parsed_of, put_number, put_bytes, entry, front_of};
+ghost use Rattle.std.specs.Prelude.{◌≡◌, ◌+◌, ◌≤◌, cond, eqb, take, IfOk};
+ghost use Rattle.money.specs.Answers.{Amount, answer_of, fault_in};
+ghost use Rattle.records.specs.Changes.{parse, put_number, put_bytes, entry};
+ghost use Rattle.records.specs.Answers.{front_of};
 ghost use Rattle.book.specs.Register.{record_of, count_of, free_bytes, hour_guarantees, day_of, failure_charge};
 ghost use Rattle.book.specs.Meaning.{reply_of, guarantees_reply, day_reply};
 ghost use Rattle.book.specs.Replies.{replied};
 ghost use Rattle.book.specs.Handed.{max_credits};
 ghost use Rattle.demands.specs.Script.{change_of};
-ghost use Rattle.bridge.specs.Bridge.{stored, told, compare_fault, order_of, any_fault, any_size, any_bytes, write_fault, write_size, write_bytes, wanted_by};
-ghost use Rattle.bridge.specs.Bridge.{filing_fault, has_amount, amount_in, answer_fault, amount_fault, ticks_told, amount_told};
+ghost use Rattle.bridge.specs.Bridge.{stored, told, fault_of, end_in, size_in, order, compare_fault, order_of, any_fault, any_size, any_bytes, write_fault, write_size, write_bytes, wanted_by};
+ghost use Rattle.bridge.specs.Bridge.{filing_fault, has_amount, amount_at, amount_in, amount_fault, amount_told};
 ghost use Rattle.bridge.specs.Bridge.{no_book, book_from, book_in, flag_of, handed_back, method_in, hour_in, Changed};
 ghost use Rattle.bridge.specs.Bridge.{asked, sizes_told, amounts_told, import_place, place_told, credit_sizes, credits_sizes, credits_amounts, hour_sizes, hour_amounts};
 ghost use Rattle.bridge.specs.Bridge.{feed_in, feed_state, feed_sizes, FeedBytes, statement_in, pages_in};
@@ -20,16 +22,16 @@ use book::answers::{Answer as Said, Credits, Guarantees, NamedAmount, UnitDay, r
 use book::book::Book;
 use book::feed::feed;
 use demands::make_change;
-use money::names::{Name, name_before, same_name};
-use money::refusals::{ENDS_EARLY, MARK_UNKNOWN};
-use money::units::{Answer, Ticks};
+use money::names::Name;
+use money::refusals::Refusal;
+use money::units::Ticks;
 use records::amounts::{failure_charge, import_credit, unit_amount};
 use records::keys::ask_name;
+use records::layouts::HourPrices;
 use records::leads::begins_with;
 use records::marks::{Kind, Mark, Wanted};
 use records::names::spell_name;
-use records::parse::{first_change, parse_any, parse_change, parse_close, parse_take_back};
-use records::scan::is_record;
+use records::parse::{Act, first_change, parse_any, parse_change, parse_close, parse_take_back};
 use records::views::prices_of;
 use records::writing::put;
 use statement::day::{Written, statement};
@@ -79,25 +81,22 @@ fn set_amount(amounts: &mut [i64], i: usize, t: Ticks)
 fn write_change(want: Wanted, bytes: &[u8], out: &mut [u8], sizes: &mut [u64]) -> u32
     ensures value { result ≡ put_number (parse want bytes.now) 0 out.old }
     ensures out_after { out.new ≡ put_bytes (parse want bytes.now) 0 out.old }
-    ensures sizes_after { sizes.new ≡ told result (parsed_of (parse want bytes.now)).view.len sizes.old }
+    ensures sizes_after { sizes.new ≡ told result (size_in (parse want bytes.now)) sizes.old }
 {
-    let p = parse_change(bytes, want);
-    let v = p.view;
-    let len = v.len;
-    let n = put(out, 0, bytes, want);
-    if n != 0 {
-        return n as u32;
+    let len = parse_change(bytes, want).map_or(0, |view| view.len);
+    if let Err(refusal) = put(out, 0, bytes, want) {
+        return refusal.number() as u32;
     }
     set(sizes, 0, len as u64);
     0
 }
 
-fn mark_alone(number: u8, sizes: &mut [u64]) -> u32
-    ensures value { result ≡ number }
+fn mark_alone(read: Result<(), Refusal>, sizes: &mut [u64]) -> u32
+    ensures value { result ≡ fault_in read }
     ensures sizes_after { sizes.new ≡ told result 0 sizes.old }
 {
-    if number != 0 {
-        return number as u32;
+    if let Err(refusal) = read {
+        return refusal.number() as u32;
     }
     set(sizes, 0, 0);
     0
@@ -108,19 +107,15 @@ fn write_any(bytes: &[u8], out: &mut [u8], sizes: &mut [u64]) -> u32
     ensures out_after { out.new ≡ any_bytes bytes.now out.old }
     ensures sizes_after { sizes.new ≡ told result (any_size bytes.now) sizes.old }
 {
-    let p = parse_any(bytes);
-    let n = p.number;
-    if n != 0 {
-        return n as u32;
+    match parse_any(bytes) {
+        Ok(Act::Change(_)) => write_change(Wanted::Any, bytes, out, sizes),
+        Ok(Act::TakeBack | Act::Close) => mark_alone(Ok(()), sizes),
+        Err(refusal) => refusal.number() as u32,
     }
-    let v = p.view;
-    if !is_record(v) {
-        return mark_alone(0, sizes);
-    }
-    write_change(Wanted::Any, bytes, out, sizes)
 }
 
 // What a method's number asks for, by its last two bits.
+#[tactic(auto, unfolding(crate::specs::Bridge::wanted_by))]
 fn wanted_by(method: u32) -> Wanted
     ensures { result ≡ wanted_by method }
 {
@@ -164,110 +159,106 @@ pub extern "C" fn pewatuno_write(
 // Where the change ends that the bytes begin with.
 #[unsafe(no_mangle)]
 pub extern "C" fn pewatuno_next(bytes: &[u8], sizes: &mut [u64]) -> u32
-    ensures value { result ≡ (front_of bytes.now (entry bytes.now)).number }
-    ensures sizes_after { sizes.new ≡ told result (front_of bytes.now (entry bytes.now)).end sizes.old }
+    ensures value { result ≡ fault_of (front_of bytes.now (entry bytes.now)) }
+    ensures sizes_after { sizes.new ≡ told result (end_in (front_of bytes.now (entry bytes.now))) sizes.old }
 {
-    let f = first_change(bytes);
-    let n = f.number;
-    if n != 0 {
-        return n as u32;
+    match first_change(bytes) {
+        Ok(front) => {
+            set(sizes, 0, front.end as u64);
+            0
+        }
+        Err(refusal) => refusal.number() as u32,
     }
-    let end = f.end;
-    set(sizes, 0, end as u64);
-    0
 }
 
 // 0 before, 1 same, 2 after.
-fn order_of(a: &[u8], b: &[u8]) -> u64
-    ensures { result ≡ order_of a.now b.now }
+#[tactic(auto, using(crate::proofs::Names::orders))]
+fn order_of(a: Name, b: Name) -> u64
+    ensures { result ≡ order a b }
 {
-    let x = ask_name(a).name;
-    let y = ask_name(b).name;
-    if name_before(x, y) {
-        return 0;
+    if a < b {
+        0
+    } else if a == b {
+        1
+    } else {
+        2
     }
-    if same_name(x, y) {
-        return 1;
-    }
-    2
 }
 
 // Two spelled names, by their decoded bytes.
+fn compare(a: &[u8], b: &[u8]) -> Result<u64, Refusal>
+    ensures fault { fault_in result ≡ compare_fault a.now b.now }
+    ensures value { IfOk result (λ n. n ≡ order_of a.now b.now) }
+{
+    let a = ask_name(a)?;
+    let b = ask_name(b)?;
+    Ok(order_of(a, b))
+}
+
+// The same for a program in another language.
 #[unsafe(no_mangle)]
 pub extern "C" fn pewatuno_compare(a: &[u8], b: &[u8], sizes: &mut [u64]) -> u32
     ensures value { result ≡ compare_fault a.now b.now }
     ensures sizes_after { sizes.new ≡ told result (order_of a.now b.now) sizes.old }
 {
-    let m = ask_name(a).number;
-    if m != 0 {
-        return m as u32;
+    match compare(a, b) {
+        Ok(order) => {
+            set(sizes, 0, order);
+            0
+        }
+        Err(refusal) => refusal.number() as u32,
     }
-    let n = ask_name(b).number;
-    if n != 0 {
-        return n as u32;
-    }
-    set(sizes, 0, order_of(a, b));
-    0
 }
 
 // ---- amounts of single records
 
-// The fault of bytes that must be a record, of a mark that has been tested.
-fn filing_fault(bytes: &[u8], marked: bool) -> u32
-    ensures { result ≡ filing_fault bytes.now marked }
+// Whether bytes are a record, of a mark that has been tested.
+fn check_filing(bytes: &[u8], marked: bool) -> Result<(), Refusal>
+    ensures { fault_in result ≡ filing_fault bytes.now marked }
 {
     if bytes.len() < 2 {
-        return ENDS_EARLY as u32;
+        return Err(Refusal::EndsEarly);
     }
     if !marked {
-        return MARK_UNKNOWN as u32;
+        return Err(Refusal::MarkUnknown);
     }
-    parse_change(bytes, Wanted::Only(Kind::File)).number as u32
+    parse_change(bytes, Wanted::Only(Kind::File))?;
+    Ok(())
 }
 
 fn has_amount(bytes: &[u8]) -> bool
     ensures { result ≡ has_amount bytes.now }
 {
-    if begins_with(bytes, b'I', b'M') {
-        return true;
-    }
-    if begins_with(bytes, b'G', b'H') {
-        return true;
-    }
-    if begins_with(bytes, b'F', b'I') {
-        return true;
-    }
-    begins_with(bytes, b'F', b'E')
+    begins_with(bytes, b'I', b'M')
+        || begins_with(bytes, b'G', b'H')
+        || begins_with(bytes, b'F', b'I')
+        || begins_with(bytes, b'F', b'E')
 }
 
-fn amount_of(prices: &[u8], bytes: &[u8]) -> Answer
-    ensures { result ≡ amount_in prices.now bytes.now }
+fn amount_of(prices: HourPrices, bytes: &[u8]) -> Result<Ticks, Refusal>
+    ensures { answer_of result ≡ amount_at prices bytes.now }
 {
-    let read = prices_of(prices);
-    let p = read.prices;
     if begins_with(bytes, b'I', b'M') {
-        return import_credit(bytes, p);
+        return import_credit(bytes, prices);
     }
     if begins_with(bytes, b'G', b'H') {
-        return unit_amount(bytes, p);
+        return unit_amount(bytes, prices);
     }
     if begins_with(bytes, b'F', b'I') {
-        return failure_charge(bytes, Mark::Fi, p);
+        return failure_charge(bytes, Mark::Fi, prices);
     }
-    failure_charge(bytes, Mark::Fe, p)
+    failure_charge(bytes, Mark::Fe, prices)
 }
 
-fn tell_amount(amounts: &mut [i64], a: Answer) -> u32
-    ensures value { result ≡ answer_fault a }
-    ensures amounts_after { amounts.new ≡ ticks_told a amounts.old }
+// The amount of a record at the prices of a `PR`.
+#[tactic(auto, unfolding(crate::specs::Bridge::amount_fault))]
+fn amount(prices: &[u8], bytes: &[u8]) -> Result<Ticks, Refusal>
+    ensures fault { fault_in result ≡ amount_fault prices.now bytes.now }
+    ensures value { IfOk result (λ t. Amount t ≡ amount_in prices.now bytes.now) }
 {
-    match a {
-        Answer::Refused(n) => n as u32,
-        Answer::Amount(t) => {
-            set_amount(amounts, 0, t);
-            0
-        }
-    }
+    check_filing(prices, begins_with(prices, b'P', b'R'))?;
+    check_filing(bytes, has_amount(bytes))?;
+    amount_of(prices_of(prices)?, bytes)
 }
 
 // The credit of an IM, the amount of a GH without its start-up, the charge of an FI or FE, at the prices of a PR.
@@ -276,15 +267,13 @@ pub extern "C" fn pewatuno_amount(prices: &[u8], bytes: &[u8], amounts: &mut [i6
     ensures value { result ≡ amount_fault prices.now bytes.now }
     ensures amounts_after { amounts.new ≡ amount_told prices.now bytes.now amounts.old }
 {
-    let f = filing_fault(prices, begins_with(prices, b'P', b'R'));
-    if f != 0 {
-        return f;
+    match amount(prices, bytes) {
+        Ok(ticks) => {
+            set_amount(amounts, 0, ticks);
+            0
+        }
+        Err(refusal) => refusal.number() as u32,
     }
-    let g = filing_fault(bytes, has_amount(bytes));
-    if g != 0 {
-        return g;
-    }
-    tell_amount(amounts, amount_of(prices, bytes))
 }
 
 // ---- the book: its number of changes, its used bytes, and 0 where it is open
@@ -316,6 +305,7 @@ fn book_of(changes: u64, used: u64, closed: u64) -> Book
     }
 }
 
+#[tactic(auto, unfolding(crate::specs::Bridge::book_in))]
 fn book_in(state: &[u64]) -> Book
     ensures { result ≡ book_in state.now }
 {
@@ -388,7 +378,6 @@ fn tell_said(sizes: &mut [u64], a: Said) -> u32
 {
     match a {
         Said::Refused(n) => n as u32,
-        Said::Accepted => 0,
         Said::Place(start, len) => {
             set(sizes, 0, start as u64);
             set(sizes, 1, len as u64);
@@ -398,11 +387,12 @@ fn tell_said(sizes: &mut [u64], a: Said) -> u32
             set(sizes, 0, n as u64);
             0
         }
-        Said::Charge(_t) => 0,
+        Said::Accepted | Said::Charge(_) => 0,
     }
 }
 
 // The record of a key: where it starts, and its length.
+#[tactic(auto, unfolding(crate::specs::Bridge::asked))]
 #[unsafe(no_mangle)]
 pub extern "C" fn pewatuno_record(
     state: &[u64],
@@ -419,6 +409,7 @@ pub extern "C" fn pewatuno_record(
     tell_said(sizes, b.record_of(lent, mark, hour_of(hour), name))
 }
 
+#[tactic(auto, unfolding(crate::specs::Bridge::asked))]
 #[unsafe(no_mangle)]
 pub extern "C" fn pewatuno_count(
     state: &[u64],
@@ -434,6 +425,7 @@ pub extern "C" fn pewatuno_count(
     tell_said(sizes, b.count_of(lent, mark, hour_of(hour)))
 }
 
+#[tactic(auto, unfolding(crate::specs::Bridge::asked))]
 #[unsafe(no_mangle)]
 pub extern "C" fn pewatuno_free(state: &[u64], lent: &[u8], sizes: &mut [u64]) -> u32
     ensures value { result ≡ replied (asked free_bytes state.now lent.now) }
@@ -450,27 +442,21 @@ fn tell_place(i: usize, a: Said, sizes: &mut [u64])
     requires { i ≤ max_credits }
     ensures { sizes.new ≡ place_told i (reply_of a) sizes.old }
 {
-    match a {
-        Said::Refused(_n) => {}
-        Said::Accepted => {}
-        Said::Place(start, len) => {
-            set(sizes, 2 * i + 1, start as u64);
-            set(sizes, 2 * i + 2, len as u64);
-        }
-        Said::Number(_n) => {}
-        Said::Charge(_t) => {}
+    if let Said::Place(start, len) = a {
+        set(sizes, 2 * i + 1, start as u64);
+        set(sizes, 2 * i + 2, len as u64);
     }
 }
 
 // The record of an hour's import, by its decoded name.
+#[tactic(auto, using(crate::proofs::Names::spelled), unfolding(crate::specs::Bridge::import_place))]
 fn place_of(b: Book, lent: &[u8], hour: u8, name: Name) -> Said
     ensures { reply_of result ≡ import_place b lent.now hour name }
 {
-    let s = spell_name(name);
-    let n = s.len as usize;
-    let bytes = s.bytes;
-    let mark = [b'I', b'M'];
-    b.record_of(lent, &mark[..], hour, &bytes[..n])
+    match spell_name(name) {
+        Ok(s) => b.record_of(lent, b"IM", hour, &s.bytes[..s.len as usize]),
+        Err(_) => b.record_of(lent, b"IM", hour, b""),
+    }
 }
 
 // The place of an hour's import i, and its credit.
@@ -491,18 +477,15 @@ fn tell_credit(
     set_amount(amounts, i + 1, c.ticks);
 }
 
+#[tactic(auto, using(crate::proofs::Credits::all_told))]
 fn tell_credits(b: Book, lent: &[u8], hour: u8, a: Credits, sizes: &mut [u64], amounts: &mut [i64])
     requires { a.n ≤ max_credits }
     ensures sizes_after { sizes.new ≡ credits_sizes b lent.now hour 0 (take a.n a.list) (stored sizes.old 0 a.n) }
     ensures amounts_after { amounts.new ≡ credits_amounts 0 (take a.n a.list) amounts.old }
 {
-    let n = a.n;
-    set(sizes, 0, n as u64);
-    let mut i: usize = 0;
-    while i < n {
-        let c = a.list[i];
-        tell_credit(b, lent, hour, i, c, sizes, amounts);
-        i += 1;
+    set(sizes, 0, a.n as u64);
+    for (i, c) in a.list[..a.n].iter().enumerate() {
+        tell_credit(b, lent, hour, i, *c, sizes, amounts);
     }
 }
 
@@ -529,6 +512,7 @@ fn tell_guarantees(
 }
 
 // An hour's guarantees: the number of imports, then start and length of each; the offset, then each credit.
+#[tactic(auto, unfolding(crate::specs::Bridge::asked))]
 #[unsafe(no_mangle)]
 pub extern "C" fn pewatuno_guarantees(
     state: &[u64],
@@ -553,13 +537,11 @@ fn tell_amounts(amounts: &mut [i64], a: Said) -> u32
 {
     match a {
         Said::Refused(n) => n as u32,
-        Said::Accepted => 0,
-        Said::Place(_start, _len) => 0,
-        Said::Number(_n) => 0,
         Said::Charge(t) => {
             set_amount(amounts, 0, t);
             0
         }
+        Said::Accepted | Said::Place(..) | Said::Number(_) => 0,
     }
 }
 
@@ -577,6 +559,7 @@ fn tell_day(amounts: &mut [i64], d: UnitDay) -> u32
 }
 
 // A unit's day: its total, and the reversal.
+#[tactic(auto, unfolding(crate::specs::Bridge::asked))]
 #[unsafe(no_mangle)]
 pub extern "C" fn pewatuno_unit_day(
     state: &[u64],
@@ -592,6 +575,7 @@ pub extern "C" fn pewatuno_unit_day(
 }
 
 // The charge of a failure that stands.
+#[tactic(auto, unfolding(crate::specs::Bridge::asked))]
 #[unsafe(no_mangle)]
 pub extern "C" fn pewatuno_failure_charge(
     state: &[u64],
@@ -622,6 +606,7 @@ fn hand_back_fed(state: &mut [u64], count: u64, b: Book)
 
 // Takes records back to back, up to the first that is refused. How many were taken, and how many bytes, are told at a refusal too, and
 // the book is handed back if one was taken.
+#[tactic(auto, unfolding(crate::specs::Bridge::feed_in))]
 #[unsafe(no_mangle)]
 pub extern "C" fn pewatuno_feed(
     state: &mut [u64],
@@ -659,6 +644,7 @@ fn tell_written(sizes: &mut [u64], w: Written) -> u32
 }
 
 // The text of the statement, and its length.
+#[tactic(auto, unfolding(crate::specs::Bridge::statement_in))]
 #[unsafe(no_mangle)]
 pub extern "C" fn pewatuno_statement(
     state: &[u64],
@@ -675,6 +661,7 @@ pub extern "C" fn pewatuno_statement(
 }
 
 // The pages of the statement, and their length.
+#[tactic(auto, unfolding(crate::specs::Bridge::pages_in))]
 #[unsafe(no_mangle)]
 pub extern "C" fn pewatuno_pages(
     state: &[u64],

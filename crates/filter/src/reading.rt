@@ -6,7 +6,7 @@ ghost use Rattle.filter.specs.Reading.{counted, begun, is_over, waits, part, Rea
 
 use book::book::Book;
 use book::feed::{Fed, feed};
-use money::refusals::ENDS_EARLY;
+use money::refusals::{ENDS_EARLY, Refusal};
 use records::parse::first_change;
 
 // The most that is counted: 2^64 - 1.
@@ -26,29 +26,14 @@ pub struct Reading {
 pub(crate) fn plus(a: u64, b: u64) -> u64
     ensures { result ≡ counted (a + b) }
 {
-    if COUNT_MAX - a < b {
-        return COUNT_MAX;
-    }
-    a + b
-}
-
-fn least(a: usize, b: usize) -> usize
-    ensures { result ≡ min a b }
-{
-    if a < b {
-        return a;
-    }
-    b
+    a.saturating_add(b)
 }
 
 // The place behind the held bytes and n more, within so many.
 fn end_at(held: usize, n: usize, len: usize) -> usize
     ensures { result ≡ min (held + n) len }
 {
-    if len <= held {
-        return len;
-    }
-    held + least(n, len - held)
+    held.saturating_add(n).min(len)
 }
 
 // Whether the bytes up to a place are the beginning of a record, and no more.
@@ -59,8 +44,7 @@ fn waits_at(input: &[u8], end: usize) -> bool
     if end == 0 {
         return false;
     }
-    let f = first_change(&input[..end]);
-    f.number == ENDS_EARLY
+    matches!(first_change(&input[..end]), Err(Refusal::EndsEarly))
 }
 
 // Feeds the bytes up to a place.
@@ -76,17 +60,12 @@ fn to_front(bytes: &mut [u8], from: usize, end: usize) -> usize
     ensures { (bytes.new ≡ put bytes.old 0 (part from end bytes.old))
         × (result ≡ length (part from end bytes.old)) }
 {
-    let stop = least(end, bytes.len());
+    let stop = end.min(bytes.len());
     if stop <= from {
         return 0;
     }
-    let n = stop - from;
-    let mut i: usize = 0;
-    while i < n {
-        bytes[i] = bytes[from + i];
-        i = i + 1;
-    }
-    n
+    bytes.copy_within(from..stop, 0);
+    stop - from
 }
 
 impl Reading {

@@ -49,13 +49,9 @@ pub(crate) fn put_part(out: &mut [u8], at: usize, part: &[u8]) -> usize
     requires { at + length part.now ≤ length out.old }
     ensures { Writes out.old at part.now out.new result }
 {
-    let n = part.len();
-    let mut i: usize = 0;
-    while i < n {
-        out[at + i] = part[i];
-        i += 1;
-    }
-    at + n
+    let end = at + part.len();
+    out[at..end].copy_from_slice(part);
+    end
 }
 
 // Writes a text from the first lent byte on: 13 where it is longer than what is lent.

@@ -23,12 +23,9 @@ fn put_blanks(out: &mut [u8], at: usize, n: usize) -> usize
     requires { at + n ≤ length out.old }
     ensures { Writes out.old at (blanks n) out.new result }
 {
-    let mut i: usize = 0;
-    while i < n {
-        out[at + i] = b' ';
-        i += 1;
-    }
-    at + n
+    let end = at + n;
+    out[at..end].fill(b' ');
+    end
 }
 
 // A text that ends in the last of so many columns.
@@ -86,10 +83,8 @@ pub(crate) fn put_blank_lines(out: &mut [u8], at: usize, n: usize) -> usize
     ensures { Writes out.old at (blank_lines n) out.new result × (result ≡ at + line_size * n) }
 {
     let mut next = at;
-    let mut i: usize = 0;
-    while i < n {
+    for _ in 0..n {
         next = put_blank_line(out, next);
-        i += 1;
     }
     next
 }

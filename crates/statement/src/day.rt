@@ -44,11 +44,8 @@ fn put_hours(out: &mut [u8], c: Cursor, hours: [HourAmounts; HOURS]) -> Cursor
     ensures { SheetLines out.old c (max_hour_lines * day_hours) (lines_of_hours day_hours hours) out.new result }
 {
     let mut next = c;
-    let mut h: usize = 0;
-    while h < HOURS {
-        let a = hours[h];
-        next = put_hour(out, next, h as u8 + 1, a);
-        h += 1;
+    for (h, a) in hours.iter().enumerate() {
+        next = put_hour(out, next, h as u8 + 1, *a);
     }
     next
 }
@@ -59,11 +56,8 @@ fn put_units(out: &mut [u8], c: Cursor, units: [UnitAmounts; CHANGES_MAX], n: us
     ensures { SheetLines out.old c (max_unit_lines * n) (lines_of_units (take n units)) out.new result }
 {
     let mut next = c;
-    let mut i: usize = 0;
-    while i < n {
-        let u = units[i];
-        next = put_unit(out, next, u);
-        i += 1;
+    for u in &units[..n] {
+        next = put_unit(out, next, *u);
     }
     next
 }

@@ -55,15 +55,9 @@ fn put_credits(out: &mut [u8], c: Cursor, hour: u8, a: Credits) -> Cursor
     ensures { SheetLines out.old c a.n (map (line_of hour Iog) (take a.n a.list)) out.new result
         × (a.n ≡ length (take a.n a.list)) }
 {
-    let n = a.n;
     let mut next = c;
-    let mut i: usize = 0;
-    while i < n {
-        let x = a.list[i];
-        let name = x.name;
-        let ticks = x.ticks;
-        next = put_line(out, next, amount_line(hour, Kind::Iog, name, ticks));
-        i += 1;
+    for x in &a.list[..a.n] {
+        next = put_line(out, next, amount_line(hour, Kind::Iog, x.name, x.ticks));
     }
     next
 }
@@ -73,15 +67,9 @@ fn put_charges(out: &mut [u8], c: Cursor, hour: u8, kind: Kind, a: ChargeList) -
     requires { (a.n ≤ max_charges) × SheetRoom out.old c a.n × AllBounded a.n a.list }
     ensures { SheetLines out.old c a.n (map (line_of hour kind) (take a.n a.list)) out.new result }
 {
-    let n = a.n;
     let mut next = c;
-    let mut i: usize = 0;
-    while i < n {
-        let x = a.list[i];
-        let name = x.name;
-        let ticks = x.ticks;
-        next = put_line(out, next, amount_line(hour, kind, name, ticks));
-        i += 1;
+    for x in &a.list[..a.n] {
+        next = put_line(out, next, amount_line(hour, kind, x.name, x.ticks));
     }
     next
 }

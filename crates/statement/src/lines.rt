@@ -75,32 +75,21 @@ pub(crate) fn put_label(out: &mut [u8], at: usize, hour: u8, kind: Kind) -> usiz
 }
 
 // The name as written, or `-` where there is none.
+#[tactic(auto, using(crate::proofs::laws::LineLaws::spelled))]
 pub(crate) fn put_name(out: &mut [u8], at: usize, name: Name) -> usize
     requires { at + max_spelling ≤ length out.old }
     ensures { Writes out.old at (name_bytes name) out.new result }
 {
-    let s = spell_name(name);
-    if s.number != 0 {
-        return put_byte(out, at, b'-');
+    match spell_name(name) {
+        Ok(s) => put_part(out, at, &s.bytes[..s.len as usize]),
+        Err(_) => put_byte(out, at, b'-'),
     }
-    let n = s.len as usize;
-    let bytes = s.bytes;
-    put_part(out, at, &bytes[..n])
 }
 
 fn is_number(kind: Kind) -> bool
     ensures { result ≡ is_number kind }
 {
-    match kind {
-        Kind::Iog => false,
-        Kind::Off => false,
-        Kind::Ifc => false,
-        Kind::Efc => false,
-        Kind::Pcg => false,
-        Kind::Rev => false,
-        Kind::Err => true,
-        Kind::Tot => false,
-    }
+    matches!(kind, Kind::Err)
 }
 
 fn put_sign(out: &mut [u8], at: usize, cents: Cents) -> usize

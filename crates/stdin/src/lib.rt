@@ -84,12 +84,13 @@ pub fn read_input<R: Read>(source: &mut R, log: &mut [u8]) -> Input
 {
     let mut bytes = io::large_buffer();
     let mut input = Input::unread();
-    let mut left = READS_MAX;
-    while 0 < left && input.more {
+    for _ in 0..READS_MAX {
+        if !input.more {
+            return input;
+        }
         let reading = input.reading;
         let got = read_behind(source, &mut bytes, reading.held);
         input = input.take_in(got, log, &mut bytes);
-        left = left - 1;
     }
     input
 }

@@ -1,5 +1,5 @@
-use mathlib.Core.Path.{subst⁻¹}
-use mathlib.Core.List.{[]}
+use Rattle.std.proofs.Math.Path.{subst⁻¹}
+use Rattle.std.proofs.Common.{[]}
 use Rattle.book.specs.declared.book.Book.{Book}
 use Rattle.book.specs.Session.{Session, start}
 use Rattle.demands.proofs.begin.Goals as goal

@@ -1,8 +1,7 @@
 -- Demand 1: what a call is told is decided by the first of its checks that fails.
 use Rattle.std.specs.Prelude.{ℕ, zero, suc, ◌+◌, ◌≤◌, ◌<◌, ◌≡◌, Bool, cond, not, ◌&&◌, length, take, ltb, leb}
 use Rattle.std.proofs.Math.Path.{refl, subst⁻¹}
-use Rattle.std.proofs.Common.{ap, ap₂, ◌∙◌, subst, arith}
-use mathlib.Core.List.{List, [], ◌∷◌}
+use Rattle.std.proofs.Common.{ap, ap₂, ◌∙◌, subst, arith, List, [], ◌∷◌}
 use Rattle.std.proofs.Math.Bool.{true, false}
 use Rattle.laws.specs.Sums.{every}
 use Rattle.money.specs.Units.{day_hours}

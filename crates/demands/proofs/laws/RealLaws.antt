@@ -1,9 +1,6 @@
 -- Every list of turns is a session: the promises can be kept, so no claim over sessions is empty.
-use Prim.Native.Nat.{ℕ, zero, suc, ◌+◌, ◌≤◌}
+use Rattle.std.proofs.Common.{ℕ, zero, suc, ◌+◌, ◌≤◌, sym, ap, ◌∙◌, subst, length-take, length-drop, take_all, take-take, length-take-le, ltb-true, ltb-false, leb-true, List, [], ◌∷◌, ◌++◌, arith}
 use Rattle.std.specs.Prelude.{◌≡◌, refl, Bool, true, false, cond, length, take, drop, replicate, ltb, leb}
-use Rattle.std.proofs.Common.{sym, ap, ◌∙◌, subst, length-take, length-drop, take_all, take-take, length-take-le, ltb-true, ltb-false, leb-true}
-use mathlib.Core.List.{List, [], ◌∷◌, ◌++◌}
-use native.Mathlib.Omega.{arith}
 use Rattle.std.proofs.Math.ListN.{length-append}
 use Rattle.std.proofs.lemmas.List.{length-replicate, take-append-le}
 use Rattle.std.proofs.Math.Seq.{take-append_seam}

@@ -1,4 +1,4 @@
-use borrow.Author.Tests.{eq-eqb, ne_eqb}
+use Rattle.std.proofs.Common.{eq-eqb, ne_eqb}
 use Rattle.demands.proofs.laws.DemandLaws.{demanded}
 use Rattle.demands.proofs.make_change.Goals as goal
 

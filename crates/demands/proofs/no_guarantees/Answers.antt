@@ -1,7 +1,4 @@
-use mathlib.Core.Path.{ap, ◌∙◌}
-use mathlib.Core.List.{List}
-use lib.IntN.{pos}
-use lib.ListN.{replicate}
+use Rattle.std.proofs.Common.{ap, ◌∙◌, List, pos, replicate}
 use Rattle.book.specs.Layer.{Name, no_ticks}
 use Rattle.book.specs.Handed.{max_credits, no_amount, credits_of}
 use Rattle.book.specs.laws.HandedLaws.{pad-none}

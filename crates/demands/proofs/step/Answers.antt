@@ -1,5 +1,4 @@
-use mathlib.Core.Path.{refl}
-use borrow.Author.Tests.{lt-ltb, le-ltb, eq-eqb, ne_eqb}
+use Rattle.std.proofs.Common.{refl, lt-ltb, le-ltb, eq-eqb, ne_eqb}
 use Rattle.demands.proofs.laws.DemandLaws.{demanded}
 use Rattle.demands.proofs.step.Goals as goal
 

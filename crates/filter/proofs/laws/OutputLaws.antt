@@ -1,8 +1,7 @@
 -- Every input, in pieces of any sizes: what is printed is its output.
 use Rattle.std.specs.Prelude.{◌≡◌, Bool, true, false, cond, List, [], ◌++◌, eqb, length, take, drop}
 use Rattle.std.proofs.Math.Path.{refl, sym, subst⁻¹}
-use Rattle.std.proofs.Common.{ap, ◌∙◌, subst, arith, length-take, length-drop, drop-drop, ltb-true, ltb-false, le-leb, ne_eqb}
-use Prim.Native.Nat.{ℕ, zero, suc, ◌+◌, ◌≤◌, ◌<◌}
+use Rattle.std.proofs.Common.{ap, ◌∙◌, subst, arith, length-take, length-drop, drop-drop, ltb-true, ltb-false, le-leb, ne_eqb, ℕ, zero, suc, ◌+◌, ◌≤◌, ◌<◌}
 use Rattle.std.proofs.lemmas.List.{drop-append-le}
 use Rattle.std.proofs.Math.Seq.{drop-length}
 use Rattle.records.specs.Changes.{Change, put}

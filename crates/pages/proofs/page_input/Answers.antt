@@ -1,6 +1,6 @@
-use mathlib.Core.Path.{◌∙◌}
-use Prim.Native.Nat.{ℕ}
-use lib.ListN.{length-replicate}
+use Rattle.std.specs.Prelude.{ℕ}
+use Rattle.std.proofs.Common.{◌∙◌}
+use Rattle.std.proofs.lemmas.List.{length-replicate}
 use Rattle.book.specs.Register.{max_used}
 use Rattle.stdio.specs.laws.PrintingLaws.{printed}
 use Rattle.pages.proofs.page_input.Goals as goal

@@ -1,11 +1,9 @@
 -- Bytes written one behind the other.
-use mathlib.Core.Path.{◌≡◌, refl, ap, ◌∙◌}
-use mathlib.Core.List.{List, [], ◌∷◌, ◌++◌}
-use Prim.Native.Nat.{ℕ, ◌+◌, ◌≤◌, ◌<◌}
-use native.Mathlib.Omega.{arith}
-use lib.ListN.{length, take, set, get_or, length-append, length-set}
-use lib.Seq.{take_all}
-use Rattle.statement.proofs.laws.PutLaws.{put, put-none, put_one, put-more, put_next, put-length, put_front}
+use Rattle.std.proofs.Common.{◌≡◌, refl, sym, ap, ◌∙◌, List, [], ◌∷◌, ◌++◌, ℕ, ◌+◌, ◌-◌, ◌≤◌, ◌<◌, arith, length, take, drop, set, length-append, take_all}
+use Rattle.std.proofs.Math.Seq.{paste}
+use borrow.Rule.Slice.PartMut.{put_mid}
+use Rattle.std.proofs.lemmas.Slice.{put_mid-paste}
+use Rattle.statement.proofs.laws.PutLaws.{put, put-none, put_one, put-more, put-length, put_whole, put_front}
 use Rattle.statement.specs.tables.Inner.{Writes}
 
 pub writes-size : {d e xs : List ℕ} {at r : ℕ} → Writes d at xs e r → length e ≡ length d
@@ -30,18 +28,13 @@ writes_then {d} {e} {f} {xs} {ys} {at} {r} {q} a b =
 pub front_of : {a b t : List ℕ} {n : ℕ} → Writes a 0 t b n → take n b ≡ t
 front_of {a} {b} {t} {n} x = let k : n ≡ 0 + length t = x.behind in (λ i. take (k i) (x.bytes i)) ∙ put_front a 0 t x.room
 
--- the first i bytes of a part
-pub record Copied (d e : List ℕ) (at i : ℕ) (xs : List ℕ) : Type 0 where
-  pub same : length e ≡ length d
-  pub bytes : e ≡ put d at (take i xs)
-
-pub copied_none : (d : List ℕ) (at : ℕ) (xs : List ℕ) → at ≤ length d → Copied d d at 0 xs
-copied_none d at xs h = record { same = refl; bytes = put-none d at h }
-
-pub copied_next : {d e : List ℕ} {at i : ℕ} {xs : List ℕ} → Copied d e at i xs → i < length xs → at + i < length d
-    → Copied d (set e (at + i) (get_or xs i 0)) at (i + 1) xs
-copied_next {d} {e} {at} {i} {xs} p h f = record { same = simp length-set p.same; bytes = put_next d e at i xs h f p.bytes }
-
-pub copied_all : {d e : List ℕ} {at i n : ℕ} {xs : List ℕ} → Copied d e at i xs → length xs ≤ i → n ≡ length xs → at + length xs ≤ length d
-    → Writes d at xs e (at + n)
-copied_all {d} {e} {at} {i} {n} {xs} p h q room = record { room = room; bytes = p.bytes ∙ ap (put d at) (take_all i xs h); behind = ap (λ (k : ℕ). at + k) q }
+-- a part of lent bytes that became xs
+pub written : {d ys xs : List ℕ} {at n : ℕ} → at + n ≤ length d → n ≡ length xs → ys ≡ xs → Writes d at xs (put_mid at (at + n - at) d ys) (at + n)
+written {d} {ys} {xs} {at} {n} h q e =
+    let room : at + length xs ≤ length d = omega arith in
+    let pasted : put_mid at (at + n - at) d ys ≡ paste d at xs (length xs) = put_mid-paste at (at + n - at) d ys xs (length xs) e (omega arith) refl in
+    record {
+      room = room;
+      bytes = pasted ∙ ap (λ (l : List ℕ). take at d ++ l ++ drop (at + length xs) d) (take_all (length xs) xs (omega arith)) ∙ sym (put_whole d at xs room);
+      behind = ap (λ (k : ℕ). at + k) q;
+    }

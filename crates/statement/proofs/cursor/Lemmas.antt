@@ -1,15 +1,6 @@
 -- Lines written one behind the other, and the room that they take.
-use mathlib.Core.Path.{◌≡◌, refl, sym, ap, ◌∙◌, subst}
-use mathlib.Core.Bool.{true, false}
-use mathlib.Core.List.{List, [], ◌∷◌, ◌++◌, map, append_assoc, append-nil}
-use Prim.Native.Nat.{ℕ, ◌+◌, ◌-◌, ◌*◌, ◌≤◌, ◌<◌}
-use native.Mathlib.Omega.{arith}
-use native.Mathlib.Numerals.{add-one}
-use lib.Dec.{eqb, ltb}
-use lib.IntN.{ℤ, nat_abs, ◌+ℤ◌, +ℤ_assoc, +ℤ_idr}
-use lib.ListN.{length, take, get_or}
-use lib.Seq.{take-suc}
-use borrow.Author.Tests.{lt-ltb, le-ltb, ne_eqb, eq-eqb}
+use Rattle.std.proofs.Common.{◌≡◌, refl, sym, ap, ◌∙◌, subst, true, false, List, [], ◌∷◌, ◌++◌, map, append_assoc, append-nil, ℕ, ◌+◌, ◌-◌, ◌*◌, ◌≤◌, ◌<◌, arith, add-one, eqb, ltb, ℤ, nat_abs, ◌+ℤ◌, length, take, get_or, length-take, take-suc, get_or-take, lt-ltb, le-ltb, ne_eqb, eq-eqb}
+use Rattle.std.proofs.Math.IntN.{+ℤ_assoc, +ℤ_idr}
 use Rattle.laws.specs.IntLaws.{add-within}
 use Rattle.laws.specs.SumLaws.{on}
 use Rattle.money.specs.Units.{cents_of}
@@ -19,10 +10,11 @@ use Rattle.money.specs.declared.units.Cents.{Cents}
 use Rattle.money.specs.declared.names.Name.{Name}
 use Rattle.book.specs.Amounts.{charged}
 use Rattle.book.specs.Handed.{max_credits, max_charges}
+use Rattle.book.specs.tables.Sizes.{AllBounded}
 use Rattle.book.specs.declared.answers.NamedAmount.{NamedAmount}
 use Rattle.statement.specs.Lines.{line_bytes, max_line, text_of}
 use Rattle.statement.specs.Total.{effect_of, towards, sum_of}
-use Rattle.statement.specs.Pages.{page_entries, line_size, page_size, page_count, entry_bytes, sum_line, page_head}
+use Rattle.statement.specs.Pages.{page_entries, line_size, page_size, page_count, sum_line, page_head}
 use Rattle.statement.proofs.laws.TotalLaws.{signed-size, sum-none, sum_one, sum-append}
 use Rattle.statement.specs.Statement.{amount_line, line_of, offset_lines, charged_lines, max_hour_lines}
 use Rattle.statement.specs.tables.Inner.{Writes, max_printed, Countable}
@@ -133,9 +125,6 @@ room-less {c = c} {n = n} {m = m} h k = record {
   placed = k.placed;
 }
 
-pub room-from : {d : List ℕ} {c k : Cursor} {n : ℕ} → c ≡ k → SheetRoom d k n → SheetRoom d c n
-room-from {d} {n = n} q x = subst (λ (y : Cursor). SheetRoom d y n) (sym q) x
-
 -- what is left of it behind n lines
 pub room-then : {d e : List ℕ} {c r : Cursor} {n m k : ℕ} {ls : List Line} → n + m ≤ k → SheetRoom d c k → SheetLines d c n ls e r → SheetRoom e r m
 room-then {c = c} {n = n} {m = m} {k = k} h x w = record {
@@ -203,23 +192,6 @@ turns-full {d} {e} {f} {c} {a} {b} x n h foot p head q =
 
 -- ---- an entry on a page
 
--- it has room where the page is not full
-pub entry-room : {d : List ℕ} {c : Cursor} → SheetRoom d c 1 → (c.sheet.page ≡ 0 → ⊥) → c.sheet.entries < page_entries → c.at + line_size ≤ length d
-entry-room {d} {c} x n h =
-    let z : eqb c.sheet.page 0 ≡ false = ne_eqb c.sheet.page 0 n in
-    let t : page_size * page_count (page_entries * (c.sheet.page - 1) + c.sheet.entries + 1) ≤ length d = rw z at x.text in
-    omega (arith, (x.placed n).at)
-
-pub enters : {d e : List ℕ} {c : Cursor} {at : ℕ} {day own : Cents} (l : Line) → Writes d c.at (entry_bytes l) e at → at ≡ c.at + line_size
-    → day.0 ≡ c.sum.0 +ℤ towards l → own.0 ≡ c.sheet.sum.0 +ℤ towards l
-    → Enters d c l e (record { at = at; sum = day; sheet = record { page = c.sheet.page; entries = c.sheet.entries + 1; sum = own } })
-enters {c = c} l w p q r = record {
-  text = w;
-  sheet = λ i. record { page = c.sheet.page; entries = c.sheet.entries + 1; sum = record { 0 = r i } };
-  sum = q;
-  behind = p;
-}
-
 pub lines-entered : {d e f : List ℕ} {c t r : Cursor} (l : Line) → (c.sheet.page ≡ 0 → ⊥) → Countable l → Turns d c e t → Enters e t l f r
     → SheetLines d c 1 (l ∷ []) f r
 lines-entered {d} {e} {f} {c} {t} {r} l n k a b =
@@ -256,9 +228,23 @@ map_snoc f [] x = refl
 map_snoc f (y ∷ xs) x = ap (λ (l : List Line). f y ∷ l) (map_snoc f xs x)
 
 -- a line for the next of a list
-pub next-line : {A : Type 0} (f : A → Line) (xs : List A) (i : ℕ) (d : A) → i < length xs
+next-line : {A : Type 0} (f : A → Line) (xs : List A) (i : ℕ) (d : A) → i < length xs
     → map f (take i xs) ++ (f (get_or xs i d) ∷ []) ≡ map f (take (i + 1) xs)
 next-line f xs i d h = sym (rw (add-one, take-suc xs i d h) (map_snoc f (take i xs) (get_or xs i d)))
+
+-- behind i of the first n amounts there is room for the next one's line, which counts no more than the largest
+pub next-room : {d e : List ℕ} {c r : Cursor} {n i h : ℕ} {k : Kind} {ls : List Line} {l : Line} (xs : List NamedAmount) (z : NamedAmount) → SheetRoom d c n
+    → AllBounded n xs → SheetLines d c i ls e r → i < length (take n xs) → l ≡ line_of h k (get_or (take n xs) i z) → SheetRoom e r 1 × Countable l
+next-room {n = n} {i = i} xs z room small w lt q =
+    let h : i < n = omega (arith, length-take n xs) in
+    (room-then (omega arith) room w, countable _ q (rw (get_or-take n xs i z h) (small i h z)))
+
+-- and that line is written behind theirs
+pub next-written : {d e f : List ℕ} {c r q : Cursor} {i h : ℕ} {k : Kind} {l : Line} (xs : List NamedAmount) (z : NamedAmount)
+    → SheetLines d c i (map (line_of h k) (take i xs)) e r → i < length xs → l ≡ line_of h k (get_or xs i z) → SheetLines e r 1 (l ∷ []) f q
+    → SheetLines d c (i + 1) (map (line_of h k) (take (i + 1) xs)) f q
+next-written {i = i} {h = h} {k = k} xs z w lt e line =
+    lines-as (next-line (line_of h k) xs i z lt) (lines_then w (lines-as (ap (λ (x : Line). x ∷ []) e) line))
 
 -- an hour that needs no price, or has it
 pub hour-written : {d e f g k : List ℕ} {c o i x r : Cursor} {n p q : ℕ} (h : ℕ) (cs fs es : List NamedAmount) (t : ℤ) → n ≡ length cs → n ≤ max_credits

@@ -1,12 +1,7 @@
 -- What a call for the text of a book's day rests on.
-use mathlib.Core.Path.{◌≡◌, refl, sym, ap, ◌∙◌, subst}
-use mathlib.Core.List.{List, [], ◌∷◌}
-use Prim.Native.Nat.{ℕ, ◌+◌, ◌≤◌, ◌<◌}
-use native.Mathlib.Omega.{arith}
-use lib.IntN.{ℤ, pos, ◌+ℤ◌, +ℤ_idl}
-use lib.ListN.{length, take}
-use borrow.Author.Tests.{le-leb, lt-leb}
-use Rattle.money.specs.Refusals.{no_space, not_together}
+use Rattle.std.proofs.Common.{◌≡◌, refl, sym, ap, ◌∙◌, subst, List, [], ◌∷◌, ℕ, ◌+◌, ◌≤◌, arith, ℤ, pos, ◌+ℤ◌, length, take, le-leb}
+use Rattle.std.proofs.Math.IntN.{+ℤ_idl}
+use Rattle.money.specs.Refusals.{not_together}
 use Rattle.book.specs.Layer.{Change}
 use Rattle.book.specs.declared.book.Book.{Book}
 use Rattle.book.specs.declared.answers.DayAmounts.{DayAmounts}
@@ -20,7 +15,7 @@ use Rattle.statement.specs.Lines.{text_of}
 use Rattle.statement.specs.Total.{sum_of, total_of, with_total}
 use Rattle.statement.specs.Statement.{statement_lines, statement_of, max_lines, longest_statement, Fits, AnswersBy}
 use Rattle.statement.specs.tables.Inner.{Writes, lines_of_day, PrintableDay}
-use Rattle.statement.specs.tables.Cursors.{no_sheet, top, SheetRoom, SheetLines}
+use Rattle.statement.specs.tables.Cursors.{no_sheet, top, SheetLines}
 use Rattle.statement.proofs.laws.StatementLaws.{day-lines, day-printable}
 use Rattle.statement.specs.declared.day.Written.{Written}
 use Rattle.statement.specs.declared.cursor.Sheet.{Sheet}
@@ -30,9 +25,6 @@ use Rattle.statement.proofs.bytes.Lemmas.{front_of}
 use Rattle.statement.proofs.cursor.Lemmas.{from-plain, after-plain, lines_then, lines-as}
 
 -- ---- a text at the front
-
-pub fits_refused : (t d : List ℕ) → length d < length t → Fits t d d (record { number = no_space; len = 0 })
-fits_refused t d h = let x = lt-leb (length t) (length d) h in record { number = rw x; len = rw x; bytes = rw x }
 
 pub fits-written : {t d e : List ℕ} {n : ℕ} → Writes d 0 t e n → Fits t d e (record { number = 0; len = n })
 fits-written {t} {d} {e} {n} w =
@@ -71,9 +63,6 @@ pub printable : {b : Book} {s : List ℕ} {day : DayAmounts} → Loaded b s day 
 printable x = subst PrintableDay (sym x.amounts) (day-printable x.list x.valid)
 
 -- ---- its lines, and their total
-
-pub room-top : (d : List ℕ) → longest_statement ≤ length d → SheetRoom d top max_lines
-room-top d h = record { here = omega arith; text = omega arith; sum = omega arith; placed = λ n. absurd (n refl) }
 
 pub with-total : {d e f : List ℕ} {c r q : Cursor} {n : ℕ} {ls : List Line} → c.sum.0 ≡ pos 0 → SheetLines d c n ls e r
     → SheetLines e r 1 (total_of r.sum.0 ∷ []) f q → SheetLines d c (n + 1) (with_total ls) f q

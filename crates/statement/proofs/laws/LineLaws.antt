@@ -3,9 +3,12 @@ use Rattle.std.specs.Prelude.{◌≡◌, refl, List, [], ◌∷◌, ◌++◌, Bo
 use Rattle.std.proofs.Common.{sym, ap, ◌∙◌, append_assoc, append-nil, arith, ltb→lt, length-append, length-take}
 use Rattle.laws.specs.Text.{bytes}
 use Rattle.money.specs.Names.{name_ok}
+use Rattle.money.specs.Refusals.{name_fault}
 use Rattle.money.specs.declared.names.Name.{Name}
 use Rattle.records.specs.Numbers.{pad}
-use Rattle.records.specs.Names.{max_spelling, spell, bytes_of, spelling_of, spelling_bytes}
+use Rattle.records.specs.Names.{max_spelling, spell, bytes_of}
+use Rattle.records.specs.Changes.{fine, fault}
+use Rattle.records.specs.Answers.{spelling_of, spelling_bytes}
 use Rattle.records.proofs.laws.BookLaws.{name-most, spelled-short, spelling-full, spelling-none, take-pad}
 use Rattle.records.specs.declared.names.Spelling.{Spelling}
 use Rattle.statement.specs.Decimal.{digit, two_digits, decimal}
@@ -45,9 +48,18 @@ pub record Spells (n : Name) (s : Spelling) : Type 0 where
   pub within : s.len ≤ length s.bytes
   pub all : s.len ≡ length (take s.len s.bytes)
 
-pub spells : (n : Name) (s : Spelling) → name_ok n ≡ true → s ≡ spelling_of n → Spells n s
-spells n s h e =
-    let q : s ≡ spelling_bytes 0 (spell (bytes_of n)) = e ∙ spelling-full n h in
+-- a name that has a spelling keeps its rule
+pub name-spelled : (n : Name) {s : Spelling} → fine s ≡ spelling_of n → name_ok n ≡ true
+name-spelled n {s} e = go (name_ok n) refl
+  where
+    go : (b : Bool) → name_ok n ≡ b → name_ok n ≡ true
+    go true h = h
+    go false h = let k : fine s ≡ fault name_fault = e ∙ spelling-none n h in absurd (let z : ◌≡◌ {A = ℕ} 0 1 = cc in omega arith)
+
+pub spells : (n : Name) (s : Spelling) → fine s ≡ spelling_of n → Spells n s
+spells n s e =
+    let h = name-spelled n e in
+    let q : s ≡ spelling_bytes (spell (bytes_of n)) = let f : fine s ≡ fine (spelling_bytes (spell (bytes_of n))) = e ∙ spelling-full n h in cc in
     let xs : List ℕ = spell (bytes_of n) in
     let m : length xs ≤ max_spelling = spelled-most n h in
     let p : take (length xs) (pad 0 max_spelling xs) ≡ xs = take-pad 0 max_spelling xs m in
@@ -58,21 +70,21 @@ spells n s h e =
       all = ap length (sym p);
     })
 
--- by the number beside it
-module _ (n : Name) (s : Spelling) (e : s ≡ spelling_of n) where
-  pub name-spelled : s.number ≡ 0 → name_ok n ≡ true
-  name-spelled z = go (name_ok n) refl
-    where
-      go : (b : Bool) → name_ok n ≡ b → name_ok n ≡ true
-      go true h = h
-      go false h = absurd (omega (arith, z, ap (λ (x : Spelling). x.number) (e ∙ spelling-none n h)))
+pub spelled-few : (n : Name) (s : Spelling) → fine s ≡ spelling_of n → s.len ≤ max_spelling
+spelled-few n s e = (spells n s e).few
 
-  pub name-unspelled : (s.number ≡ 0 → ⊥) → name_bytes n ≡ bytes "-"
-  name-unspelled z = go (name_ok n) refl
-    where
-      go : (b : Bool) → name_ok n ≡ b → name_bytes n ≡ bytes "-"
-      go true h = absurd (z (ap (λ (x : Spelling). x.number) (e ∙ spelling-full n h)))
-      go false h = name-none n h
+pub spelled-bytes : (n : Name) (s : Spelling) → fine s ≡ spelling_of n → take s.len s.bytes ≡ name_bytes n
+spelled-bytes n s e = (spells n s e).bytes
+
+-- a name without a spelling is shown as none
+pub name-unspelled : (n : Name) {k : ℕ} → fault k ≡ spelling_of n → name_bytes n ≡ bytes "-"
+name-unspelled n {k} e = go (name_ok n) refl
+  where
+    go : (b : Bool) → name_ok n ≡ b → name_bytes n ≡ bytes "-"
+    go true h = let f : fault k ≡ fine (spelling_bytes (spell (bytes_of n))) = e ∙ spelling-full n h in absurd (let z : ◌≡◌ {A = ℕ} 0 1 = cc in omega arith)
+    go false h = name-none n h
+
+pub ruleset spelled = (spelled-few, spelled-bytes, name-unspelled)
 
 pub name-length : (n : Name) → length (name_bytes n) ≤ max_spelling
 unfolding name_bytes

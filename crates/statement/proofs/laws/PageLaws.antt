@@ -1,8 +1,7 @@
 -- Laws of pages: their sums add up to the day's total; each is 60 lines of 72 columns, whatever the changes are. Assumes nothing.
 use Rattle.std.specs.Prelude.{◌≡◌, refl, Bool, true, false, cond, ℕ, zero, suc, ◌+◌, ◌-◌, ◌*◌, ◌^◌, ◌≤◌, ◌<◌, eqb, ℤ, nat_abs, ◌+ℤ◌, length, take, drop, get_or}
-use Rattle.std.proofs.Common.{sym, ap, ◌∙◌, arith, length-append, length-take, take_all, take-add}
+use Rattle.std.proofs.Common.{sym, ap, ◌∙◌, arith, length-append, length-take, take_all, take-add, List, [], ◌∷◌, ◌++◌, append_assoc, append-nil, map}
 use Rattle.std.proofs.Math.Path.{subst}
-use mathlib.Core.List.{List, [], ◌∷◌, ◌++◌, append_assoc, append-nil, map}
 use Rattle.std.proofs.lemmas.List.{length-map}
 use Rattle.laws.specs.Text.{char}
 use Rattle.laws.specs.Lists.{All, done, also}

@@ -1,10 +1,7 @@
 -- The lines of a day's amounts, as the book hands them over, are those of the statement; its last line is their total. Assumes nothing.
 use Rattle.std.specs.Prelude.{◌≡◌, refl, length, take, get_or}
-use Rattle.std.proofs.Common.{sym, ◌∙◌, add-one, take-suc}
+use Rattle.std.proofs.Common.{sym, ◌∙◌, add-one, take-suc, List, [], ◌∷◌, ◌++◌, map, append_assoc, append-nil, ℕ, zero, suc, ◌+◌, ◌-◌, ◌<◌, arith}
 use Rattle.std.proofs.Math.Path.{ap, subst}
-use mathlib.Core.List.{List, [], ◌∷◌, ◌++◌, map, append_assoc, append-nil}
-use Prim.Native.Nat.{ℕ, zero, suc, ◌+◌, ◌-◌, ◌<◌}
-use native.Mathlib.Omega.{arith}
 use Rattle.money.specs.Units.{day_hours}
 use Rattle.money.specs.declared.names.Name.{Name}
 use Rattle.book.specs.Layer.{Rec, Change}

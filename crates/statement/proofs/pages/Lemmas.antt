@@ -1,15 +1,6 @@
 -- Pages that are written entry by entry are the pages of all entries.
-use mathlib.Core.Path.{◌≡◌, refl, sym, ap, ◌∙◌, subst}
-use mathlib.Core.Bool.{Bool, true, false, cond}
-use mathlib.Core.List.{List, [], ◌∷◌, ◌++◌, append_assoc, append-nil}
-use Prim.Native.Nat.{ℕ, suc, ◌+◌, ◌-◌, ◌*◌, ◌≤◌}
-use native.Mathlib.Omega.{arith}
-use native.Mathlib.Numerals.{add-one}
-use lib.Dec.{eqb, ltb}
-use lib.IntN.{ℤ, pos, ◌+ℤ◌, +ℤ_idl}
-use lib.ListN.{length, take, drop, length-append}
-use lib.Seq.{take_all, take_at, drop_at}
-use borrow.Author.Tests.{ltb-true, ltb-false, ne_eqb}
+use Rattle.std.proofs.Common.{◌≡◌, refl, sym, ap, ◌∙◌, subst, Bool, true, false, cond, List, [], ◌∷◌, ◌++◌, append_assoc, append-nil, ℕ, suc, ◌+◌, ◌-◌, ◌*◌, ◌≤◌, arith, add-one, eqb, ltb, ℤ, pos, ◌+ℤ◌, length, take, drop, length-append, take_all, take_at, drop_at, ltb-true, ltb-false, ne_eqb}
+use Rattle.std.proofs.Math.IntN.{+ℤ_idl}
 use Rattle.statement.specs.Total.{towards, sum_of}
 use Rattle.statement.specs.Statement.{max_lines}
 use Rattle.statement.specs.Pages.{page_entries, page_size, entry_bytes, sum_line, blank_lines, entries_bytes, page_head, page_text, page_of, page_count, pages_to, pages_text, longest_pages}

@@ -1,7 +1,5 @@
 -- What the line of a refusal rests on.
-use Prim.Native.Nat.{ℕ, ◌≤◌, ◌<◌}
-use native.Mathlib.Omega.{arith}
-use lib.ListN.{length, length-append}
+use Rattle.std.proofs.Common.{ℕ, ◌≤◌, ◌<◌, arith, length, length-append}
 use Rattle.statement.proofs.laws.DecimalLaws.{decimal-length}
 use Rattle.statement.specs.Decimal.{decimal}
 use Rattle.statement.specs.Lines.{max_line}

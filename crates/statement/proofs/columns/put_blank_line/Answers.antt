@@ -1,4 +1,4 @@
-use native.Mathlib.Omega.{arith}
+use Rattle.std.proofs.Common.{arith}
 use Rattle.statement.specs.Pages.{blank_line}
 use Rattle.statement.proofs.laws.PageLineLaws.{blanks-length}
 use Rattle.statement.proofs.bytes.Lemmas.{writes_then, writes-size}

@@ -1,7 +1,4 @@
-use mathlib.Core.Path.{sym}
-use Prim.Native.Nat.{ℕ}
-use lib.Seq.{length-take-le}
-use native.Mathlib.Omega.{arith}
+use Rattle.std.proofs.Common.{arith}
 use Rattle.statement.specs.Decimal.{decimal}
 use Rattle.statement.specs.Pages.{number_line, page_head}
 use Rattle.statement.proofs.laws.PageLineLaws.{right-length}
@@ -12,19 +9,6 @@ use Rattle.statement.proofs.columns.put_head.Goals as goal
 pub put_decimal-len-requires : goal.put_decimal-len-requires
 put_decimal-len-requires c =
     omega (arith, ordinal-digits c.args.page (omega arith))
-
-pub slice_bounds-digits-end : goal.slice_bounds-digits-end
-slice_bounds-digits-end c =
-    omega (arith, c.put_decimal-len.ensures.behind, c.put_decimal-len.ensures.room, writes-size c.put_decimal-len.ensures)
-
-pub slice_bounds-put_right-end : goal.slice_bounds-put_right-end
-slice_bounds-put_right-end c =
-    sym (length-take-le {A = ℕ} c.put_decimal-len.result c.put_decimal-len.new.out
-    (omega (arith, c.put_decimal-len.ensures.behind, c.put_decimal-len.ensures.room, writes-size c.put_decimal-len.ensures)))
-
-pub put_right-end-requires : goal.put_right-end-requires
-put_right-end-requires c =
-    (rw (front_of c.put_decimal-len.ensures) (omega (arith, ordinal-digits c.args.page (omega arith))), omega (arith, c.requires))
 
 pub put_byte-second-requires : goal.put_byte-second-requires
 put_byte-second-requires c =

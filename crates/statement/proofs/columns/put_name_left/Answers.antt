@@ -1,22 +1,15 @@
-use mathlib.Core.Path.{◌≡◌}
-use Prim.Native.Nat.{◌+◌, ◌-◌}
-use lib.ListN.{length}
-use native.Mathlib.Omega.{arith}
+use Rattle.std.proofs.Common.{◌≡◌, ◌+◌, ◌-◌, length, arith}
 use Rattle.records.specs.Names.{max_spelling}
 use Rattle.statement.specs.Lines.{name_bytes}
 use Rattle.statement.specs.Pages.{left_in}
 use Rattle.statement.proofs.laws.LineLaws.{name-length}
 use Rattle.statement.proofs.laws.PageLineLaws.{blanks-length}
-use Rattle.statement.proofs.bytes.Lemmas.{writes_then, writes-size}
+use Rattle.statement.proofs.bytes.Lemmas.{writes_then}
 use Rattle.statement.proofs.columns.put_name_left.Goals as goal
 
 pub overflow_sub-at : goal.overflow_sub-at
 overflow_sub-at c =
     omega (arith, c.put_name-end.ensures.behind, name-length c.args.name)
-
-pub put_blanks-requires : goal.put_blanks-requires
-put_blanks-requires c =
-    omega (arith, c.requires, c.put_name-end.ensures.behind, name-length c.args.name, writes-size c.put_name-end.ensures)
 
 pub returns : goal.returns
 unfolding left_in

@@ -1,6 +1,4 @@
-use Prim.Native.Nat.{◌-◌}
-use lib.ListN.{length}
-use native.Mathlib.Omega.{arith}
+use Rattle.std.proofs.Common.{◌-◌, length, arith}
 use Rattle.statement.specs.Pages.{right_in}
 use Rattle.statement.proofs.laws.PageLineLaws.{blanks-length}
 use Rattle.statement.proofs.bytes.Lemmas.{writes_then, writes-size}

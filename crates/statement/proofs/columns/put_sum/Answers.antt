@@ -1,4 +1,4 @@
-use native.Mathlib.Omega.{arith}
+use Rattle.std.proofs.Common.{arith}
 use Rattle.statement.specs.Lines.{figure}
 use Rattle.statement.specs.Pages.{sum_line}
 use Rattle.statement.proofs.bytes.Lemmas.{writes_then}

@@ -1,10 +1,6 @@
-use Prim.Native.Nat.{ℕ}
-use mathlib.Core.Path.{sym}
-use lib.ListN.{length-replicate}
-use lib.Seq.{length-take-le}
-use native.Mathlib.Omega.{arith}
+use Rattle.std.proofs.Common.{ℕ, arith}
+use Rattle.std.proofs.lemmas.List.{length-replicate}
 use Rattle.statement.specs.Statement.{longest_statement, statement_of}
-use Rattle.statement.proofs.bytes.Lemmas.{writes-size}
 use Rattle.statement.proofs.day.Lemmas.{loaded, is-mismatched, printable, stated, fits-written, fits-front, answers-mismatched, answers-fitted}
 use Rattle.statement.proofs.day.statement.Goals as goal
 
@@ -27,14 +23,6 @@ pub put_day-len-requires-2 : goal.put_day-len-requires-2
 put_day-len-requires-2 c =
     let x = loaded c.args.book c.args.log.now c.day-day.result c.day-day.ensures c.if-day-ne0.false in
     (printable x, omega (arith, length-replicate {A = ℕ} longest_statement 0))
-
-pub slice_bounds-aside-end : goal.slice_bounds-aside-end
-slice_bounds-aside-end c = let w = c.put_day-len-2.ensures.0 in omega (arith, w.behind, w.room, writes-size w)
-
-pub slice_bounds-write_front-end : goal.slice_bounds-write_front-end
-slice_bounds-write_front-end c =
-    let w = c.put_day-len-2.ensures.0 in
-    sym (length-take-le {A = ℕ} c.put_day-len-2.result c.put_day-len-2.new.out (omega (arith, w.behind, w.room, writes-size w)))
 
 pub returns : goal.returns
 returns c =

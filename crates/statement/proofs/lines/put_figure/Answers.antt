@@ -1,5 +1,4 @@
-use mathlib.Core.Path.{sym, ◌∙◌}
-use native.Mathlib.Omega.{arith}
+use Rattle.std.proofs.Common.{sym, ◌∙◌, arith}
 use Rattle.statement.proofs.laws.LineLaws.{figure-number, figure-dollars, sign-length, number_digits, dollar-digits}
 use Rattle.statement.proofs.bytes.Lemmas.{writes_then, writes-size}
 use Rattle.statement.proofs.lines.put_figure.Goals as goal

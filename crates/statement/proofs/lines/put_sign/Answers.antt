@@ -1,8 +1,4 @@
-use lib.IntN.{pos}
-use mir.Syntax.{w64}
-use mir.Val.{SFits}
-use native.Mathlib.Omega.{arith}
-use borrow.Author.Rules.{rules}
+use Rattle.std.proofs.Common.{pos, w64, SFits, arith, rules}
 use Rattle.laws.specs.Carried as h
 use Rattle.laws.specs.IntLaws.{lt-true, lt-false}
 use Rattle.statement.proofs.laws.LineLaws.{sign_below, sign_above}

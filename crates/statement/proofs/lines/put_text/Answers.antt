@@ -1,16 +1,8 @@
-use native.Mathlib.Omega.{arith}
+use Rattle.std.proofs.Common.{arith}
 use Rattle.statement.specs.Lines.{line_bytes}
 use Rattle.statement.proofs.laws.LineLaws.{name-length, figure-length, line-length}
 use Rattle.statement.proofs.bytes.Lemmas.{writes_then, writes-size}
 use Rattle.statement.proofs.lines.put_text.Goals as goal
-
-pub put_label-a-requires : goal.put_label-a-requires
-put_label-a-requires c =
-    omega (arith, c.requires)
-
-pub put_name-b-requires : goal.put_name-b-requires
-put_name-b-requires c =
-    omega (arith, c.requires, c.put_label-a.ensures.1, writes-size c.put_label-a.ensures.0)
 
 pub put_byte-d-requires : goal.put_byte-d-requires
 put_byte-d-requires c =

@@ -1,4 +1,4 @@
-use borrow.Author.Tests.{eq-eqb, ne_eqb}
+use Rattle.std.proofs.Common.{eq-eqb, ne_eqb}
 use Rattle.statement.specs.Lines.{when_bytes}
 use Rattle.statement.proofs.bytes.Lemmas.{writes_then}
 use Rattle.statement.proofs.lines.put_when.Goals as goal

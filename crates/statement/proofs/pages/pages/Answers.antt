@@ -1,10 +1,6 @@
-use Prim.Native.Nat.{ℕ}
-use mathlib.Core.Path.{sym}
-use lib.ListN.{length-replicate}
-use lib.Seq.{length-take-le}
-use native.Mathlib.Omega.{arith}
+use Rattle.std.proofs.Common.{ℕ, arith}
+use Rattle.std.proofs.lemmas.List.{length-replicate}
 use Rattle.statement.specs.Pages.{pages_text, pages_of, longest_pages}
-use Rattle.statement.proofs.bytes.Lemmas.{writes-size}
 use Rattle.statement.proofs.day.Lemmas.{loaded, is-mismatched, printable, told, fits-written, fits-front, answers-mismatched, answers-fitted}
 use Rattle.statement.proofs.pages.pages.Goals as goal
 
@@ -28,15 +24,6 @@ pub put_pages-len-requires-2 : goal.put_pages-len-requires-2
 put_pages-len-requires-2 c =
     let x = loaded c.args.book c.args.log.now c.day-day.result c.day-day.ensures c.if-day-ne0.false in
     (printable x, omega (arith, length-replicate {A = ℕ} longest_pages 0))
-
-pub slice_bounds-aside-end : goal.slice_bounds-aside-end
-slice_bounds-aside-end c =
-    omega (arith, c.put_pages-len-2.ensures.0.behind, c.put_pages-len-2.ensures.0.room, writes-size c.put_pages-len-2.ensures.0)
-
-pub slice_bounds-write_front-end : goal.slice_bounds-write_front-end
-slice_bounds-write_front-end c =
-    sym (length-take-le {A = ℕ} c.put_pages-len-2.result c.put_pages-len-2.new.out
-    (omega (arith, c.put_pages-len-2.ensures.0.behind, c.put_pages-len-2.ensures.0.room, writes-size c.put_pages-len-2.ensures.0)))
 
 pub returns : goal.returns
 unfolding pages_of

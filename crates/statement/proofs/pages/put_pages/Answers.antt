@@ -1,24 +1,10 @@
-use mathlib.Core.Path.{ap}
-use native.Mathlib.Omega.{arith}
+use Rattle.std.proofs.Common.{arith}
 use Rattle.statement.specs.Total.{sum_of, total_of}
 use Rattle.statement.specs.tables.Inner.{lines_of_day}
-use Rattle.statement.specs.declared.cursor.Cursor.{Cursor}
 use Rattle.statement.proofs.bytes.Lemmas.{writes-size}
-use Rattle.statement.proofs.cursor.Lemmas.{lines-size, lines_from, room-from}
-use Rattle.statement.proofs.pages.Lemmas.{room-first, last-page, paged-text}
+use Rattle.statement.proofs.cursor.Lemmas.{lines-size, lines_from}
+use Rattle.statement.proofs.pages.Lemmas.{last-page, paged-text}
 use Rattle.statement.proofs.pages.put_pages.Goals as goal
-
-pub open_first-first-requires : goal.open_first-first-requires
-open_first-first-requires c =
-    omega (arith, c.requires.1)
-
-pub put_lines-last-requires : goal.put_lines-last-requires
-put_lines-last-requires c = (
-  c.requires.0,
-  room-from c.open_first-first.ensures.1 (room-first _ (omega (arith, c.requires.1, writes-size c.open_first-first.ensures.0))),
-  ap
-      (λ (c : Cursor). c.sum.0) c.open_first-first.ensures.1,
-)
 
 pub close_last-requires : goal.close_last-requires
 close_last-requires c =

@@ -1,4 +1,4 @@
-use native.Mathlib.Omega.{arith}
+use Rattle.std.proofs.Common.{arith}
 use Rattle.statement.specs.Refusal.{refusal_line}
 use Rattle.statement.proofs.refusal.Lemmas.{ordinal-digits, number_digits}
 use Rattle.statement.proofs.bytes.Lemmas.{writes_then, writes-size}

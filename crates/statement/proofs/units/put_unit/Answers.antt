@@ -1,17 +1,7 @@
-use mathlib.Core.Path.{ap}
-use mathlib.Core.List.{[], ◌∷◌}
-use borrow.Author.Tests.{ne_eqb}
-use native.Mathlib.Omega.{arith}
+use Rattle.std.proofs.Common.{ap, [], ◌∷◌, arith}
 use Rattle.statement.specs.declared.lines.Line.{Line}
-use Rattle.statement.proofs.cursor.Lemmas.{lines_then, lines-as, lines-within, room-less, room-then, countable}
+use Rattle.statement.proofs.cursor.Lemmas.{lines_then, lines-as, room-less, room-then, countable}
 use Rattle.statement.proofs.units.put_unit.Goals as goal
-
-pub put_error-requires : goal.put_error-requires
-put_error-requires c = room-less (omega arith) c.requires.0
-
-pub returns-then-day-ne0 : goal.returns-then-day-ne0
-returns-then-day-ne0 c =
-    rw (ne_eqb _ 0 c.if-day-ne0.true) (lines-within (omega arith) c.put_error.ensures)
 
 pub put_line-rev-requires : goal.put_line-rev-requires
 put_line-rev-requires c =

@@ -1,9 +1,0 @@
-use mathlib.Core.Path.{refl}
-use borrow.Author.Tests.{eq-eqb, ne_eqb}
-use Rattle.bridge.proofs.hand_back_fed.Goals as goal
-
-pub returns-then-count-eq0 : goal.returns-then-count-eq0
-returns-then-count-eq0 c = rw (eq-eqb _ _ c.if-count-eq0.true) refl
-
-pub returns : goal.returns
-returns c = rw (ne_eqb _ _ c.if-count-eq0.false) c.hand_back.ensures
