@@ -168,7 +168,8 @@ mod tests {
             "const BUCKETS: usize = 8192;",
             "wide(key_order(mark)) * MARK_SLOTS + wide(key.hour)",
             "let mut weight: usize = 449;",
-            "sum = sum + wide(bytes[i]) * weight;",
+            "for b in bytes {",
+            "sum += wide(b) * weight;",
             "weight = weight * 31 % BUCKETS;",
             "sum % BUCKETS",
         ];
