@@ -1,9 +1,10 @@
 // Failure charges: of an import and of an export.
-ghost use Rattle.std.specs.Prelude.{◌≡◌, ◌≤◌, ◌-◌, ℤ, pos, nat_abs, ◌-ℤ◌, ◌*ℤ◌};
+ghost use Rattle.std.specs.Prelude.{◌≡◌, ◌≤◌, true, pos, nat_abs, ◌-ℤ◌, ◌*ℤ◌, IfOk};
 ghost use Rattle.laws.specs.Ints.{minℤ, maxℤ};
-ghost use Rattle.money.specs.Units.{intervals, max_gap};
-ghost use Rattle.money.specs.Answers.{answer_of};
-ghost use Rattle.money.specs.Failure.{dev, failure_ok, import_charge_answer, export_charge_answer};
+ghost use Rattle.money.specs.Units.{intervals, max_gap, unless};
+ghost use Rattle.money.specs.Answers.{answer_of, fault_in};
+ghost use Rattle.money.specs.Refusals.{number_outside};
+ghost use Rattle.money.specs.Failure.{dev, failure_ok, import_charge, export_charge, import_charge_answer, export_charge_answer};
 
 use crate::refusals::Refusal;
 use crate::units::{Price, PriceGap, Quantity, Ticks};
@@ -15,13 +16,6 @@ pub struct Failure {
     pub pre_dispatch_quantity: Quantity,
     pub day_ahead_price: Price,
     pub pre_dispatch_price: Price,
-}
-
-// max(0, day-ahead - pre-dispatch)
-fn dev_of(f: Failure) -> Quantity
-    ensures { result.0 ≡ dev f }
-{
-    f.day_ahead_quantity.above(f.pre_dispatch_quantity)
 }
 
 // max(0, high - low)
@@ -43,36 +37,75 @@ fn charge_of(a: PriceGap, b: PriceGap, dev: Quantity) -> Ticks
     a.lesser(b).for_an_hour(dev)
 }
 
-fn failure_ok(f: Failure, pd: Price) -> bool
-    ensures { result ≡ failure_ok f pd }
-{
-    pd.in_range()
-        && f.day_ahead_quantity.in_range()
-        && f.pre_dispatch_quantity.in_range()
-        && f.day_ahead_price.in_range()
-        && f.pre_dispatch_price.in_range()
+impl Failure {
+    #[tactic(auto, unfolding(crate::specs::Failure::failure_ok))]
+    fn in_range(self, pd: Price) -> bool
+        ensures { result ≡ failure_ok self pd }
+    {
+        pd.in_range()
+            && self.day_ahead_quantity.in_range()
+            && self.pre_dispatch_quantity.in_range()
+            && self.day_ahead_price.in_range()
+            && self.pre_dispatch_price.in_range()
+    }
+
+    // max(0, day-ahead - pre-dispatch)
+    fn dev(self) -> Quantity
+        ensures { result.0 ≡ dev self }
+    {
+        self.day_ahead_quantity.above(self.pre_dispatch_quantity)
+    }
+}
+
+// A failure and its hour's pre-dispatch price, all in range.
+#[derive(Clone, Copy)]
+struct GoodFailure {
+    failure: Failure,
+    pd: Price,
+    ghost good: { failure_ok failure pd ≡ true },
+}
+
+impl GoodFailure {
+    fn new(failure: Failure, pd: Price) -> Result<GoodFailure, Refusal>
+        ensures fault { fault_in result ≡ unless (failure_ok failure pd) number_outside 0 }
+        ensures failure_kept { IfOk result (λ g. g.failure ≡ failure) }
+        ensures price_kept { IfOk result (λ g. g.pd ≡ pd) }
+    {
+        if !failure.in_range(pd) {
+            return Err(Refusal::NumberOutside);
+        }
+        Ok(GoodFailure { failure, pd })
+    }
+
+    fn of_import(self) -> Ticks
+        ensures { result.0 ≡ import_charge self.failure self.pd }
+    {
+        let f = self.failure;
+        let day_ahead = f.day_ahead_price;
+        let market = gap(self.pd, day_ahead);
+        charge_of(market, gap(f.pre_dispatch_price, day_ahead), f.dev())
+    }
+
+    fn of_export(self) -> Ticks
+        ensures { result.0 ≡ export_charge self.failure self.pd }
+    {
+        let f = self.failure;
+        let day_ahead = f.day_ahead_price;
+        let market = gap(day_ahead, self.pd);
+        charge_of(market, gap(day_ahead, f.pre_dispatch_price), f.dev())
+    }
 }
 
 // The charge for a failed import at the hour's pre-dispatch price.
 pub fn import_charge(f: Failure, pd: Price) -> Result<Ticks, Refusal>
     ensures { answer_of result ≡ import_charge_answer f pd }
 {
-    if !failure_ok(f, pd) {
-        return Err(Refusal::NumberOutside);
-    }
-    let day_ahead = f.day_ahead_price;
-    let pre_dispatch = f.pre_dispatch_price;
-    Ok(charge_of(gap(pd, day_ahead), gap(pre_dispatch, day_ahead), dev_of(f)))
+    Ok(GoodFailure::new(f, pd)?.of_import())
 }
 
 // The charge for a failed export at the hour's pre-dispatch price.
 pub fn export_charge(f: Failure, pd: Price) -> Result<Ticks, Refusal>
     ensures { answer_of result ≡ export_charge_answer f pd }
 {
-    if !failure_ok(f, pd) {
-        return Err(Refusal::NumberOutside);
-    }
-    let day_ahead = f.day_ahead_price;
-    let pre_dispatch = f.pre_dispatch_price;
-    Ok(charge_of(gap(day_ahead, pd), gap(day_ahead, pre_dispatch), dev_of(f)))
+    Ok(GoodFailure::new(f, pd)?.of_export())
 }

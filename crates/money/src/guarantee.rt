@@ -27,19 +27,18 @@ pub(crate) fn profit_sum(good: GoodOffer, hour: HourPrices, qs: [Quantity; INTER
     let o = good.offer;
     let mut sum = Ticks(0);
     // The specification's form: the walk in an interval yields its cost by a break.
-    'intervals: for k in 0..INTERVALS {
-        let q = qs[k];
+    'intervals: for (p, q) in hour.prices.iter().zip(&qs) {
         let mut last = Quantity(0);
         let mut i: usize = 0;
         let cost = 'pairs: loop {
             let w = o.quantities[i];
-            if q.0 <= w.0 {
-                break costs[i].plus(o.prices[i].between(last, q));
+            if *q <= w {
+                break costs[i].plus(o.prices[i].between(last, *q));
             }
             last = w;
             i += 1;
         };
-        sum = sum.plus(hour.prices[k].for_quantity(q).minus(cost));
+        sum = sum.plus(p.for_quantity(*q).minus(cost));
     }
     sum
 }

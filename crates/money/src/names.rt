@@ -15,8 +15,9 @@ const FIRST_VISIBLE: u8 = 0x21;
 
 const LAST_VISIBLE: u8 = 0x7E;
 
-// A decoded name: its length, and places for twelve bytes.
-#[derive(Clone, Copy)]
+// A decoded name: its length, and places for twelve bytes. No ArrayVec: that is no `Copy`, and keys and entries that hold a name go by value.
+// No derived `==` and `<`: the places behind the length would count.
+#[derive(Clone, Copy, Default)]
 pub struct Name {
     pub len: u8,
     pub bytes: [u8; NAME_MAX],
@@ -71,6 +72,7 @@ impl Ord for Name {
     }
 }
 
+// 01's words for `<` and `==` of names; definitions and other crates' theorems cite them.
 pub fn name_before(a: Name, b: Name) -> bool
     ensures { result ≡ name_before (decoded_bytes a) (decoded_bytes b) }
 {

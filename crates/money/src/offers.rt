@@ -13,7 +13,7 @@ use crate::units::{Price, Quantity, Ticks};
 // The number of pairs that an offer may have.
 pub const PAIRS_MAX: usize = 20;
 
-// A count, and places for twenty pairs of a price and a quantity.
+// A count, and places for twenty pairs of a price and a quantity: the form that 01 names, by value.
 #[derive(Clone, Copy)]
 pub struct Offer {
     pub count: u8,
@@ -28,45 +28,37 @@ fn pair_ok(p: Price, q: Quantity) -> bool
 }
 
 // The numbers of an offer's pairs are in range.
-fn numbers_ok(o: Offer) -> bool
-    requires { o.count ≤ max_pairs }
-    ensures { result ≡ numbers_ok o }
+fn numbers_ok(o: &Offer) -> bool
+    requires { o.now.count ≤ max_pairs }
+    ensures { result ≡ numbers_ok o.now }
 {
-    for i in 0..o.count as usize {
-        if !pair_ok(o.prices[i], o.quantities[i]) {
-            return false;
-        }
-    }
-    true
+    let n = o.count as usize;
+    o.prices[..n]
+        .iter()
+        .zip(&o.quantities[..n])
+        .all(|(p, q)| pair_ok(*p, *q))
 }
 
 fn pair_rises(p: Price, next: Price, q: Quantity, other: Quantity) -> bool
     ensures { result ≡ rises p next q other }
 {
-    p.0 <= next.0 && q.0 < other.0
+    p <= next && q < other
 }
 
 // P never falls, and Q rises strictly from above 0.
-fn order_ok(o: Offer) -> bool
-    requires not_empty { 1 ≤ o.count }
-    requires count_in { o.count ≤ max_pairs }
-    ensures { result ≡ order_ok o }
+fn order_ok(o: &Offer) -> bool
+    requires not_empty { 1 ≤ o.now.count }
+    requires count_in { o.now.count ≤ max_pairs }
+    ensures { result ≡ order_ok o.now }
 {
     let first = o.quantities[0];
     if first.0 < 1 {
         return false;
     }
-    for i in 0..o.count as usize - 1 {
-        if !pair_rises(
-            o.prices[i],
-            o.prices[i + 1],
-            o.quantities[i],
-            o.quantities[i + 1],
-        ) {
-            return false;
-        }
-    }
-    true
+    let n = o.count as usize;
+    let prices = o.prices[..n - 1].iter().zip(&o.prices[1..n]);
+    let quantities = o.quantities[..n - 1].iter().zip(&o.quantities[1..n]);
+    prices.zip(quantities).all(|((p, next), (q, other))| pair_rises(*p, *next, *q, *other))
 }
 
 // Whether an offer keeps its rule, or what is wrong with it first.
@@ -78,10 +70,10 @@ pub fn check_offer(o: Offer) -> Result<(), Refusal>
     if n < 1 || PAIRS_MAX < n {
         return Err(Refusal::ListFault);
     }
-    if !numbers_ok(o) {
+    if !numbers_ok(&o) {
         return Err(Refusal::NumberOutside);
     }
-    if !order_ok(o) {
+    if !order_ok(&o) {
         return Err(Refusal::ListFault);
     }
     Ok(())
@@ -128,7 +120,7 @@ impl GoodOffer {
         'pairs: loop {
             let p = o.prices[i];
             let w = o.quantities[i];
-            if q.0 <= w.0 {
+            if q <= w {
                 break acc.plus(p.between(last, q));
             }
             acc = acc.plus(p.between(last, w));
@@ -145,6 +137,7 @@ impl GoodOffer {
         let mut costs = [Ticks(0); PAIRS_MAX];
         let mut acc = Ticks(0);
         let mut last = Quantity(0);
+        // No iterator: each cost stands at the place of its pair.
         for i in 0..o.count as usize {
             costs[i] = acc;
             let w = o.quantities[i];
@@ -164,7 +157,7 @@ pub fn cost_at(o: Offer, q: Quantity) -> Result<Ticks, Refusal>
         return Err(Refusal::NumberOutside);
     }
     let good = GoodOffer::new(o)?;
-    if last_of(o).0 < q.0 {
+    if last_of(o) < q {
         return Err(Refusal::BeyondList);
     }
     Ok(good.cost_of(q))

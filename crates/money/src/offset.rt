@@ -55,62 +55,61 @@ fn counted_in(sums: [Quantity; INTERVALS], a: Import, e: Import) -> [Quantity; I
     sums
 }
 
-// For twelve intervals, the sum of the quantities up to and including import i.
-fn reach_series(n: usize, entries: [Import; IMPORTS_MAX], i: usize) -> [Quantity; INTERVALS]
-    requires listed { Listed n entries }
-    requires i_in { i < n }
-    ensures { (k : ℕ) → k < intervals → quantity_at result k ≡ reach n entries i k }
-{
-    let e = entries[i];
-    let mut sums = [Quantity(0); INTERVALS];
-    for a in &entries[..n] {
-        // The borrow checker takes no call's result into an array that the loop carries.
-        let next = counted_in(sums, *a, e);
-        sums = next;
-    }
-    sums
-}
-
-// The twelve adjusted quantities of import i.
-fn adj_series(
+// The first n entries, of which each keeps its rules, and the hour's prices. It is a view of them, so that none is copied.
+#[derive(Clone, Copy)]
+struct GoodImports<'a> {
     n: usize,
-    entries: [Import; IMPORTS_MAX],
-    totals: [Quantity; INTERVALS],
-    i: usize,
-) -> [Quantity; INTERVALS]
-    requires listed { Listed n entries }
-    requires i_in { i < n }
-    ensures { (k : ℕ) → k < intervals → quantity_at result k ≡ adj n entries totals i k }
-{
-    let reached = reach_series(n, entries, i);
-    let beyond = zip_series(reached, totals, Quantity::above);
-    zip_series(entries[i].quantities, beyond, Quantity::lesser)
-}
-
-// The offset of a sound list.
-fn offset_of(
-    n: usize,
-    entries: [Import; IMPORTS_MAX],
+    entries: &'a [Import; IMPORTS_MAX],
     hour: HourPrices,
-    totals: [Quantity; INTERVALS],
-) -> Ticks
-    requires { Listed n entries }
-    ensures { result.0 ≡ offset n entries hour.prices totals }
-{
-    let mut sum = Ticks(0);
-    for i in 0..n {
-        let e = entries[i];
-        let series = adj_series(n, entries, totals, i);
-        let good = GoodOffer { offer: e.offer };
-        sum = sum.plus(e.credit.minus(credit_of(good, hour, series)));
-    }
-    sum
+    ghost listed: { Listed n entries.now },
 }
 
+impl<'a> GoodImports<'a> {
+    // For twelve intervals, the sum of the quantities up to and including import i.
+    fn reach_series(self, i: usize) -> [Quantity; INTERVALS]
+        requires { i < self.n }
+        ensures { (k : ℕ) → k < intervals → quantity_at result k ≡ reach self.entry.n self.entry.entries.now i k }
+    {
+        let entries = self.entries;
+        let e = entries[i];
+        let mut sums = [Quantity(0); INTERVALS];
+        for a in &entries[..self.n] {
+            // The borrow checker takes no call's result into an array that the loop carries.
+            let next = counted_in(sums, *a, e);
+            sums = next;
+        }
+        sums
+    }
+
+    // The twelve adjusted quantities of import i.
+    fn adj_series(self, totals: [Quantity; INTERVALS], i: usize) -> [Quantity; INTERVALS]
+        requires { i < self.n }
+        ensures { (k : ℕ) → k < intervals → quantity_at result k ≡ adj self.entry.n self.entry.entries.now totals i k }
+    {
+        let beyond = zip_series(self.reach_series(i), totals, Quantity::above);
+        zip_series(self.entries[i].quantities, beyond, Quantity::lesser)
+    }
+
+    // Their offset.
+    fn offset(self, totals: [Quantity; INTERVALS]) -> Ticks
+        ensures { result.0 ≡ offset self.entry.n self.entry.entries.now self.entry.hour.prices totals }
+    {
+        let mut sum = Ticks(0);
+        for i in 0..self.n {
+            let e = self.entries[i];
+            let series = self.adj_series(totals, i);
+            let good = GoodOffer { offer: e.offer };
+            sum = sum.plus(e.credit.minus(credit_of(good, self.hour, series)));
+        }
+        sum
+    }
+}
+
+// Prices and totals stay two: 01's call takes each by itself, and behind this test each goes its own way.
 fn rates_ok(prices: [Price; INTERVALS], totals: [Quantity; INTERVALS]) -> bool
     ensures { result ≡ rates_ok prices totals }
 {
-    prices_ok(prices) && totals.iter().all(|t| t.0 <= TOTAL_MAX.0)
+    prices_ok(prices) && totals.iter().all(|t| *t <= TOTAL_MAX)
 }
 
 // The offset of the first `count` entries.
@@ -130,11 +129,16 @@ pub fn offset_core(
         return Err(Refusal::NumberOutside);
     }
     let hour = HourPrices { prices };
-    check_entries(n, entries, hour)?;
-    Ok(offset_of(n, entries, hour, totals))
+    check_entries(n, &entries, hour)?;
+    let imports = GoodImports {
+        n,
+        entries: &entries,
+        hour,
+    };
+    Ok(imports.offset(totals))
 }
 
-// The entries taken so far, beside the hour's prices and export totals.
+// The entries taken so far, beside the hour's prices and export totals. 01 names this form: a thin function over a core on arrays.
 #[derive(Clone, Copy)]
 pub struct Taken {
     pub count: u8,
@@ -156,17 +160,17 @@ pub(crate) fn start(prices: [Price; INTERVALS], totals: [Quantity; INTERVALS]) -
         bytes: [0; NAME_MAX],
     };
     let none = Import {
-        name: name,
+        name,
         credit: Ticks(0),
         quantities: [Quantity(0); INTERVALS],
-        offer: offer,
+        offer,
     };
     let entries = [none; IMPORTS_MAX];
     Taken {
         count: 0,
-        prices: prices,
-        totals: totals,
-        entries: entries,
+        prices,
+        totals,
+        entries,
     }
 }
 

@@ -18,6 +18,7 @@ use crate::units::{
 };
 
 // A kind of operating reserve in an hour: prices, unconstrained schedules, and the list offered, which may be empty.
+// Two series, no array of pairs: 01 gives them apart, and each is tested, cut and summed by itself.
 #[derive(Clone, Copy)]
 pub struct Reserve {
     pub prices: [Price; INTERVALS],
@@ -72,8 +73,8 @@ fn reserves_numbers_ok(h: UnitHour) -> bool
 fn numbers_fine(h: UnitHour) -> bool
     ensures { result ≡ numbers_fine h }
 {
-    h.startup.0 <= CentsPerStart::MAX.0
-        && h.noload.0 <= CentsPerHour::MAX.0
+    h.startup <= CentsPerStart::MAX
+        && h.noload <= CentsPerHour::MAX
         && quantities_ok(h.ahead)
         && quantities_ok(h.constrained)
         && quantities_ok(h.unconstrained)
@@ -279,8 +280,8 @@ impl<'a> ReadyHour<'a> {
     {
         let noload = self.hour.noload;
         let mut sum = Ticks(0);
-        for k in 0..INTERVALS {
-            sum = sum.plus(running_at(noload, m[k]));
+        for q in &m {
+            sum = sum.plus(running_at(noload, *q));
         }
         sum
     }
@@ -384,6 +385,8 @@ fn running_at(noload: CentsPerHour, m: Quantity) -> Ticks
 
 // ---- the four components of an interval, counted from 0
 
+// What they take is bare, as a caller has it; what passed the checks is a `ReadyHour` and an `Interval`.
+
 #[tactic(auto, unfolding(crate::specs::Production::interval_fault))]
 pub fn component_1(h: UnitHour, prices: [Price; INTERVALS], k: usize) -> Result<Ticks, Refusal>
     ensures { answer_of result ≡ component1_answer h prices k }
@@ -432,30 +435,43 @@ pub const HOUR_MAX: Ticks = Ticks(100000000000000);
 fn hour_ok(amount: Ticks, start: CentsPerStart) -> bool
     ensures { result ≡ amount_ok amount start }
 {
-    -HOUR_MAX.0 <= amount.0 && amount.0 <= HOUR_MAX.0 && start.0 <= CentsPerStart::MAX.0
+    -HOUR_MAX.0 <= amount.0 && amount <= HOUR_MAX && start <= CentsPerStart::MAX
 }
 
-fn hours_ok(amounts: [Ticks; HOURS], starts: [CentsPerStart; HOURS]) -> bool
-    ensures { result ≡ hours_ok amounts starts }
-{
-    for i in 0..HOURS {
-        if !hour_ok(amounts[i], starts[i]) {
-            return false;
+// 24 hours' amounts and start-ups, each within its limit.
+#[derive(Clone, Copy)]
+struct ReadyDay<'a> {
+    amounts: &'a [Ticks; HOURS],
+    starts: &'a [CentsPerStart; HOURS],
+    ghost ready: { DayReady amounts.now starts.now },
+}
+
+impl<'a> ReadyDay<'a> {
+    fn new(
+        amounts: &'a [Ticks; HOURS],
+        starts: &'a [CentsPerStart; HOURS],
+    ) -> Result<ReadyDay<'a>, Refusal>
+        ensures fault { fault_in result ≡ unless (hours_ok amounts.now starts.now) number_outside 0 }
+        ensures amounts_kept { IfOk result (λ d. d.amounts.now ≡ amounts.now) }
+        ensures starts_kept { IfOk result (λ d. d.starts.now ≡ starts.now) }
+    {
+        if !amounts.iter().zip(starts).all(|(a, s)| hour_ok(*a, *s)) {
+            return Err(Refusal::NumberOutside);
         }
+        Ok(ReadyDay { amounts, starts })
     }
-    true
-}
 
-fn day_sum(amounts: [Ticks; HOURS], starts: [CentsPerStart; HOURS]) -> Ticks
-    requires { DayReady amounts starts }
-    ensures value { result.0 ≡ day_sum amounts starts }
-    ensures moderate { Moderate result.0 }
-{
-    let mut sum = Ticks(0);
-    for i in 0..HOURS {
-        sum = sum.plus(amounts[i].plus(starts[i].ticks()));
+    fn total(self) -> Ticks
+        ensures value { result.0 ≡ day_sum self.entry.amounts.now self.entry.starts.now }
+        ensures moderate { Moderate result.0 }
+    {
+        let ReadyDay { amounts, starts } = self;
+        let mut sum = Ticks(0);
+        for (a, s) in amounts.iter().zip(starts) {
+            sum = sum.plus(a.plus(s.ticks()));
+        }
+        sum
     }
-    sum
 }
 
 // The day total and its reversal of 24 hours' amounts and start-ups, both 0 where the unit has no hour.
@@ -466,10 +482,7 @@ pub fn unit_day(
 ) -> Result<DayTotals, Refusal>
     ensures { day_answer_of result ≡ day_answer amounts starts }
 {
-    if !hours_ok(amounts, starts) {
-        return Err(Refusal::NumberOutside);
-    }
-    let total = day_sum(amounts, starts);
+    let total = ReadyDay::new(&amounts, &starts)?.total();
     let reversal = total.deficit();
     Ok(DayTotals { total, reversal })
 }

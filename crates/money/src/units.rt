@@ -19,27 +19,27 @@ pub const TICKS_PER_CENT: u64 = 120;
 const NOLOAD_TICKS: i64 = 10;
 
 // Cents per MWh.
-#[derive(Clone, Copy)]
+#[derive(Clone, Copy, PartialEq, Eq, PartialOrd, Ord)]
 pub struct Price(pub i32);
 
 // Cents per MWh between two prices, 0 to 400,000: a price's own limits don't bind it.
-#[derive(Clone, Copy)]
+#[derive(Clone, Copy, PartialEq, Eq, PartialOrd, Ord)]
 pub struct PriceGap(pub i32);
 
 // Tenths of a MW.
-#[derive(Clone, Copy)]
+#[derive(Clone, Copy, PartialEq, Eq, PartialOrd, Ord)]
 pub struct Quantity(pub u32);
 
 // 1/120 cent: a price times a quantity for one interval is that many.
-#[derive(Clone, Copy, PartialEq, Eq, PartialOrd, Ord)]
+#[derive(Clone, Copy, PartialEq, Eq, PartialOrd, Ord, Default)]
 pub struct Ticks(pub i64);
 
 // Cents for each start of a unit.
-#[derive(Clone, Copy)]
+#[derive(Clone, Copy, PartialEq, Eq, PartialOrd, Ord)]
 pub struct CentsPerStart(pub u32);
 
 // Cents for each hour in which a unit turns with no net energy.
-#[derive(Clone, Copy)]
+#[derive(Clone, Copy, PartialEq, Eq, PartialOrd, Ord)]
 pub struct CentsPerHour(pub u32);
 
 // Whole cents, for the line that is printed.
@@ -64,7 +64,7 @@ impl Price {
     pub fn in_range(self) -> bool
         ensures { result ≡ price_ok self }
     {
-        Price::MIN.0 <= self.0 && self.0 <= Price::MAX.0
+        Price::MIN <= self && self <= Price::MAX
     }
 
     // This price for a quantity, in one interval.
@@ -91,10 +91,11 @@ impl Price {
 }
 
 impl PriceGap {
+    // 01's min, by std's of the derived order.
     pub fn lesser(self, other: PriceGap) -> PriceGap
         ensures { result.0 ≡ minℤ self.0 other.0 }
     {
-        PriceGap(self.0.min(other.0))
+        self.min(other)
     }
 
     // This gap for a quantity over a whole hour, of twelve intervals.
@@ -110,6 +111,7 @@ impl PriceGap {
 impl Quantity {
     pub const MAX: Quantity = Quantity(100000);
 
+    // Price's in its shape; a trait for the two would hold these bodies, and a ghost for each range besides.
     pub fn new(tenths: u32) -> Result<Quantity, Refusal>
         ensures { result ≡ quantity_read tenths }
     {
@@ -123,19 +125,20 @@ impl Quantity {
     pub fn in_range(self) -> bool
         ensures { result ≡ quantity_ok self }
     {
-        self.0 <= Quantity::MAX.0
+        self <= Quantity::MAX
     }
 
+    // 01's min and max, by std's of the derived order.
     pub fn lesser(self, other: Quantity) -> Quantity
         ensures { result.0 ≡ min self.0 other.0 }
     {
-        Quantity(self.0.min(other.0))
+        self.min(other)
     }
 
     pub fn greater(self, other: Quantity) -> Quantity
         ensures { result.0 ≡ max self.0 other.0 }
     {
-        Quantity(self.0.max(other.0))
+        self.max(other)
     }
 
     // max(0, self - other)
@@ -167,6 +170,7 @@ impl CentsPerHour {
     }
 }
 
+// That an amount is moderate stays a clause: a sum of two moderate ones need not be, so a type for them would ask for the same proof at each sum.
 impl Ticks {
     pub(crate) fn plus(self, other: Ticks) -> Ticks
         requires self_moderate { Moderate self.0 }
@@ -207,6 +211,7 @@ impl Ticks {
 }
 
 impl Cents {
+    // std's magnitude of the number that a printer wants.
     pub fn magnitude(self) -> u64
         ensures value { result ≡ nat_abs self.0 }
         ensures bounded { result ≤ 2 ^ 63 }
@@ -231,5 +236,5 @@ pub(crate) fn quantities_ok(qs: [Quantity; INTERVALS]) -> bool
 pub fn within_ok(qs: [Quantity; INTERVALS], last: Quantity) -> bool
     ensures { result ≡ within_ok qs last.0 }
 {
-    qs.iter().all(|q| q.0 <= last.0)
+    qs.iter().all(|q| *q <= last)
 }

@@ -1,5 +1,5 @@
 -- Sums of profits, credits and their sizes. Assumes nothing.
-use Rattle.std.specs.Prelude.{◌≡◌, Bool, true, List, ℕ, ◌≤◌, ◌<◌, ℤ, pos, neg_ℤ, nat_abs, ◌-ℤ◌, ◌*ℤ◌}
+use Rattle.std.specs.Prelude.{◌≡◌, Bool, true, List, ◌∷◌, length, ◌+ℤ◌, ℕ, ◌≤◌, ◌<◌, ℤ, pos, neg_ℤ, nat_abs, ◌-ℤ◌, ◌*ℤ◌}
 use Rattle.std.proofs.Common.{sym, subst, ap, ◌∙◌, arith}
 use Rattle.laws.specs.Ints.{minℤ}
 use Rattle.laws.specs.IntLaws.{ints, by₁, sub_within}
@@ -9,12 +9,12 @@ use Rattle.money.specs.declared.units.Price.{Price}
 use Rattle.money.specs.declared.units.Quantity.{Quantity}
 use Rattle.money.specs.Answers.{Amount}
 use Rattle.money.specs.declared.offers.Offer.{Offer}
-use Rattle.money.specs.Units.{intervals, price_at, quantity_at, prices_ok, quantities_ok, within_ok, unless, answer}
+use Rattle.money.specs.Units.{intervals, no_price, no_quantity, price_at, quantity_at, prices_ok, quantities_ok, within_ok, unless, answer}
 use Rattle.money.specs.Offers.{last_q, offer_fault, cost}
 use Rattle.money.specs.Guarantee.{profit, profits, credit, credit_answer}
 use Rattle.money.specs.tables.Numbers.{Moderate}
 use Rattle.money.specs.tables.Ready.{Good, Rates, Ready}
-use Rattle.money.proofs.laws.UnitLaws.{within-at}
+use Rattle.money.proofs.laws.UnitLaws.{Paired, paired-in, first-is, second-is, paired-more, within-at}
 use Rattle.money.proofs.laws.OfferLaws.{good_of, abs-mul-pos, in-range, spends}
 
 module _ (o : Offer) (ps : List Price) (q : ℕ → ℕ) (r : Ready o ps q) where
@@ -69,6 +69,25 @@ pub profits-all : (o : Offer) (ps : List Price) (q : ℕ → ℕ) {sum : ℤ} {k
     → sum ≡ profits o ps q
 unfolding profits
 profits-all o ps q u h = summed-all u h
+
+-- an interval of a walk over both lists: its quantity lies within the offer, and it adds its profit
+module _ (o : Offer) {ps : List Price} {qs : List Quantity} (full : length ps ≡ intervals) (same : length qs ≡ intervals) {sum : ℤ} {xs us : List Price}
+    {ys vs : List Quantity} (w : Paired intervals (interval-profit o ps (quantity_at qs)) ps qs sum xs ys) {p : Price} (ex : xs ≡ p ∷ us) {q : Quantity}
+    (ey : ys ≡ q ∷ vs) where
+  pub turn-within : ((k : ℕ) → k < intervals → quantity_at qs k ≤ last_q o) → q.0 ≤ last_q o
+  turn-within h = rw (second-is w full same ex ey no_quantity) (h w.upto (paired-in w full same ex ey))
+
+  turn-profit : profit o p.0 q.0 ≡ interval-profit o ps (quantity_at qs) w.upto
+  turn-profit =
+      ap (λ (x : Price). profit o x.0 q.0) (first-is w full same ex ey no_price)
+      ∙ ap (λ (x : Quantity). profit o (price_at ps w.upto) x.0) (second-is w full same ex ey no_quantity)
+
+  pub turn-room : Ready o ps (quantity_at qs) → {d : ℤ} → d ≡ profit o p.0 q.0 → Moderate d
+  turn-room r e = profit-room r w.upto (paired-in w full same ex ey) (e ∙ turn-profit)
+
+  pub turn-more : {d r : ℤ} → d ≡ profit o p.0 q.0 → r ≡ sum +ℤ d
+      → Paired intervals (interval-profit o ps (quantity_at qs)) ps qs r us vs
+  turn-more e g = paired-more w full same ex ey g (e ∙ turn-profit)
 
 pub credit-room : {o : Offer} {ps : List Price} {q : ℕ → ℕ} → Ready o ps q → {x : ℤ} → x ≡ credit o ps q → Moderate x
 credit-room {o = o} {ps = ps} {q = q} r e = rw e (omega (arith, credit-size o ps q r))

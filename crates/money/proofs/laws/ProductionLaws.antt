@@ -1,6 +1,6 @@
 -- What the checks of a unit's hour tell, its components and sums, and their sizes. Assumes nothing.
 use Rattle.std.specs.Prelude.{◌≡◌, Bool, ◌&&◌, List, ltb, ℤ, neg_ℤ, nat_abs, ◌+ℤ◌, ◌-ℤ◌, ◌*ℤ◌, ◌≤ℤ◌, get_or}
-use Rattle.std.proofs.Common.{refl, sym, ap, ◌∙◌, true, false, cond, ℕ, zero, suc, ◌+◌, ◌-◌, ◌*◌, ◌≤◌, ◌<◌, zero-le, min, max, arith, leb-true, ltb-true, le-leb, lt-ltb, le-ltb, leb, pos}
+use Rattle.std.proofs.Common.{length, ◌∷◌, refl, sym, ap, ◌∙◌, true, false, cond, ℕ, zero, suc, ◌+◌, ◌-◌, ◌*◌, ◌≤◌, ◌<◌, zero-le, min, max, arith, leb-true, ltb-true, le-leb, lt-ltb, le-ltb, leb, pos}
 use Rattle.std.proofs.Math.Decide.{dec_lt}
 use Rattle.std.specs.Int.Signed.{le_z}
 use Rattle.laws.specs.Ints.{minℤ, maxℤ}
@@ -21,7 +21,7 @@ use Rattle.money.specs.Guarantee.{profit, profits}
 use Rattle.money.specs.Production.{component1, shortfall, component2, arranged, component3, congestion, reserve_net, component4, S, D, R, U, A, K, C1, C2, C3, C4, interval, hour_amount, reserve_fault, reserve_numbers_ok, reserves_numbers_ok, numbers_fine, within_fine, lists_fault, unit_fault, interval_fault, no_ticks, no_start, hour_part, max_hour, day_sum, amount_ok, hours_ok, reversal, day_answer, hour_answer}
 use Rattle.money.specs.tables.Numbers.{Moderate, running}
 use Rattle.money.specs.tables.Ready.{Good, Ready, Usable, ListsGood, UnitReady, DayReady}
-use Rattle.money.proofs.laws.UnitLaws.{prices-of, within-at, passes, neither}
+use Rattle.money.proofs.laws.UnitLaws.{Paired, paired-in, first-is, second-is, paired-more, prices-of, within-at, passes, neither}
 use Rattle.money.proofs.laws.OfferLaws.{good_of, cost-none, abs-mul-pos, in-range, spends}
 use Rattle.money.proofs.laws.GuaranteeLaws.{profit-size, profits-size}
 
@@ -605,6 +605,16 @@ module _ {ts : List Ticks} {ss : List CentsPerStart} (ready : DayReady ts ss) wh
 
     pub part_room : Moderate p
     part_room = rw part-is (omega (arith, part-size i l))
+
+-- a turn over both lists adds an hour's part
+module _ {ts : List Ticks} {ss : List CentsPerStart} (ready : DayReady ts ss) (full : length ts ≡ day_hours) (same : length ss ≡ day_hours) {sum : ℤ}
+    {xs us : List Ticks} {ys vs : List CentsPerStart} (w : Paired day_hours (hour_part ts ss) ts ss sum xs ys) {a : Ticks} (ex : xs ≡ a ∷ us)
+    {s : CentsPerStart} (ey : ys ≡ s ∷ vs) where
+  pub part-more : {x p r : ℤ} → x ≡ pos (s.0 * ticks_per_cent) → p ≡ a.0 +ℤ x → r ≡ sum +ℤ p → Paired day_hours (hour_part ts ss) ts ss r us vs
+  part-more {x} e f g =
+      paired-more w full same ex ey g
+      (part-is ready w.upto (paired-in w full same ex ey) (e ∙ ap (λ (t : CentsPerStart). pos (t.0 * ticks_per_cent)) (second-is w full same ex ey no_start))
+      (f ∙ ap (λ (t : Ticks). t.0 +ℤ x) (first-is w full same ex ey no_ticks)))
 
 pub day-amount : (ts : List Ticks) (ss : List CentsPerStart) → ((i : ℕ) → i < day_hours → amount_ok (get_or ts i no_ticks) (get_or ss i no_start) ≡ true)
     → day_answer ts ss ≡ Day (record { 0 = day_sum ts ss }) (record { 0 = reversal (day_sum ts ss) })

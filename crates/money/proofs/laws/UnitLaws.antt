@@ -1,18 +1,22 @@
 -- Laws of units, of tests and refusals, and of series of twelve quantities. Assumes nothing.
-use Rattle.std.specs.Prelude.{◌≡◌, refl, Bool, true, false, ◌&&◌, List, [], ◌∷◌, map, ℕ, zero, suc, ◌+◌, ◌-◌, ◌*◌, ◌/◌, ◌^◌, ◌≤◌, ◌<◌, T, leb, ℤ, pos, negsuc, neg_ℤ, nat_abs, ◌-ℤ◌, ◌*ℤ◌, ◌≤ℤ◌, ◌<ℤ◌, get_or, set, length, replicate, Result, Ok, Err}
+use Rattle.std.specs.Prelude.{◌≡◌, ◌+ℤ◌, refl, Bool, true, false, ◌&&◌, List, [], ◌∷◌, map, ℕ, zero, suc, ◌+◌, ◌-◌, ◌*◌, ◌/◌, ◌^◌, ◌≤◌, ◌<◌, T, leb, ℤ, pos, negsuc, neg_ℤ, nat_abs, ◌-ℤ◌, ◌*ℤ◌, ◌≤ℤ◌, ◌<ℤ◌, get_or, set, length, replicate, Result, Ok, Err}
 use Rattle.std.specs.Result.{IsErrAnd}
-use Rattle.std.proofs.Common.{Some, Ordering, not, cond, sym, ap, ◌∙◌, subst, zero-le, arith, leb-true, ltb→lt, length-set, get_or-set_same, get_or-set_other, SFits, to_z, of_z, to_z-of_z}
+use Rattle.std.specs.List.{zip, list_all}
+use Rattle.std.proofs.Common.{take, drop, ap₂, drop-cons, add-one, Some, Ordering, not, cond, sym, ap, ◌∙◌, subst, zero-le, arith, leb-true, ltb→lt, length-set, get_or-set_same, get_or-set_other, SFits, to_z, of_z, to_z-of_z}
 use Rattle.std.specs.Int.Signed.{lt_z, le_z, ≤ℤ_refl}
 use Rattle.std.specs.Int.{w64, int_min, int_max}
 use Rattle.std.specs.Ordering.{is_lt, is_some_and, partial_ordering_then, int_cmp, int_eq}
 use Rattle.std.specs.declared.cmp.Ordering.TheVariants.{Less, Equal, Greater}
 use Rattle.std.proofs.lemmas.Bool.Decides.{same_from_decides, Decides-int_eq}
-use Rattle.std.proofs.lemmas.List.{length-map}
+use Rattle.std.proofs.lemmas.List.{length-map, length-take-le, get_or-take}
+use Rattle.std.proofs.lemmas.Slice.Zip.{get_or-zip, length-zip}
+use Rattle.std.proofs.lemmas.Grind.{get_or_after_one}
+use Rattle.std.proofs.lemmas.List.{length-drop}
 use Rattle.laws.specs.Carried.{Carried}
 use Rattle.laws.specs.Ints.{minℤ, maxℤ}
 use Rattle.laws.specs.IntLaws.{ints, by₁, by₂, dif, dif-abs, pos-dif, abs_neg, neg-*, le-true, ≤ℤ-antisym}
-use Rattle.laws.specs.Sums.{or_else}
-use Rattle.laws.specs.SumLaws.{every-yes, every-at, and-true, last_or}
+use Rattle.laws.specs.Sums.{Σℤ, or_else, every}
+use Rattle.laws.specs.SumLaws.{Summed, summed-none, summed-more, summed-all, every-list, every-ext, every-yes, every-at, and-true, last_or}
 use Rattle.money.specs.declared.units.Price.{Price}
 use Rattle.money.specs.declared.units.Quantity.{Quantity}
 use Rattle.money.specs.declared.refusals.Refusal.{Refusal}
@@ -303,3 +307,97 @@ filled-all {series = series} {f = f} r h = built-from 0 intervals f series r.lon
 pub series-none : replicate intervals no_quantity ≡ series_of 0 intervals (λ (k : ℕ). 0)
 unfolding series_of
 series-none = refl
+
+-- ---- a test of all pairs of two lists, as one of each number
+
+pub every-pair : {A B : Type 0} (n : ℕ) (p : A × B → Bool) (d : A) (e : B) (xs : List A) (ys : List B) → length xs ≡ n → length ys ≡ n
+    → list_all p (zip xs ys) ≡ every n (λ k. p (get_or xs k d, get_or ys k e))
+every-pair n p d e xs ys u v =
+    every-list n p (d, e) (zip xs ys) (omega (arith, length-zip xs ys))
+    ∙ every-ext n (λ k. p (get_or (zip xs ys) k (d, e))) (λ k. p (get_or xs k d, get_or ys k e))
+    (λ k l. ap p (get_or-zip xs ys k (d, e) (omega arith) (omega arith)))
+
+-- the same over the first n of both
+pub every-front-pair : {A B : Type 0} (n : ℕ) (p : A × B → Bool) (d : A) (e : B) (xs : List A) (ys : List B) → n ≤ length xs → n ≤ length ys
+    → list_all p (zip (take n xs) (take n ys)) ≡ every n (λ k. p (get_or xs k d, get_or ys k e))
+every-front-pair n p d e xs ys u v =
+    every-pair n p d e (take n xs) (take n ys) (length-take-le n xs u) (length-take-le n ys v)
+    ∙ every-ext n (λ k. p (get_or (take n xs) k d, get_or (take n ys) k e)) (λ k. p (get_or xs k d, get_or ys k e))
+    (λ k l. ap p (ap₂ (λ a b. (a, b)) (get_or-take n xs k d l) (get_or-take n ys k e l)))
+
+-- ---- and of each element with the next
+
+next_size : {A : Type 0} (n : ℕ) (xs : List A) → n < length xs → length (take n (drop 1 xs)) ≡ n
+next_size n xs u = length-take-le n (drop 1 xs) (omega (arith, length-drop 1 xs))
+
+nexts-size : {A : Type 0} (n : ℕ) (xs : List A) → n < length xs → length (zip (take n xs) (take n (drop 1 xs))) ≡ n
+nexts-size n xs u =
+    omega (arith, length-zip (take n xs) (take n (drop 1 xs)), length-take-le n xs (omega arith), next_size n xs u)
+
+next-at : {A : Type 0} (n : ℕ) (xs : List A) (d : A) → n < length xs → (k : ℕ) → k < n
+    → get_or (zip (take n xs) (take n (drop 1 xs))) k (d, d) ≡ (get_or xs k d, get_or xs (k + 1) d)
+next-at n xs d u k l =
+    let e : 1 + k ≡ k + 1 = omega arith in
+    get_or-zip (take n xs) (take n (drop 1 xs)) k (d, d) (omega (arith, length-take-le n xs (omega arith))) (omega (arith, next_size n xs u))
+    ∙ ap₂ (λ a b. (a, b)) (get_or-take n xs k d l)
+    (get_or-take n (drop 1 xs) k d l ∙ get_or_after_one xs k d ∙ ap (λ (j : ℕ). get_or xs j d) e)
+
+pub every-next : {A B : Type 0} (n : ℕ) (p : (A × A) × (B × B) → Bool) (d : A) (e : B) (xs : List A) (ys : List B) → n < length xs → n < length ys
+    → list_all p (zip (zip (take n xs) (take n (drop 1 xs))) (zip (take n ys) (take n (drop 1 ys))))
+    ≡ every n (λ k. p ((get_or xs k d, get_or xs (k + 1) d), (get_or ys k e, get_or ys (k + 1) e)))
+every-next n p d e xs ys u v =
+    every-pair n p (d, d) (e, e) (zip (take n xs) (take n (drop 1 xs))) (zip (take n ys) (take n (drop 1 ys))) (nexts-size n xs u) (nexts-size n ys v)
+    ∙ every-ext n (λ k. p (get_or (zip (take n xs) (take n (drop 1 xs))) k (d, d), get_or (zip (take n ys) (take n (drop 1 ys))) k (e, e)))
+    (λ k. p ((get_or xs k d, get_or xs (k + 1) d), (get_or ys k e, get_or ys (k + 1) e)))
+    (λ k l. ap p (ap₂ (λ a b. (a, b)) (next-at n xs d u k l) (next-at n ys e v k l)))
+
+-- ---- a sum over two lists side by side
+
+-- what is added, and what of both lists is left
+pub record Paired {A B : Type 0} (n : ℕ) (f : ℕ → ℤ) (firsts : List A) (seconds : List B) (sum : ℤ) (us : List A) (vs : List B) : Type 0 where
+  pub upto : ℕ
+  pub so_far : Summed n f sum upto
+  pub first : us ≡ drop upto firsts
+  pub second : vs ≡ drop upto seconds
+
+pub paired-none : {A B : Type 0} (n : ℕ) (f : ℕ → ℤ) {firsts us : List A} {seconds vs : List B} → us ≡ firsts → vs ≡ seconds
+    → Paired n f firsts seconds (pos 0) us vs
+paired-none n f e g = record { upto = 0; so_far = summed-none n f; first = e; second = g }
+
+module _ {A B : Type 0} {n : ℕ} {f : ℕ → ℤ} {firsts : List A} {seconds : List B} {sum : ℤ} {xs : List A} {ys : List B}
+    (w : Paired n f firsts seconds sum xs ys) where
+  -- no first is left
+  pub paired-all : length firsts ≡ n → length xs ≡ 0 → sum ≡ Σℤ n f
+  paired-all full z = summed-all w.so_far (omega (arith, length-drop w.upto firsts, ap length w.first))
+
+  -- or no second
+  pub paired-rest : length seconds ≡ n → length ys ≡ 0 → sum ≡ Σℤ n f
+  paired-rest full z = summed-all w.so_far (omega (arith, length-drop w.upto seconds, ap length w.second))
+
+  module _ (full : length firsts ≡ n) (same : length seconds ≡ n) {a : A} {us : List A} (ex : xs ≡ a ∷ us) {b : B} {vs : List B} (ey : ys ≡ b ∷ vs) where
+    pub paired-in : w.upto < n
+    paired-in = omega (arith, length-drop w.upto firsts, ap length w.first, ap length ex)
+
+    firsts-from : (d : A) → a ∷ us ≡ get_or firsts w.upto d ∷ drop (w.upto + 1) firsts
+    firsts-from d =
+        sym ex ∙ w.first ∙ drop-cons firsts w.upto d (omega (arith, paired-in))
+        ∙ ap (λ (k : ℕ). get_or firsts w.upto d ∷ drop k firsts) (sym (add-one w.upto))
+
+    seconds-from : (d : B) → b ∷ vs ≡ get_or seconds w.upto d ∷ drop (w.upto + 1) seconds
+    seconds-from d =
+        sym ey ∙ w.second ∙ drop-cons seconds w.upto d (omega (arith, paired-in))
+        ∙ ap (λ (k : ℕ). get_or seconds w.upto d ∷ drop k seconds) (sym (add-one w.upto))
+
+    pub first-is : (d : A) → a ≡ get_or firsts w.upto d
+    first-is d = let e = firsts-from d in cc
+
+    pub second-is : (d : B) → b ≡ get_or seconds w.upto d
+    second-is d = let e = seconds-from d in cc
+
+    pub paired-more : {r p : ℤ} → r ≡ sum +ℤ p → p ≡ f w.upto → Paired n f firsts seconds r us vs
+    paired-more e g = record {
+      upto = w.upto + 1;
+      so_far = summed-more w.so_far paired-in e g;
+      first = let e = firsts-from a in cc;
+      second = let e = seconds-from b in cc;
+    }

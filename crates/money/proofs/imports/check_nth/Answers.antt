@@ -7,7 +7,7 @@ use Rattle.money.proofs.imports.check_nth.Goals as goal
 pub returns-in_err-check_entry : goal.returns-in_err-check_entry
 unfolding nth_fault
 returns-in_err-check_entry c =
-    kept-out (unless (fresh_name c.args.entries c.args.i) 10 0) _ _ c.from_residual.ensures.1 c.in_err-check_entry.ensures
+    kept-out (unless (fresh_name c.args.entries.now c.args.i) 10 0) _ _ c.from_residual.ensures.1 c.in_err-check_entry.ensures
 
 pub returns-then-not-fresh : goal.returns-then-not-fresh
 unfolding nth_fault

@@ -13,8 +13,8 @@ use Rattle.money.proofs.imports.fresh.Goals as goal
 pub returns : goal.returns
 unfolding fresh_name
 returns c =
-    let p = λ (a : Import). not (by_key decoded_bytes (pointwise nat_eq) (entry c.args.entries c.args.i).name a.name) in
-    all_from_yields_List p _ _ _ c.all.ensures.ran (YieldsList-from_slice (take c.args.i c.args.entries) cc) (λ x b q k. search (rules, tests))
-    ∙ every-front c.args.i p no_import c.args.entries (search rules)
-    ∙ every-ext c.args.i (λ j. p (entry c.args.entries j)) (λ j. not (same_name (entry c.args.entries c.args.i).name (entry c.args.entries j).name))
-    (λ j l. ap (λ (b : Bool). not b) (name-eq (entry c.args.entries c.args.i).name (entry c.args.entries j).name))
+    let p = λ (a : Import). not (by_key decoded_bytes (pointwise nat_eq) (entry c.args.entries.now c.args.i).name a.name) in
+    all_from_yields_List p _ _ _ c.all.ensures.ran (YieldsList-from_slice (take c.args.i c.args.entries.now) cc) (λ x b q k. search (rules, tests))
+    ∙ every-front c.args.i p no_import c.args.entries.now (search rules)
+    ∙ every-ext c.args.i (λ j. p (entry c.args.entries.now j)) (λ j. not (same_name (entry c.args.entries.now c.args.i).name (entry c.args.entries.now j).name))
+    (λ j l. ap (λ (b : Bool). not b) (name-eq (entry c.args.entries.now c.args.i).name (entry c.args.entries.now j).name))

@@ -1,6 +1,5 @@
 use Rattle.std.proofs.Common.{◌∙◌, sym}
 use Rattle.money.specs.Offset.{up_to}
-use Rattle.money.proofs.laws.NameLaws.{name-eq}
 use Rattle.money.proofs.imports.up_to.Goals as goal
 
 pub returns-then-comes_before : goal.returns-then-comes_before
@@ -9,4 +8,4 @@ returns-then-comes_before c = c.if-comes_before.true ∙ rw (sym c.comes_before.
 
 pub returns-else-comes_before : goal.returns-else-comes_before
 unfolding up_to
-returns-else-comes_before c = rw (sym c.comes_before.ensures ∙ c.if-comes_before.false) (c.eq.ensures ∙ name-eq c.args.a.name c.args.e.name)
+returns-else-comes_before c = rw (sym c.comes_before.ensures ∙ c.if-comes_before.false) c.same_name.ensures

@@ -26,13 +26,13 @@ returns-in_err-check_entries c =
           ∙ c.if-not-rates_ok.false,
     ) (answer-out (offset c.args.count c.args.entries c.args.prices c.args.totals) _ _ c.from_residual.ensures.1 c.in_err-check_entries.ensures)
 
-pub offset_of-requires : goal.offset_of-requires
-offset_of-requires c =
+pub invariant_of-imports : goal.invariant_of-imports
+invariant_of-imports c =
     let r = rates-of c.args.prices c.args.totals (sym c.rates_ok.ensures ∙ c.if-not-rates_ok.false) in
-    listed_of _ _ _ c.if-n-gt-IMPORTS_MAX.false r (sym c.in_ok-check_entries.ensures)
+    record { listed = listed_of _ _ _ c.if-n-gt-IMPORTS_MAX.false r (sym c.in_ok-check_entries.ensures) }
 
 pub returns : goal.returns
 unfolding offset_answer
 returns c =
     rw (le-leb _ _ c.if-n-gt-IMPORTS_MAX.false, sym c.rates_ok.ensures ∙ c.if-not-rates_ok.false, sym c.in_ok-check_entries.ensures)
-    (ap (λ (z : ℤ). Amount (record { 0 = z })) c.offset_of.ensures)
+    (ap (λ (z : ℤ). Amount (record { 0 = z })) c.offset.ensures)
