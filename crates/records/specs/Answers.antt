@@ -6,9 +6,8 @@ use Rattle.money.specs.declared.names.Name.{Name}
 use Rattle.money.specs.declared.refusals.Refusal.{Refusal}
 use Rattle.records.specs.Reading.{Res, bad, got}
 use Rattle.records.specs.Changes.{Change, key_of, kind, write, Entry, changed, taking_back, closing, Input, fine, fault, Scan, seen, unseen}
-use Rattle.records.specs.Numbers.{pad}
-use Rattle.records.specs.Names.{max_spelling, spell, bytes_of}
-use Rattle.records.specs.declared.names.Spelling.{Spelling}
+use Rattle.records.specs.Names.{spell, bytes_of}
+use Rattle.arrayvec.specs.ArrayVec.{ArrayVec}
 use Rattle.records.specs.declared.scan.View.{View}
 use Rattle.records.specs.declared.parse.Act.{Act}
 use Rattle.records.specs.declared.parse.Act.TheVariants as act
@@ -58,12 +57,8 @@ abbrev pub front_of : List ℕ → Res Entry → Input Front
 front_of s (bad n) = fault n
 front_of s (got x t) = fine (record { act = act_of x; end = length s - length t })
 
--- ---- a name as it is written, with zeros behind it; or "name breaks its rule" of one that is none
-
--- bytes with zeros behind them
-abbrev pub spelling_bytes : List ℕ → Spelling
-spelling_bytes s = record { len = length s; bytes = pad 0 max_spelling s }
+-- ---- a name as it is written; or "name breaks its rule" of one that is none
 
 -- 4 of a name that breaks its rule
-unfoldable pub spelling_of : Name → Input Spelling
-spelling_of n = cond (name_ok n) (fine (spelling_bytes (spell (bytes_of n)))) (fault name_fault)
+unfoldable pub spelling_of : Name → Input (ArrayVec ℕ)
+spelling_of n = cond (name_ok n) (fine (record { items = spell (bytes_of n) })) (fault name_fault)

@@ -19,6 +19,8 @@ use money::units::{CentsPerStart, HOURS, INTERVALS, Quantity, Ticks};
 
 // ---- the amount of the record that bytes begin with, at its hour's prices; or the refusal that reading it gives
 
+// Bytes and prices stay two parameters: they stand in two records, and a caller reads the prices once for many.
+
 fn credit_for(i: layouts::Import, prices: HourPrices) -> Result<Ticks, Refusal>
     ensures { answer_of result ≡ credit_for i prices }
 {

@@ -15,7 +15,8 @@ pub struct Got<T> {
     pub next: usize,
 }
 
-// What stands in the bytes of a record in a form of its own.
+// What stands in the bytes of a record in a form of its own. Bytes and a place, no cursor: a reader answers for any place, and the place behind the last
+// field says where a record ends. `put` takes the body out by its places, too.
 pub(crate) trait Field: Copy {
     ghost reader: { FieldReader Self };
 

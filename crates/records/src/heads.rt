@@ -7,7 +7,8 @@ use crate::changes::name_for_at;
 use crate::fields::{Got, hour_at};
 use crate::keys::Key;
 use crate::marks::{Head, Kind, Wanted, has_name, head_at};
-use crate::writing::{NAME_HEAD_MAX, write_key_name};
+use crate::writing::{NAME_HEAD_MAX, push_key_name};
+use arrayvec::ArrayVec;
 use money::names::name_ok;
 use money::refusals::Refusal;
 
@@ -24,11 +25,7 @@ pub fn head_key(s: &[u8]) -> Result<Key, Refusal>
 }
 
 // The bytes by which the records of a mark and name are told from others of the mark: those behind the hour.
-#[derive(Clone, Copy)]
-pub struct NameHead {
-    pub len: usize,
-    pub bytes: [u8; NAME_HEAD_MAX],
-}
+pub type NameHead = ArrayVec<u8, NAME_HEAD_MAX>;
 
 // Whether a record of the key's mark can have its name.
 #[tactic(auto, unfolding(crate::specs::tables::Heads::nameable))]
@@ -49,7 +46,7 @@ pub fn name_head(key: Key) -> Option<NameHead>
     if !nameable(key) {
         return None;
     }
-    let mut bytes = [0u8; NAME_HEAD_MAX];
-    let len = write_key_name(Kind::File, key.mark, key.name, &mut bytes, 0);
-    Some(NameHead { len, bytes })
+    let mut out = ArrayVec::new();
+    push_key_name(Kind::File, key.mark, key.name, &mut out);
+    Some(out)
 }

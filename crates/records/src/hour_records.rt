@@ -22,14 +22,11 @@ fn of_hour(m: Mark) -> bool
     matches!(m, Mark::Pr | Mark::Im | Mark::Ex)
 }
 
-// Whether an hour may follow the first record's, where there is one.
+// Whether an hour may follow the first record's, where there is one. No `==`: any may follow none, and 0 too.
 fn same_as(first: Option<u8>, hour: u8) -> bool
     ensures { result ≡ same_as (first_hour first) hour }
 {
-    match first {
-        None => true,
-        Some(h) => h == 0 || h == hour,
-    }
+    first.is_none_or(|h| h == 0 || h == hour)
 }
 
 // The first of an hour's records that stand back to back; `first` is the hour of those before it.

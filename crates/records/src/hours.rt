@@ -13,7 +13,7 @@ pub fn limit_of(key: Key) -> usize
     limit(key.mark) as usize
 }
 
-// The same mark and name, in any hours.
+// The same mark and name, in any hours. No `==` of keys says it: that would want the hours too.
 #[tactic(auto, unfolding(crate::specs::Hours::same_name, crate::specs::Hours::at_hour))]
 pub fn same_name(a: Key, b: Key) -> bool
     ensures { result ≡ same_name a b }

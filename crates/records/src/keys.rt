@@ -17,7 +17,7 @@ pub struct Key {
     pub name: Name,
 }
 
-// The same mark and hour.
+// The same mark and hour. No derived `==`: the definitions keep `key_mark` for families of marks that share keys; today each mark is by itself.
 #[tactic(auto, unfolding(crate::specs::Keys::same_hour))]
 pub fn same_hour(a: Key, b: Key) -> bool
     ensures { result ≡ same_hour a b }
@@ -25,7 +25,7 @@ pub fn same_hour(a: Key, b: Key) -> bool
     key_mark(a.mark) == key_mark(b.mark) && a.hour == b.hour
 }
 
-// The same mark, hour and decoded name.
+// The same mark, hour and decoded name; no derived `==` here either.
 #[tactic(auto, unfolding(crate::specs::Keys::same))]
 pub fn same_key(a: Key, b: Key) -> bool
     ensures { result ≡ same a b }
@@ -34,6 +34,8 @@ pub fn same_key(a: Key, b: Key) -> bool
 }
 
 // ---- the key of a question
+
+// Mark, hour and name come one by one: the type of the three is the key that these functions make of them.
 
 #[tactic(auto, using(crate::proofs::keys::Lemmas::asks))]
 fn asked_mark(mark: &[u8]) -> Result<Mark, Refusal>

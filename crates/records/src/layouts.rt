@@ -48,6 +48,7 @@ pub struct Schedules {
     pub capacity: [Quantity; INTERVALS],
 }
 
+// Two series and no row of pairs: 01 gives prices and schedules apart, each whole.
 #[derive(Clone, Copy)]
 pub struct ReserveSeries {
     pub prices: [Price; INTERVALS],
@@ -82,6 +83,7 @@ fn quantities_at(s: &[u8], at: usize) -> Result<Got<[Quantity; INTERVALS]>, Refu
 impl Field for HourPrices {
     ghost reader = { hour_prices };
 
+    #[inline(always)]
     fn read(s: &[u8], at: usize) -> Result<Got<HourPrices>, Refusal> {
         let Got { value: emp, next } = prices_at(s, at)?;
         let Got { value: pd, next } = Price::read(s, next)?;
@@ -93,6 +95,7 @@ impl Field for HourPrices {
 impl Field for Import {
     ghost reader = { import };
 
+    #[inline(always)]
     fn read(s: &[u8], at: usize) -> Result<Got<Import>, Refusal> {
         let Got { value: mqsi, next } = quantities_at(s, at)?;
         let Got { value: offer, next } = list_at(s, next, 1)?;
@@ -107,6 +110,7 @@ impl Field for Import {
 impl Field for Export {
     ghost reader = { export };
 
+    #[inline(always)]
     fn read(s: &[u8], at: usize) -> Result<Got<Export>, Refusal> {
         let Got { value: mqsw, next } = quantities_at(s, at)?;
         let value = Export { mqsw };
@@ -117,6 +121,7 @@ impl Field for Export {
 impl Field for Failure {
     ghost reader = { failure };
 
+    #[inline(always)]
     fn read(s: &[u8], at: usize) -> Result<Got<Failure>, Refusal> {
         let Got {
             value: day_ahead_quantity,
@@ -147,6 +152,7 @@ impl Field for Failure {
 impl Field for Schedules {
     ghost reader = { schedules };
 
+    #[inline(always)]
     fn read(s: &[u8], at: usize) -> Result<Got<Schedules>, Refusal> {
         let Got {
             value: startup,
@@ -189,6 +195,7 @@ impl Field for Schedules {
 impl Field for ReserveSeries {
     ghost reader = { reserve_series };
 
+    #[inline(always)]
     fn read(s: &[u8], at: usize) -> Result<Got<ReserveSeries>, Refusal> {
         let Got {
             value: prices,
@@ -214,7 +221,9 @@ fn fewest_of(schedules: [Quantity; INTERVALS]) -> u8
     }
 }
 
-// The lists of a unit's hour, of which the reserves' may be empty where their schedules are all 0.
+// The lists of a unit's hour, of which the reserves' may be empty where their schedules are all 0. Three series and no array: each is one of 01's three
+// kinds of reserve, under its own name.
+#[inline(always)]
 fn lists_at(
     s: &[u8],
     at: usize,
@@ -250,6 +259,7 @@ fn lists_at(
     Ok(Got { value, next })
 }
 
+#[inline(always)]
 fn inside_list(o: Offer, values: [Quantity; INTERVALS]) -> bool
     requires { o.count ≤ max_pairs }
     ensures { result ≡ within o values }
@@ -258,6 +268,7 @@ fn inside_list(o: Offer, values: [Quantity; INTERVALS]) -> bool
 }
 
 // D within both lists, each reserve schedule within its own.
+#[inline(always)]
 fn all_inside(
     l: Lists,
     d: [Quantity; INTERVALS],
@@ -275,6 +286,7 @@ fn all_inside(
         && inside_list(l.thirty, r3.schedules)
 }
 
+#[inline(always)]
 fn reserve(series: ReserveSeries, offer: Offer) -> Reserve
     ensures { result ≡ reserve_of series offer }
 {
@@ -287,6 +299,7 @@ fn reserve(series: ReserveSeries, offer: Offer) -> Reserve
 }
 
 // A unit's hour of its parts.
+#[inline(always)]
 fn unit_of(
     h: Schedules,
     l: Lists,
@@ -324,6 +337,7 @@ fn unit_of(
 impl Field for UnitHour {
     ghost reader = { unit };
 
+    #[inline(always)]
     fn read(s: &[u8], at: usize) -> Result<Got<UnitHour>, Refusal> {
         let Got { value: h, next } = Schedules::read(s, at)?;
         let Got { value: r1, next } = ReserveSeries::read(s, next)?;
@@ -339,6 +353,7 @@ impl Field for UnitHour {
 }
 
 // The place behind a layout's fields.
+#[inline(always)]
 fn skip<T: Field>(s: &[u8], at: usize) -> Result<Got<()>, Refusal>
     ensures value { read_as s.now result ≡ skip T.reader (from s.now at) }
     ensures placed { InBytes s.now result }

@@ -41,6 +41,7 @@ fn pairs_at(s: &[u8], at: usize, n: usize) -> Result<Got<Offer>, Refusal>
     let mut prices = [Price(0); PAIRS_MAX];
     let mut quantities = [Quantity(0); PAIRS_MAX];
     let mut next = at;
+    // By number: the contracts of `iter_mut` and `zip` don't say what the two slices end as.
     for i in 0..n {
         let r = Pair::read(s, next)?;
         prices[i] = r.value.price;

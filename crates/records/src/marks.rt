@@ -13,6 +13,7 @@ pub const HOUR_LIMIT: u8 = 16;
 
 pub const UNIT_LIMIT: u8 = 8;
 
+// In the listing's order.
 #[derive(Clone, Copy, PartialEq, Eq)]
 pub enum Mark {
     Pr,
@@ -30,7 +31,7 @@ pub enum Kind {
     Withdraw,
 }
 
-// What a method asks for: a change of any kind, or of its own only.
+// What a method asks for: a change of any kind, or of its own only. No type of it and the bytes that are lent: it would be taken apart at once.
 #[derive(Clone, Copy)]
 pub enum Wanted {
     Any,
@@ -44,6 +45,7 @@ pub struct Head {
     pub mark: Mark,
 }
 
+// A mark's bytes are 01's listing.
 pub(crate) fn bytes_of(m: Mark) -> [u8; 2]
     ensures { result ≡ mark_bytes m }
 {
@@ -60,13 +62,14 @@ pub(crate) fn bytes_of(m: Mark) -> [u8; 2]
 // The marks in the listing's order.
 const LISTING: [Mark; 6] = [Mark::Pr, Mark::Im, Mark::Ex, Mark::Gh, Mark::Fi, Mark::Fe];
 
-// Whether bytes begin with others.
+// Whether bytes begin with others: std's, under the definitions' word, which contracts of the book cite.
 pub fn starts(s: &[u8], front: &[u8]) -> bool
     ensures { result ≡ begins front.now s.now }
 {
     s.starts_with(front)
 }
 
+// Bytes and a place go together as in `Field`. It also answers bytes that end early, which a `TryFrom` of two bytes can't.
 #[tactic(auto, using(crate::proofs::marks::Lemmas::listed))]
 pub(crate) fn mark_at(s: &[u8], at: usize) -> Result<Got<Mark>, Refusal>
     ensures value { read_as s.now result ≡ mark (from s.now at) }
@@ -86,6 +89,7 @@ pub(crate) fn mark_at(s: &[u8], at: usize) -> Result<Got<Mark>, Refusal>
     Err(Refusal::MarkUnknown)
 }
 
+// Public, and the words of the definitions; the derived `==` is their body.
 pub fn is_filing(k: Kind) -> bool
     ensures { result ≡ is_filing k }
 {
@@ -154,27 +158,21 @@ pub fn is_failure(m: Mark) -> bool
     m == Mark::Fi || m == Mark::Fe
 }
 
-// The place of a mark in the listing.
+// The place of a mark in the listing: the enum's own order.
 pub fn order(m: Mark) -> u8
     ensures { result ≡ order m }
 {
-    match m {
-        Mark::Pr => 0,
-        Mark::Im => 1,
-        Mark::Ex => 2,
-        Mark::Gh => 3,
-        Mark::Fi => 4,
-        Mark::Fe => 5,
-    }
+    m as u8
 }
 
+// Public, and the word of the definitions; the derived `==` is its body.
 pub fn same_mark(a: Mark, b: Mark) -> bool
     ensures { result ≡ same_mark a b }
 {
     a == b
 }
 
-// The mark under whose key a record of a mark stands.
+// The mark under whose key a record of a mark stands. The definitions keep it for families of marks that share keys; today each mark is by itself.
 pub fn key_mark(m: Mark) -> Mark
     ensures { result ≡ key_mark m }
 {

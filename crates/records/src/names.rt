@@ -1,24 +1,22 @@
 // Names: read in any spelling, decoded once, written in one spelling.
-ghost use Rattle.std.specs.Prelude.{◌≡◌, ◌+◌, ◌≤◌, ◌<◌, length, IfOk};
+ghost use Rattle.std.specs.Prelude.{◌≡◌, ◌+◌, ◌≤◌, ◌<◌, ◌++◌, length, IfOk};
+ghost use Rattle.arrayvec.specs.ArrayVec.{array_vec_len};
 ghost use Rattle.money.specs.Names.{max_name, decoded_bytes, name_before};
 ghost use Rattle.records.specs.Reading.{from};
 ghost use Rattle.records.specs.Names.{max_spelling, visible, hex_digit, escaped, one, decode_name, unreserved, digit, spell_byte, spell, name_field, empty_name, bytes_of, stored_name};
 ghost use Rattle.records.specs.Answers.{told, spelling_of};
-ghost use Rattle.records.specs.tables.Inner.{read_as, InBytes, Wrote};
+ghost use Rattle.records.specs.tables.Inner.{read_as, InBytes};
 
 use crate::fields::{Got, byte_at};
+use arrayvec::ArrayVec;
 use money::names::{NAME_MAX, Name, name_before, name_ok};
 use money::refusals::Refusal;
 
 // Bytes of a written name, at most: each byte of a decoded one takes three.
 pub const SPELLING_MAX: usize = 36;
 
-// The written spelling of a name: its length, and places for thirty-six bytes.
-#[derive(Clone, Copy)]
-pub struct Spelling {
-    pub len: u8,
-    pub bytes: [u8; SPELLING_MAX],
-}
+// The written spelling of a name.
+pub type Spelling = ArrayVec<u8, SPELLING_MAX>;
 
 #[tactic(auto, unfolding(crate::specs::Names::visible))]
 fn visible(x: u8) -> bool
@@ -38,6 +36,8 @@ fn hex(x: u8) -> Option<u8>
         _ => None,
     }
 }
+
+// Bytes and a place go together as in `Field`.
 
 // The byte that % and two hex digits at a place of s stand for.
 #[tactic(auto, using(crate::proofs::names::Lemmas::escapes))]
@@ -100,6 +100,7 @@ pub(crate) fn decode(spelled: &[u8]) -> Result<Got<Name>, Refusal>
     let mut bytes = [0u8; NAME_MAX];
     let mut n: usize = 0;
     let mut next: usize = 0;
+    // No `for`: a step is one byte or three.
     while next < spelled.len() {
         if NAME_MAX <= n {
             return Err(Refusal::NameFault);
@@ -132,31 +133,28 @@ fn digit(n: u8) -> u8
 }
 
 #[tactic(auto, using(crate::proofs::names::SpellName::spellings), unfolding(crate::specs::Names::spell_byte))]
-fn write_byte(x: u8, out: &mut [u8], at: usize) -> usize
-    requires { at + 3 ≤ length out.old }
-    ensures { Wrote out.old out.new at result (spell_byte x) }
+fn push_byte<const N: usize>(x: u8, out: &mut ArrayVec<u8, N>)
+    requires { array_vec_len out.old + 3 ≤ N }
+    ensures { out.new.items ≡ out.old.items ++ spell_byte x }
 {
     if unreserved(x) {
-        out[at] = x;
-        return at + 1;
+        out.push(x);
+        return;
     }
-    out[at] = b'%';
-    out[at + 1] = digit(x / 16);
-    out[at + 2] = digit(x % 16);
-    at + 3
+    out.push(b'%');
+    out.push(digit(x / 16));
+    out.push(digit(x % 16));
 }
 
 #[tactic(auto, using(crate::proofs::names::SpellName::spellings), unfolding(crate::specs::Names::spell))]
-pub(crate) fn write_name(name: Name, out: &mut [u8], at: usize) -> usize
+pub(crate) fn push_name<const N: usize>(name: Name, out: &mut ArrayVec<u8, N>)
     requires name_in { name.len ≤ max_name }
-    requires room { at + max_spelling ≤ length out.old }
-    ensures { Wrote out.old out.new at result (spell (bytes_of name)) }
+    requires room { array_vec_len out.old + max_spelling ≤ N }
+    ensures { out.new.items ≡ out.old.items ++ spell (bytes_of name) }
 {
-    let mut next = at;
-    for i in 0..name.len as usize {
-        next = write_byte(name.bytes[i], out, next);
+    for x in &name.bytes[..name.len as usize] {
+        push_byte(*x, out);
     }
-    next
 }
 
 // A name as it is written, for bytes that hold no record. One that breaks its rule is none.
@@ -167,9 +165,9 @@ pub fn spell_name(name: Name) -> Result<Spelling, Refusal>
     if !name_ok(name) {
         return Err(Refusal::NameFault);
     }
-    let mut bytes = [0u8; SPELLING_MAX];
-    let len = write_name(name, &mut bytes, 0) as u8;
-    Ok(Spelling { len, bytes })
+    let mut out = ArrayVec::new();
+    push_name(name, &mut out);
+    Ok(out)
 }
 
 #[tactic(auto, unfolding(crate::specs::Names::spell_byte))]
@@ -187,8 +185,8 @@ pub(crate) fn spelled_len(name: Name) -> usize
     ensures most { result ≤ max_spelling }
 {
     let mut sum: usize = 0;
-    for i in 0..name.len as usize {
-        sum += byte_len(name.bytes[i]);
+    for x in &name.bytes[..name.len as usize] {
+        sum += byte_len(*x);
     }
     sum
 }
@@ -216,7 +214,7 @@ pub(crate) fn name_at(s: &[u8], at: usize) -> Result<Got<Name>, Refusal>
     Ok(Got { value, next })
 }
 
-// Decoded names in byte order, a prefix first.
+// Public: the definitions' `name_before`, which is `<` of names, passed on since the book calls this layer alone.
 pub fn comes_before(a: Name, b: Name) -> bool
     ensures { result ≡ name_before (decoded_bytes a) (decoded_bytes b) }
 {

@@ -38,7 +38,7 @@ fn change_at(s: &[u8], want: Wanted) -> Result<Got<View>, Refusal>
         body,
         end: next,
     } = read_change(s, want)?;
-    let len = head_of(kind, key).len + (next - body);
+    let len = head_of(kind, key).len() + (next - body);
     let value = View { kind, key, len };
     Ok(Got { value, next })
 }

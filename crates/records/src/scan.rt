@@ -28,9 +28,9 @@ pub fn peek(s: &[u8]) -> Option<View>
         end,
     } = read_change(s, Wanted::Any).ok()?;
     let head = head_of(kind, key);
-    if !starts(s, &head.bytes[..head.len]) {
+    if !starts(s, head.as_slice()) {
         return None;
     }
-    let len = head.len + (end - body);
+    let len = head.len() + (end - body);
     Some(View { kind, key, len })
 }

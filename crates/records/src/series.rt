@@ -19,9 +19,9 @@ pub(crate) fn series_at<T: Field>(
 {
     let mut values = [none; INTERVALS];
     let mut next = at;
-    for i in 0..INTERVALS {
+    for value in &mut values {
         let r = T::read(s, next)?;
-        values[i] = r.value;
+        *value = r.value;
         next = r.next;
     }
     Ok(Got {

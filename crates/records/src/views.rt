@@ -14,7 +14,8 @@ use money::names::Name;
 use money::production::UnitHour;
 use money::refusals::Refusal;
 
-// What stands in bytes that begin with a record as it was filed: its fields as the money rules take them, or the first fault.
+// What stands in bytes that begin with a record as it was filed: its fields as the money rules take them, or the first fault. Bytes and a mark are two
+// arguments of 01's calls, and no type of ours binds bytes to a mark that they may not begin with.
 
 // A record's name, and the place behind it, where its fields begin.
 pub(crate) fn fields_at(s: &[u8], mark: Mark) -> Result<Got<Name>, Refusal>

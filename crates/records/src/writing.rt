@@ -1,17 +1,18 @@
 // Changes written, each name in its one spelling.
-ghost use Rattle.std.specs.Prelude.{◌≡◌, ◌+◌, ◌≤◌, length};
+ghost use Rattle.std.specs.Prelude.{◌≡◌, ◌+◌, ◌≤◌, ◌++◌, length};
+ghost use Rattle.arrayvec.specs.ArrayVec.{array_vec_len};
 ghost use Rattle.money.specs.Answers.{fault_in};
 ghost use Rattle.money.specs.Names.{max_name};
-ghost use Rattle.records.specs.Marks.{mark_bytes};
-ghost use Rattle.records.specs.Changes.{lead_bytes, no_name, name_bytes, head_bytes, parse, put_number, put_bytes};
+ghost use Rattle.records.specs.Changes.{lead_bytes, name_bytes, head_bytes, parse, put_number, put_bytes};
 ghost use Rattle.records.specs.tables.Viewed.{is_view, viewed_number, viewed_bytes};
-ghost use Rattle.records.specs.tables.Inner.{Wrote, max_name_head, max_head, HeadIs};
+ghost use Rattle.records.specs.tables.Inner.{Wrote, max_name_head};
 
 use crate::changes::read_change;
 use crate::keys::Key;
 use crate::marks::{Kind, Mark, Wanted, bytes_of, has_name};
-use crate::names::{spelled_len, write_name};
+use crate::names::{push_name, spelled_len};
 use crate::scan::View;
+use arrayvec::ArrayVec;
 use money::names::{NAME_MAX, Name};
 use money::refusals::Refusal;
 
@@ -20,14 +21,7 @@ pub const NAME_HEAD_MAX: usize = 37;
 
 const HEAD_MAX: usize = 42;
 
-// The bytes of a change before its fields.
-#[derive(Clone, Copy)]
-pub struct HeadOut {
-    pub len: usize,
-    pub bytes: [u8; HEAD_MAX],
-}
-
-// Copies bytes to a place, and answers the place behind them.
+// Copies bytes to a place with copy_from_slice, and answers the place behind them.
 #[tactic(auto, using(crate::proofs::writing::Putting::wrote_part))]
 fn copy(src: &[u8], out: &mut [u8], at: usize) -> usize
     requires { at + length src.now ≤ length out.old }
@@ -38,74 +32,57 @@ fn copy(src: &[u8], out: &mut [u8], at: usize) -> usize
     end
 }
 
-#[tactic(auto, using(crate::proofs::writing::Putting::writes))]
-fn write_lead(kind: Kind, out: &mut [u8], at: usize) -> usize
-    requires { at + 2 ≤ length out.old }
-    ensures wrote { Wrote out.old out.new at result (lead_bytes kind) }
-    ensures most { result ≤ at + 2 }
+// What is pushed here asks for its room: the room that is left is a fact of each step, not of a value.
+fn push_lead<const N: usize>(kind: Kind, out: &mut ArrayVec<u8, N>)
+    requires { array_vec_len out.old + 2 ≤ N }
+    ensures { out.new.items ≡ out.old.items ++ lead_bytes kind }
 {
     match kind {
-        Kind::File => at,
-        Kind::Correct => copy(b"CO", out, at),
-        Kind::Withdraw => copy(b"WD", out, at),
+        Kind::File => {}
+        Kind::Correct => push_two(*b"CO", out),
+        Kind::Withdraw => push_two(*b"WD", out),
     }
 }
 
-fn write_mark(mark: Mark, out: &mut [u8], at: usize) -> usize
-    requires { at + 2 ≤ length out.old }
-    ensures wrote { Wrote out.old out.new at result (mark_bytes mark) }
-    ensures next { result ≡ at + 2 }
+fn push_two<const N: usize>(bytes: [u8; 2], out: &mut ArrayVec<u8, N>)
+    requires { array_vec_len out.old + 2 ≤ N }
+    ensures { out.new.items ≡ out.old.items ++ bytes }
 {
-    copy(&bytes_of(mark), out, at)
+    out.push(bytes[0]);
+    out.push(bytes[1]);
 }
 
-#[tactic(auto, using(crate::proofs::writing::Putting::writes))]
-fn write_none(kind: Kind, out: &mut [u8], at: usize) -> usize
-    requires { at + 1 ≤ length out.old }
-    ensures { Wrote out.old out.new at result (no_name kind) }
-{
-    if kind != Kind::Withdraw {
-        return at;
-    }
-    out[at] = 0;
-    at + 1
-}
-
-#[tactic(auto, using(crate::proofs::writing::Putting::writes), unfolding(crate::specs::Changes::name_bytes))]
-pub(crate) fn write_key_name(kind: Kind, mark: Mark, name: Name, out: &mut [u8], at: usize) -> usize
+#[tactic(auto, unfolding(crate::specs::Changes::name_bytes))]
+pub(crate) fn push_key_name<const N: usize>(
+    kind: Kind,
+    mark: Mark,
+    name: Name,
+    out: &mut ArrayVec<u8, N>,
+)
     requires name_in { name.len ≤ max_name }
-    requires room { at + max_name_head ≤ length out.old }
-    ensures { Wrote out.old out.new at result (name_bytes kind mark name) }
+    requires room { array_vec_len out.old + max_name_head ≤ N }
+    ensures { out.new.items ≡ out.old.items ++ name_bytes kind mark name }
 {
     if has_name(mark) {
-        out[at] = spelled_len(name) as u8;
-        return write_name(name, out, at + 1);
+        out.push(spelled_len(name) as u8);
+        push_name(name, out);
+    } else if kind == Kind::Withdraw {
+        out.push(0);
     }
-    write_none(kind, out, at)
 }
 
-#[tactic(auto, using(crate::proofs::writing::Putting::writes))]
-fn write_head(kind: Kind, key: Key, out: &mut [u8]) -> usize
-    requires name_in { key.name.len ≤ max_name }
-    requires room { max_head ≤ length out.old }
-    ensures { Wrote out.old out.new 0 result (head_bytes kind key) }
-{
-    let mark = key.mark;
-    let name = key.name;
-    let a = write_lead(kind, out, 0);
-    let b = write_mark(mark, out, a);
-    out[b] = key.hour;
-    write_key_name(kind, mark, name, out, b + 1)
-}
-
-#[tactic(auto, using(crate::proofs::writing::Lemmas::heads))]
-pub(crate) fn head_of(kind: Kind, key: Key) -> HeadOut
+// The bytes of a change before its fields.
+#[tactic(auto, using(crate::proofs::writing::Lemmas::heads), unfolding(crate::specs::Changes::head_bytes))]
+pub(crate) fn head_of(kind: Kind, key: Key) -> ArrayVec<u8, HEAD_MAX>
     requires { key.name.len ≤ max_name }
-    ensures { HeadIs kind key result }
+    ensures { result.items ≡ head_bytes kind key }
 {
-    let mut bytes = [0u8; HEAD_MAX];
-    let len = write_head(kind, key, &mut bytes);
-    HeadOut { len, bytes }
+    let mut out = ArrayVec::new();
+    push_lead(kind, &mut out);
+    push_two(bytes_of(key.mark), &mut out);
+    out.push(key.hour);
+    push_key_name(kind, key.mark, key.name, &mut out);
+    out
 }
 
 // Writes the change that an argument's bytes are at a place of the log. 13 where it does not fit there.
@@ -119,12 +96,12 @@ pub fn put(log: &mut [u8], at: usize, s: &[u8], want: Wanted) -> Result<(), Refu
         return Err(Refusal::BytesLeftOver);
     }
     let head = head_of(read.kind, read.key);
-    let m = head.len;
+    let m = head.len();
     let body = &s[read.body..read.end];
     if log.len() < at || log.len() - at < m + body.len() {
         return Err(Refusal::NoSpace);
     }
-    let next = copy(&head.bytes[..m], log, at);
+    let next = copy(head.as_slice(), log, at);
     copy(body, log, next);
     Ok(())
 }
@@ -138,7 +115,7 @@ fn is_view(view: View, lent: usize) -> bool
         return false;
     }
     let head = head_of(view.kind, view.key);
-    head.len <= view.len && view.len - head.len <= lent
+    head.len() <= view.len && view.len - head.len() <= lent
 }
 
 // Writes the change that bytes end with, of which the view is known, at a place of the log. 13 where it does not fit there, 2 where the view is none.
@@ -155,8 +132,8 @@ pub fn put_viewed(log: &mut [u8], at: usize, s: &[u8], view: View) -> Result<(),
         return Err(Refusal::NoSpace);
     }
     let head = head_of(view.kind, view.key);
-    let m = head.len;
-    let next = copy(&head.bytes[..m], log, at);
+    let m = head.len();
+    let next = copy(head.as_slice(), log, at);
     let body = s.len() - (len - m);
     copy(&s[body..], log, next);
     Ok(())

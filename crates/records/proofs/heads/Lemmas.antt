@@ -1,5 +1,5 @@
 -- The head of a change that is read by itself, and the bytes of a name, by the tests that the code makes.
-use Rattle.std.specs.Prelude.{◌≡◌, List, Bool, true, false, cond, ℕ, ◌≤◌, eqb, length, Some}
+use Rattle.std.specs.Prelude.{◌≡◌, List, Bool, true, false, cond, ℕ, ◌≤◌, eqb}
 use Rattle.std.proofs.Common.{sym, ap, ◌∙◌, arith, eqb-true}
 use Rattle.money.specs.Names.{max_name, name_ok}
 use Rattle.money.proofs.laws.NameLaws.{name-most}
@@ -9,16 +9,12 @@ use Rattle.records.specs.Numbers.{hour}
 use Rattle.records.specs.Marks.{has_name}
 use Rattle.records.specs.Changes.{fine, fault, head, name_for}
 use Rattle.records.specs.Answers.{input_of}
-use Rattle.records.specs.tables.Heads.{head_key, nameable, name_head, NameHeadIs}
-use Rattle.records.specs.tables.Inner.{Wrote, max_name_head}
+use Rattle.records.specs.tables.Heads.{head_key, nameable}
 use Rattle.records.specs.declared.marks.Mark.{Mark}
 use Rattle.records.specs.declared.marks.Kind.{Kind}
-use Rattle.records.specs.declared.marks.Kind.TheVariants.{File}
 use Rattle.records.specs.declared.marks.Wanted.TheVariants.{Any}
 use Rattle.records.specs.declared.keys.Key.{Key}
 use Rattle.records.proofs.fields.Step.{bind-ok, bind-err, told-out}
-use Rattle.records.proofs.writing.Putting.{wrote-length}
-use Rattle.records.proofs.writing.Lemmas.{name-length, wrote-front}
 
 -- mark, hour and name, one after the other
 module _ (s : List ℕ) where
@@ -48,13 +44,6 @@ module _ (k : Key) where
       go : (b : Bool) → cond b (name_ok k.name) (eqb k.name.len 0) ≡ true → k.name.len ≤ max_name
       go true f = name-most k.name f
       go false f = omega (arith, eqb-true k.name.len 0 f)
-
-  pub head-full : nameable k ≡ true → {d e : List ℕ} {n : ℕ} → length d ≡ max_name_head → Wrote d e 0 n (name_head k)
-      → NameHeadIs k (Some (record { len = n; bytes = e }))
-  head-full h l w =
-      let few = name-length File k.mark k.name (able_short h) in
-      let x = wrote-front w (omega arith) in
-      (h, x.0, omega (arith, x.1, wrote-length w))
 
 -- for `head_key`
 pub ruleset keys = (told-out, key-no-head, key-no-hour, key-no-name, key-is)

@@ -13,7 +13,7 @@ use Rattle.records.specs.Reading.{Res, got, ◌>>=◌}
 use Rattle.records.specs.Numbers.{hour}
 use Rattle.records.specs.Names.{visible, spell, name_field, name_from, empty_name, bytes_of, stored_name}
 use Rattle.records.specs.Marks.{mark_bytes, has_name}
-use Rattle.records.specs.Changes.{Rec, Change, filed, key_of, kind, body_of, name_for, name_bytes, head_bytes, write, begins, Good}
+use Rattle.records.specs.Changes.{Rec, Change, filed, key_of, kind, lead_bytes, body_of, name_for, name_bytes, head_bytes, write, begins, Good}
 use Rattle.records.specs.Keys.{same_key_mark}
 use Rattle.records.specs.tables.Heads.{head_key, nameable, name_head}
 use Rattle.records.proofs.laws.MarkLaws.{two_bytes, key-named}
@@ -96,13 +96,15 @@ marked-long : (m : Mark) (t : List ℕ) → length (mark_bytes m ++ t) ≡ suc (
 marked-long m t = ap (λ (l : List ℕ). length (l ++ t)) (two_bytes m)
 
 -- mark and hour take three bytes
-head-long : (k : Key) → 3 ≤ length (head_bytes File k)
+head-long : (kind : Kind) (k : Key) → 3 ≤ length (head_bytes kind k)
 unfolding head_bytes
-head-long k = omega (arith, marked-long k.mark (k.hour ∷ name_head k))
+head-long kind k =
+    let t = k.hour ∷ name_bytes kind k.mark k.name in
+    omega (arith, length-append (lead_bytes kind) (mark_bytes k.mark ++ t), marked-long k.mark t)
 
-pub write-long : (r : Rec) → 3 ≤ length (write (filed r))
+pub write-long : (c : Change) → 3 ≤ length (write c)
 unfolding write
-write-long r = omega (arith, head-long r.key, length-append (head_bytes File r.key) r.body)
+write-long c = omega (arith, head-long (kind c) (key_of c), length-append (head_bytes (kind c) (key_of c)) (body_of c))
 
 behind-hour : (r : Rec) (t : List ℕ) → drop 3 (write (filed r) ++ t) ≡ name_head r.key ++ (r.body ++ t)
 unfolding write head_bytes

@@ -11,7 +11,7 @@ use Rattle.records.specs.Reading.{got, ◌>>=◌, check, byte, some}
 use Rattle.records.specs.Numbers.{between, pad}
 use Rattle.records.specs.Names.{name_field, name_from, bytes_of, visible, hex_val, escaped, one, up_to, decode_name, spell, spell_byte, unreserved, digit}
 use Rattle.records.specs.Changes.{fine, fault}
-use Rattle.records.specs.Answers.{spelling_of, spelling_bytes}
+use Rattle.records.specs.Answers.{spelling_of}
 use Rattle.records.proofs.laws.ReaderLaws.{check-got, bind-got, bad-got}
 
 pub spell-append : (xs ys : List ℕ) → spell (xs ++ ys) ≡ spell xs ++ spell ys
@@ -241,7 +241,7 @@ one_name s a t u b v e f =
     (λ h. sym (take-pad 0 12 a p.few) ∙ ap bytes_of h ∙ take-pad 0 12 b q.few, λ h. ap name_from h)
 
 -- a name that keeps its rule is written in full
-pub spelling-full : (n : Name) → name_ok n ≡ true → spelling_of n ≡ fine (spelling_bytes (spell (bytes_of n)))
+pub spelling-full : (n : Name) → name_ok n ≡ true → spelling_of n ≡ fine (record { items = spell (bytes_of n) })
 unfolding spelling_of
 spelling-full n h = rw h
 

@@ -1,7 +1,7 @@
 -- Writing a head and a body; what an argument and the bytes of a book are, by the tests that the code makes.
 use Rattle.std.specs.Prelude.{◌≡◌, refl, List, [], ◌∷◌, ◌++◌, Bool, true, false, cond, ◌&&◌, ℕ, ◌+◌, ◌-◌, ◌≤◌, ◌<◌, eqb, length, take, drop, Some, None, Result, Ok, Err}
 use Rattle.std.specs.Result.{result_ok}
-use Rattle.std.proofs.Common.{sym, ap, ap₂, ◌∙◌, subst, append_assoc, arith, zero-add, length-append, length-take, length-take-le, take_at, le-leb}
+use Rattle.std.proofs.Common.{sym, ap, ap₂, ◌∙◌, subst, append_assoc, arith, length-append, length-take, length-take-le, le-leb}
 use Rattle.std.proofs.lemmas.Bool.{lt-leb}
 use Rattle.money.specs.Names.{max_name}
 use Rattle.money.specs.Refusals.{no_space, bytes_left_over}
@@ -12,7 +12,7 @@ use Rattle.records.specs.Names.{spell, bytes_of}
 use Rattle.records.specs.Marks.{has_name}
 use Rattle.records.specs.Changes.{put, put_number, put_bytes, Change, kind, key_of, body_of, made, lead_bytes, no_name, name_bytes, head_bytes, body_for, change, write, Input, fine, fault, whole, parse, seen, unseen, begins, written, scan}
 use Rattle.records.specs.Answers.{view, view_in}
-use Rattle.records.specs.tables.Inner.{Wrote, max_name_head, max_head, HeadIs, ReadIs, change_view}
+use Rattle.records.specs.tables.Inner.{Wrote, max_name_head, max_head, ReadIs, change_view}
 use Rattle.records.specs.declared.marks.Mark.{Mark}
 use Rattle.records.specs.declared.marks.Kind.{Kind}
 use Rattle.records.specs.declared.marks.Kind.TheVariants.{File, Correct, Withdraw}
@@ -21,10 +21,8 @@ use Rattle.records.specs.declared.marks.Wanted.TheVariants.{Any}
 use Rattle.records.specs.declared.keys.Key.{Key}
 use Rattle.records.specs.declared.scan.View.{View}
 use Rattle.records.specs.declared.changes.Read.{Read}
-use Rattle.records.specs.declared.writing.HeadOut.{HeadOut}
 use Rattle.records.proofs.writing.Putting.{wrote_then, wrote-length}
 use Rattle.records.proofs.fields.Step.{fault-out}
-use Rattle.records.proofs.laws.PutLaws.{put_whole}
 use Rattle.records.proofs.laws.MarkLaws.{mark-two}
 use Rattle.records.proofs.laws.NameLaws.{spell-length}
 use Rattle.records.proofs.laws.ReaderLaws.{bind-got}
@@ -46,7 +44,7 @@ name-length k m n h = go (has_name m)
     go true = omega (arith, spell-length (bytes_of n), length-take n.len n.bytes)
     go false = none k
 
-lead-length : (k : Kind) → length (lead_bytes k) ≤ 2
+pub lead-length : (k : Kind) → length (lead_bytes k) ≤ 2
 lead-length File = omega arith
 lead-length Correct = omega arith
 lead-length Withdraw = omega arith
@@ -54,11 +52,6 @@ lead-length Withdraw = omega arith
 pub head-length : (k : Kind) (x : Key) → x.name.len ≤ max_name → length (head_bytes k x) ≤ max_head
 unfolding head_bytes
 head-length k x h = simp length-append (omega (arith, lead-length k, mark-two x.mark, name-length k x.mark x.name h))
-
-pub wrote-front : {d e : List ℕ} {n : ℕ} {xs : List ℕ} → Wrote d e 0 n xs → length xs ≤ length d → (take n e ≡ xs) × (n ≡ length xs)
-wrote-front {d} {e} {n} {xs} w h =
-    let l : n ≡ length xs = w.after ∙ zero-add (length xs) in
-    (ap₂ take l (w.bytes ∙ put_whole d 0 xs (omega arith)) ∙ rw append_assoc (take_at xs (drop (0 + length xs) d) (length xs) refl), l)
 
 -- ---- what was read
 
@@ -196,9 +189,6 @@ name-yes k m n h = ap (λ b. cond b (length (spell (bytes_of n)) ∷ spell (byte
 
 -- ---- the two parts of a change that is put
 
-pub head-part : {k : Kind} {x : Key} {h : HeadOut} → HeadIs k x h → length (take h.len h.bytes) ≡ h.len
-head-part {k} {x} {h} e = ap length e.bytes ∙ sym e.len
-
 pub rest-fits : {d e : List ℕ} {at next : ℕ} {xs : List ℕ} → Wrote d e at next xs → (m k : ℕ) (ys : List ℕ) → length xs ≡ m → at ≤ length d
     → m + k ≤ length d - at → next + length (take k ys) ≤ length e
 rest-fits {d} {e} {at} {next} {xs} w m k ys l h f = omega (arith, w.after, wrote-length w, length-take k ys)
@@ -210,7 +200,7 @@ both-put s want c h {d} {e} {g} {at} {m} {r} hd q w v =
     (wrote_then w v).bytes ∙ ap (λ l. put d at l) (ap (λ l. l ++ take (c.end - c.body) (drop c.body s)) q ∙ sym (full-bytes s want c h))
 
 -- for `head_of`
-pub ruleset heads = (head-length, wrote-front)
+pub ruleset heads = (head-length, append_assoc)
 
 -- for `peek`
 pub ruleset peeks = (read-ok, peek-yes, peek-no, peek-bad)

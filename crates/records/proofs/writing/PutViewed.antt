@@ -9,7 +9,7 @@ use Rattle.records.specs.tables.Inner.{Wrote}
 use Rattle.records.specs.declared.scan.View.{View}
 use Rattle.records.proofs.laws.ChangeLaws.{and_left, and_right}
 use Rattle.records.proofs.writing.Putting.{wrote_then}
-use Rattle.records.proofs.writing.Lemmas.{head-part, rest-fits}
+use Rattle.records.proofs.writing.Lemmas.{rest-fits}
 
 module _ (v : View) (n : ℕ) where
   pub long-name : max_name < v.key.name.len → false ≡ is_view v n
@@ -58,4 +58,4 @@ module _ (v : View) (at : ℕ) (s d : List ℕ) where
 pub ruleset views = (long-name, long-head, by-rest)
 
 -- for `put_viewed`
-pub ruleset viewed = (seen-view, head-part, rest-fits)
+pub ruleset viewed = (seen-view, rest-fits)

@@ -9,7 +9,7 @@ use Rattle.money.specs.declared.units.Quantity.{Quantity}
 use Rattle.records.specs.Reading.{Res, bad, got, Reader, ◌>>=◌, from}
 use Rattle.records.specs.Numbers.{pair}
 use Rattle.records.specs.Layouts.{layout}
-use Rattle.records.specs.Changes.{Change, Head, Entry, made, body_of, change, head_bytes, put}
+use Rattle.records.specs.Changes.{Change, Head, Entry, made, body_of, change, put}
 use Rattle.records.specs.Answers.{view, act_of}
 use Rattle.records.specs.declared.fields.Got.{Got}
 use Rattle.records.specs.declared.lists.Pair.{Pair}
@@ -21,7 +21,6 @@ use Rattle.records.specs.declared.marks.Head.{Head as HeadRead}
 use Rattle.records.specs.declared.marks.Wanted.{Wanted}
 use Rattle.records.specs.declared.keys.Key.{Key}
 use Rattle.records.specs.declared.changes.Read.{Read}
-use Rattle.records.specs.declared.writing.HeadOut.{HeadOut}
 use Rattle.records.specs.declared.scan.View.{View}
 use Rattle.records.specs.declared.parse.Act.{Act}
 
@@ -104,9 +103,3 @@ max_name_head = 37
 
 abbrev pub max_head : ℕ
 max_head = 42
-
--- the head of a change as it is written
-pub record HeadIs (k : Kind) (x : Key) (h : HeadOut) : Type 0 where
-  pub bytes : take h.len h.bytes ≡ head_bytes k x
-  pub len : h.len ≡ length (head_bytes k x)
-  pub few : h.len ≤ max_head
