@@ -1,3 +1,2 @@
-pub mod Handed
 pub mod Least
-pub mod Opening
+pub mod Passing

@@ -1,3 +1,4 @@
+pub mod Loading
 pub mod Lemmas
 pub mod Rows
 mod Together

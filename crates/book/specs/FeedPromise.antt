@@ -1,7 +1,7 @@
 -- What the code owes: its answer is the definition's. Assumes nothing.
 use Rattle.std.specs.Prelude.{◌≡◌, List, cond, ℕ, eqb, length, take}
 use Rattle.money.specs.Refusals.{not_together}
-use Rattle.book.specs.Layer.{Change}
+use Rattle.book.specs.Layer.{Change, fault_in}
 use Rattle.book.specs.declared.book.Book.{Book}
 use Rattle.book.specs.Register.{write_all}
 use Rattle.book.specs.Meaning.{belongs, mismatched, load, book_of}
@@ -12,7 +12,7 @@ use Rattle.book.specs.declared.feed.Fed.{Fed as Result}
 pub record Ends (f : FeedReply) (s : List ℕ) (r : Result) (s' : List ℕ) : Type 0 where
   pub count : r.count ≡ f.count
   pub taken : r.taken ≡ f.taken
-  pub number : r.number ≡ f.number
+  pub number : fault_in r.end ≡ f.number
   pub book : r.book ≡ book_of f.reg
   pub size : length s' ≡ length s
   pub bytes : take (length (write_all f.reg.list)) s' ≡ write_all f.reg.list
@@ -23,7 +23,7 @@ pub record Ends (f : FeedReply) (s : List ℕ) (r : Result) (s' : List ℕ) : Ty
 pub record Remains (b : Book) (s input : List ℕ) (r : Result) (s' : List ℕ) : Type 0 where
   pub count : r.count ≡ 0
   pub taken : r.taken ≡ 0
-  pub number : r.number ≡ cond (eqb (length input) 0) 0 not_together
+  pub number : fault_in r.end ≡ cond (eqb (length input) 0) 0 not_together
   pub book : r.book ≡ b
   pub bytes : s' ≡ s
 

@@ -1,13 +1,13 @@
 -- What a book and the bytes lent to it mean, and what each call owes.
-use Rattle.std.specs.Prelude.{ℕ, zero, suc, ◌≡◌, List, [], ◌∷◌, cond, length, take, drop, leb, eqb}
+use Rattle.std.specs.Prelude.{ℕ, zero, suc, ◌≡◌, List, [], ◌∷◌, cond, Result, Ok, Err, length, take, drop, leb, eqb}
 use Rattle.money.specs.Refusals.{mark_unknown, not_together}
-use Rattle.book.specs.Layer.{Change, Good, Scan, seen, unseen, scan, Mark, is_failure, Asked, got, bad, ask_hour_of}
+use Rattle.book.specs.Layer.{Change, Good, Scan, seen, unseen, scan, Mark, is_failure, Ticks, Refusal, number_of, Asked, got, bad, ask_hour_of}
 use Rattle.book.specs.declared.book.Book.{Book}
-use Rattle.book.specs.declared.answers.Answer.{Answer}
-use Rattle.book.specs.declared.answers.Answer.TheVariants.{Accepted, Refused, Place, Number, Charge}
+use Rattle.arrayvec.specs.ArrayVec.{ArrayVec as Items}
+use Rattle.money.specs.declared.production.DayTotals.{DayTotals}
+use Rattle.book.specs.declared.answers.NamedAmount.{NamedAmount}
+use Rattle.book.specs.declared.answers.Place.{Place}
 use Rattle.book.specs.declared.answers.Guarantees.{Guarantees}
-use Rattle.book.specs.declared.answers.Charges.{Charges}
-use Rattle.book.specs.declared.answers.UnitDay.{UnitDay}
 use Rattle.book.specs.Amounts.{ChargesReply, charged, no, charges_of, price_of}
 use Rattle.book.specs.Register.{Reg, standing, Call, Step, answered, becomes, step_of, write_all, refusal, Reply, refused, accepted, place, number, guarantees, unit_day, charge, max_used}
 
@@ -80,23 +80,36 @@ pub record Leaves (f : ℕ → Reg → Step) (b : Book) (s : List ℕ) (b' : Boo
 abbrev pub Meets : Call → Book → List ℕ → Book → Reply → List ℕ → Type 0
 Meets call b s b' r s' = Leaves (step_of call) b s b' r s'
 
--- ---- the numbers and values of an answer
+-- ---- the values and refusals of an answer
 
--- an answer of the code as a reply
-abbrev pub reply_of : Answer → Reply
-reply_of Accepted = accepted
-reply_of (Refused n) = refused n
-reply_of (Place start len) = place start len
-reply_of (Number n) = number n
-reply_of (Charge t) = charge t.0
+-- a value as its reply, a refusal as 01's number of it
+abbrev pub reply_by : {A : Type 0} → (A → Reply) → Result A Refusal → Reply
+reply_by f (Ok x) = f x
+reply_by f (Err e) = refused (number_of e)
 
--- an hour's guarantees stand beside their number
-abbrev pub guarantees_reply : Guarantees → Reply
-guarantees_reply g = cond (eqb g.number 0) (guarantees (take g.credits.n g.credits.list) g.offset.0) (refused g.number)
+-- of a change
+abbrev pub change_reply : Result (Unit {0}) Refusal → Reply
+change_reply r = reply_by (λ x. accepted) r
 
--- and so does a unit's day
-abbrev pub day_reply : UnitDay → Reply
-day_reply d = cond (eqb d.number 0) (unit_day d.total.0 d.reversal.0) (refused d.number)
+-- of the question for a key
+abbrev pub place_reply : Result Place Refusal → Reply
+place_reply r = reply_by (λ p. place p.start p.len) r
+
+-- of the questions for a count and for free bytes
+abbrev pub number_reply : Result ℕ Refusal → Reply
+number_reply r = reply_by number r
+
+-- of the question for a failure charge
+abbrev pub charge_reply : Result Ticks Refusal → Reply
+charge_reply r = reply_by (λ t. charge t.0) r
+
+-- of the question for an hour's guarantees
+abbrev pub guarantees_reply : Result Guarantees Refusal → Reply
+guarantees_reply r = reply_by (λ g. guarantees g.credits.items g.offset.0) r
+
+-- of the question for a unit's day
+abbrev pub day_reply : Result DayTotals Refusal → Reply
+day_reply r = reply_by (λ d. unit_day d.total.0 d.reversal.0) r
 
 -- ---- the charges of a mark and hour
 
@@ -111,5 +124,6 @@ hour_charges m h mismatched = no not_together
 hour_charges m h (belongs l) = cond (is_failure m) (charges_keyed l (ask_hour_of m h)) (no mark_unknown)
 
 -- the answer for charges as a reply
-abbrev pub charges_reply : Charges → ChargesReply
-charges_reply c = cond (eqb c.number 0) (charged (take c.charges.n c.charges.list)) (no c.number)
+abbrev pub charges_reply : Result (Items NamedAmount) Refusal → ChargesReply
+charges_reply (Ok c) = charged c.items
+charges_reply (Err e) = no (number_of e)

@@ -1,9 +1,8 @@
 -- The names under which units stand, as `units` answers them.
-use Rattle.std.specs.Prelude.{ℕ, List, ◌∷◌, ◌++◌, Option, None, Some, cond, take, drop, eqb}
+use Rattle.std.specs.Prelude.{ℕ, List, ◌∷◌, ◌++◌, Option, None, Some, Result, Ok, Err, take, drop}
+use Rattle.arrayvec.specs.ArrayVec.{ArrayVec as Items}
 use Rattle.money.specs.Refusals.{not_together}
-use Rattle.book.specs.Layer.{Key, Name, Gh, empty_name}
-use Rattle.book.specs.declared.amounts.units.Units.{Units}
-use Rattle.book.specs.declared.amounts.units.UnitList.{UnitList}
+use Rattle.book.specs.Layer.{Key, Name, Gh, Refusal, empty_name, number_of}
 use Rattle.book.specs.Register.{standing}
 use Rattle.book.specs.ByName.{names_of}
 use Rattle.book.specs.Meaning.{Load, belongs, mismatched}
@@ -15,10 +14,6 @@ unit_key n = record { mark = Gh; hour = 1; name = n }
 -- a key of the units' mark
 abbrev pub gh_key : Key
 gh_key = unit_key empty_name
-
--- the used places of a list of units
-abbrev pub names_in : Units → List Name
-names_in u = take u.n u.names
 
 -- names with a new one at its place, or as they are
 abbrev pub with_new : Option ℕ → Name → List Name → List Name
@@ -36,5 +31,6 @@ unit_names mismatched = no not_together
 unit_names (belongs l) = named (names_of gh_key (standing l))
 
 -- an answer of the code as names, or a number
-abbrev pub unit_list_of : UnitList → NameList
-unit_list_of r = cond (eqb r.number 0) (named (names_in r.units)) (no r.number)
+abbrev pub unit_list_of : Result (Items Name) Refusal → NameList
+unit_list_of (Ok ns) = named ns.items
+unit_list_of (Err e) = no (number_of e)

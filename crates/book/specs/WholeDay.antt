@@ -1,17 +1,16 @@
 -- All amounts of a day from one check: what the statement asks for hour by hour and unit by unit. Assumes nothing.
-use Rattle.std.specs.Prelude.{ℕ, zero, suc, ◌+◌, List, [], ◌∷◌, map, length}
+use Rattle.std.specs.Prelude.{ℕ, zero, suc, ◌+◌, List, [], ◌∷◌, Result, Ok, Err, map}
 use Rattle.money.specs.Refusals.{not_together}
 use Rattle.money.specs.Units.{day_hours}
-use Rattle.book.specs.Layer.{Name, Rec, Fi, Fe, empty_name, no_ticks, pad}
+use Rattle.book.specs.Layer.{Name, Rec, Fi, Fe, Refusal, number_of}
 use Rattle.book.specs.declared.answers.HourAmounts.{HourAmounts}
 use Rattle.book.specs.declared.answers.UnitAmounts.{UnitAmounts}
 use Rattle.book.specs.declared.answers.DayAmounts.{DayAmounts}
-use Rattle.book.specs.Amounts.{HourPricing, ChargesReply, charged, hour_key, price_of, guarantees_of, charges_of, unit_day_of}
+use Rattle.book.specs.Amounts.{HourPricing, ChargesReply, hour_key, price_of, guarantees_of, charges_of, unit_day_of}
 use Rattle.book.specs.ByName.{names_of}
-use Rattle.book.specs.Register.{Reply, standing, max_changes}
-use Rattle.book.specs.Meaning.{Load, belongs, mismatched}
+use Rattle.book.specs.Register.{Reply, standing}
+use Rattle.book.specs.Meaning.{Load, belongs, mismatched, guarantees_reply, charges_reply, day_reply}
 use Rattle.book.specs.UnitNames.{gh_key, unit_key}
-use Rattle.book.specs.Handed.{hour_handed, guarantees_from, charges_from, day_handed, unit_day_from}
 
 -- an hour: its guarantees, its charges of failed imports and those of failed exports
 pub record HourReply : Type 0 where
@@ -51,29 +50,17 @@ abbrev pub day_amounts : Load → WholeDay
 day_amounts mismatched = no not_together
 day_amounts (belongs l) = whole_of (standing l) (price_of (standing l))
 
--- ---- the struct that a day is handed back in; nothing of it is free
+-- ---- a day as the code hands it back
 
--- an hour as it is handed over
-abbrev pub hour_from : HourReply → HourAmounts
-hour_from x = record { guarantees = guarantees_from x.guaranteed; imports = charges_from x.imports; exports = charges_from x.exports }
+-- an hour
+abbrev pub told_hour : HourAmounts → HourReply
+told_hour x = record { guaranteed = guarantees_reply x.guarantees; imports = charges_reply x.imports; exports = charges_reply x.exports }
 
--- a unit as it is handed over
-abbrev pub unit_from : UnitReply → UnitAmounts
-unit_from x = record { name = x.name; day = unit_day_from x.day }
+-- a unit
+abbrev pub told_unit : UnitAmounts → UnitReply
+told_unit u = record { name = u.name; day = day_reply u.day }
 
--- blank places
-abbrev pub no_hour : HourAmounts
-no_hour = record { guarantees = hour_handed 0 [] no_ticks.0; imports = charges_from (charged []); exports = charges_from (charged []) }
-
--- the places behind the last unit
-abbrev pub no_unit : UnitAmounts
-no_unit = record { name = empty_name; day = day_handed 0 no_ticks.0 no_ticks.0 }
-
--- a number, the hours and the units
-unfoldable pub whole_handed : ℕ → List HourAmounts → List UnitAmounts → DayAmounts
-whole_handed k hs us = record { number = k; hours = pad no_hour day_hours hs; n = length us; units = pad no_unit max_changes us }
-
--- beside a number all places are blank
-abbrev pub day_from : WholeDay → DayAmounts
-day_from (whole hs us) = whole_handed 0 (map hour_from hs) (map unit_from us)
-day_from (no k) = whole_handed k [] []
+-- the whole day, or a number
+abbrev pub told_day : Result DayAmounts Refusal → WholeDay
+told_day (Ok d) = whole (map told_hour d.hours) (map told_unit d.units.items)
+told_day (Err e) = no (number_of e)

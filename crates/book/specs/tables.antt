@@ -4,6 +4,7 @@ pub mod Index
 pub mod Checked
 pub mod Places
 pub mod Rows
+pub mod CheckedLog
 pub mod Worked
 pub mod Prices
 pub mod Units

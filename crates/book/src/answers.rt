@@ -1,43 +1,28 @@
-// What a call brings back.
-ghost use Rattle.std.specs.Prelude.{◌≡◌};
-ghost use Rattle.book.specs.Meaning.{reply_of};
-ghost use Rattle.book.specs.Replies.{replied};
-ghost use Rattle.book.specs.Handed.{no_amount};
+// What a call brings back: a value, or 01's refusal.
+ghost use Rattle.std.specs.Prelude.{◌≡◌, Err};
+ghost use Rattle.money.specs.declared.refusals.Refusal.TheVariants.{NoSuchKey};
 
 use crate::book::{Book, CHANGES_MAX};
+use arrayvec::ArrayVec;
 use money::imports::IMPORTS_MAX;
 use money::names::Name;
+use money::production::DayTotals;
+use money::refusals::Refusal;
 use money::units::{HOURS, Ticks};
 use records::marks::HOUR_LIMIT;
-use records::names::no_name;
 
-#[derive(Clone, Copy)]
-pub enum Answer {
-    Accepted,
-    Refused(u8),
-    Place(usize, usize),
-    Number(usize),
-    Charge(Ticks),
-}
-
-// The number of a refusal, 0 of any other answer.
-pub fn refusal_in(a: Answer) -> u8
-    ensures { result ≡ replied (reply_of a) }
-{
-    match a {
-        Answer::Accepted => 0,
-        Answer::Refused(n) => n,
-        Answer::Place(_start, _len) => 0,
-        Answer::Number(_n) => 0,
-        Answer::Charge(_ticks) => 0,
-    }
-}
-
-// The book as a change hands it back, and its answer.
+// The book as a change hands it back, and whether it was accepted. 01 hands the book back whole with each change.
 #[derive(Clone, Copy)]
 pub struct Done {
     pub book: Book,
-    pub answer: Answer,
+    pub answer: Result<(), Refusal>,
+}
+
+// Where a record is written: its start and its length.
+#[derive(Clone, Copy)]
+pub struct Place {
+    pub start: usize,
+    pub len: usize,
 }
 
 // The most credits of an hour: it holds no more imports.
@@ -47,80 +32,55 @@ pub const CREDITS_MAX: usize = IMPORTS_MAX;
 pub const CHARGES_MAX: usize = HOUR_LIMIT as usize;
 
 // An amount, and the decoded name that it belongs to.
-#[derive(Clone, Copy)]
+#[derive(Clone, Copy, Default)]
 pub struct NamedAmount {
     pub name: Name,
     pub ticks: Ticks,
 }
 
-// Credits by name: the first n of the list.
-#[derive(Clone, Copy)]
-pub struct Credits {
-    pub n: usize,
-    pub list: [NamedAmount; CREDITS_MAX],
-}
+// Credits by name.
+pub type Credits = ArrayVec<NamedAmount, CREDITS_MAX>;
 
-// Charges by name: the first n of the list.
-#[derive(Clone, Copy)]
-pub struct ChargeList {
-    pub n: usize,
-    pub list: [NamedAmount; CHARGES_MAX],
-}
+// Charges by name.
+pub type Charges = ArrayVec<NamedAmount, CHARGES_MAX>;
 
-// What stands behind the last amount of a list.
-pub(crate) fn no_amount() -> NamedAmount
-    ensures { result ≡ no_amount }
-{
-    let name = no_name();
-    NamedAmount {
-        name,
-        ticks: Ticks(0),
-    }
-}
-
-// The credits of an hour's imports and its wheel offset, or the number of a refusal.
-#[derive(Clone, Copy)]
+// The credits of an hour's imports and its wheel offset.
+#[derive(Drop)]
 pub struct Guarantees {
-    pub number: u8,
     pub credits: Credits,
     pub offset: Ticks,
 }
 
-// The charges of an hour's failures of one mark, or the number of a refusal.
-#[derive(Clone, Copy)]
-pub struct Charges {
-    pub number: u8,
-    pub charges: ChargeList,
-}
-
-// A unit's day total and its reversal, or the number of a refusal.
-#[derive(Clone, Copy)]
-pub struct UnitDay {
-    pub number: u8,
-    pub total: Ticks,
-    pub reversal: Ticks,
-}
-
 // An hour's guarantees, its charges of failed imports and those of failed exports.
-#[derive(Clone, Copy)]
+#[derive(Drop)]
 pub struct HourAmounts {
-    pub guarantees: Guarantees,
-    pub imports: Charges,
-    pub exports: Charges,
+    pub guarantees: Result<Guarantees, Refusal>,
+    pub imports: Result<Charges, Refusal>,
+    pub exports: Result<Charges, Refusal>,
 }
 
 // A unit's decoded name and its day.
 #[derive(Clone, Copy)]
 pub struct UnitAmounts {
     pub name: Name,
-    pub day: UnitDay,
+    pub day: Result<DayTotals, Refusal>,
 }
 
-// All amounts of a day, or the number of a refusal: those of hour h at h - 1, and the first n units by name.
-#[derive(Clone, Copy)]
+// A place without a unit.
+impl Default for UnitAmounts {
+    ghost is_default = { λ u. u.day ≡ Err NoSuchKey };
+
+    fn default() -> Self {
+        UnitAmounts {
+            name: Default::default(),
+            day: Err(Refusal::NoSuchKey),
+        }
+    }
+}
+
+// All amounts of a day: those of hour h at h - 1, and the units by name.
+#[derive(Drop)]
 pub struct DayAmounts {
-    pub number: u8,
     pub hours: [HourAmounts; HOURS],
-    pub n: usize,
-    pub units: [UnitAmounts; CHANGES_MAX],
+    pub units: ArrayVec<UnitAmounts, CHANGES_MAX>,
 }

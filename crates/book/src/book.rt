@@ -1,10 +1,15 @@
 // The book, and whether it belongs to the bytes that are lent.
-ghost use Rattle.std.specs.Prelude.{◌≡◌, false, length};
-ghost use Rattle.book.specs.Meaning.{load};
-ghost use Rattle.book.specs.tables.Rows.{Rowed};
+ghost use Rattle.std.specs.Prelude.{◌≡◌, List, Err, false, is_ok, length};
+ghost use Rattle.money.specs.declared.refusals.Refusal.TheVariants.{NotTogether};
+ghost use Rattle.book.specs.Layer.{Change, Refusal};
+ghost use Rattle.book.specs.Meaning.{belongs, load};
+ghost use Rattle.book.specs.tables.Rows.{Rows, Rowed};
+ghost use Rattle.book.specs.tables.CheckedLog.{Says};
 ghost use Rattle.book.specs.Register.{max_changes};
 
+use crate::log::checked_log::CheckedLog;
 use crate::log::replay;
+use money::refusals::Refusal;
 
 // Changes in a book, at most.
 pub const CHANGES_MAX: usize = 512;
@@ -31,15 +36,32 @@ impl Book {
         }
     }
 
-    // Whether the book and the bytes belong together, with a row for each change.
-    pub(crate) fn check_rows(self, log: &[u8], rows: &mut [u32; CHANGES_MAX]) -> bool
+    // A row for each change, where the book and the bytes belong together. The rows are the caller's array, as no function can hand them out.
+    pub(crate) fn check_rows(self, log: &[u8], rows: &mut [u32; CHANGES_MAX]) -> Result<(), Refusal>
         requires { length rows.old ≡ max_changes }
-        ensures { Rowed (load self log.now) result rows.new }
+        ensures rowed { Rowed (load self log.now) (is_ok result) rows.new }
+        ensures apart { (e : Refusal) → result ≡ Err e → e ≡ NotTogether }
     {
         let used = self.used as usize;
         if log.len() < used {
-            return false;
+            return Err(Refusal::NotTogether);
         }
-        replay::replayed_rows(&log[..used], self.changes, rows)
+        if replay::replayed_rows(&log[..used], self.changes, rows) {
+            return Ok(());
+        }
+        Err(Refusal::NotTogether)
+    }
+
+    // The log that was checked, with its rows.
+    pub(crate) fn checked_log<'a>(
+        self,
+        log: &'a [u8],
+        rows: &'a [u32; CHANGES_MAX],
+    ) -> CheckedLog<'a>
+        requires { (l : List Change) × (load self log.now ≡ belongs l) × Rows rows.now l l }
+        ensures bytes { result.bytes.now ≡ log.entry.now }
+        ensures says { (l : List Change) → load self log.entry.now ≡ belongs l → Says result l }
+    {
+        CheckedLog::new(log, rows, self.changes as usize)
     }
 }

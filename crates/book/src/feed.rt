@@ -6,31 +6,30 @@ ghost use Rattle.book.specs.tables.Checked.{Checked, key_in};
 ghost use Rattle.book.specs.Feed.{feeding};
 ghost use Rattle.book.specs.FeedPromise.{Ends, Feeds};
 
-use crate::answers::refusal_in;
 use crate::book::{Book, CHANGES_MAX};
 use crate::log::index::{BUCKETS, bucket_of};
-use money::refusals::NOT_TOGETHER;
+use money::refusals::Refusal;
 use records::keys::{Key, key_of};
 use records::marks::Mark;
 use records::parse::{Act, first_change};
 
-// The book with the records that it took, how many they were and how many bytes; and the number of the refusal that ended the reading, 0 for none.
+// The book with the records that it took, how many they were and how many bytes; and the refusal that ended the reading, if one did.
 #[derive(Clone, Copy)]
 pub struct Fed {
     pub book: Book,
     pub count: u64,
     pub taken: usize,
-    pub number: u8,
+    pub end: Result<(), Refusal>,
 }
 
-fn fed_so(book: Book, count: u64, taken: usize, number: u8) -> Fed
-    ensures { result ≡ record { book = book; count = count; taken = taken; number = number } }
+fn fed_so(book: Book, count: u64, taken: usize, end: Result<(), Refusal>) -> Fed
+    ensures { result ≡ record { book = book; count = count; taken = taken; end = end } }
 {
     Fed {
         book,
         count,
         taken,
-        number,
+        end,
     }
 }
 
@@ -38,10 +37,7 @@ fn fed_so(book: Book, count: u64, taken: usize, number: u8) -> Fed
 fn search_from(latest: u16, changes: u16) -> usize
     ensures { (result ≤ changes) × ((m : ℕ) → m ≤ latest → m ≤ changes → m ≤ result) }
 {
-    if latest < changes {
-        return latest as usize;
-    }
-    changes as usize
+    latest.min(changes) as usize
 }
 
 // The key of a change of a record, and none of a mark that stands alone.
@@ -54,7 +50,8 @@ fn key_in(act: Act) -> Key
     }
 }
 
-// Takes the records into a book that was checked, up to the first that is refused. Each is read once.
+// Takes the records into a book that was checked, up to the first that is refused. Each is read once. The latest changes stand in a
+// table by their keys' numbers: no map, as the book owns no heap.
 fn feed_checked(mut book: Book, log: &mut [u8], rows: &mut [u32; CHANGES_MAX], input: &[u8]) -> Fed
     requires { Checked book log.old rows.old }
     ensures { (l : List Change) → load book log.old ≡ belongs l → Ends (feeding (length log.old)
@@ -67,7 +64,7 @@ fn feed_checked(mut book: Book, log: &mut [u8], rows: &mut [u32; CHANGES_MAX], i
     while at < input.len() {
         let f = match first_change(&input[at..]) {
             Ok(front) => front,
-            Err(fault) => return fed_so(book, count, at, fault.number()),
+            Err(fault) => return fed_so(book, count, at, Err(fault)),
         };
         let ordinal = count + 1;
         let end = at + f.end;
@@ -75,18 +72,15 @@ fn feed_checked(mut book: Book, log: &mut [u8], rows: &mut [u32; CHANGES_MAX], i
         let bucket = bucket_of(key_in(act));
         let from = search_from(latest[bucket], book.changes);
         let done = book.checked_change(log, rows, from, act, &input[at..end]);
-        let answer = done.answer;
-        let number = refusal_in(answer);
-        let next = done.book;
-        book = next;
-        if number != 0 {
-            return fed_so(book, count, at, number);
+        book = done.book;
+        if done.answer.is_err() {
+            return fed_so(book, count, at, done.answer);
         }
         latest[bucket] = book.changes;
         count = ordinal;
         at = end;
     }
-    fed_so(book, count, at, 0)
+    fed_so(book, count, at, Ok(()))
 }
 
 // Takes the records that the input holds back to back, up to the first that is refused. Book and bytes are checked once.
@@ -94,11 +88,11 @@ pub fn feed(mut book: Book, log: &mut [u8], input: &[u8]) -> Fed
     ensures { Feeds book log.old input.now result log.new }
 {
     if input.len() == 0 {
-        return fed_so(book, 0, 0, 0);
+        return fed_so(book, 0, 0, Ok(()));
     }
     let mut rows = [0u32; CHANGES_MAX];
-    if book.check_rows(log, &mut rows) {
-        return feed_checked(book, log, &mut rows, input);
+    if let Err(fault) = book.check_rows(log, &mut rows) {
+        return fed_so(book, 0, 0, Err(fault));
     }
-    fed_so(book, 0, 0, NOT_TOGETHER)
+    feed_checked(book, log, &mut rows, input)
 }

@@ -1,14 +1,13 @@
 -- What each answer of the book's methods rests on.
-use Rattle.std.specs.Prelude.{◌≡◌, refl, ℕ, zero, suc, ◌-◌, List, Bool, true, false, cond, length, take}
+use Rattle.std.specs.Prelude.{◌≡◌, refl, ℕ, zero, suc, ◌-◌, List, Bool, true, false, cond, Err, length, take}
 use Rattle.std.proofs.Common.{sym, ap, ap₂, ◌∙◌}
 use Rattle.std.proofs.Math.Path.{subst⁻¹}
 use Rattle.std.proofs.Math.Seq.{take-length}
-use Rattle.book.specs.Layer.{Key, Asked, got, bad, key_asked, ask_hour, input_of, fine, fault}
+use Rattle.book.specs.Layer.{Key, Asked, got, bad, key_asked, ask_hour, input_of, fine, fault, Refusal, number_of}
 use Rattle.book.specs.declared.book.Book.{Book}
 use Rattle.book.specs.Register.{Reg, ask, record_of, count_of, free_bytes, Reply, refused, accepted, place, number, Step, answered, becomes, step_of, unless-closed, keyed, place_of, write_all, capped, count, standing}
-use Rattle.book.specs.declared.answers.Answer.TheVariants.{Refused}
 use Rattle.book.specs.declared.answers.Done.{Done}
-use Rattle.book.specs.Meaning.{mismatched, load, After, book_of, leaving, stepped, outcome, Leaves, Meets, reply_of}
+use Rattle.book.specs.Meaning.{mismatched, load, After, book_of, leaving, stepped, outcome, Leaves, Meets, change_reply}
 use Rattle.book.specs.tables.Tables.{survey}
 use Rattle.book.specs.laws.LoadLaws.{Loaded}
 use Rattle.book.specs.laws.PlaceLaws.{survey-place}
@@ -21,7 +20,7 @@ module _ (f : ℕ → Reg → Step) (b : Book) (s : List ℕ) where
   pub step_is : (x : Loaded b s) → stepped f b s (load b s) ≡ f (length s) (reg_of b s x)
   step_is x = ap (stepped f b s) x.is
 
-  pub step-mismatched : load b s ≡ mismatched → stepped f b s (load b s) ≡ answered (refused 16)
+  step-mismatched : load b s ≡ mismatched → stepped f b s (load b s) ≡ answered (refused 16)
   step-mismatched e = ap (stepped f b s) e
 
   -- the promise of a method, from the step that the register takes
@@ -52,9 +51,9 @@ module _ (f : ℕ → Reg → Step) (b : Book) (s : List ℕ) where
       }
 
 -- the book as it is, and a refusal, as a call hands them back
-pub refused-so : {f : ℕ → Reg → Step} {b : Book} {s : List ℕ} {n : ℕ} {r : Done} → r ≡ record { book = b; answer = Refused n }
-    → Leaves f b s b (refused n) s → Leaves f b s r.book (reply_of r.answer) s
-refused-so {f} {b} {s} e w = subst⁻¹ (λ (d : Done). Leaves f b s d.book (reply_of d.answer) s) e w
+pub refused-so : {f : ℕ → Reg → Step} {b : Book} {s : List ℕ} {x : Refusal} {r : Done} → r ≡ record { book = b; answer = Err x }
+    → Leaves f b s b (refused (number_of x)) s → Leaves f b s r.book (change_reply r.answer) s
+refused-so {f} {b} {s} e w = subst⁻¹ (λ (d : Done). Leaves f b s d.book (change_reply d.answer) s) e w
 
 -- a call that is a mark only: m is its first fault
 pub bare-fault : (b : Book) (s : List ℕ) (x : Loaded b s) (m n : ℕ) → n ≡ m → (f : ℕ → Reg → Step) (st : Step)

@@ -1,17 +1,17 @@
 -- What the reading loop rests on.
-use Rattle.std.specs.Prelude.{◌≡◌, refl, ℕ, ◌+◌, ◌-◌, ◌≤◌, ◌<◌, List, Bool, cond, length, take, drop, get_or, set, replicate, eqb}
+use Rattle.std.specs.Prelude.{◌≡◌, refl, ℕ, ◌+◌, ◌-◌, ◌≤◌, ◌<◌, List, Bool, true, false, cond, Result, Ok, Err, is_err, length, take, drop, get_or, set, replicate, eqb}
 use Rattle.std.proofs.Common.{sym, ap, ◌∙◌, subst, arith, length-take, length-drop, length-set, take_all, drop-drop, get_or-set_same, get_or-set_other, eqb-true, eq-eqb}
 use Rattle.std.proofs.lemmas.List.{length-replicate, get_or-replicate}
 use Rattle.std.proofs.lemmas.Bool.{eqb-false}
 use Rattle.std.proofs.Math.Path.{subst⁻¹}
 use Rattle.std.proofs.Math.Seq.{drop-length}
-use Rattle.book.specs.Layer.{Key, Change, Res, bad, got, Input, fine, fault, Entry, read_entry, act_of, front_of, Front}
-use Rattle.book.specs.laws.LayerLaws.{entry-fault}
+use Rattle.book.specs.Layer.{Key, Change, Res, bad, got, Input, fine, fault, Entry, read_entry, act_of, front_of, Front, Refusal, number_of, fault_in}
+use Rattle.book.specs.laws.LayerLaws.{number-some}
 use Rattle.book.specs.declared.book.Book.{Book}
 use Rattle.book.specs.declared.answers.Done.{Done}
-use Rattle.book.specs.declared.feed.Fed.{Fed as Result}
+use Rattle.book.specs.declared.feed.Fed.{Fed}
 use Rattle.book.specs.Register.{Reg, change, general, Reply, refused, Step, answered, becomes, called, after, write_all}
-use Rattle.book.specs.Meaning.{belongs, load, Valid, book_of, Meets, reply_of}
+use Rattle.book.specs.Meaning.{belongs, load, Valid, book_of, Meets, change_reply}
 use Rattle.book.specs.Replies.{replied}
 use Rattle.book.specs.laws.ReplayLaws.{called-valid}
 use Rattle.book.specs.tables.Checked.{Checked, Makes, Since, IsEntry, key_in}
@@ -23,6 +23,7 @@ use Rattle.book.specs.Feed.{front, first_record, FeedReply, stopped, later, feed
 use Rattle.book.specs.laws.FeedLaws.{first-front, first-within, first_some, first-whole, first_then, none_before, both-before}
 use Rattle.book.specs.FeedPromise.{Ends, Feeds}
 use Rattle.book.proofs.log.index.Lemmas.{latest-few}
+use Rattle.book.proofs.log.replay.Lemmas.{no-fault, some-fault}
 use Rattle.book.proofs.log.checked.Lemmas.{unread-refused}
 
 -- ---- the first record
@@ -55,6 +56,17 @@ module _ (s : List ℕ) where
         go (got x t) q e =
             let p : f ≡ record { act = act_of x; end = length s - length t } = cc in
             record { what = x; input = first-whole s x t q; is = ap (λ (y : Front). y.act) p }
+
+-- ---- what the code answers
+
+-- the reply's number of a change is its refusal's
+told-fault : (a : Result (Unit {0}) Refusal) → fault_in a ≡ replied (change_reply a)
+told-fault (Ok x) = refl
+told-fault (Err y) = refl
+
+-- a result that is the one shown
+ends_by : {f : FeedReply} {s s' : List ℕ} {r r' : Fed} → r ≡ r' → Ends f s r' s' → Ends f s r s'
+ends_by {f} {s} {s'} e w = subst⁻¹ (λ (y : Fed). Ends f s y s') e w
 
 -- ---- the loop
 
@@ -119,14 +131,15 @@ module _ (f : FeedReply) (s₀ input : List ℕ) (b : Book) (s : List ℕ) (n at
     m : Meets (change p) (book_of x.reg) s b' r s'
     m = subst (λ (y : Book). Meets (change p) y s b' r s') x.book m₀
 
-    ends : (k : ℕ) → k ≡ replied r → (k ≡ 0 → ⊥) → Ends f s₀ (record { book = b'; count = n; taken = at; number = k }) s'
+    ends : (k : Result (Unit {0}) Refusal) → fault_in k ≡ replied r → (fault_in k ≡ 0 → ⊥)
+        → Ends f s₀ (record { book = b'; count = n; taken = at; end = k }) s'
     ends k q z = go (called (change p) (length s) x.reg) refl
       where
-        go : (st : Step) → called (change p) (length s) x.reg ≡ st → Ends f s₀ (record { book = b'; count = n; taken = at; number = k }) s'
+        go : (st : Step) → called (change p) (length s) x.reg ≡ st → Ends f s₀ (record { book = b'; count = n; taken = at; end = k }) s'
         go (answered y) e =
             let w = rest-is (answered y) e in
             let u : s' ≡ s = unmoved s s' m.size (turn-bytes x.reg s x.valid x.bytes (change p) b' r s' m (answered y) e) in
-            subst⁻¹ (λ (f : FeedReply). Ends f s₀ (record { book = b'; count = n; taken = at; number = k }) s') w (record {
+            subst⁻¹ (λ (f : FeedReply). Ends f s₀ (record { book = b'; count = n; taken = at; end = k }) s') w (record {
               count = omega arith;
               taken = omega arith;
               number = q ∙ ap replied (turn-reply x.reg s x.valid x.bytes (change p) b' r s' m (answered y) e);
@@ -157,12 +170,12 @@ module _ (f : FeedReply) (s₀ input : List ℕ) (b : Book) (s : List ℕ) (n at
 
 -- nothing is left
 finishes : (f : FeedReply) (s₀ input : List ℕ) (b : Book) (s : List ℕ) (n at : ℕ) → On f (length s₀) input b s n at
-    → length s ≡ length s₀ → (n ≡ 0 → s ≡ s₀) → at ≡ length input → Ends f s₀ (record { book = b; count = n; taken = at; number = 0 }) s
+    → length s ≡ length s₀ → (n ≡ 0 → s ≡ s₀) → at ≡ length input → Ends f s₀ (record { book = b; count = n; taken = at; end = Ok tt }) s
 unfolding fed
 finishes f s₀ input b s n at x size kept all =
     let w : f ≡ later n at (stopped x.reg 0) = x.so_far ∙ ap (λ (l : List ℕ). later n at (feeding (length s₀) x.reg l))
     (ap (λ (k : ℕ). drop k input) all ∙ drop-length input) in
-    subst⁻¹ (λ (f : FeedReply). Ends f s₀ (record { book = b; count = n; taken = at; number = 0 }) s) w (record {
+    subst⁻¹ (λ (f : FeedReply). Ends f s₀ (record { book = b; count = n; taken = at; end = Ok tt }) s) w (record {
       count = omega arith;
       taken = omega arith;
       number = refl;
@@ -173,9 +186,9 @@ finishes f s₀ input b s n at x size kept all =
     })
 
 module _ {b₀ : Book} {s₀ input : List ℕ} {b : Book} {rows latest s : List ℕ} {n at : ℕ} (g : Going b₀ s₀ input b rows latest s n at) where
-  pub finished : length input ≤ at → (l : List Change) → load b₀ s₀ ≡ belongs l
-      → Ends (feeding (length s₀) (record { list = l; closed = b₀.closed }) input) s₀ (record { book = b; count = n; taken = at; number = 0 }) s
-  finished h l e = finishes _ s₀ input b s n at (g.on l e) g.size g.kept (omega (arith, g.within))
+  pub finished : length input ≤ at → {r : Fed} → r ≡ record { book = b; count = n; taken = at; end = Ok tt } → (l : List Change) → load b₀ s₀ ≡ belongs l
+      → Ends (feeding (length s₀) (record { list = l; closed = b₀.closed }) input) s₀ r s
+  finished h er l e = ends_by er (finishes _ s₀ input b s n at (g.on l e) g.size g.kept (omega (arith, g.within)))
 
   -- where the search for a key starts
   pub since : {k : Key} {m : ℕ} → m ≡ bucket k → m < 8192 → {from : ℕ} → (from ≤ b.changes) × ((j : ℕ) → j ≤ get_or latest m 0 → j ≤ b.changes → j ≤ from)
@@ -194,15 +207,17 @@ module _ {b₀ : Book} {s₀ input : List ℕ} {b : Book} {rows latest s : List 
         → i ≡ front_of (drop at input) (read_entry (drop at input))
     front-is e = e ∙ ap (λ (l : List ℕ). front_of l (read_entry l)) (take_all (length input - at) (drop at input) (omega (arith, length-drop at input)))
 
-    pub unread : {k : ℕ} → fault k ≡ front_of (take (length input - at) (drop at input)) (read_entry (take (length input - at) (drop at input)))
-        → (l : List Change) → load b₀ s₀ ≡ belongs l
-        → Ends (feeding (length s₀) (record { list = l; closed = b₀.closed }) input) s₀ (record { book = b; count = n; taken = at; number = k }) s
+    pub unread : {y : Refusal}
+        → fault (number_of y) ≡ front_of (take (length input - at) (drop at input)) (read_entry (take (length input - at) (drop at input)))
+        → {r : Fed} → r ≡ record { book = b; count = n; taken = at; end = Err y } → (l : List Change) → load b₀ s₀ ≡ belongs l
+        → Ends (feeding (length s₀) (record { list = l; closed = b₀.closed }) input) s₀ r s
     unfolding first_record
-    unread {k} e₀ l e =
+    unread {y} e₀ er l e =
+        let k = number_of y in
         let q = front-unread (drop at input) (front-is e₀) in
         let m : Meets (change (first_record (drop at input))) b s b (refused k) s = subst⁻¹
         (λ (p : List ℕ). Meets (change p) b s b (refused k) s) (ap (front (drop at input)) q) (unread-refused g.checked (drop at input) k q) in
-        ends _ s₀ input b s n at (g.on l e) g.size g.kept some b (refused k) s m k refl (λ z. omega (arith, entry-fault (drop at input) k q, z))
+        ends_by er (ends _ s₀ input b s n at (g.on l e) g.size g.kept some b (refused k) s m (Err y) refl (number-some y))
 
     -- a record, which ends there
     module _ {f : Front}
@@ -225,16 +240,17 @@ module _ {b₀ : Book} {s₀ input : List ℕ} {b : Book} {rows latest s : List 
       read-there = subst⁻¹ (λ (p : List ℕ). IsEntry p f.act) between (front_read (drop at input) (front-is e₀))
 
       -- and what the book said to it
-      module _ {r : Done} {s' rows' : List ℕ} (m : Makes (general (take (at + f.end - at) (drop at input))) b s (key_in f.act) r s' rows') {k : ℕ}
-          (q : k ≡ replied (reply_of r.answer)) where
-        said : Meets (change (first_record (drop at input))) b s r.book (reply_of r.answer) s'
-        said = subst (λ (p : List ℕ). Meets (change p) b s r.book (reply_of r.answer) s') between m.leaves
+      module _ {r : Done} {s' rows' : List ℕ} (m : Makes (general (take (at + f.end - at) (drop at input))) b s (key_in f.act) r s' rows') where
+        said : Meets (change (first_record (drop at input))) b s r.book (change_reply r.answer) s'
+        said = subst (λ (p : List ℕ). Meets (change p) b s r.book (change_reply r.answer) s') between m.leaves
 
-        pub stops : (k ≡ 0 → ⊥) → (l : List Change) → load b₀ s₀ ≡ belongs l
-            → Ends (feeding (length s₀) (record { list = l; closed = b₀.closed }) input) s₀ (record { book = r.book; count = n; taken = at; number = k }) s'
-        stops y l e = ends _ s₀ input b s n at (g.on l e) g.size g.kept some r.book (reply_of r.answer) s' said k q y
+        pub stops : true ≡ is_err r.answer → {z : Fed} → z ≡ record { book = r.book; count = n; taken = at; end = r.answer } → (l : List Change)
+            → load b₀ s₀ ≡ belongs l → Ends (feeding (length s₀) (record { list = l; closed = b₀.closed }) input) s₀ z s'
+        stops y ez l e = ends_by ez
+            (ends _ s₀ input b s n at (g.on l e) g.size g.kept some r.book (change_reply r.answer) s' said r.answer (told-fault r.answer)
+            (some-fault r.answer y refl))
 
-        pub continues : k ≡ 0 → {j : ℕ} → j ≡ bucket (key_in f.act) → j < 8192
+        pub continues : false ≡ is_err r.answer → {j : ℕ} → j ≡ bucket (key_in f.act) → j < 8192
             → Going b₀ s₀ input r.book rows' (set latest j r.book.changes) s' (n + 1) (at + f.end)
         continues y {j} ej lt = record {
           size = m.leaves.size ∙ g.size;
@@ -262,22 +278,16 @@ module _ {b₀ : Book} {s₀ input : List ℕ} {b : Book} {rows latest s : List 
           on = λ l e. subst⁻¹
               (λ (j : ℕ). On (feeding (length s₀) (record { list = l; closed = b₀.closed }) input) (length s₀) input r.book s' (n + 1) (at + j))
               front-there
-              (on-with _ s₀ input b s n at (g.on l e) g.size g.kept some r.book (reply_of r.answer) s' said (sym q ∙ y));
+              (on-with _ s₀ input b s n at (g.on l e) g.size g.kept some r.book (change_reply r.answer) s' said
+              (sym (told-fault r.answer) ∙ no-fault r.answer y refl));
         }
 
 -- no record at all
-pub fed-none : (b : Book) (s input : List ℕ) → length input ≡ 0 → Feeds b s input (record { book = b; count = 0; taken = 0; number = 0 }) s
-fed-none b s input e = record {
+pub fed-none : (b : Book) (s input : List ℕ) → length input ≡ 0 → {r : Fed} → r ≡ record { book = b; count = 0; taken = 0; end = Ok tt } → Feeds b s input r s
+fed-none b s input e er = subst⁻¹ (λ (y : Fed). Feeds b s input y s) er (record {
   together = λ l d. finishes _ s input b s 0 0 (on l d) refl (λ z. refl) (sym e);
   apart = λ d. record { count = refl; taken = refl; number = ap (λ (t : Bool). cond t 0 16) (sym (eq-eqb (length input) 0 e)); book = refl; bytes = refl };
-}
+})
   where
     on : (l : List Change) → load b s ≡ belongs l → On (feeding (length s) (record { list = l; closed = b.closed }) input) (length s) input b s 0 0
     on l d = first_of b s input l d (loaded-from b s l d)
-
--- a result that is the one shown
-pub ends_by : {f : FeedReply} {s s' : List ℕ} {r r' : Result} → r ≡ r' → Ends f s r' s' → Ends f s r s'
-ends_by {f} {s} {s'} e w = subst⁻¹ (λ (y : Result). Ends f s y s') e w
-
-pub feeds-by : {b : Book} {s input s' : List ℕ} {r r' : Result} → r ≡ r' → Feeds b s input r' s' → Feeds b s input r s'
-feeds-by {b} {s} {input} {s'} e w = subst⁻¹ (λ (y : Result). Feeds b s input y s') e w

@@ -1,12 +1,5 @@
 -- A part of the bytes to their end, and what a survey counts.
-use Prim.Native.Nat.{ℕ, zero, suc, ◌+◌, ◌-◌, ◌≤◌}
-use mathlib.Core.Path.{◌≡◌, sym, ap, ◌∙◌}
-use mathlib.Core.List.{List, [], ◌∷◌}
-use mathlib.Core.Bool.{Bool, true, false, cond}
-use native.Mathlib.Omega.{arith}
-use lib.ListN.{length, take, drop, length-drop}
-use lib.Seq.{take_all}
-use Rattle.std.specs.Prelude.{Option, Some, None}
+use Rattle.std.proofs.Common.{◌≡◌, sym, ap, ◌∙◌, ℕ, zero, suc, ◌+◌, ◌-◌, ◌≤◌, List, [], ◌∷◌, Bool, true, false, cond, Option, Some, None, arith, length, take, drop, length-drop, take_all}
 use Rattle.book.specs.Layer.{Key, View, Change, key_of, kind_of, is_filing, is_withdrawal, same_hour, unseen, scan, view_in}
 use Rattle.book.specs.laws.LayerLaws.{Read, view-bad, view-got}
 use Rattle.book.specs.Register.{write_all}

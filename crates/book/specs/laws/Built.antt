@@ -1,6 +1,7 @@
 -- A row that is filled from the front on by one rule from a list. Assumes nothing.
 use Rattle.std.specs.Prelude.{◌≡◌, refl, List, [], ◌∷◌, map, ℕ, zero, suc, ◌+◌, ◌≤◌, ◌<◌, length, take, get_or, set}
-use Rattle.std.proofs.Common.{sym, ap₂, ◌∙◌, subst, not-suc-le-zero, le_of_suc-le-suc, arith, length-set, get_or-set_same, get_or-set_other}
+use Rattle.std.proofs.Math.Seq.{take-length}
+use Rattle.std.proofs.Common.{sym, ap, ap₂, ◌∙◌, subst, not-suc-le-zero, le_of_suc-le-suc, arith, length-set, get_or-set_same, get_or-set_other}
 use Rattle.laws.specs.SumLaws.{last_or}
 
 -- the first i of the row are made from the first i of the list
@@ -49,3 +50,8 @@ pub fill-all : {A B : Type 0} {f : A → B} {xs : List A} {d : A} {row : List B}
 fill-all {f = f} {xs = xs} {d = d} {row = row} {e = e} {n = n} {i = i} b h m l =
     let q : i ≡ n = omega (arith, b.upto) in
     built-all n (subst (Built f xs d row e) q b.built) (omega (arith, b.long)) l
+
+-- all of the list
+pub fill-whole : {A B : Type 0} {f : A → B} {xs : List A} {d : A} {row : List B} {e : B} {size i : ℕ}
+    → Filling f xs d row e size (length xs) i → length xs ≤ i → length xs ≤ size → take (length xs) row ≡ map f xs
+fill-whole {f = f} {xs = xs} b h m = fill-all b h m (omega arith) ∙ ap (map f) (take-length xs)

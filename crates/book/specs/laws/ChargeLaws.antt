@@ -13,7 +13,7 @@ use Rattle.book.specs.Amounts.{Pick, HourPricing, priced, unpriced, hour_key, ch
 use Rattle.book.specs.ByName.{by_name}
 use Rattle.book.specs.tables.Tables.{survey}
 use Rattle.book.specs.tables.Places.{spot_of}
-use Rattle.book.specs.tables.Worked.{Begun, ticks_of, charge_reply, charges_in, named_of}
+use Rattle.book.specs.tables.Worked.{Begun, ticks_of, amount_reply, charges_in, named_of}
 use Rattle.book.specs.laws.StandLaws.{At, found_at, found-mark, none-at}
 use Rattle.book.specs.laws.WorkedLaws.{Here, here}
 
@@ -62,11 +62,11 @@ module _ {s : List ℕ} {l : List Change} (o : Begun s l) where
     charge-unpriced e f = sym (ap₂ charge_at (found_at o k e).picked f)
 
     pub charge-found : is_failure k.mark ≡ true → (survey k l).found ≡ true → (p : HourPrices) → PricesFit p → q k.hour ≡ priced p
-        → charge_reply (charge_in k.mark (drop (survey k l).start s) p) ≡ charge_of k (standing l) q
+        → amount_reply (charge_in k.mark (drop (survey k l).start s) p) ≡ charge_of k (standing l) q
     unfolding charge_of
     charge-found b e p f g =
         let w = found_at o k e in
-        ap charge_reply (charge-at p f k.mark b (survey k l).start w.what w.at (sym (found-mark w (failure-sole k.mark b)))) ∙ sym (ap₂ charge_at w.picked g)
+        ap amount_reply (charge-at p f k.mark b (survey k l).start w.what w.at (sym (found-mark w (failure-sole k.mark b)))) ∙ sym (ap₂ charge_at w.picked g)
 
   -- ---- of a mark and hour
 
@@ -75,7 +75,8 @@ module _ {s : List ℕ} {l : List Change} (o : Begun s l) where
   unfolding charges_in
   charges-are p f k b [] a = refl
   charges-are p f k b (r ∷ rs) (also c a) =
-      ap₂ ◌∷◌ (ap ticks_of (charge-at p f k.mark b (survey r.key l).start r c.0.at (sym (hour-mark k r.key (failure-sole k.mark b) c.1)))) (charges-are p f k b rs a)
+      ap₂ ◌∷◌ (ap ticks_of (charge-at p f k.mark b (survey r.key l).start r c.0.at (sym (hour-mark k r.key (failure-sole k.mark b) c.1))))
+      (charges-are p f k b rs a)
 
   named-are : (p : HourPrices) (rs : List Rec) → named_of (map (spot_of l) rs) (map (ticks_at p) rs) ≡ map (charge_line p) rs
   unfolding named_of
@@ -93,7 +94,8 @@ module _ {s : List ℕ} {l : List Change} (o : Begun s l) where
         at-unpriced (by_name (hour_key m h) (standing l)) z ∙ sym (ap (λ (x : HourPricing). charges_at x (by_name (hour_key m h) (standing l))) e)
 
     pub charges-found : is_failure m ≡ true → (length (by_name (hour_key m h) (standing l)) ≡ 0 → ⊥) → (p : HourPrices) → PricesFit p → q h ≡ priced p
-        → let xs = map (spot_of l) (by_name (hour_key m h) (standing l)) in charged (named_of xs (charges_in s m p xs)) ≡ charges_of (hour_key m h) (standing l) q
+        → let xs = map (spot_of l) (by_name (hour_key m h) (standing l)) in
+        charged (named_of xs (charges_in s m p xs)) ≡ charges_of (hour_key m h) (standing l) q
     unfolding charges_of
     charges-found b z p f e =
         let k = hour_key m h in

@@ -1,42 +1,93 @@
--- An answer that holds a list is fixed by what it replies, and so by the call, the book and the bytes. Assumes nothing.
-use Rattle.std.specs.Prelude.{ℕ, zero, suc, ◌≤◌, ◌≡◌, refl, Bool, cond, List, [], ◌∷◌, length, take, drop, replicate}
-use Rattle.std.proofs.Common.{sym, ap, ◌∙◌, arith, not-suc-le-zero, le_of_suc-le-suc, ne_eqb}
-use Rattle.book.specs.Layer.{Mark, no_ticks, pad}
+-- An answer is fixed by what it replies, and so by the call, the book and the bytes. Assumes nothing.
+use Rattle.std.specs.Prelude.{ℕ, zero, suc, ◌-◌, ◌≤◌, ◌≡◌, refl, Result, Ok, Err, List, [], ◌∷◌, get_or, length, take, drop, replicate}
+use Rattle.std.proofs.Common.{sym, ap, ◌∙◌, arith, not-suc-le-zero, le_of_suc-le-suc}
+use Rattle.arrayvec.specs.ArrayVec.{ArrayVec as Items}
+use Rattle.money.specs.declared.production.DayTotals.{DayTotals}
+use Rattle.money.specs.declared.refusals.Refusal.TheVariants.{EndsEarly, MarkUnknown, HourOutside, NameFault, NumberOutside, ListFault, BeyondList, BytesLeftOver, Closed, KeyStands, NoSuchKey, HourFull, NoSpace, NothingToTakeBack, PriceMissing, NotTogether}
+use Rattle.book.specs.Layer.{Mark, Name, Refusal, number_of, pad}
 use Rattle.book.specs.declared.book.Book.{Book}
-use Rattle.book.specs.declared.answers.Charges.{Charges}
+use Rattle.book.specs.declared.answers.NamedAmount.{NamedAmount}
 use Rattle.book.specs.declared.answers.Guarantees.{Guarantees}
-use Rattle.book.specs.declared.answers.UnitDay.{UnitDay}
-use Rattle.book.specs.declared.amounts.units.UnitList.{UnitList}
-use Rattle.book.specs.Register.{ask, hour_guarantees, day_of, Reply, refused, accepted, place, number, guarantees, unit_day, charge}
-use Rattle.book.specs.Meaning.{load, Meets, guarantees_reply, day_reply, hour_charges, charges_reply}
+use Rattle.book.specs.Register.{ask, hour_guarantees, day_of, Reply, refused, guarantees, unit_day}
+use Rattle.book.specs.Meaning.{load, Meets, reply_by, guarantees_reply, day_reply, hour_charges, charges_reply}
 use Rattle.book.specs.UnitNames.{unit_names, unit_list_of}
-use Rattle.book.specs.Handed.{guarantees_from, unit_day_from, charges_from, unit_list_from}
+
+-- ---- refusals of one number are one
+
+-- in the order of their numbers
+abbrev refusals : List Refusal
+refusals = EndsEarly ∷ MarkUnknown ∷ HourOutside ∷ NameFault ∷ NumberOutside ∷ ListFault ∷ BeyondList ∷ BytesLeftOver
+    ∷ Closed ∷ KeyStands ∷ NoSuchKey ∷ HourFull ∷ NoSpace ∷ NothingToTakeBack ∷ PriceMissing ∷ NotTogether ∷ []
+
+numbered : (r : Refusal) → get_or refusals (number_of r - 1) NotTogether ≡ r
+numbered EndsEarly = refl
+numbered MarkUnknown = refl
+numbered HourOutside = refl
+numbered NameFault = refl
+numbered NumberOutside = refl
+numbered ListFault = refl
+numbered BeyondList = refl
+numbered BytesLeftOver = refl
+numbered Closed = refl
+numbered KeyStands = refl
+numbered NoSuchKey = refl
+numbered HourFull = refl
+numbered NoSpace = refl
+numbered NothingToTakeBack = refl
+numbered PriceMissing = refl
+numbered NotTogether = refl
+
+pub same-refusal : (r s : Refusal) → number_of r ≡ number_of s → r ≡ s
+same-refusal r s e = sym (numbered r) ∙ ap (λ (n : ℕ). get_or refusals (n - 1) NotTogether) e ∙ numbered s
 
 -- ---- the same call on the same book and bytes has one answer
 
-pub guarantees-settled : (b : Book) (s : List ℕ) (h : ℕ) (r r' : Guarantees)
-    → Meets (ask (hour_guarantees h)) b s b (guarantees_reply r) s → r ≡ guarantees_from (guarantees_reply r)
-    → Meets (ask (hour_guarantees h)) b s b (guarantees_reply r') s → r' ≡ guarantees_from (guarantees_reply r')
-    → r ≡ r'
-guarantees-settled b s h r r' m e m' e' = e ∙ ap guarantees_from (m.answer ∙ sym m'.answer) ∙ sym e'
+same-answer : {A : Type 0} (f : A → Reply) → ((x y : A) → f x ≡ f y → x ≡ y) → ((x : A) (n : ℕ) → f x ≡ refused n → ⊥)
+    → (r s : Result A Refusal) → reply_by f r ≡ reply_by f s → r ≡ s
+same-answer f one not (Ok x) (Ok y) e = ap Ok (one x y e)
+same-answer f one not (Ok x) (Err k) e = absurd (not x (number_of k) e)
+same-answer f one not (Err k) (Ok y) e = absurd (not y (number_of k) (sym e))
+same-answer f one not (Err k) (Err m) e = ap Err (same-refusal k m cc)
 
-pub day-settled : (b : Book) (s name : List ℕ) (r r' : UnitDay)
-    → Meets (ask (day_of name)) b s b (day_reply r) s → r ≡ unit_day_from (day_reply r)
-    → Meets (ask (day_of name)) b s b (day_reply r') s → r' ≡ unit_day_from (day_reply r')
-    → r ≡ r'
-day-settled b s name r r' m e m' e' = e ∙ ap unit_day_from (m.answer ∙ sym m'.answer) ∙ sym e'
+pub guarantees-settled : (b : Book) (s : List ℕ) (h : ℕ) (r r' : Result Guarantees Refusal)
+    → Meets (ask (hour_guarantees h)) b s b (guarantees_reply r) s → Meets (ask (hour_guarantees h)) b s b (guarantees_reply r') s → r ≡ r'
+guarantees-settled b s h r r' m m' = same-answer _ one (λ x n e. cc) r r' (m.answer ∙ sym m'.answer)
+  where
+    one : (x y : Guarantees) → guarantees x.credits.items x.offset.0 ≡ guarantees y.credits.items y.offset.0 → x ≡ y
+    one x y e =
+        let cs : x.credits.items ≡ y.credits.items = cc in
+        let o : x.offset.0 ≡ y.offset.0 = cc in
+        λ i. record { credits = record { items = cs i }; offset = record { 0 = o i } }
 
-pub charges-settled : (b : Book) (s : List ℕ) (mark : Mark) (h : ℕ) (r r' : Charges)
-    → charges_reply r ≡ hour_charges mark h (load b s) → r ≡ charges_from (charges_reply r)
-    → charges_reply r' ≡ hour_charges mark h (load b s) → r' ≡ charges_from (charges_reply r')
-    → r ≡ r'
-charges-settled b s mark h r r' m e m' e' = e ∙ ap charges_from (m ∙ sym m') ∙ sym e'
+pub day-settled : (b : Book) (s name : List ℕ) (r r' : Result DayTotals Refusal)
+    → Meets (ask (day_of name)) b s b (day_reply r) s → Meets (ask (day_of name)) b s b (day_reply r') s → r ≡ r'
+day-settled b s name r r' m m' = same-answer _ one (λ x n e. cc) r r' (m.answer ∙ sym m'.answer)
+  where
+    one : (x y : DayTotals) → unit_day x.total.0 x.reversal.0 ≡ unit_day y.total.0 y.reversal.0 → x ≡ y
+    one x y e =
+        let t : x.total.0 ≡ y.total.0 = cc in
+        let v : x.reversal.0 ≡ y.reversal.0 = cc in
+        λ i. record { total = record { 0 = t i }; reversal = record { 0 = v i } }
 
-pub units-settled : (b : Book) (s : List ℕ) (r r' : UnitList)
-    → unit_list_of r ≡ unit_names (load b s) → r ≡ unit_list_from (unit_list_of r)
-    → unit_list_of r' ≡ unit_names (load b s) → r' ≡ unit_list_from (unit_list_of r')
-    → r ≡ r'
-units-settled b s r r' m e m' e' = e ∙ ap unit_list_from (m ∙ sym m') ∙ sym e'
+pub charges-settled : (b : Book) (s : List ℕ) (mark : Mark) (h : ℕ) (r r' : Result (Items NamedAmount) Refusal)
+    → charges_reply r ≡ hour_charges mark h (load b s) → charges_reply r' ≡ hour_charges mark h (load b s) → r ≡ r'
+charges-settled b s mark h r r' m m' = go r r' (m ∙ sym m')
+  where
+    go : (x y : Result (Items NamedAmount) Refusal) → charges_reply x ≡ charges_reply y → x ≡ y
+    go (Ok x) (Ok y) e = let cs : x.items ≡ y.items = cc in λ i. Ok (record { items = cs i })
+    go (Ok x) (Err k) e = cc
+    go (Err k) (Ok y) e = cc
+    go (Err k) (Err n) e = ap Err (same-refusal k n cc)
+
+pub units-settled : (b : Book) (s : List ℕ) (r r' : Result (Items Name) Refusal)
+    → unit_list_of r ≡ unit_names (load b s) → unit_list_of r' ≡ unit_names (load b s) → r ≡ r'
+units-settled b s r r' m m' = go r r' (m ∙ sym m')
+  where
+    go : (x y : Result (Items Name) Refusal) → unit_list_of x ≡ unit_list_of y → x ≡ y
+    go (Ok x) (Ok y) e = let ns : x.items ≡ y.items = cc in λ i. Ok (record { items = ns i })
+    go (Ok x) (Err k) e = cc
+    go (Err k) (Ok y) e = cc
+    go (Err k) (Err n) e = ap Err (same-refusal k n cc)
 
 -- ---- rows whose places behind a list are blank
 
@@ -69,20 +120,3 @@ pub pad-take : {A : Type 0} (z : A) (m : ℕ) (xs : List A) → length xs ≤ m 
 pad-take z m [] h = refl
 pad-take z zero (x ∷ xs) h = absurd (not-suc-le-zero h)
 pad-take z (suc m) (x ∷ xs) h = ap (λ l. x ∷ l) (pad-take z m xs (le_of_suc-le-suc h))
-
--- ---- a unit's day
-
--- it is fixed by what it replies
-pub day-whole : (x : Reply) → unit_day_from x ≡ unit_day_from (day_reply (unit_day_from x))
-day-whole (refused zero) = refl
-day-whole (refused (suc n)) = sym
-    (ap (λ (b : Bool). unit_day_from (cond b (unit_day no_ticks.0 no_ticks.0) (refused (suc n)))) (ne_eqb (suc n) 0 (λ e. omega arith)))
-day-whole accepted = refl
-day-whole (place a b) = refl
-day-whole (number n) = refl
-day-whole (guarantees cs o) = refl
-day-whole (unit_day t v) = refl
-day-whole (charge t) = refl
-
-pub day-refused : (n : ℕ) → (n ≡ 0 → ⊥) → day_reply (unit_day_from (refused n)) ≡ refused n
-day-refused n h = ap (λ (b : Bool). cond b (unit_day no_ticks.0 no_ticks.0) (refused n)) (ne_eqb n 0 h)

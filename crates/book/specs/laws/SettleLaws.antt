@@ -1,7 +1,7 @@
 -- What a reading leaves is a book with its bytes, so that another may follow; and from a fresh book it is what the program says.
 use Rattle.std.specs.Prelude.{◌≡◌, refl, List, [], ◌∷◌, false, ℕ, zero, suc, ◌+◌, ◌≤◌, length, take, drop}
 use Rattle.std.proofs.Common.{sym, ap, ◌∙◌, subst, arith, length-drop}
-use Rattle.book.specs.Layer.{Change}
+use Rattle.book.specs.Layer.{Change, fault_in}
 use Rattle.book.specs.declared.book.Book.{Book}
 use Rattle.book.specs.Register.{Reg, fresh, change, Step, answered, becomes, called, after, write_all}
 use Rattle.book.specs.Meaning.{belongs, load, Valid, book_of}
@@ -43,13 +43,13 @@ feeds-again b s input r s' l e m =
 
 -- the statement is of the book and bytes that the reading left, or the line tells its record and number
 pub record Stated (g : Reg) (r : Result) (s' : List ℕ) : Type 0 where
-  pub number : r.number ≡ 0
+  pub number : fault_in r.end ≡ 0
   pub book : r.book ≡ book_of g
   pub bytes : take (length (write_all g.list)) s' ≡ write_all g.list
 
 abbrev pub Told : Settled → Result → List ℕ → Type 0
 Told (statement g) r s' = Stated g r s'
-Told (ref n k) r s' = (r.count + 1 ≡ n) × (r.number ≡ k)
+Told (ref n k) r s' = (r.count + 1 ≡ n) × (fault_in r.end ≡ k)
 
 pub settles : (s input : List ℕ) (r : Result) (s' : List ℕ) → length s ≡ 65535 → Feeds (record { changes = 0; used = 0; closed = false }) s input r s'
     → Told (settled input) r s'
@@ -60,7 +60,7 @@ settles s input r s' e m =
     go : (f : FeedReply) → Ends f s r s' → Told (settled_as f.reg f.count f.number) r s'
     go f w = tell f.number w.number
       where
-        tell : (k : ℕ) → r.number ≡ k → Told (settled_as f.reg f.count k) r s'
+        tell : (k : ℕ) → fault_in r.end ≡ k → Told (settled_as f.reg f.count k) r s'
         tell zero q = record { number = q; book = w.book; bytes = w.bytes }
         tell (suc k) q = (ap (λ (n : ℕ). n + 1) w.count, q)
 

@@ -1,17 +1,16 @@
 -- What is worked from the places is what 01's formulas give for the standing records.
 use Rattle.std.specs.Prelude.{ℕ, ◌≤◌, ◌<◌, ◌≡◌, refl, List, [], ◌∷◌, map, true, length, get_or}
-use Rattle.std.proofs.Common.{sym, ap, ◌∙◌, subst, arith, get_or-take, length-take-le}
+use Rattle.std.proofs.Common.{sym, ap, ◌∙◌, subst, arith}
 use Rattle.std.proofs.lemmas.List.{length-map}
 use Rattle.laws.specs.Lists.{All}
 use Rattle.book.specs.Layer.{Key, Rec, Change, HourPrices, Im, Ex, totals_more, offset_entry, entry_in, no_entry, no_quantity, pad, value_or, same_hour}
 use Rattle.book.specs.laws.LayerLaws.{PricesFit, totals-written, entry-view, hour-mark}
 use Rattle.book.specs.declared.answers.NamedAmount.{NamedAmount}
 use Rattle.book.specs.declared.amounts.places.Spot.{Spot}
-use Rattle.book.specs.declared.amounts.places.Places.{Places}
 use Rattle.book.specs.Register.{standing}
 use Rattle.book.specs.Amounts.{hour_key, credit_at, totals_of}
 use Rattle.book.specs.ByName.{by_name}
-use Rattle.book.specs.tables.Places.{spot_of, spots}
+use Rattle.book.specs.tables.Places.{max_places, spot_of}
 use Rattle.book.specs.tables.Worked.{Begun, no_spot, Inside, entry_at, entries_in, entry_credit, totals_in, named_of}
 use Rattle.book.specs.laws.StandLaws.{all_map, all-at, Stands, all-stand, all-by-name}
 use Rattle.book.specs.laws.OffsetLaws.{get_or-mapped, each-own, entries_at, Adds, totals-at}
@@ -32,26 +31,22 @@ module _ {s : List ℕ} {l : List Change} (o : Begun s l) where
 
   -- ---- their places are inside the bytes
 
-  pub inside : (k : Key) (p : Places) → spots p ≡ map (spot_of l) (by_name k (standing l)) → p.n ≤ 16 → length p.at ≡ 16 → Inside s p
-  inside k p e few long = record { few = few; each = λ i h. at i h }
+  pub inside : (k : Key) (xs : List Spot) → xs ≡ map (spot_of l) (by_name k (standing l)) → length xs ≤ max_places → Inside s xs
+  inside k xs e few = record { few = few; each = at }
     where
       rs : List Rec
       rs = by_name k (standing l)
 
-      size : length rs ≡ p.n
-      size = sym (length-map rs (spot_of l)) ∙ ap length (sym e) ∙ taken
-        where
-          taken : length (spots p) ≡ p.n
-          taken = length-take-le p.n p.at (omega arith)
+      size : length rs ≡ length xs
+      size = sym (length-map rs (spot_of l)) ∙ ap length (sym e)
 
       none : Rec
       none = record { key = k; body = [] }
 
-      at : (i : ℕ) → i < p.n → (get_or p.at i no_spot).start ≤ length s
+      at : (i : ℕ) → i < length xs → (get_or xs i no_spot).start ≤ length s
       at i h =
-          let q : get_or p.at i no_spot ≡ spot_of l (get_or rs i none) =
-          sym (get_or-take p.n p.at i no_spot h) ∙ ap (λ (x : List Spot). get_or x i no_spot) e ∙ get_or-mapped (spot_of l) rs i none no_spot
-          (omega (arith, size)) in
+          let q : get_or xs i no_spot ≡ spot_of l (get_or rs i none) =
+          ap (λ (x : List Spot). get_or x i no_spot) e ∙ get_or-mapped (spot_of l) rs i none no_spot (omega (arith, size)) in
           subst (λ (x : Spot). x.start ≤ length s) (sym q) (all-at (here k) none i (omega (arith, size))).0.at.inside
 
   -- ---- entries

@@ -5,7 +5,7 @@ use Rattle.book.specs.tables.LayerTables.{nameable, name_head}
 use Rattle.book.specs.declared.book.Book.{Book}
 use Rattle.book.specs.declared.answers.Done.{Done}
 use Rattle.book.specs.Register.{Reg, Step, write_all, max_changes}
-use Rattle.book.specs.Meaning.{belongs, load, Leaves, reply_of}
+use Rattle.book.specs.Meaning.{belongs, load, Leaves, change_reply}
 use Rattle.book.specs.laws.LoadLaws.{Loaded}
 use Rattle.book.specs.tables.Tables.{survey, viewed}
 use Rattle.book.specs.tables.Places.{live_at}
@@ -20,7 +20,7 @@ pub record Checked (b : Book) (s rows : List ℕ) : Type 0 where
 
 -- what every call leaves, accepted or refused, and the rows are those of the book that is handed back
 pub record Makes (f : ℕ → Reg → Step) (b : Book) (s : List ℕ) (k : Key) (r : Done) (s' rows' : List ℕ) : Type 0 where
-  pub leaves : Leaves f b s r.book (reply_of r.answer) s'
+  pub leaves : Leaves f b s r.book (change_reply r.answer) s'
   pub checked : Checked r.book s' rows'
   -- but for the number of the key, the latest change of a number is no later than before
   pub older : (l l' : List Change) → load b s ≡ belongs l → load r.book s' ≡ belongs l' → (h : ℕ) → (h ≡ bucket k → ⊥) → latest_of h l' ≤ latest_of h l
@@ -60,8 +60,8 @@ abbrev pub row_stands : ℕ → ℕ
 row_stands row = row % live_unit + live_unit
 
 -- the last of n changes replaced or removed a record of its key: the key's mark and hour, and the bytes of its name
-pub record Undoing (s rows : List ℕ) (n hs : ℕ) (name : List ℕ) (c : Change) (l : List Change) : Type 0 where
-  pub logged : Logged s rows n (c ∷ l)
+pub record Undoing (s rows : List ℕ) (hs : ℕ) (name : List ℕ) (c : Change) (l : List Change) : Type 0 where
+  pub logged : Logged s rows (length rows) (c ∷ l)
   pub slot_is : hs ≡ hour_slot (key_of c)
   pub able : nameable (key_of c) ≡ true
   pub name-is : name ≡ name_head (key_of c)

@@ -1,8 +1,7 @@
 -- The places of the standing records of a mark and hour, by decoded name, as one pass over the views finds them.
-use Rattle.std.specs.Prelude.{ℕ, ◌+◌, List, [], ◌∷◌, Bool, false, cond, take, eqb}
+use Rattle.std.specs.Prelude.{ℕ, ◌+◌, List, [], ◌∷◌, Bool, false, cond, eqb}
 use Rattle.book.specs.Layer.{Kind, is_correction, is_withdrawal, Rec, Change, decoded_bytes, name_before, hour_limit}
 use Rattle.book.specs.declared.amounts.places.Spot.{Spot}
-use Rattle.book.specs.declared.amounts.places.Places.{Places}
 use Rattle.book.specs.tables.Tables.{Survey, survey}
 
 -- "hour holds 16 of that mark"
@@ -25,6 +24,3 @@ spot_of l r = record { name = r.key.name; start = (survey r.key l).start }
 unfoldable pub put_spot : Spot → List Spot → List Spot
 put_spot s [] = s ∷ []
 put_spot s (x ∷ xs) = cond (name_before (decoded_bytes s.name) (decoded_bytes x.name)) (s ∷ x ∷ xs) (x ∷ put_spot s xs)
-
-abbrev pub spots : Places → List Spot
-spots p = take p.n p.at

@@ -1,32 +1,31 @@
 -- What the code's prices say: of one hour, and of each hour of a day. The amounts are promised for every price of an hour that they hold.
-use Rattle.std.specs.Prelude.{ℕ, ◌+◌, ◌<◌, ◌≡◌, true, cond, ◌&&◌, List, length, drop, get_or, ltb}
+use Rattle.std.specs.Prelude.{ℕ, ◌+◌, ◌<◌, ◌≡◌, cond, ◌&&◌, Option, Some, None, List, length, drop, get_or, ltb}
 use Rattle.money.specs.Units.{day_hours}
-use Rattle.book.specs.Layer.{prices_in}
+use Rattle.book.specs.Layer.{HourPrices, prices_in}
 use Rattle.book.specs.tables.LayerTables.{PricesFit}
-use Rattle.book.specs.declared.amounts.prices.HourPrice.{HourPrice}
-use Rattle.book.specs.declared.amounts.prices.PriceTable.{PriceTable}
 use Rattle.book.specs.Amounts.{HourPricing, priced, unpriced}
 use Rattle.book.specs.tables.Rows.{row_live, row_slot}
 use Rattle.book.specs.tables.Index.{mark_slots}
 
 -- the price that an entry holds
-abbrev pub price_in : HourPrice → HourPricing
-price_in p = cond p.known (priced p.prices) unpriced
+abbrev pub price_in : Option HourPrices → HourPricing
+price_in (Some p) = priced p
+price_in None = unpriced
 
 -- an entry holds a price; prices that are known are within the range of a record's
-pub record PriceIs (q : HourPricing) (p : HourPrice) : Type 0 where
+pub record PriceIs (q : HourPricing) (p : Option HourPrices) : Type 0 where
   pub is : price_in p ≡ q
-  pub fits : p.known ≡ true → PricesFit p.prices
+  pub fits : (x : HourPrices) → p ≡ Some x → PricesFit x
 
 -- each hour's at its place, the first at 0
-pub record TableOf (price : ℕ → HourPricing) (t : PriceTable) : Type 0 where
-  pub size : length t.hours ≡ day_hours
-  pub each : (j : ℕ) → j < day_hours → (d : HourPrice) → PriceIs (price (1 + j)) (get_or t.hours j d)
+pub record TableOf (price : ℕ → HourPricing) (t : List (Option HourPrices)) : Type 0 where
+  pub size : length t ≡ day_hours
+  pub each : (j : ℕ) → j < day_hours → (d : Option HourPrices) → PriceIs (price (1 + j)) (get_or t j d)
 
 -- the entry of the `PR` that is written at a place
-abbrev pub price_at : List ℕ → ℕ → HourPrice
-price_at s x = record { known = true; prices = prices_in (drop x s) }
+abbrev pub price_at : List ℕ → ℕ → Option HourPrices
+price_at s x = Some (prices_in (drop x s))
 
--- the hour of a row whose record is a `PR` that stands, 0 of any other: `PR` is the first of the marks
-abbrev pub price_hour : ℕ → ℕ
-price_hour row = cond (row_live row && ltb (row_slot row) mark_slots) (row_slot row) 0
+-- the hour of a row whose record is a `PR` that stands: `PR` is the first of the marks
+abbrev pub price_hour : ℕ → Option ℕ
+price_hour row = cond (row_live row && ltb (row_slot row) mark_slots) (Some (row_slot row)) None

@@ -1,5 +1,6 @@
 -- The rows of a book that was checked: one number for each of its changes.
-use Rattle.std.specs.Prelude.{ℕ, ◌+◌, ◌*◌, ◌/◌, ◌%◌, ◌-◌, ◌≤◌, ◌<◌, ◌≡◌, List, [], ◌∷◌, Bool, true, cond, length, take, drop, get_or, set, leb, eqb}
+use Rattle.std.specs.Prelude.{ℕ, ◌+◌, ◌*◌, ◌/◌, ◌%◌, ◌-◌, ◌≤◌, ◌<◌, ◌≡◌, List, [], ◌∷◌, Bool, true, cond, Option, Some, None, is_some, length, take, drop, get_or, set, leb, eqb}
+use Rattle.money.specs.Units.{day_hours}
 use Rattle.book.specs.Layer.{Kind, File, Correct, Withdraw, Key, Change, key_of, kind_of, value_or, no_key, same}
 use Rattle.book.specs.tables.LayerTables.{head_key, nameable, name_head}
 use Rattle.book.specs.tables.LayerTables.{Padded}
@@ -8,7 +9,7 @@ use Rattle.book.specs.Meaning.{Load, belongs, Valid}
 use Rattle.book.specs.tables.Tables.{survey, together}
 use Rattle.book.specs.tables.Index.{mark_slots, slots, hour_slot, bucket, latest_of}
 use Rattle.book.specs.tables.Places.{lead_length, live_at}
-use Rattle.book.specs.declared.log.rows.Seek.{Seek}
+use Rattle.book.specs.declared.log.rows.Standing.{Standing}
 
 -- ---- one change as a number: where it begins, its mark and hour, its kind, and whether the record that it wrote stands
 
@@ -86,22 +87,31 @@ pub record Log (s rows : List ℕ) (n : ℕ) : Type 0 where
   pub list : List Change
   pub logged : Logged s rows n list
 
+-- what a row says lies within the bytes and the day: behind mark and hour of its record there are bytes, and the hour is one of the day's
+abbrev pub InReach : List ℕ → List ℕ → Type 0
+InReach s rows = (j : ℕ) → j < length rows
+    → (row_place (get_or rows j 0) + 3 ≤ length s) × (1 ≤ row_slot (get_or rows j 0) % mark_slots) × (row_slot (get_or rows j 0) % mark_slots ≤ day_hours)
+
 -- the key of the record that is written at a place
 abbrev pub key_at : List ℕ → ℕ → Key
 key_at s x = value_or no_key (head_key (drop x s))
 
 -- ---- the record that stands under a key: which change wrote it, and where
 
-pub record Sought (rows : List ℕ) (n : ℕ) (k : Key) (r : Seek) (l : List Change) : Type 0 where
-  pub found : r.found ≡ (survey k l).found
-  pub start : r.found ≡ true → r.start ≡ (survey k l).start
-  pub inside : r.found ≡ true → r.at < n
-  pub place : r.found ≡ true → row_place (get_or rows r.at 0) ≡ r.start
-  pub wrote : r.found ≡ true → (c : Change) (m : List Change) → drop (n - (r.at + 1)) l ≡ c ∷ m → same (key_of c) k ≡ true
+-- as the code answers it
+pub record Stood (rows : List ℕ) (k : Key) (s : Standing) (l : List Change) : Type 0 where
+  pub start : s.start ≡ (survey k l).start
+  pub inside : s.at < length rows
+  pub place : row_place (get_or rows s.at 0) ≡ s.start
+  pub wrote : (c : Change) (m : List Change) → drop (length rows - (s.at + 1)) l ≡ c ∷ m → same (key_of c) k ≡ true
+
+pub record Sought (rows : List ℕ) (k : Key) (r : Option Standing) (l : List Change) : Type 0 where
+  pub found : is_some r ≡ (survey k l).found
+  pub stood : (s : Standing) → r ≡ Some s → Stood rows k s l
 
 -- a search for the records of a key among the first changes, by mark and hour and by the bytes of the name: no later one has the number of the key
-pub record Search (s rows : List ℕ) (n from hs : ℕ) (name : List ℕ) (k : Key) (l : List Change) : Type 0 where
-  pub logged : Logged s rows n l
+pub record Search (s rows : List ℕ) (from hs : ℕ) (name : List ℕ) (k : Key) (l : List Change) : Type 0 where
+  pub logged : Logged s rows (length rows) l
   pub slot_is : hs ≡ hour_slot k
   pub able : nameable k ≡ true
   pub name-is : name ≡ name_head k
@@ -115,5 +125,6 @@ pub record Search (s rows : List ℕ) (n from hs : ℕ) (name : List ℕ) (k : K
 abbrev pub row_gone : ℕ → ℕ
 row_gone row = row % live_unit
 
-abbrev pub cleared : List ℕ → Seek → List ℕ
-cleared rows r = cond r.found (set rows r.at (row_gone (get_or rows r.at 0))) rows
+abbrev pub cleared : List ℕ → Option Standing → List ℕ
+cleared rows None = rows
+cleared rows (Some s) = set rows s.at (row_gone (get_or rows s.at 0))

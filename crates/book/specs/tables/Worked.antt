@@ -1,16 +1,10 @@
 -- What the code works amounts from: places in the lent bytes where standing records are written.
-use Rattle.std.specs.Prelude.{ℕ, ◌≤◌, ◌<◌, ◌≡◌, List, [], ◌∷◌, map, Bool, true, false, cond, not, ◌||◌, length, take, drop, get_or, replicate, pos, eqb}
+use Rattle.std.specs.Prelude.{ℕ, ◌≤◌, ◌<◌, ◌≡◌, List, [], ◌∷◌, map, Bool, Option, Some, None, is_some, is_none, ◌||◌, length, take, drop, get_or, replicate}
 use Rattle.money.specs.Units.{day_hours}
 use Rattle.book.specs.Layer.{Change, Mark, UnitPart, CentsPerStart, no_part, part_in, HourPrices, Quantity, Ticks, Import, Answer, Amount, NoAmount, DayAnswer, Day, NoDay, no_quantity, entry_in, charge_in, totals_more, offset, offset_answer, no_ticks, no_start}
 use Rattle.book.specs.declared.answers.NamedAmount.{NamedAmount}
-use Rattle.book.specs.declared.amounts.hours.HourPlace.{HourPlace}
-use Rattle.book.specs.declared.amounts.hours.DayPlaces.{DayPlaces}
-use Rattle.book.specs.declared.amounts.prices.HourPrice.{HourPrice}
-use Rattle.book.specs.declared.amounts.prices.PriceTable.{PriceTable}
 use Rattle.book.specs.declared.amounts.places.Spot.{Spot}
-use Rattle.book.specs.declared.amounts.places.Places.{Places}
 use Rattle.book.specs.Register.{write_all, Reply, refused, guarantees, unit_day, charge}
-use Rattle.book.specs.Amounts.{ChargesReply, charged, no}
 use Rattle.book.specs.Meaning.{Valid}
 use Rattle.book.specs.tables.Rows.{Logged}
 use Rattle.book.specs.tables.Places.{max_places}
@@ -31,9 +25,9 @@ begun g = record { valid = g.ruled.valid; within = g.within; bytes = g.bytes }
 abbrev pub no_spot : Spot
 no_spot = record { name = record { len = 0; bytes = [] }; start = 0 }
 
-pub record Inside (s : List ℕ) (p : Places) : Type 0 where
-  pub few : p.n ≤ max_places
-  pub each : (i : ℕ) → i < p.n → (get_or p.at i no_spot).start ≤ length s
+pub record Inside (s : List ℕ) (xs : List Spot) : Type 0 where
+  pub few : length xs ≤ max_places
+  pub each : (i : ℕ) → i < length xs → (get_or xs i no_spot).start ≤ length s
 
 abbrev pub entry_at : List ℕ → HourPrices → Spot → Import
 entry_at s p x = entry_in (drop x.start s) p
@@ -65,21 +59,14 @@ pub record Workable (s : List ℕ) (p : HourPrices) (xs ys : List Spot) : Type 0
   pub sound : offset_answer (length xs) (entries_in s p xs) p.emp (totals_in s ys) ≡ Amount
       (record { 0 = offset (length xs) (entries_in s p xs) p.emp (totals_in s ys) })
 
--- no credits and offset 0, or a number
-abbrev pub no_guarantees : ℕ → Reply
-no_guarantees n = cond (eqb n 0) (guarantees [] (pos 0)) (refused n)
-
-abbrev pub no_charges : ℕ → ChargesReply
-no_charges n = cond (eqb n 0) (charged []) (no n)
-
 -- the ticks of an amount: no charge of a standing record is refused, so that 0 is never taken
 abbrev pub ticks_of : Answer → Ticks
 ticks_of (Amount t) = t
 ticks_of (NoAmount n) = no_ticks
 
-abbrev pub charge_reply : Answer → Reply
-charge_reply (Amount t) = charge t.0
-charge_reply (NoAmount n) = refused n
+abbrev pub amount_reply : Answer → Reply
+amount_reply (Amount t) = charge t.0
+amount_reply (NoAmount n) = refused n
 
 abbrev pub charge_at_spot : List ℕ → Mark → HourPrices → Spot → Ticks
 charge_at_spot s m p x = ticks_of (charge_in m (drop x.start s) p)
@@ -89,31 +76,26 @@ charges_in s m p xs = map (charge_at_spot s m p) xs
 
 -- ---- a day's records at their places
 
--- a place, and a price, that stand past the end of a list: never met
-abbrev pub no_place : HourPlace
-no_place = record { known = false; start = 0 }
-
-abbrev pub no_price : HourPrice
-no_price = record { known = false; prices = record { emp = []; pd = record { 0 = pos 0 } } }
-
-abbrev pub InDay : List ℕ → DayPlaces → Type 0
-InDay s d = (j : ℕ) → j < day_hours → (e : HourPlace) → (get_or d.hours j e).known ≡ true → (get_or d.hours j e).start ≤ length s
+abbrev pub InDay : List ℕ → List (Option ℕ) → Type 0
+InDay s d = (j : ℕ) → j < day_hours → (e : Option ℕ) (x : ℕ) → get_or d j e ≡ Some x → x ≤ length s
 
 -- an hour without the unit, or with its price
-abbrev pub paid : HourPlace → HourPrice → Bool
-paid u p = not u.known || p.known
+abbrev pub paid : Option ℕ → Option HourPrices → Bool
+paid u p = is_none u || is_some p
 
-abbrev pub place_in : DayPlaces → ℕ → HourPlace
-place_in d j = get_or d.hours j no_place
+abbrev pub place_in : List (Option ℕ) → ℕ → Option ℕ
+place_in d j = get_or d j None
 
-abbrev pub price_for : PriceTable → ℕ → HourPrice
-price_for t j = get_or t.hours j no_price
+abbrev pub price_for : List (Option HourPrices) → ℕ → Option HourPrices
+price_for t j = get_or t j None
 
 -- what an hour adds
-unfoldable pub part_of : List ℕ → HourPlace → HourPrice → UnitPart
-part_of s u p = cond u.known (part_in (drop u.start s) p.prices) no_part
+unfoldable pub part_of : List ℕ → Option ℕ → Option HourPrices → UnitPart
+part_of s (Some x) (Some p) = part_in (drop x s) p
+part_of s (Some x) None = no_part
+part_of s None p = no_part
 
-pub record Parts (s : List ℕ) (d : DayPlaces) (t : PriceTable) (ts : List Ticks) (ss : List CentsPerStart) (n : ℕ) : Type 0 where
+pub record Parts (s : List ℕ) (d : List (Option ℕ)) (t : List (Option HourPrices)) (ts : List Ticks) (ss : List CentsPerStart) (n : ℕ) : Type 0 where
   pub ticks : (j : ℕ) → j < n → get_or ts j no_ticks ≡ (part_of s (place_in d j) (price_for t j)).ticks
   pub starts : (j : ℕ) → j < n → get_or ss j no_start ≡ (part_of s (place_in d j) (price_for t j)).start
 

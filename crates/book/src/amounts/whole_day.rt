@@ -1,152 +1,93 @@
 // All amounts of a day, from one check of the book.
-ghost use Rattle.std.specs.Prelude.{◌≡◌, List, ℕ, ◌<◌};
+// Hours are asked below 32, where rows have a slot: a type of its own would be made at four places.
+ghost use Rattle.std.specs.Prelude.{◌≡◌, List, map, ℕ, ◌<◌, ◌+◌};
+ghost use Rattle.money.specs.Units.{day_hours};
 ghost use Rattle.book.specs.Layer.{Change};
+ghost use Rattle.book.specs.tables.CheckedLog.{Says};
 ghost use Rattle.book.specs.Register.{standing};
 ghost use Rattle.book.specs.Meaning.{load};
 ghost use Rattle.book.specs.Amounts.{HourPricing};
 ghost use Rattle.book.specs.ByName.{names_of};
-ghost use Rattle.book.specs.tables.Rows.{Log, Logged};
 ghost use Rattle.book.specs.tables.Prices.{PriceIs, TableOf};
 ghost use Rattle.book.specs.tables.Units.{Named};
-ghost use Rattle.book.specs.UnitNames.{gh_key, names_in};
-ghost use Rattle.book.specs.WholeDay.{hour_reply, hour_from, no_hour, no_unit, whole_of, day_amounts, day_from};
+ghost use Rattle.book.specs.UnitNames.{gh_key};
+ghost use Rattle.book.specs.WholeDay.{hour_reply, unit_reply, hours_from, day_amounts, told_hour, told_unit, told_day};
 ghost use Rattle.book.specs.tables.Index.{mark_slots};
 
-use crate::amounts::failures::no_charges;
-use crate::amounts::guarantees::no_guarantees;
-use crate::amounts::prices::{HourPrice, PriceTable, price_table};
+use crate::amounts::prices::PriceTable;
 use crate::amounts::units::Units;
-use crate::amounts::{days, failures, guarantees, units};
-use crate::answers::{DayAmounts, HourAmounts, UnitAmounts, UnitDay};
+use crate::answers::{DayAmounts, HourAmounts, UnitAmounts};
 use crate::book::{Book, CHANGES_MAX};
-use money::refusals::NOT_TOGETHER;
-use money::units::{HOURS, Ticks};
+use crate::log::checked_log::CheckedLog;
+use arrayvec::ArrayVec;
+use money::refusals::Refusal;
+use money::units::HOURS;
 use records::keys::{Key, key_of};
+use records::layouts::HourPrices;
 use records::marks::Mark;
-use records::names::no_name;
+use std::array;
 
-// An hour without amounts.
-fn no_hour() -> HourAmounts
-    ensures { result ≡ no_hour }
-{
-    let guarantees = no_guarantees(0);
-    let imports = no_charges(0);
-    let exports = no_charges(0);
-    HourAmounts {
-        guarantees,
-        imports,
-        exports,
+impl<'a> CheckedLog<'a> {
+    // The amounts of an hour, at a price of it. Hour and price are two: only the promise can say which hour a price is of.
+    fn hour_amounts(&self, hour: u8, price: Option<HourPrices>) -> HourAmounts
+        requires { hour < mark_slots }
+        ensures { (l : List Change) → Says self.now l → (q : ℕ → HourPricing) → PriceIs (q hour) price
+            → told_hour result ≡ hour_reply (standing l) q hour }
+    {
+        HourAmounts {
+            guarantees: self.guarantees(hour, price),
+            imports: self.charges(Mark::Fi, hour, price),
+            exports: self.charges(Mark::Fe, hour, price),
+        }
     }
-}
 
-// By the rows of n changes, at a price of the hour.
-fn hour_of(
-    log: &[u8],
-    rows: &[u32; CHANGES_MAX],
-    n: usize,
-    hour: u8,
-    price: HourPrice,
-) -> HourAmounts
-    requires log_rows { Log log.now rows.now n }
-    requires hour_in { hour < mark_slots }
-    ensures { (l : List Change) → Logged log.now rows.now n l → (q : ℕ → HourPricing) → PriceIs (q hour) price
-        → result ≡ hour_from (hour_reply (standing l) q hour) }
-{
-    let guarantees = guarantees::of_hour(log, rows, n, hour, price);
-    let imports = failures::of_hour(log, rows, n, Mark::Fi, hour, price);
-    let exports = failures::of_hour(log, rows, n, Mark::Fe, hour, price);
-    HourAmounts {
-        guarantees,
-        imports,
-        exports,
+    // Those of each hour, at the prices of a table.
+    #[inline(never)]
+    fn each_hour(&self, table: &PriceTable) -> [HourAmounts; HOURS]
+        ensures { (l : List Change) → Says self.now l → (q : ℕ → HourPricing) → TableOf q table.now
+            → map told_hour result ≡ map (hour_reply (standing l) q) (hours_from 1 day_hours) }
+    {
+        array::from_fn(
+            |i|
+                requires { i < day_hours }
+                ensures { (l : List Change) → Says self.entry.now l → (q : ℕ → HourPricing) → TableOf q table.entry.now
+                    → told_hour result ≡ hour_reply (standing l) q (1 + i) }
+            { self.hour_amounts(i as u8 + 1, table[i]) },
+        )
     }
-}
 
-// Each hour, at the prices of a table.
-fn hours_of(
-    log: &[u8],
-    rows: &[u32; CHANGES_MAX],
-    n: usize,
-    table: PriceTable,
-) -> [HourAmounts; HOURS]
-    requires { Log log.now rows.now n }
-    ensures { (l : List Change) → Logged log.now rows.now n l → (q : ℕ → HourPricing) → TableOf q table
-        → result ≡ (day_from (whole_of (standing l) q)).hours }
-{
-    let none = no_hour();
-    let mut hours = [none; HOURS];
-    for i in 0..HOURS {
-        hours[i] = hour_of(log, rows, n, i as u8 + 1, table.hours[i]);
+    // The days of the units of these names in their order, at the prices of a table.
+    #[inline(never)]
+    fn each_unit(&self, names: &Units, table: &PriceTable) -> ArrayVec<UnitAmounts, CHANGES_MAX>
+        requires { Named names.now.items }
+        ensures { (l : List Change) → Says self.now l → names.now.items ≡ names_of gh_key (standing l) → (q : ℕ → HourPricing)
+            → TableOf q table.now → map told_unit result.items ≡ map (unit_reply (standing l) q) (names_of gh_key (standing l)) }
+    {
+        let mut units = ArrayVec::new();
+        for name in names {
+            let key = Key {
+                mark: Mark::Gh,
+                hour: 1,
+                name: *name,
+            };
+            let day = self.unit_day(key, table);
+            units.push(UnitAmounts { name: *name, day });
+        }
+        units
     }
-    hours
-}
-
-fn no_unit() -> UnitAmounts
-    ensures { result ≡ no_unit }
-{
-    let name = no_name();
-    let day = UnitDay {
-        number: 0,
-        total: Ticks(0),
-        reversal: Ticks(0),
-    };
-    UnitAmounts { name, day }
-}
-
-// The units of these names in their order, at the prices of a table.
-fn units_of(
-    log: &[u8],
-    rows: &[u32; CHANGES_MAX],
-    n: usize,
-    u: Units,
-    table: PriceTable,
-) -> [UnitAmounts; CHANGES_MAX]
-    requires log_rows { Log log.now rows.now n }
-    requires named { Named u }
-    ensures { (l : List Change) → Logged log.now rows.now n l → names_in u ≡ names_of gh_key (standing l) → (q : ℕ → HourPricing)
-        → TableOf q table → result ≡ (day_from (whole_of (standing l) q)).units }
-{
-    let none = no_unit();
-    let mut units = [none; CHANGES_MAX];
-    for i in 0..u.n {
-        let name = u.names[i];
-        let key = Key {
-            mark: Mark::Gh,
-            hour: 1,
-            name,
-        };
-        let day = days::of_unit(log, rows, n, key, table);
-        units[i] = UnitAmounts { name, day };
-    }
-    units
 }
 
 impl Book {
     // All amounts of the day, from one check.
-    pub fn day(self, log: &[u8]) -> DayAmounts
-        ensures { result ≡ day_from (day_amounts (load self log.now)) }
+    pub fn day(self, log: &[u8]) -> Result<DayAmounts, Refusal>
+        ensures { told_day result ≡ day_amounts (load self log.now) }
     {
         let mut rows = [0u32; CHANGES_MAX];
-        if self.check_rows(log, &mut rows) {
-            let n = self.changes as usize;
-            let table = price_table(log, &rows, n);
-            let hours = hours_of(log, &rows, n, table);
-            let u = units::names_in(log, &rows, n, key_of(Mark::Gh, 1));
-            let units = units_of(log, &rows, n, u, table);
-            return DayAmounts {
-                number: 0,
-                hours,
-                n: u.n,
-                units,
-            };
-        }
-        let hour = no_hour();
-        let unit = no_unit();
-        DayAmounts {
-            number: NOT_TOGETHER,
-            hours: [hour; HOURS],
-            n: 0,
-            units: [unit; CHANGES_MAX],
-        }
+        self.check_rows(log, &mut rows)?;
+        let held = self.checked_log(log, &rows);
+        let table = held.prices();
+        let hours = held.each_hour(&table);
+        let units = held.each_unit(&held.names(key_of(Mark::Gh, 1)), &table);
+        Ok(DayAmounts { hours, units })
     }
 }

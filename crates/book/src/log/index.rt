@@ -1,4 +1,4 @@
-// Where a replay looks for a key: by a number of the key, and by mark and hour.
+// Where a replay looks for a key: by a number of the key, and by mark and hour. No map: the book owns no heap.
 ghost use Rattle.std.specs.Prelude.{◌≡◌, ◌<◌};
 ghost use Rattle.book.specs.tables.Index.{slots, buckets, hour_slot, bucket};
 

@@ -1,62 +1,54 @@
-// The numbers 10 to 13.
-ghost use Rattle.std.specs.Prelude.{◌≡◌};
+// The refusals 10 to 13.
+ghost use Rattle.std.specs.Prelude.{◌≡◌, is_some};
+ghost use Rattle.book.specs.Layer.{fault_in};
 ghost use Rattle.book.specs.Register.{capped, space_fault};
 ghost use Rattle.book.specs.tables.Tables.{change_fault};
 
 use crate::book::{CHANGES_MAX, USED_MAX};
-use money::refusals::{HOUR_FULL, KEY_STANDS, NO_SPACE, NO_SUCH_KEY};
+use crate::log::rows::Standing;
+use money::refusals::Refusal;
 use records::marks::is_filing;
 use records::scan::View;
 
+// The bytes that a book can use of those lent.
 pub(crate) fn capacity(lent: usize) -> usize
     ensures { result ≡ capped lent }
 {
-    if USED_MAX < lent {
-        return USED_MAX;
-    }
-    lent
+    lent.min(USED_MAX)
 }
 
-fn space_fault(changes: usize, used: usize, len: usize, lent: usize) -> u8
-    ensures { result ≡ space_fault changes used len lent }
+fn check_space(changes: usize, used: usize, len: usize, lent: usize) -> Result<(), Refusal>
+    ensures { fault_in result ≡ space_fault changes used len lent }
 {
-    if CHANGES_MAX <= changes {
-        return NO_SPACE;
-    }
     let most = capacity(lent);
-    if most < used {
-        return NO_SPACE;
+    if CHANGES_MAX <= changes || most < used || most - used < len {
+        return Err(Refusal::NoSpace);
     }
-    if most - used < len {
-        return NO_SPACE;
-    }
-    0
+    Ok(())
 }
 
-// The number with which a change is refused, by what stands and what is free.
+// Whether a change can be made, by what stands under its key, by how many stand of its mark and hour, and by what is free.
 #[tactic(auto, unfolding(crate::specs::tables::Tables::change_fault))]
-pub(crate) fn change_fault(
+pub(crate) fn check_change(
     view: View,
-    found: bool,
+    standing: Option<Standing>,
     count: usize,
     most: usize,
     changes: usize,
     used: usize,
     lent: usize,
-) -> u8
-    ensures { result ≡ change_fault view.kind found count most changes used view.len lent }
+) -> Result<(), Refusal>
+    ensures { fault_in result ≡ change_fault view.kind (is_some standing) count most changes used view.len lent }
 {
     if is_filing(view.kind) {
-        if found {
-            return KEY_STANDS;
+        if standing.is_some() {
+            return Err(Refusal::KeyStands);
         }
-        if count < most {
-            return space_fault(changes, used, view.len, lent);
+        if most <= count {
+            return Err(Refusal::HourFull);
         }
-        return HOUR_FULL;
+    } else if standing.is_none() {
+        return Err(Refusal::NoSuchKey);
     }
-    if found {
-        return space_fault(changes, used, view.len, lent);
-    }
-    NO_SUCH_KEY
+    check_space(changes, used, view.len, lent)
 }

@@ -6,11 +6,12 @@ ghost use Rattle.book.specs.tables.Rows.{slot_unit, Rowed};
 ghost use Rattle.book.specs.Register.{max_changes};
 
 use crate::book::{CHANGES_MAX, USED_MAX};
+use crate::log::checked_log::CheckedLog;
 use crate::log::index::{BUCKETS, SLOTS, bucket_of, hour_slot};
-use crate::log::refusal::change_fault;
-use crate::log::rows::{clear_row, find_in, row_for};
+use crate::log::refusal::check_change;
+use crate::log::rows::{clear_row, row_for};
 use records::hours::limit_of;
-use records::marks::{is_filing, is_withdrawal};
+use records::marks::Kind;
 use records::scan::{View, peek};
 
 // How many records of a mark and hour stand after a change of theirs.
@@ -18,20 +19,15 @@ fn count_with(view: View, count: usize) -> usize
     requires { count < slot_unit }
     ensures { result ≡ cond (is_filing view.kind) (count + 1) (cond (is_withdrawal view.kind) (count - 1) count) }
 {
-    if is_filing(view.kind) {
-        return count + 1;
+    match view.kind {
+        Kind::File => count + 1,
+        Kind::Withdraw => count.saturating_sub(1),
+        Kind::Correct => count,
     }
-    if is_withdrawal(view.kind) {
-        if count == 0 {
-            return 0;
-        }
-        return count - 1;
-    }
-    count
 }
 
 // Whether the bytes are n written changes that can be played, with a row for each change. Each is read once. The search for its key
-// starts at the latest change with the key's number.
+// starts at the latest change with the key's number. These stand in a table by number: no map, as the book owns no heap.
 pub(crate) fn replayed_rows(part: &[u8], n: u16, rows: &mut [u32; CHANGES_MAX]) -> bool
     requires { length rows.old ≡ max_changes }
     ensures { Rowed (replay n [] part.now) result rows.new }
@@ -45,14 +41,14 @@ pub(crate) fn replayed_rows(part: &[u8], n: u16, rows: &mut [u32; CHANGES_MAX]) 
         };
         let bucket = bucket_of(v.key);
         let near = latest[bucket] as usize;
-        let s = find_in(part, rows, i, near, v.key);
+        let standing = CheckedLog::new(part, rows, i).find_from(near, v.key);
         let hour = hour_slot(v.key);
         let count = counts[hour];
         let most = limit_of(v.key);
-        if change_fault(v, s.found, count, most, i, q, USED_MAX) != 0 {
+        if check_change(v, standing, count, most, i, q, USED_MAX).is_err() {
             return false;
         }
-        clear_row(rows, s);
+        clear_row(rows, standing);
         let row = row_for(v, hour, q);
         rows[i] = row;
         latest[bucket] = (i + 1) as u16;

@@ -1,128 +1,122 @@
 -- What each answer of failure charges rests on.
-use Rattle.std.proofs.Common.{ℕ, ◌≤◌, ◌<◌, ◌≡◌, refl, sym, ap, ap₂, ◌∙◌, subst, List, map, Bool, true, false, cond, arith, length, take, drop, length-take-le}
+use Rattle.std.proofs.Common.{ℕ, suc, ◌+◌, ◌≤◌, ◌<◌, ◌≡◌, refl, sym, ap, ap₂, ◌∙◌, subst, List, [], ◌∷◌, ◌++◌, map, Bool, true, cond, Option, Some, None, is_some, Result, Ok, Err, arith, length, length-drop, drop, drop-cons, get_or}
 use Rattle.std.proofs.lemmas.List.{length-map}
-use Rattle.book.specs.Layer.{Key, Change, Mark, HourPrices, Ticks, Answer, is_failure, no_ticks, charge_in, Asked, got, bad, ask_hour_of, ask_failure, input_of, fine, fault}
-use Rattle.book.specs.laws.LayerLaws.{ask_hour_of-fault, hour-asked, failure-marked, Wellformed, mark-hour-formed}
+use Rattle.book.specs.Layer.{Key, Change, Mark, HourPrices, Ticks, Refusal, is_failure, charge_in, answer_of, Asked, got, bad, ask_hour_of, ask_failure, input_of, fine, fault}
+use Rattle.book.specs.laws.LayerLaws.{Padded, Wellformed, hour-asked, failure-marked, mark-hour-formed}
 use Rattle.book.specs.declared.book.Book.{Book}
-use Rattle.book.specs.declared.log.rows.Seek.{Seek}
-use Rattle.book.specs.declared.amounts.places.Places.{Places}
-use Rattle.book.specs.declared.amounts.prices.HourPrice.{HourPrice}
-use Rattle.book.specs.Register.{standing, ask, failure_charge, Reply, refused, answered, step_of}
+use Rattle.book.specs.declared.answers.NamedAmount.{NamedAmount}
+use Rattle.book.specs.declared.amounts.places.Spot.{Spot}
+use Rattle.book.specs.declared.log.rows.Standing.{Standing}
+use Rattle.book.specs.Register.{standing, ask, failure_charge, Reply, refused}
 use Rattle.book.specs.Amounts.{HourPricing, hour_key, price_of, charge_of, ChargesReply, charged, no, charges_of}
 use Rattle.book.specs.ByName.{by_name}
-use Rattle.book.specs.Meaning.{Load, belongs, Meets, charges_keyed, hour_charges}
-use Rattle.book.specs.tables.Places.{spot_of, spots}
-use Rattle.book.specs.tables.Rows.{Logged, Log}
-use Rattle.book.specs.tables.Prices.{PriceIs}
-use Rattle.book.specs.laws.Built.{Built, built-all}
-use Rattle.book.specs.tables.Worked.{begun, no_spot, Inside, charge_reply, charge_at_spot, charges_in, named_of, no_charges}
+use Rattle.book.specs.Meaning.{load, belongs, Meets, charge_reply, charges_keyed, hour_charges}
+use Rattle.book.specs.tables.Places.{max_places, spot_of}
+use Rattle.book.specs.tables.Prices.{PriceIs, price_in}
+use Rattle.book.specs.tables.Rows.{Rowed, Logged, Log, Sought}
+use Rattle.book.specs.tables.Worked.{begun, no_spot, Inside, amount_reply, charge_at_spot, charges_in, named_of}
+use Rattle.book.specs.laws.StandLaws.{found_at}
 use Rattle.book.specs.laws.WorkedLaws.{inside}
-use Rattle.book.specs.laws.PriceLaws.{known-priced, unknown-unpriced}
 use Rattle.book.specs.laws.ChargeLaws.{charge-absent, charge-unpriced, charge-found, charges-absent, charges-unpriced, charges-found}
-use Rattle.book.specs.laws.LoadLaws.{Loaded}
-use Rattle.book.proofs.book.Lemmas.{step_is, leaves-answered, keyed-wrong, keyed-right}
-use Rattle.book.proofs.amounts.prices.Lemmas.{Finds, sought}
+use Rattle.book.proofs.book.Rows.{loaded-by, question-wrong, question-right}
+use Rattle.book.proofs.log.rows.Lemmas.{bound-by}
+use Rattle.book.proofs.amounts.guarantees.Pairing.{pair_of, Naming, naming-start, naming-more, naming-room, naming-all}
 
 -- ---- the loop over the places
 
-pub record Charging (s : List ℕ) (m : Mark) (q : HourPrices) (p : Places) (ticks : List Ticks) (i : ℕ) : Type 0 where
-  pub long : length ticks ≡ 16
-  pub upto : i ≤ p.n
-  pub built : Built (charge_at_spot s m q) p.at no_spot ticks no_ticks i
+pub record Charging (s : List ℕ) (m : Mark) (q : HourPrices) (xs : List Spot) (done : List NamedAmount) (i : ℕ) : Type 0 where
+  pub naming : Naming (named_of xs (charges_in s m q xs)) (length xs) done (drop i xs) (charges_in s m q (drop i xs))
 
-module _ {s : List ℕ} {m : Mark} {q : HourPrices} {p : Places} {ticks : List Ticks} {i : ℕ} (c : Charging s m q p ticks i) (w : Inside s p) where
-  pub charging-end : p.n ≤ i → length p.at ≡ 16 → take p.n ticks ≡ charges_in s m q (take p.n p.at)
-  unfolding charges_in
-  charging-end le long =
-      let e : i ≡ p.n = omega (arith, c.upto) in
-      built-all p.n (subst (Built (charge_at_spot s m q) p.at no_spot ticks no_ticks) e c.built) (omega (arith, c.long, w.few)) (omega (arith, w.few))
+pub charging-start : {s : List ℕ} {m : Mark} {q : HourPrices} {xs : List Spot} {done : List NamedAmount} → done ≡ [] → Charging s m q xs done 0
+charging-start e = record { naming = naming-start refl refl e }
 
--- ---- what a pass over the rows gathered for a mark and hour
+module _ {s : List ℕ} {m : Mark} {q : HourPrices} {xs : List Spot} {done : List NamedAmount} {i : ℕ} (w : Charging s m q xs done i) where
+  module _ (h : i < length xs) where
+    pub charging-room : Inside s xs → length done < 16
+    charging-room p = naming-room w.naming (drop-cons xs i no_spot h) p.few
 
-pub record Passed (s rows : List ℕ) (n : ℕ) (m : Mark) (h : ℕ) (p : Places) : Type 0 where
-  pub are : (l : List Change) → Logged s rows n l → spots p ≡ map (spot_of l) (by_name (hour_key m h) (standing l))
-  pub few : p.n ≤ 16
-  pub long : length p.at ≡ 16
+    pub charging-more : {t : Ticks} → t ≡ charge_at_spot s m q (get_or xs i no_spot) → {next : List NamedAmount}
+        → next ≡ done ++ pair_of (get_or xs i no_spot) t ∷ [] → Charging s m q xs next (i + 1)
+    unfolding charges_in
+    charging-more et en =
+        let one : suc i ≡ i + 1 = omega arith in
+        let ex : drop i xs ≡ get_or xs i no_spot ∷ drop (i + 1) xs = drop-cons xs i no_spot h ∙ ap (λ (k : ℕ). get_or xs i no_spot ∷ drop k xs) one in
+        record {
+          naming = naming-more w.naming ex
+              (ap (charges_in s m q) ex ∙ ap (λ (u : Ticks). u ∷ charges_in s m q (drop (i + 1) xs)) (sym et)) en;
+        }
 
-pub passed : {s rows : List ℕ} {n h : ℕ} {m : Mark} {k : Key} {p : Places} → k ≡ hour_key m h
-    → ((l : List Change) → Logged s rows n l → take p.n p.at ≡ map (spot_of l) (by_name k (standing l))) × (p.n ≤ 16) → length p.at ≡ 16 → Passed s rows
-    n m h p
-passed e w long = record { are = λ l g. w.0 l g ∙ ap (λ (x : Key). map (spot_of l) (by_name x (standing l))) e; few = w.1; long = long }
-
-module _ {s rows : List ℕ} {n h : ℕ} {m : Mark} {p : Places} (w : Passed s rows n m h p) where
-  pub passed-inside : Log s rows n → Inside s p
-  passed-inside o = inside (begun o.logged) (hour_key m h) p (w.are o.list o.logged) w.few w.long
-
-  pub passed-size : {l : List Change} → Logged s rows n l → length (by_name (hour_key m h) (standing l)) ≡ p.n
-  passed-size {l} g = sym (length-map (by_name (hour_key m h) (standing l)) (spot_of l)) ∙ ap length (sym (w.are l g)) ∙ length-take-le p.n p.at
-      (omega (arith, w.few, w.long))
+  pub charging-end : length xs ≤ i → done ≡ named_of xs (charges_in s m q xs)
+  charging-end h = naming-all w.naming (omega (arith, length-drop i xs, h))
 
 -- ---- of a key: f is what was sought
 
-module _ {s rows : List ℕ} {n : ℕ} {k : Key} {f : Seek} (ef : Finds s rows n k f) (wk : Wellformed k) where
-  pub key-absent : f.found ≡ false → (l : List Change) → Logged s rows n l → (q : ℕ → HourPricing) → refused 11 ≡ charge_of k (standing l) q
-  key-absent h l g q = charge-absent (begun g) k q (sym (sought ef wk l g).found ∙ h)
+charge-told : (r : Result Ticks Refusal) → charge_reply r ≡ amount_reply (answer_of r)
+charge-told (Ok t) = refl
+charge-told (Err e) = refl
 
-  module _ (hf : f.found ≡ true) {p : HourPrice} where
-    pub key-unpriced : p.known ≡ false → (l : List Change) → Logged s rows n l → (q : ℕ → HourPricing) → PriceIs (q k.hour) p
-        → refused 15 ≡ charge_of k (standing l) q
-    key-unpriced h l g q w = charge-unpriced (begun g) k q (sym (sought ef wk l g).found ∙ hf) (unknown-unpriced w h)
+abbrev pub Seeks : List ℕ → List ℕ → Key → Option Standing → Type 0
+Seeks s rows k f = (l : List Change) → Logged s rows (length rows) l → k.hour < 32 → Padded k.name → Sought rows k f l
 
-    pub key-charged : p.known ≡ true → (t : Answer) → t ≡ charge_in k.mark (drop f.start s) p.prices
-        → (l : List Change) → Logged s rows n l → is_failure k.mark ≡ true → (q : ℕ → HourPricing) → PriceIs (q k.hour) p → charge_reply t ≡ charge_of k
-        (standing l) q
-    key-charged h t et l g b q w =
-        let a = sought ef wk l g in
-        ap charge_reply (et ∙ ap (λ (x : ℕ). charge_in k.mark (drop x s) p.prices) (a.start hf))
-        ∙ charge-found (begun g) k q b (sym a.found ∙ hf) p.prices (w.fits h) (known-priced w h)
+module _ {s rows : List ℕ} {k : Key} {f : Option Standing} (ef : Seeks s rows k f) (wk : Wellformed k) where
+  sought : (l : List Change) → Logged s rows (length rows) l → Sought rows k f l
+  sought l g = ef l g wk.low wk.padded
 
--- ---- of a mark and hour: p are the places of its failures
+  pub key-inside : ∥ Log s rows (length rows) ∥₁ → {x : Standing} → f ≡ Some x → x.start ≤ length s
+  key-inside o {x} e = bound-by o (λ l g.
+      let w = sought l g in
+      let v = (found_at (begun g) k (sym w.found ∙ ap is_some e)).at.inside in
+      omega (arith, (w.stood x e).start, v))
 
-module _ {s rows : List ℕ} {n h : ℕ} {m : Mark} {p : Places} (w : Passed s rows n m h p) where
-  pub hour-absent : p.n ≡ 0 → {r : ChargesReply} → r ≡ no_charges 0 → (l : List Change) → Logged s rows n l → (q : ℕ → HourPricing)
-      → r ≡ charges_of (hour_key m h) (standing l) q
-  hour-absent z er l g q = er ∙ charges-absent (begun g) m h q (passed-size w g ∙ z)
+  module _ (l : List Change) (g : Logged s rows (length rows) l) (q : ℕ → HourPricing) where
+    pub key-absent : f ≡ None → refused 11 ≡ charge_of k (standing l) q
+    key-absent e = charge-absent (begun g) k q (sym (sought l g).found ∙ ap is_some e)
 
-  module _ (some : p.n ≡ 0 → ⊥) where
-    not_none : {l : List Change} → Logged s rows n l → length (by_name (hour_key m h) (standing l)) ≡ 0 → ⊥
-    not_none g z = some (sym (passed-size w g) ∙ z)
+    module _ {x : Standing} (e : f ≡ Some x) {p : Option HourPrices} (w : PriceIs (q k.hour) p) where
+      pub key-unpriced : p ≡ None → refused 15 ≡ charge_of k (standing l) q
+      key-unpriced z = charge-unpriced (begun g) k q (sym (sought l g).found ∙ ap is_some e) (sym w.is ∙ ap price_in z)
 
-    pub hour-unpriced : {v : HourPrice} → v.known ≡ false → {r : ChargesReply} → r ≡ no_charges 15
-        → (l : List Change) → Logged s rows n l → (q : ℕ → HourPricing) → PriceIs (q h) v → r ≡ charges_of (hour_key m h) (standing l) q
-    hour-unpriced e er l g q y = er ∙ charges-unpriced (begun g) m h q (not_none g) (unknown-unpriced y e)
+      pub key-charged : is_failure k.mark ≡ true → {ps : HourPrices} → p ≡ Some ps → (r : Result Ticks Refusal)
+          → answer_of r ≡ charge_in k.mark (drop x.start s) ps → charge_reply r ≡ charge_of k (standing l) q
+      key-charged b {ps} z r er =
+          let y = sought l g in
+          charge-told r ∙ ap amount_reply (er ∙ ap (λ (a : ℕ). charge_in k.mark (drop a s) ps) (y.stood x e).start)
+          ∙ charge-found (begun g) k q b (sym y.found ∙ ap is_some e) ps (w.fits ps z) (sym w.is ∙ ap price_in z)
 
-    pub hour-charged : {v : HourPrice} → v.known ≡ true → (ts : List Ticks) → take p.n ts ≡ charges_in s m v.prices (take p.n p.at)
-        → (l : List Change) → Logged s rows n l → is_failure m ≡ true → (q : ℕ → HourPricing) → PriceIs (q h) v
-        → charged (named_of (take p.n p.at) (take p.n ts)) ≡ charges_of (hour_key m h) (standing l) q
-    hour-charged {v} e ts et l g b q y =
-        let a = w.are l g in
-        ap charged (ap₂ named_of a (et ∙ ap (charges_in s m v.prices) a)) ∙ charges-found (begun g) m h q b (not_none g) v.prices (y.fits e)
-        (known-priced y e)
+-- ---- what a pass over the rows gathered for a mark and hour
 
--- ---- the answers of the book
+pub record Placed (s rows : List ℕ) (m : Mark) (h : ℕ) (xs : List Spot) : Type 0 where
+  pub are : (l : List Change) → Logged s rows (length rows) l → xs ≡ map (spot_of l) (by_name (hour_key m h) (standing l))
 
-module _ (b : Book) (s mark : List ℕ) (h : ℕ) (name : List ℕ) (x : Loaded b s) where
-  failure-step : (f : Reply) → answered f ≡ step_of (ask (failure_charge mark h name)) (length s) (record { list = x.list; closed = b.closed })
-      → Meets (ask (failure_charge mark h name)) b s b f s
-  failure-step f q = leaves-answered _ b s f (step_is (step_of (ask (failure_charge mark h name))) b s x ∙ sym q)
+pub placed : {s rows : List ℕ} {h : ℕ} {m : Mark} {k : Key} {xs : List Spot} → k ≡ hour_key m h
+    → ((l : List Change) → Logged s rows (length rows) l → xs ≡ map (spot_of l) (by_name k (standing l))) → Placed s rows m h xs
+placed e w = record { are = λ l g. w l g ∙ ap (λ (x : Key). map (spot_of l) (by_name x (standing l))) e }
 
-  pub failure-wrong : {n : ℕ} → fault n ≡ input_of (ask_failure mark h name) → Meets (ask (failure_charge mark h name)) b s b (refused n) s
-  failure-wrong {n} e =
-      failure-step (refused n)
-      (ap answered (sym (keyed-wrong (ask_failure mark h name) (λ (k : Key). charge_of k (standing x.list) (price_of (standing x.list))) e)))
+module _ {s rows : List ℕ} {h : ℕ} {m : Mark} {xs : List Spot} (w : Placed s rows m h xs) where
+  pub placed-size : {l : List Change} → Logged s rows (length rows) l → length (by_name (hour_key m h) (standing l)) ≡ length xs
+  placed-size {l} g = sym (length-map (by_name (hour_key m h) (standing l)) (spot_of l)) ∙ ap length (sym (w.are l g))
 
-  module _ {k : Key} (e : fine k ≡ input_of (ask_failure mark h name)) where
-    pub failure-asked : is_failure k.mark ≡ true
-    failure-asked = go (ask_failure mark h name) refl e
-      where
-        go : (a : Asked) → ask_failure mark h name ≡ a → fine k ≡ input_of a → is_failure k.mark ≡ true
-        go (got j t) q w = let p : k ≡ j = cc in ap (λ (y : Key). is_failure y.mark) p ∙ failure-marked mark h name j t q
-        go (bad n) q w = cc
+  pub placed-inside : ∥ Log s rows (length rows) ∥₁ → length xs ≤ max_places → Inside s xs
+  placed-inside o few = record { few = few; each = λ i h'. bound-by o (λ l g. (inside (begun g) (hour_key m h) xs (w.are l g) few).each i h') }
 
-    pub failure-at : (f : Reply) → f ≡ charge_of k (standing x.list) (price_of (standing x.list)) → Meets (ask (failure_charge mark h name)) b s b f s
-    failure-at f ef =
-        failure-step f
-        (ap answered (ef ∙ sym (keyed-right (ask_failure mark h name) (λ (j : Key). charge_of j (standing x.list) (price_of (standing x.list))) e)))
+  -- ---- of a mark and hour: xs are the places of its failures
+
+  module _ (l : List Change) (g : Logged s rows (length rows) l) (q : ℕ → HourPricing) where
+    pub hour-absent : length xs ≡ 0 → {cs : List NamedAmount} → cs ≡ [] → charged cs ≡ charges_of (hour_key m h) (standing l) q
+    hour-absent z e = ap charged e ∙ charges-absent (begun g) m h q (placed-size g ∙ z)
+
+    module _ (some : length xs ≡ 0 → ⊥) {p : Option HourPrices} (y : PriceIs (q h) p) where
+      pub hour-unpriced : p ≡ None → no 15 ≡ charges_of (hour_key m h) (standing l) q
+      hour-unpriced e = charges-unpriced (begun g) m h q (λ z. some (sym (placed-size g) ∙ z)) (sym y.is ∙ ap price_in e)
+
+      pub hour-charged : is_failure m ≡ true → {ps : HourPrices} → p ≡ Some ps → {cs : List NamedAmount} → cs ≡ named_of xs (charges_in s m ps xs)
+          → charged cs ≡ charges_of (hour_key m h) (standing l) q
+      hour-charged b {ps} e ec =
+          let a = w.are l g in
+          ap charged (ec ∙ ap₂ named_of a (ap (charges_in s m ps) a))
+          ∙ charges-found (begun g) m h q b (λ z. some (sym (placed-size g) ∙ z)) ps (y.fits ps e) (sym y.is ∙ ap price_in e)
+
+-- ---- the questions of a book whose bytes are checked
 
 -- the key of a question that is not refused
 pub hour-is : (m : Mark) (h : ℕ) {k : Key} → fine k ≡ input_of (ask_hour_of m h) → k ≡ hour_key m h
@@ -136,22 +130,48 @@ hour-is m h {k} e = go (ask_hour_of m h) refl e
 pub hour-low : (m : Mark) (h : ℕ) {k : Key} → fine k ≡ input_of (ask_hour_of m h) → h < 32
 hour-low m h {k} e = subst (λ (j : Key). j.hour < 32) (hour-is m h e) (mark-hour-formed m h k e).low
 
--- a number that a question gives is above 0
-pub hour-fault : (m : Mark) (h : ℕ) {n : ℕ} → fault n ≡ input_of (ask_hour_of m h) → n ≡ 0 → ⊥
-hour-fault m h {n} e z = go (ask_hour_of m h) refl e
+keyed-hour : (m : Mark) (h : ℕ) {k : Key} → fine k ≡ input_of (ask_hour_of m h) → (l : List Change)
+    → charges_of (hour_key m h) (standing l) (price_of (standing l)) ≡ charges_keyed l (ask_hour_of m h)
+keyed-hour m h {k} e l = go (ask_hour_of m h) refl e
   where
-    go : (a : Asked) → ask_hour_of m h ≡ a → fault n ≡ input_of a → ⊥
-    go (got j t) q w = cc
-    go (bad k) q w = let p : n ≡ k = cc in absurd (omega (arith, ask_hour_of-fault m h k q, p, z))
+    go : (a : Asked) → ask_hour_of m h ≡ a → fine k ≡ input_of a → charges_of (hour_key m h) (standing l) (price_of (standing l)) ≡ charges_keyed l a
+    go (got j t) q w = ap (λ (y : Key). charges_of y (standing l) (price_of (standing l))) (sym (hour-asked m h j t q))
+    go (bad n) q w = cc
 
-module _ (m : Mark) (h : ℕ) (d : Load) (l : List Change) (e : d ≡ belongs l) (f : is_failure m ≡ true) where
-  charges-keyed : hour_charges m h d ≡ charges_keyed l (ask_hour_of m h)
-  charges-keyed = ap (hour_charges m h) e ∙ ap (λ (b : Bool). cond b (charges_keyed l (ask_hour_of m h)) (no 2)) f
+module _ (b : Book) (s : List ℕ) {rows : List ℕ} (w : Rowed (load b s) true rows) where
+  module _ (mark : List ℕ) (h : ℕ) (name : List ℕ) where
+    abbrev charge-for : List Change → Key → Reply
+    charge-for l k = charge_of k (standing l) (price_of (standing l))
 
-  pub charges-at : {k : Key} → fine k ≡ input_of (ask_hour_of m h) → (c : ChargesReply)
-      → c ≡ charges_of (hour_key m h) (standing l) (price_of (standing l)) → c ≡ hour_charges m h d
-  charges-at {k} er c ec = ec ∙ go (ask_hour_of m h) refl er ∙ sym charges-keyed
-    where
-      go : (a : Asked) → ask_hour_of m h ≡ a → fine k ≡ input_of a → charges_of (hour_key m h) (standing l) (price_of (standing l)) ≡ charges_keyed l a
-      go (got j t) q w = ap (λ (y : Key). charges_of y (standing l) (price_of (standing l))) (sym (hour-asked m h j t q))
-      go (bad n) q w = cc
+    pub failure-wrong : {n : ℕ} → fault n ≡ input_of (ask_failure mark h name) → Meets (ask (failure_charge mark h name)) b s b (refused n) s
+    failure-wrong e = question-wrong b s w (failure_charge mark h name) (ask_failure mark h name) charge-for (λ l. refl) e
+
+    module _ {k : Key} (e : fine k ≡ input_of (ask_failure mark h name)) where
+      failure-asked : is_failure k.mark ≡ true
+      failure-asked = go (ask_failure mark h name) refl e
+        where
+          go : (a : Asked) → ask_failure mark h name ≡ a → fine k ≡ input_of a → is_failure k.mark ≡ true
+          go (got j t) q v = let p : k ≡ j = cc in ap (λ (y : Key). is_failure y.mark) p ∙ failure-marked mark h name j t q
+          go (bad n) q v = cc
+
+      pub failure-right : {hs hr : List ℕ} → ((l : List Change) → load b s ≡ belongs l → Logged hs hr (length hr) l) → {p : Option HourPrices}
+          → ((l : List Change) → Logged hs hr (length hr) l → PriceIs (price_of (standing l) k.hour) p) → {y : Reply}
+          → ((l : List Change) → Logged hs hr (length hr) l → is_failure k.mark ≡ true → (q : ℕ → HourPricing) → PriceIs (q k.hour) p
+          → y ≡ charge_of k (standing l) q) → Meets (ask (failure_charge mark h name)) b s b y s
+      failure-right says price f =
+          question-right b s w (failure_charge mark h name) (ask_failure mark h name) charge-for (λ l. refl) e
+          (λ l d. f l (says l d) failure-asked (price_of (standing l)) (price l (says l d)))
+
+  module _ (m : Mark) (h : ℕ) (f : is_failure m ≡ true) where
+    charges-so : (l : List Change) → load b s ≡ belongs l → hour_charges m h (load b s) ≡ charges_keyed l (ask_hour_of m h)
+    charges-so l d = ap (hour_charges m h) d ∙ ap (λ (t : Bool). cond t (charges_keyed l (ask_hour_of m h)) (no 2)) f
+
+    pub charges-right : {k : Key} → fine k ≡ input_of (ask_hour_of m h) → {hs hr : List ℕ}
+        → ((l : List Change) → load b s ≡ belongs l → Logged hs hr (length hr) l) → {p : Option HourPrices}
+        → ((l : List Change) → Logged hs hr (length hr) l → PriceIs (price_of (standing l) h) p) → {y : ChargesReply}
+        → ((l : List Change) → Logged hs hr (length hr) l → is_failure m ≡ true → (q : ℕ → HourPricing) → PriceIs (q h) p
+        → y ≡ charges_of (hour_key m h) (standing l) q) → y ≡ hour_charges m h (load b s)
+    charges-right {k} e says price v =
+        let x = loaded-by b s w in
+        v x.list (says x.list x.is) f (price_of (standing x.list)) (price x.list (says x.list x.is)) ∙ keyed-hour m h e x.list
+        ∙ sym (charges-so x.list x.is)

@@ -1,54 +1,56 @@
 -- What an hour's guarantees rest on.
-use Rattle.std.proofs.Common.{ℕ, ◌≤◌, ◌≡◌, refl, sym, ap, ap₂, ◌∙◌, List, [], ◌∷◌, map, Bool, true, false, cond, arith, length, take, get_or, get_or-take, length-take-le, pos, ne_eqb}
-use Rattle.std.proofs.lemmas.List.{length-map}
-use Rattle.money.specs.Answers.{Amount, Refused}
+use Rattle.std.proofs.Common.{ℕ, ◌≡◌, refl, sym, ap, ap₂, ◌∙◌, List, [], ◌∷◌, map, true, Option, Some, None, Result, Ok, Err, arith, length, take, get_or, get_or-take, pos}
 use Rattle.records.specs.Amounts.{no_import}
-use Rattle.book.specs.Layer.{Key, Rec, Change, ask_hour_of, input_of, fine, fault, Im, Ex, HourPrices, Quantity, Ticks, Import, offset, offset_answer, offset_entry}
+use Rattle.book.specs.Layer.{Key, Rec, Change, ask_hour_of, input_of, fine, fault, Im, Ex, HourPrices, Quantity, Ticks, Import, Refusal, Amount, answer_of, offset, offset_answer, offset_entry}
 use Rattle.book.specs.laws.LayerLaws.{answer-front}
-use Rattle.book.specs.declared.answers.NamedAmount.{NamedAmount}
-use Rattle.book.specs.declared.answers.Credits.{Credits}
-use Rattle.book.specs.declared.amounts.places.Places.{Places}
 use Rattle.book.specs.declared.book.Book.{Book}
-use Rattle.book.specs.declared.amounts.prices.HourPrice.{HourPrice}
-use Rattle.book.specs.Register.{standing, ask, hour_guarantees, guarantees, refused, Reply, answered, step_of, keyed}
+use Rattle.book.specs.declared.answers.NamedAmount.{NamedAmount}
+use Rattle.book.specs.declared.amounts.places.Spot.{Spot}
+use Rattle.book.specs.Register.{standing, ask, hour_guarantees, guarantees, refused, Reply}
 use Rattle.book.specs.Amounts.{HourPricing, unpriced, hour_key, price_of, totals_of, guarantees_at, guarantees_of}
 use Rattle.book.specs.ByName.{by_name}
-use Rattle.book.specs.tables.Places.{spot_of, spots}
-use Rattle.book.specs.tables.Rows.{Logged}
-use Rattle.book.specs.tables.Prices.{PriceIs}
-use Rattle.book.specs.tables.Worked.{begun, Workable, entries_in, entry_credit, totals_in, named_of, worked_in, no_guarantees}
-use Rattle.book.specs.Meaning.{Meets}
-use Rattle.book.specs.laws.PriceLaws.{known-priced, unknown-unpriced}
+use Rattle.book.specs.Meaning.{load, belongs, Meets}
+use Rattle.book.specs.tables.Prices.{PriceIs, price_in}
+use Rattle.book.specs.tables.Rows.{Rowed, Logged}
+use Rattle.book.specs.tables.Worked.{begun, Workable, entries_in, entry_credit, totals_in, named_of, worked_in}
+use Rattle.book.specs.laws.ValidLaws.{by_name-few}
 use Rattle.book.specs.laws.OffsetLaws.{offset-given, priced-some}
 use Rattle.book.specs.laws.WorkedLaws.{here, entries-are, totals-are, named-are}
-use Rattle.book.specs.laws.LoadLaws.{Loaded}
-use Rattle.book.proofs.book.Lemmas.{step_is, leaves-answered, keyed-wrong, keyed-right}
-use Rattle.book.proofs.amounts.failures.Lemmas.{Passed, passed-size, hour-is, hour-fault}
+use Rattle.book.proofs.book.Rows.{question-wrong, question-right}
+use Rattle.book.proofs.amounts.failures.Lemmas.{Placed, placed-size, hour-is}
 
--- the offset of the sixteen places is that of the entries
-pub worked-offset : (s : List ℕ) (is es : Places) (p : HourPrices) → Workable s p (spots is) (spots es) → is.n ≤ 16 → length is.at ≡ 16
-    → (entries : List Import) → take is.n entries ≡ entries_in s p (spots is) → (ts : List Quantity) → ts ≡ totals_in s (spots es)
-    → offset_answer is.n entries p.emp ts ≡ Amount (record { 0 = offset (length (spots is)) (entries_in s p (spots is)) p.emp (totals_in s (spots es)) })
-worked-offset s is es p w few long entries e ts f =
-    let n : length (spots is) ≡ is.n = length-take-le is.n is.at (omega arith) in
-    answer-front is.n entries (entries_in s p (spots is))
-    (λ i h. sym (get_or-take is.n entries i no_import h) ∙ ap (λ (x : List Import). get_or x i no_import) e) p.emp ts
-    ∙ ap₂ (λ (k : ℕ) (x : List Quantity). offset_answer k (entries_in s p (spots is)) p.emp x) (sym n) f
-    ∙ w.sound
+-- ---- worked from the places: the first of the sixteen entries are those of the imports
 
-pub worked-is : (s : List ℕ) (is es : Places) (p : HourPrices) (entries : List Import) → take is.n entries ≡ entries_in s p (spots is)
-    → (ticks : List Ticks) → take is.n ticks ≡ map entry_credit (take is.n entries)
-    → (a : Credits) → take a.n a.list ≡ named_of (spots is) (take is.n ticks)
-    → (t : Ticks) → Amount t ≡ Amount (record { 0 = offset (length (spots is)) (entries_in s p (spots is)) p.emp (totals_in s (spots es)) })
-    → guarantees (take a.n a.list) t.0 ≡ worked_in s p (spots is) (spots es)
-worked-is s is es p entries e ticks f a g t h =
-    let q : t ≡ record { 0 = offset (length (spots is)) (entries_in s p (spots is)) p.emp (totals_in s (spots es)) } = cc in
-    ap₂ guarantees (g ∙ ap (named_of (spots is)) (f ∙ ap (map entry_credit) e)) (ap (λ (x : Ticks). x.0) q)
+abbrev hour-offset : List ℕ → HourPrices → List Spot → List Spot → Ticks
+hour-offset s p xs ys = record { 0 = offset (length xs) (entries_in s p xs) p.emp (totals_in s ys) }
 
-pub never-refused : {A : Type 0} {n : ℕ} {t : Ticks} → Refused n ≡ Amount t → A
-never-refused e = let z : ◌≡◌ {A = ℕ} 0 1 = cc in absurd (omega arith)
+module _ {s : List ℕ} {p : HourPrices} {xs ys : List Spot} (w : Workable s p xs ys) (entries : List Import)
+    (e : take (length xs) entries ≡ entries_in s p xs) where
+  worked-offset : {n : ℕ} → n ≡ length xs → {ts : List Quantity} → ts ≡ totals_in s ys → offset_answer n entries p.emp ts ≡ Amount (hour-offset s p xs ys)
+  worked-offset {n} en {ts} f =
+      ap (λ (k : ℕ). offset_answer k entries p.emp ts) en
+      ∙ answer-front (length xs) entries (entries_in s p xs)
+      (λ i h. sym (get_or-take (length xs) entries i no_import h) ∙ ap (λ (x : List Import). get_or x i no_import) e) p.emp ts
+      ∙ ap (offset_answer (length xs) (entries_in s p xs) p.emp) f
+      ∙ w.sound
 
--- ---- an hour by the rows: i are the places of its imports
+  module _ {n : ℕ} (en : n ≡ length xs) {ts : List Quantity} (f : ts ≡ totals_in s ys) {r : Result Ticks Refusal}
+      (er : answer_of r ≡ offset_answer n entries p.emp ts) where
+    -- it is not refused
+    pub worked-never : {A : Type 0} {x : Refusal} → r ≡ Err x → A
+    worked-never {x = x} h =
+        let q : answer_of (Err x) ≡ Amount (hour-offset s p xs ys) = ap answer_of (sym h) ∙ er ∙ worked-offset en f in
+        let z : ◌≡◌ {A = ℕ} 0 1 = cc in
+        absurd (omega arith)
+
+    pub worked-is : {t : Ticks} → r ≡ Ok t → {cs : List NamedAmount} → cs ≡ named_of xs (map entry_credit (take (length xs) entries))
+        → guarantees cs t.0 ≡ worked_in s p xs ys
+    worked-is {t} h g =
+        let a : answer_of (Ok t) ≡ Amount (hour-offset s p xs ys) = ap answer_of (sym h) ∙ er ∙ worked-offset en f in
+        let q : t ≡ hour-offset s p xs ys = cc in
+        ap₂ guarantees (g ∙ ap (λ (x : List Import). named_of xs (map entry_credit x)) e) (ap (λ (x : Ticks). x.0) q)
+
+-- ---- an hour of a checked log: xs are the places of its imports
 
 no-imports : (rs : List Rec) → length rs ≡ 0 → (q : HourPricing) (es : List Rec) → guarantees [] (pos 0) ≡ guarantees_at q rs es
 no-imports [] e q es = refl
@@ -58,72 +60,68 @@ some-unpriced : (rs : List Rec) → (length rs ≡ 0 → ⊥) → (es : List Rec
 some-unpriced [] e es = absurd (e refl)
 some-unpriced (r ∷ rs) e es = refl
 
-module _ {s rows : List ℕ} {n h : ℕ} {i : Places} (wi : Passed s rows n Im h i) where
-  pub hour-none : i.n ≡ 0 → (l : List Change) → Logged s rows n l → (q : ℕ → HourPricing) → guarantees [] (pos 0) ≡ guarantees_of (standing l) q h
-  unfolding guarantees_of
-  hour-none z l g q = no-imports (by_name (hour_key Im h) (standing l)) (passed-size wi g ∙ z) (q h) (by_name (hour_key Ex h) (standing l))
+module _ {s rows : List ℕ} {h : ℕ} {xs : List Spot} (wi : Placed s rows Im h xs) (l : List Change) (g : Logged s rows (length rows) l) (q : ℕ → HourPricing)
+  where
+    abbrev imports : List Rec
+    imports = by_name (hour_key Im h) (standing l)
 
-  module _ (some : i.n ≡ 0 → ⊥) {p : HourPrice} where
-    pub hour-unpriced : p.known ≡ false → (l : List Change) → Logged s rows n l → (q : ℕ → HourPricing) → PriceIs (q h) p
-        → refused 15 ≡ guarantees_of (standing l) q h
+    abbrev exports : List Rec
+    exports = by_name (hour_key Ex h) (standing l)
+
+    pub hour-none : length xs ≡ 0 → {cs : List NamedAmount} → cs ≡ [] → guarantees cs (pos 0) ≡ guarantees_of (standing l) q h
     unfolding guarantees_of
-    hour-unpriced t l g q w =
-        some-unpriced (by_name (hour_key Im h) (standing l)) (λ e. some (sym (passed-size wi g) ∙ e)) (by_name (hour_key Ex h) (standing l))
-        ∙ sym (ap (λ (x : HourPricing). guarantees_at x (by_name (hour_key Im h) (standing l)) (by_name (hour_key Ex h) (standing l))) (unknown-unpriced w t))
+    hour-none z e = ap (λ (c : List NamedAmount). guarantees c (pos 0)) e ∙ no-imports imports (placed-size wi g ∙ z) (q h) exports
 
-    -- e are the places of its exports
-    module _ {e : Places} (we : Passed s rows n Ex h e) (t : p.known ≡ true) (l : List Change) (g : Logged s rows n l) (q : ℕ → HourPricing)
-        (w : PriceIs (q h) p) where
-      abbrev ps : HourPrices
-      ps = p.prices
-
-      abbrev imports : List Rec
-      imports = by_name (hour_key Im h) (standing l)
-
-      abbrev exports : List Rec
-      exports = by_name (hour_key Ex h) (standing l)
-
-      entries-so : entries_in s ps (spots i) ≡ map (offset_entry ps) imports
-      entries-so = ap (entries_in s ps) (wi.are l g) ∙ entries-are (begun g) ps (w.fits t) h imports (here (begun g) (hour_key Im h))
-
-      totals-so : totals_in s (spots e) ≡ totals_of exports
-      totals-so = ap (totals_in s) (we.are l g) ∙ totals-are (begun g) h exports (here (begun g) (hour_key Ex h)) (omega (arith, passed-size we g, we.few))
-
-      count-so : length (spots i) ≡ length imports
-      count-so = ap length (wi.are l g) ∙ length-map imports (spot_of l)
-
-      workable : Workable s ps (spots i) (spots e)
-      workable = record {
-        sound = (λ j. offset_answer (count-so j) (entries-so j) ps.emp (totals-so j))
-            ∙ offset-given l g.ruled.valid h ps (w.fits t) (omega (arith, passed-size wi g, wi.few)) (omega (arith, passed-size we g, we.few))
-            ∙ sym (λ j. Amount (record { 0 = offset (count-so j) (entries-so j) ps.emp (totals-so j) }));
-      }
-
-      pub hour-worked : {r : Reply} → (Workable s ps (spots i) (spots e) → r ≡ worked_in s ps (spots i) (spots e)) → r ≡ guarantees_of (standing l) q h
+    module _ (some : length xs ≡ 0 → ⊥) {p : Option HourPrices} (w : PriceIs (q h) p) where
+      pub hour-unpriced : p ≡ None → refused 15 ≡ guarantees_of (standing l) q h
       unfolding guarantees_of
-      hour-worked f =
-          f workable
-          ∙ (λ j. guarantees (named_of (wi.are l g j) (map entry_credit (entries-so j))) (offset (count-so j) (entries-so j) ps.emp (totals-so j)))
-          ∙ ap (λ (y : List NamedAmount). guarantees y (offset (length imports) (map (offset_entry ps) imports) ps.emp (totals_of exports)))
-          (named-are l ps imports)
-          ∙ priced-some ps imports exports (λ z. some (sym (passed-size wi g) ∙ z))
-          ∙ sym (ap (λ (x : HourPricing). guarantees_at x imports exports) (known-priced w t))
+      hour-unpriced z =
+          some-unpriced imports (λ e. some (sym (placed-size wi g) ∙ e)) exports
+          ∙ ap (λ (x : HourPricing). guarantees_at x imports exports) (sym (ap price_in z) ∙ w.is)
 
--- ---- the question
+      -- ys are the places of its exports
+      module _ {ys : List Spot} (we : Placed s rows Ex h ys) {ps : HourPrices} (z : p ≡ Some ps) where
+        entries-so : entries_in s ps xs ≡ map (offset_entry ps) imports
+        entries-so = ap (entries_in s ps) (wi.are l g) ∙ entries-are (begun g) ps (w.fits ps z) h imports (here (begun g) (hour_key Im h))
 
-pub no-guarantees-for : (n : ℕ) → (n ≡ 0 → ⊥) → no_guarantees n ≡ refused n
-no-guarantees-for n z = ap (λ (b : Bool). cond b (guarantees [] (pos 0)) (refused n)) (ne_eqb n 0 z)
+        totals-so : totals_in s ys ≡ totals_of exports
+        totals-so = ap (totals_in s) (we.are l g)
+            ∙ totals-are (begun g) h exports (here (begun g) (hour_key Ex h)) (by_name-few (hour_key Ex h) l g.ruled.valid)
 
-module _ (b : Book) (s : List ℕ) (h : ℕ) (x : Loaded b s) where
-  abbrev hour-reply : Key → Reply
-  hour-reply k = guarantees_of (standing x.list) (price_of (standing x.list)) k.hour
+        count-so : length xs ≡ length imports
+        count-so = sym (placed-size wi g)
 
-  hour-meets : (y : Reply) → keyed (ask_hour_of Im h) hour-reply ≡ y → Meets (ask (hour_guarantees h)) b s b y s
-  hour-meets y q = leaves-answered _ b s y (step_is (step_of (ask (hour_guarantees h))) b s x ∙ ap answered q)
+        workable : Workable s ps xs ys
+        workable = record {
+          sound = (λ j. offset_answer (count-so j) (entries-so j) ps.emp (totals-so j))
+              ∙ offset-given l g.ruled.valid h ps (w.fits ps z) (by_name-few (hour_key Im h) l g.ruled.valid) (by_name-few (hour_key Ex h) l g.ruled.valid)
+              ∙ sym (λ j. Amount (record { 0 = offset (count-so j) (entries-so j) ps.emp (totals-so j) }));
+        }
 
-  pub hour-wrong : {n : ℕ} → fault n ≡ input_of (ask_hour_of Im h) → (y : Reply) → y ≡ no_guarantees n → Meets (ask (hour_guarantees h)) b s b y s
-  hour-wrong {n} e y ey = hour-meets y (keyed-wrong (ask_hour_of Im h) hour-reply e ∙ sym (no-guarantees-for n (hour-fault Im h e)) ∙ sym ey)
+        pub hour-worked : {r : Reply} → (Workable s ps xs ys → r ≡ worked_in s ps xs ys) → r ≡ guarantees_of (standing l) q h
+        unfolding guarantees_of
+        hour-worked f =
+            f workable
+            ∙ (λ j. guarantees (named_of (wi.are l g j) (map entry_credit (entries-so j))) (offset (count-so j) (entries-so j) ps.emp (totals-so j)))
+            ∙ ap (λ (y : List NamedAmount). guarantees y (offset (length imports) (map (offset_entry ps) imports) ps.emp (totals_of exports)))
+            (named-are l ps imports)
+            ∙ priced-some ps imports exports (λ e. some (sym (placed-size wi g) ∙ e))
+            ∙ ap (λ (x : HourPricing). guarantees_at x imports exports) (sym (ap price_in z) ∙ w.is)
 
-  pub hour-right : {k : Key} → fine k ≡ input_of (ask_hour_of Im h) → (y : Reply) → y ≡ guarantees_of (standing x.list) (price_of (standing x.list)) h
+-- ---- the question of a book whose bytes are checked
+
+module _ (b : Book) (s : List ℕ) {rows : List ℕ} (w : Rowed (load b s) true rows) (h : ℕ) where
+  abbrev guarantees-for : List Change → Key → Reply
+  guarantees-for l k = guarantees_of (standing l) (price_of (standing l)) k.hour
+
+  pub hour-wrong : {n : ℕ} → fault n ≡ input_of (ask_hour_of Im h) → Meets (ask (hour_guarantees h)) b s b (refused n) s
+  hour-wrong e = question-wrong b s w (hour_guarantees h) (ask_hour_of Im h) guarantees-for (λ l. refl) e
+
+  pub hour-right : {k : Key} → fine k ≡ input_of (ask_hour_of Im h) → {hs hr : List ℕ}
+      → ((l : List Change) → load b s ≡ belongs l → Logged hs hr (length hr) l) → {p : Option HourPrices}
+      → ((l : List Change) → Logged hs hr (length hr) l → PriceIs (price_of (standing l) h) p) → {y : Reply}
+      → ((l : List Change) → Logged hs hr (length hr) l → (q : ℕ → HourPricing) → PriceIs (q h) p → y ≡ guarantees_of (standing l) q h)
       → Meets (ask (hour_guarantees h)) b s b y s
-  hour-right {k} e y ey = hour-meets y (keyed-right (ask_hour_of Im h) hour-reply e ∙ ap hour-reply (hour-is Im h e) ∙ sym ey)
+  hour-right e says price f =
+      question-right b s w (hour_guarantees h) (ask_hour_of Im h) guarantees-for (λ l. refl) e
+      (λ l d. f l (says l d) (price_of (standing l)) (price l (says l d)) ∙ ap (guarantees-for l) (sym (hour-is Im h e)))

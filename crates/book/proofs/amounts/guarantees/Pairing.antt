@@ -1,69 +1,64 @@
--- The loop that puts names to amounts.
-use Rattle.std.proofs.Common.{ℕ, zero, suc, ◌≤◌, ◌<◌, ◌≡◌, refl, sym, ap, ap₂, ◌∙◌, subst, List, [], ◌∷◌, arith, not-suc-le-zero, le_of_suc-le-suc, length, take, drop, get_or, length-take-le}
-use Rattle.book.specs.Layer.{Ticks, no_ticks, pad}
+-- The loops that put names to amounts.
+use Rattle.std.proofs.Common.{ℕ, ◌+◌, ◌≤◌, ◌<◌, ◌≡◌, refl, sym, ap, ap₂, ◌∙◌, List, [], ◌∷◌, ◌++◌, map, arith, length, take, length-append, append-nil}
+use Rattle.std.proofs.Math.Seq.{append_snoc}
+use Rattle.book.specs.Layer.{Ticks}
 use Rattle.book.specs.declared.answers.NamedAmount.{NamedAmount}
-use Rattle.book.specs.declared.answers.Credits.{Credits}
-use Rattle.book.specs.declared.answers.ChargeList.{ChargeList}
 use Rattle.book.specs.declared.amounts.places.Spot.{Spot}
-use Rattle.book.specs.declared.amounts.places.Places.{Places}
-use Rattle.book.specs.tables.Worked.{named_of, no_spot}
-use Rattle.book.specs.Handed.{max_credits, max_charges, no_amount, credits_of, charge_list_of}
-use Rattle.book.specs.laws.HandedLaws.{pad-length, pad-front}
+use Rattle.book.specs.tables.Worked.{named_of}
 
 abbrev pub pair_of : Spot → Ticks → NamedAmount
 pair_of x t = record { name = x.name; ticks = t }
 
--- the first i of a row of `size` places have their names and amounts, and the others are blank
-pub record Naming (size : ℕ) (p : Places) (ticks : List Ticks) (row : List NamedAmount) (i : ℕ) : Type 0 where
-  pub long : length row ≡ size
-  pub upto : i ≤ p.n
-  pub each : (j : ℕ) → j < i → get_or row j no_amount ≡ pair_of (get_or p.at j no_spot) (get_or ticks j no_ticks)
-  pub behind : drop i row ≡ drop i (pad no_amount size [])
+-- the amounts of all n places are those so far, and those of the places that are left
+pub record Naming (all : List NamedAmount) (n : ℕ) (done : List NamedAmount) (xs : List Spot) (ts : List Ticks) : Type 0 where
+  pub whole : all ≡ done ++ named_of xs ts
+  pub count : length done + length xs ≡ n
 
-naming-blank : (size : ℕ) (p : Places) (ticks : List Ticks) (row : List NamedAmount) → row ≡ pad no_amount size [] → Naming size p ticks row 0
-naming-blank size p ticks row blank =
-    record { long = ap length blank ∙ pad-length no_amount size []; upto = omega arith; each = λ j h. absurd (not-suc-le-zero h); behind = blank }
+pub naming-start : {all xs : List Spot} {amounts ts : List Ticks} → xs ≡ all → ts ≡ amounts → {done : List NamedAmount} → done ≡ []
+    → Naming (named_of all amounts) (length all) done xs ts
+naming-start {all} {xs} {amounts} {ts} ex et {done} e = record {
+  whole = λ i. sym e i ++ named_of (sym ex i) (sym et i);
+  count = omega (arith, ap length ex, ap length e);
+}
 
-pub credits-start : (p : Places) (ticks : List Ticks) (a : Credits) → a ≡ credits_of [] → Naming max_credits p ticks a.list 0
-unfolding credits_of
-credits-start p ticks a e = naming-blank max_credits p ticks a.list (ap (λ (x : Credits). x.list) e)
+module _ {all : List NamedAmount} {n : ℕ} {done : List NamedAmount} {xs : List Spot} {ts : List Ticks} (w : Naming all n done xs ts) where
+  module _ {x : Spot} {ys : List Spot} (ex : xs ≡ x ∷ ys) where
+    pub naming-room : {size : ℕ} → n ≤ size → length done < size
+    naming-room le = omega (arith, w.count, ap length ex)
 
-pub charges-start : (p : Places) (ticks : List Ticks) (a : ChargeList) → a ≡ charge_list_of [] → Naming max_charges p ticks a.list 0
-unfolding charge_list_of
-charges-start p ticks a e = naming-blank max_charges p ticks a.list (ap (λ (x : ChargeList). x.list) e)
+    pub naming-more : {t : Ticks} {us : List Ticks} → ts ≡ t ∷ us → {next : List NamedAmount} → next ≡ done ++ pair_of x t ∷ [] → Naming all n next ys us
+    unfolding named_of
+    naming-more {t} {us} et {next} en = record {
+      whole = w.whole ∙ ap₂ (λ (a : List Spot) (b : List Ticks). done ++ named_of a b) ex et ∙ sym (append_snoc done (pair_of x t) (named_of ys us))
+          ∙ ap (λ (d : List NamedAmount). d ++ named_of ys us) (sym en);
+      count = omega (arith, w.count, ap length ex, ap length en, length-append done (pair_of x t ∷ []));
+    }
 
-zipped : (n : ℕ) (at : List Spot) (ticks : List Ticks) (row : List NamedAmount) → n ≤ length row → n ≤ length at → n ≤ length ticks
-    → ((j : ℕ) → j < n → get_or row j no_amount ≡ pair_of (get_or at j no_spot) (get_or ticks j no_ticks)) → take n row ≡ named_of (take n at) (take n ticks)
+  naming-end : named_of xs ts ≡ [] → done ≡ all
+  naming-end e = sym (w.whole ∙ ap (λ (d : List NamedAmount). done ++ d) e ∙ append-nil done)
+
+  -- no place is left
+  pub naming-all : length xs ≡ 0 → done ≡ all
+  unfolding named_of
+  naming-all z = naming-end (go xs ts z)
+    where
+      go : (xs : List Spot) (ts : List Ticks) → length xs ≡ 0 → named_of xs ts ≡ []
+      go [] ts z = refl
+      go (x ∷ xs) ts z = absurd (omega arith)
+
+  -- or no amount
+  pub naming-rest : length ts ≡ 0 → done ≡ all
+  unfolding named_of
+  naming-rest z = naming-end (go xs ts z)
+    where
+      go : (xs : List Spot) (ts : List Ticks) → length ts ≡ 0 → named_of xs ts ≡ []
+      go [] ts z = refl
+      go (x ∷ xs) [] z = refl
+      go (x ∷ xs) (t ∷ ts) z = absurd (omega arith)
+
+-- no more amounts are read than there are places
+pub named-front : {A : Type 0} (f : A → Ticks) (xs : List Spot) (us : List A) → named_of xs (map f us) ≡ named_of xs (map f (take (length xs) us))
 unfolding named_of
-zipped zero at ticks row lr la lt h = refl
-zipped (suc n) at ticks [] lr la lt h = absurd (not-suc-le-zero lr)
-zipped (suc n) [] ticks (r ∷ row) lr la lt h = absurd (not-suc-le-zero la)
-zipped (suc n) (x ∷ at) [] (r ∷ row) lr la lt h = absurd (not-suc-le-zero lt)
-zipped (suc n) (x ∷ at) (t ∷ ticks) (r ∷ row) lr la lt h =
-    ap₂ ◌∷◌ (h 0 (omega arith)) (zipped n at ticks row (le_of_suc-le-suc lr) (le_of_suc-le-suc la) (le_of_suc-le-suc lt) (λ j l. h (suc j) (omega arith)))
-
-pub naming-all : {size : ℕ} {p : Places} {ticks : List Ticks} {row : List NamedAmount} {i : ℕ} → Naming size p ticks row i → p.n ≤ i
-    → p.n ≤ size → p.n ≤ length p.at → p.n ≤ length ticks → take p.n row ≡ named_of (take p.n p.at) (take p.n ticks)
-naming-all {size} {p} {ticks} {row} {i} n h few la lt = zipped p.n p.at ticks row (omega (arith, n.long)) la lt (λ j l. n.each j (omega arith))
-
--- the amounts with their count, and nothing behind them
-record Whole (size n : ℕ) (row : List NamedAmount) : Type 0 where
-  count : length (take n row) ≡ n
-  blank : row ≡ pad no_amount size (take n row)
-
-naming-whole : {size : ℕ} {p : Places} {ticks : List Ticks} {row : List NamedAmount} {i : ℕ} → Naming size p ticks row i → p.n ≤ i → p.n ≤ size
-    → Whole size p.n row
-naming-whole {size} {p} {ticks} {row} {i} n h few =
-    let all : i ≡ p.n = omega (arith, n.upto) in
-    let behind = subst (λ (k : ℕ). drop k row ≡ drop k (pad no_amount size [])) all n.behind in
-    record { count = length-take-le p.n row (omega (arith, n.long)); blank = pad-front no_amount size p.n row n.long behind }
-
-pub credits-whole : {p : Places} {ticks : List Ticks} {row : List NamedAmount} {i : ℕ} → Naming max_credits p ticks row i → p.n ≤ i → p.n ≤ max_credits
-    → ◌≡◌ {A = Credits} (record { n = p.n; list = row }) (credits_of (take p.n row))
-unfolding credits_of
-credits-whole n h few = let w = naming-whole n h few in λ j. record { n = sym w.count j; list = w.blank j }
-
-pub charges-whole : {p : Places} {ticks : List Ticks} {row : List NamedAmount} {i : ℕ} → Naming max_charges p ticks row i → p.n ≤ i → p.n ≤ max_charges
-    → ◌≡◌ {A = ChargeList} (record { n = p.n; list = row }) (charge_list_of (take p.n row))
-unfolding charge_list_of
-charges-whole n h few = let w = naming-whole n h few in λ j. record { n = sym w.count j; list = w.blank j }
+named-front f [] us = refl
+named-front f (x ∷ xs) [] = refl
+named-front f (x ∷ xs) (u ∷ us) = ap (λ (ys : List NamedAmount). pair_of x (f u) ∷ ys) (named-front f xs us)

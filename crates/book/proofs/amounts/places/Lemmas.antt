@@ -1,5 +1,5 @@
 -- The standing records of a mark and hour by name: how many there are, and where one more is put.
-use Rattle.std.proofs.Common.{ℕ, zero, suc, ◌+◌, ◌≤◌, ◌≡◌, refl, sym, ap, ap₂, ◌∙◌, List, [], ◌∷◌, ◌++◌, Bool, true, false, cond, not, ◌&&◌, arith, length, take, drop, length-take-le, ltb}
+use Rattle.std.proofs.Common.{ℕ, zero, suc, ◌+◌, ◌≤◌, ◌≡◌, refl, sym, ap, ◌∙◌, List, [], ◌∷◌, ◌++◌, Bool, true, false, cond, not, ◌&&◌, arith, length, take, drop, ltb}
 use Rattle.std.specs.Prelude.{Option, Some, None, position, unwrap_or}
 use Rattle.std.specs.List.{position_or_len}
 use Rattle.std.proofs.lemmas.List.Sums.{prefix_len-le-length}
@@ -7,20 +7,12 @@ use Rattle.std.proofs.lemmas.Bool.{ltb-false}
 use Rattle.book.specs.Layer.{Key, Rec, Change, kind_of, key_of, same_hour, decoded_bytes, name_before}
 use Rattle.book.specs.laws.LayerLaws.{limit-most}
 use Rattle.book.specs.declared.amounts.places.Spot.{Spot}
-use Rattle.book.specs.declared.amounts.places.Places.{Places}
 use Rattle.book.specs.Register.{write_all, standing, count}
 use Rattle.book.specs.Meaning.{Valid}
 use Rattle.book.specs.tables.Tables.{survey}
-use Rattle.book.specs.tables.Places.{lead_length, live_at, spot_of, put_spot, spots}
+use Rattle.book.specs.tables.Places.{lead_length, live_at, spot_of, put_spot}
 use Rattle.book.specs.laws.RegisterLaws.{by-test, valid-new, hour-few}
 use Rattle.book.specs.laws.GatherLaws.{gather, collect, gather-standing, hour_pass}
-
--- ---- what is put to the rest, and what is not
-pub taken-up : {B : Type 0} (b : Bool) (x y : B) → b ≡ true → x ≡ cond b x y
-taken-up b x y h = sym (ap (λ (t : Bool). cond t x y) h)
-
-pub left_out : {B : Type 0} (b : Bool) (x y : B) → b ≡ false → y ≡ cond b x y
-left_out b x y h = sym (ap (λ (t : Bool). cond t x y) h)
 
 -- ---- there are never more than 16 of a mark and hour
 pub put-length : (s : Spot) (xs : List Spot) → length (put_spot s xs) ≡ length xs + 1
@@ -73,7 +65,8 @@ put-first s (x ∷ xs) = go (after s x) (put-first s xs)
     k : ℕ
     k = position_or_len (after s) xs
 
-    go : (b : Bool) → put_spot s xs ≡ take k xs ++ (s ∷ drop k xs) → let j = cond (not b) (1 + k) 0 in cond b (s ∷ x ∷ xs) (x ∷ put_spot s xs) ≡ take j (x ∷ xs) ++ (s ∷ drop j (x ∷ xs))
+    go : (b : Bool) → put_spot s xs ≡ take k xs ++ (s ∷ drop k xs)
+        → let j = cond (not b) (1 + k) 0 in cond b (s ∷ x ∷ xs) (x ∷ put_spot s xs) ≡ take j (x ∷ xs) ++ (s ∷ drop j (x ∷ xs))
     go true ih = refl
     go false ih =
         let e : suc k ≡ 1 + k = omega arith in
@@ -87,12 +80,12 @@ first-or-end s xs =
     (λ t. ap (λ (b : Bool). unwrap_or (cond b (Some k) None) (length xs)) t
     ∙ omega (arith, ltb-false k (length xs) t, prefix_len-le-length (λ (x : Spot). not (after s x)) xs))
 
-pub slot-found : (s : Spot) (p : Places) → p.n ≤ length p.at → (r : Option ℕ) → r ≡ position (after s) (spots p) → (k : ℕ) → k ≡ unwrap_or r p.n
-    → (k ≤ p.n) × (put_spot s (spots p) ≡ take k (spots p) ++ (s ∷ drop k (spots p)))
-slot-found s p le r er k ek =
-    let xs = spots p in
-    let size : length xs ≡ p.n = length-take-le p.n p.at le in
-    let e : k ≡ position_or_len (after s) xs = ek ∙ ap₂ unwrap_or er (sym size) ∙ first-or-end s xs in (
-      omega (arith, prefix_len-le-length (λ (x : Spot). not (after s x)) xs),
-      put-first s xs ∙ ap (λ (j : ℕ). take j xs ++ (s ∷ drop j xs)) (sym e),
-    )
+module _ (s : Spot) (xs : List Spot) {r : Option ℕ} (er : r ≡ position (after s) xs) {k : ℕ} (ek : k ≡ unwrap_or r (length xs)) where
+  first-is : k ≡ position_or_len (after s) xs
+  first-is = ek ∙ ap (λ (y : Option ℕ). unwrap_or y (length xs)) er ∙ first-or-end s xs
+
+  pub slot-within : k ≤ length xs
+  slot-within = omega (arith, first-is, prefix_len-le-length (λ (x : Spot). not (after s x)) xs)
+
+  pub slot-splits : put_spot s xs ≡ take k xs ++ (s ∷ drop k xs)
+  slot-splits = put-first s xs ∙ ap (λ (j : ℕ). take j xs ++ (s ∷ drop j xs)) (sym first-is)

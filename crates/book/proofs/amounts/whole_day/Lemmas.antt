@@ -1,139 +1,108 @@
 -- The loops over the hours and the units of a day, and the answer that they make.
-use Rattle.std.proofs.Common.{ℕ, ◌+◌, ◌≤◌, ◌<◌, ◌≡◌, refl, sym, ap, ◌∙◌, subst, List, [], map, arith, length, take, drop, get_or, set, replicate, length-set, ext_get_or, drop-set-lt, drop-drop, get_or-take, length-take-le}
-use Rattle.std.proofs.lemmas.Simd.{map-map}
-use Rattle.std.proofs.lemmas.List.{length-map}
-use Rattle.laws.specs.Lists.{All}
-use Rattle.book.specs.Layer.{Name, Change, filed, Gh, Fi, Fe, empty_name, pad}
+use Rattle.std.proofs.Common.{ℕ, zero, suc, ◌+◌, ◌≤◌, ◌<◌, ◌≡◌, refl, sym, ap, ◌∙◌, subst, List, [], ◌∷◌, ◌++◌, map, Option, Result, Ok, Err, IsErrAnd, arith, append_assoc, length-append, length, get_or}
+use Rattle.std.proofs.Math.Path.{subst⁻¹}
+use Rattle.std.specs.Array.{IsFromFnResultFrom, IsFromFnResult}
+use Rattle.std.proofs.lemmas.List.{map_push}
+use Rattle.arrayvec.specs.ArrayVec.{ArrayVec as Items}
+use denote.Param.Members.{Mut, Called}
+use Rattle.money.specs.Units.{day_hours}
+use Rattle.money.specs.declared.production.DayTotals.{DayTotals}
+use Rattle.money.specs.declared.refusals.Refusal.TheVariants.{NotTogether}
+use Rattle.book.specs.Layer.{Name, Change, filed, Gh, HourPrices, Refusal}
 use Rattle.book.specs.laws.LayerLaws.{Padded, good-padded}
-use Rattle.book.specs.declared.answers.Guarantees.{Guarantees}
-use Rattle.book.specs.declared.answers.Charges.{Charges}
-use Rattle.book.specs.declared.answers.UnitDay.{UnitDay}
 use Rattle.book.specs.declared.answers.HourAmounts.{HourAmounts}
 use Rattle.book.specs.declared.answers.UnitAmounts.{UnitAmounts}
 use Rattle.book.specs.declared.answers.DayAmounts.{DayAmounts}
-use Rattle.book.specs.declared.amounts.units.Units.{Units}
-use Rattle.book.specs.declared.amounts.prices.PriceTable.{PriceTable}
-use Rattle.book.specs.Register.{standing}
-use Rattle.book.specs.Amounts.{HourPricing, hour_key, price_of, guarantees_of, charges_of, unit_day_of}
+use Rattle.book.specs.declared.log.checked_log.CheckedLog.{CheckedLog}
+use Rattle.book.specs.Register.{standing, max_changes}
+use Rattle.book.specs.Amounts.{HourPricing, price_of, unit_day_of}
 use Rattle.book.specs.ByName.{names_of}
-use Rattle.book.specs.Meaning.{Load, belongs, mismatched, Valid, guarantees_reply, charges_reply, day_reply}
-use Rattle.book.specs.tables.Units.{Named}
-use Rattle.book.specs.UnitNames.{gh_key, unit_key, names_in}
-use Rattle.book.specs.Handed.{guarantees_from, charges_from, unit_day_from}
-use Rattle.book.specs.laws.HandedLaws.{pad-none, pad-length, pad-front}
-use Rattle.book.specs.laws.Built.{Built, built-more, built-all}
-use Rattle.book.specs.tables.Worked.{no_guarantees, no_charges}
-use Rattle.book.specs.tables.Rows.{Logged}
+use Rattle.book.specs.Meaning.{Load, belongs, mismatched, Valid, day_reply}
+use Rattle.book.specs.UnitNames.{gh_key, unit_key}
+use Rattle.book.specs.tables.CheckedLog.{Says}
 use Rattle.book.specs.tables.Prices.{TableOf}
+use Rattle.book.specs.tables.Units.{Named}
+use Rattle.book.specs.WholeDay.{HourReply, hour_reply, unit_reply, hours_from, day_amounts, whole, told_hour, told_unit, told_day}
 use Rattle.book.specs.laws.StandLaws.{all_map, all-at, all-names, standing-good}
-use Rattle.book.specs.laws.ChargeLaws.{get_or-same}
-use Rattle.book.specs.WholeDay.{hour_reply, unit_reply, hours_from, whole_of, day_amounts, hour_from, unit_from, no_hour, no_unit, whole_handed, day_from}
-use Rattle.book.specs.laws.WholeDayLaws.{hours-at}
+use Rattle.book.specs.laws.ValidLaws.{names-few}
 
--- ---- an hour and a unit, as they are handed back
+-- ---- an array that a closure fills, which each call leaves as it was
 
-abbrev hour_at : List Change → (ℕ → HourPricing) → ℕ → HourAmounts
-hour_at l q h = hour_from (hour_reply (standing l) q h)
+module _ {F B : Type 0} (g : Mut F (ℕ × Unit {0}) B) (f : F) (P : ℕ → B → Type 0) (m : ℕ)
+    (by : (i : ℕ) (y : B) (q : F) → i < m → Called g f (i, tt) y q → P i y × (q ≡ f)) where
+  filled-from : (n k i : ℕ) (ys : List B) → i + n ≤ m → IsFromFnResultFrom g f ys i n → k < n → (e : B) → P (i + k) (get_or ys (i + k) e)
+  filled-from zero k i ys le h lt e = absurd (omega arith)
+  filled-from (suc n) zero i ys le h lt e =
+      let z : i ≡ i + 0 = omega arith in
+      subst (λ (j : ℕ). P j (get_or ys j e)) z (subst (P i) (sym (h.2.1 e)) (by i h.1 h.0 (omega arith) h.3).0)
+  filled-from (suc n) (suc k) i ys le h lt e =
+      let z : i + 1 + k ≡ i + suc k = omega arith in
+      subst (λ (j : ℕ). P j (get_or ys j e)) z
+      (filled-from n k (i + 1) ys (omega arith) (subst (λ (p : F). IsFromFnResultFrom g p ys (i + 1) n) (by i h.1 h.0 (omega arith) h.3).1 h.4) (omega arith) e)
 
-abbrev unit_as : List Change → (ℕ → HourPricing) → Name → UnitAmounts
-unit_as l q n = unit_from (unit_reply (standing l) q n)
+  pub filled : (ys : List B) → IsFromFnResult g f ys m → (j : ℕ) → j < m → (e : B) → P j (get_or ys j e)
+  filled ys h j lt e =
+      let z : 0 + j ≡ j = omega arith in subst (λ (k : ℕ). P k (get_or ys k e)) z (filled-from m j 0 ys (omega arith) h.each lt e)
 
--- ---- an hour
+-- ---- the hours of a day
 
-pub hour-blank : {g : Guarantees} {i e : Charges} → guarantees_reply g ≡ no_guarantees 0 → g ≡ guarantees_from (guarantees_reply g)
-    → charges_reply i ≡ no_charges 0 → i ≡ charges_from (charges_reply i) → charges_reply e ≡ no_charges 0 → e ≡ charges_from (charges_reply e)
-    → ◌≡◌ {A = HourAmounts} (record { guarantees = g; imports = i; exports = e }) no_hour
-hour-blank gr gw ir iw er ew =
-    λ k. record { guarantees = (gw ∙ ap guarantees_from gr) k; imports = (iw ∙ ap charges_from ir) k; exports = (ew ∙ ap charges_from er) k }
+in-turn : {A B : Type 0} (g : A → B) (f : ℕ → B) (h : ℕ) (xs : List A) → ((j : ℕ) → j < length xs → (d : A) → g (get_or xs j d) ≡ f (h + j))
+    → map g xs ≡ map f (hours_from h (length xs))
+unfolding hours_from
+in-turn g f h [] each = refl
+in-turn g f h (x ∷ xs) each =
+    let z : h + 0 ≡ h = omega arith in
+    let first : g x ≡ f h = each 0 (omega arith) x ∙ ap f z in
+    let rest = in-turn g f (h + 1) xs (λ j lt d. let n : h + suc j ≡ h + 1 + j = omega arith in each (suc j) (omega arith) d ∙ ap f n) in
+    λ i. first i ∷ rest i
 
-pub hour-made : (l : List Change) (q : ℕ → HourPricing) (h : ℕ) {g : Guarantees} {i e : Charges}
-    → guarantees_reply g ≡ guarantees_of (standing l) q h → g ≡ guarantees_from (guarantees_reply g)
-    → charges_reply i ≡ charges_of (hour_key Fi h) (standing l) q → i ≡ charges_from (charges_reply i)
-    → charges_reply e ≡ charges_of (hour_key Fe h) (standing l) q → e ≡ charges_from (charges_reply e)
-    → ◌≡◌ {A = HourAmounts} (record { guarantees = g; imports = i; exports = e }) (hour_at l q h)
-hour-made l q h gr gw ir iw er ew =
-    λ k. record { guarantees = (gw ∙ ap guarantees_from gr) k; imports = (iw ∙ ap charges_from ir) k; exports = (ew ∙ ap charges_from er) k }
-
--- ---- the loop over the hours
-
-pub record Hours (s rows : List ℕ) (n : ℕ) (t : PriceTable) (row : List HourAmounts) (i : ℕ) : Type 0 where
-  pub long : length row ≡ 24
-  pub upto : i ≤ 24
-  pub each : (l : List Change) → Logged s rows n l → (q : ℕ → HourPricing) → TableOf q t → (j : ℕ) → j < i → get_or row j no_hour ≡ hour_at l q (1 + j)
-
-module _ {s rows : List ℕ} {n : ℕ} {t : PriceTable} {row : List HourAmounts} {i : ℕ} (h : Hours s rows n t row i) where
-  pub hours-end : 24 ≤ i → (l : List Change) → Logged s rows n l → (q : ℕ → HourPricing) → TableOf q t → row ≡ (day_from (whole_of (standing l) q)).hours
-  unfolding whole_handed
-  hours-end le l g q w =
-      let f = hour_reply (standing l) q in
-      let all = pad no_hour 24 (map hour_from (map f (hours_from 1 24))) in
-      ext_get_or no_hour row all (h.long ∙ sym (pad-length no_hour 24 (map hour_from (map f (hours_from 1 24)))))
-      (λ j lt. let in-day : j < 24 = omega (arith, h.long) in h.each l g q w j (omega arith) ∙ sym
-      (hours-at f hour_from no_hour no_hour 24 24 1 j in-day (omega arith)))
+pub hours-told : (f : ℕ → HourReply) (xs : List HourAmounts) → length xs ≡ day_hours
+    → ((j : ℕ) → j < day_hours → (x : HourAmounts) → told_hour (get_or xs j x) ≡ f (1 + j))
+    → map told_hour xs ≡ map f (hours_from 1 day_hours)
+hours-told f xs long each = in-turn told_hour f 1 xs (λ j lt. each j (omega (arith, long))) ∙ ap (λ (n : ℕ). map f (hours_from 1 n)) long
 
 -- ---- the loop over the units
 
-pub record Dealt (s rows : List ℕ) (n : ℕ) (u : Units) (t : PriceTable) (row : List UnitAmounts) (i : ℕ) : Type 0 where
-  pub long : length row ≡ 512
-  pub upto : i ≤ u.n
-  pub built : (l : List Change) → Logged s rows n l → (q : ℕ → HourPricing) → TableOf q t → Built (unit_as l q) u.names empty_name row no_unit i
-  pub behind : drop i row ≡ drop i (pad no_unit 512 [])
+-- the units so far, and the names to come
+pub record Dealt (h : CheckedLog) (t : List (Option HourPrices)) (names : List Name) (units : List UnitAmounts) (rest : List Name) : Type 0 where
+  pub few : length units + length rest ≤ max_changes
+  pub padded : (i : ℕ) → i < length rest → (d : Name) → Padded (get_or rest i d)
+  pub both : (l : List Change) → Says h l → (q : ℕ → HourPricing) → TableOf q t
+      → map told_unit units ++ map (unit_reply (standing l) q) rest ≡ map (unit_reply (standing l) q) names
 
-module _ {s rows : List ℕ} {n : ℕ} {u : Units} {t : PriceTable} {row : List UnitAmounts} {i : ℕ} (h : Dealt s rows n u t row i) (few : u.n ≤ 512)
-    (size : length u.names ≡ 512) where
-  pub dealt-more : i < u.n → (d : Name) (x : UnitDay)
-      → ((l : List Change) → Logged s rows n l → Gh ≡ Gh → (q : ℕ → HourPricing) → TableOf q t → day_reply x ≡ unit_day_of (unit_key (get_or u.names i d))
-      (standing l) q) × (x ≡ unit_day_from (day_reply x))
-      → Dealt s rows n u t (set row i (record { name = get_or u.names i d; day = x })) (i + 1)
-  dealt-more lt d x e = record {
-    long = length-set row i v ∙ h.long;
-    upto = omega arith;
-    built = λ l g q w. built-more (h.built l g q w) (omega (arith, h.long))
-        ((λ k. record { name = get_or u.names i d; day = (e.1 ∙ ap unit_day_from (e.0 l g refl q w)) k }) ∙ ap (unit_as l q)
-        (get_or-same u.names i d empty_name (omega arith)));
-    behind = drop-set-lt (i + 1) row i v (omega arith) ∙ sym (drop-drop 1 i row) ∙ ap (drop 1) h.behind ∙ drop-drop 1 i (pad no_unit 512 []);
-  }
-    where
-      v : UnitAmounts
-      v = record { name = get_or u.names i d; day = x }
-
-  pub dealt-end : u.n ≤ i → (l : List Change) → Logged s rows n l → names_in u ≡ names_of gh_key (standing l) → (q : ℕ → HourPricing) → TableOf q t
-      → row ≡ (day_from (whole_of (standing l) q)).units
-  unfolding whole_handed
-  dealt-end le l g named q w =
-      let all : i ≡ u.n = omega (arith, h.upto) in
-      let f = unit_reply (standing l) q in
-      let front : take u.n row ≡ map (unit_as l q) (take u.n u.names) =
-      built-all u.n (subst (Built (unit_as l q) u.names empty_name row no_unit) all (h.built l g q w)) (omega (arith, h.long)) (omega arith) in
-      pad-front no_unit 512 u.n row h.long (subst (λ (k : ℕ). drop k row ≡ drop k (pad no_unit 512 [])) all h.behind)
-      ∙ ap (pad no_unit 512) (front ∙ ap (map (unit_as l q)) named ∙ sym (map-map unit_from f (names_of gh_key (standing l))))
-
--- each name of the units is a record's
-pub names-formed : (u : Units) → u.n ≤ 512 → length u.names ≡ 512 → (l : List Change) → Valid l → names_in u ≡ names_of gh_key (standing l) → Named u
-names-formed u few size l v e = record {
-  few = few;
-  padded = λ i lt d. subst Padded (get_or-take u.n u.names i d lt)
-      (all-at (subst (All Padded) (sym e) (all-names gh_key (all_map (λ r g q. good-padded (filed r) g) (standing-good l v)))) d i
-      (omega (arith, length-take-le u.n u.names (omega arith))));
+-- one name more
+pub dealt-more : {h : CheckedLog} {t : List (Option HourPrices)} {names rest ns : List Name} {units us : List UnitAmounts} → Dealt h t names units rest
+    → (n : Name) (day : Result DayTotals Refusal) → rest ≡ n ∷ ns → us ≡ units ++ (record { name = n; day = day } ∷ [])
+    → ((l : List Change) → Says h l → Gh ≡ Gh → (q : ℕ → HourPricing) → TableOf q t → day_reply day ≡ unit_day_of (unit_key n) (standing l) q)
+    → Dealt h t names us ns
+dealt-more {ns = ns} {units = units} d n day e k each = record {
+  few = omega (arith, d.few, ap length e, ap length k, length-append units (u ∷ []));
+  padded = λ i lt z. subst (λ (xs : List Name). Padded (get_or xs (suc i) z)) e (d.padded (suc i) (omega (arith, ap length e)) z);
+  both = λ l s q w. let f = unit_reply (standing l) q in let same = each l s refl q w in
+      ap (λ (xs : List UnitAmounts). map told_unit xs ++ map f ns) k ∙ ap (λ xs. xs ++ map f ns) (map_push told_unit units u)
+      ∙ append_assoc (map told_unit units) (told_unit u ∷ []) (map f ns) ∙ (λ i. map told_unit units ++ (record { name = n; day = same i } ∷ map f ns))
+      ∙ ap (λ (xs : List Name). map told_unit units ++ map f xs) (sym e) ∙ d.both l s q w;
 }
+  where
+    u : UnitAmounts
+    u = record { name = n; day = day }
 
 -- ---- the answer
 
-pub day-made : (d : Load) (l : List Change) → d ≡ belongs l → (hs : List HourAmounts) → hs ≡ (day_from (day_amounts (belongs l))).hours
-    → (u : Units) → u.n ≤ 512 → length u.names ≡ 512 → take u.n u.names ≡ names_of gh_key (standing l)
-    → (us : List UnitAmounts) → us ≡ (day_from (day_amounts (belongs l))).units
-    → ◌≡◌ {A = DayAmounts} (record { number = 0; hours = hs; n = u.n; units = us }) (day_from (day_amounts d))
-unfolding whole_handed
-day-made d l e hs eh u few size named us eu =
-    let f = unit_reply (standing l) (price_of (standing l)) in
-    let ns = names_of gh_key (standing l) in
-    let count : u.n ≡ length (map unit_from (map f ns)) =
-    sym (length-take-le u.n u.names (omega arith)) ∙ ap length named ∙ sym (length-map ns f) ∙ sym (length-map (map f ns) unit_from) in
-    (λ k. record { number = 0; hours = eh k; n = count k; units = eu k }) ∙ sym (ap (λ (y : Load). day_from (day_amounts y)) e)
+-- each name of the units is a record's
+pub names-formed : (ns : List Name) (l : List Change) → Valid l → ns ≡ names_of gh_key (standing l) → Named ns
+names-formed ns l v e = subst⁻¹ Named e (record {
+  few = names-few gh_key l v;
+  padded = λ i lt d. all-at {P = Padded} (all-names gh_key (all_map (λ r g q. good-padded (filed r) g) (standing-good l v))) d i lt;
+})
 
-pub day-mismatched : (d : Load) → d ≡ mismatched → (h : HourAmounts) → h ≡ no_hour → (u : UnitAmounts) → u ≡ no_unit
-    → ◌≡◌ {A = DayAmounts} (record { number = 16; hours = replicate 24 h; n = 0; units = replicate 512 u }) (day_from (day_amounts d))
-unfolding whole_handed
-day-mismatched d e h eh u eu =
-    (λ k. record { number = 16; hours = (ap (replicate 24) eh ∙ pad-none no_hour 24) k; n = 0; units = (ap (replicate 512) eu ∙ pad-none no_unit 512) k })
-    ∙ sym (ap (λ (y : Load). day_from (day_amounts y)) e)
+pub day-made : {b : Load} {l : List Change} (hs : List HourAmounts) (us : Items UnitAmounts) → b ≡ belongs l
+    → map told_hour hs ≡ map (hour_reply (standing l) (price_of (standing l))) (hours_from 1 day_hours)
+    → map told_unit us.items ≡ map (unit_reply (standing l) (price_of (standing l))) (names_of gh_key (standing l))
+    → told_day (Ok (record { hours = hs; units = us })) ≡ day_amounts b
+day-made hs us e h u = (λ i. whole (h i) (u i)) ∙ sym (ap day_amounts e)
+
+pub day-apart : {b : Load} (r : Result DayAmounts Refusal) (e : Refusal) → IsErrAnd r (λ x. x ≡ e) → e ≡ NotTogether → b ≡ mismatched
+    → told_day r ≡ day_amounts b
+day-apart (Ok d) e h z m = absurd h
+day-apart {b} (Err x) e h z m = ap (λ (y : Refusal). told_day (Err y)) (h ∙ z) ∙ sym (ap day_amounts m)

@@ -1,28 +1,25 @@
 -- What the changes of a checked book rest on.
-use Prim.Native.Nat.{ℕ, zero, suc, ◌+◌, ◌-◌, ◌≤◌, ◌<◌}
-use mathlib.Core.Path.{◌≡◌, refl, sym, ap, ap₂, ◌∙◌, subst, subst⁻¹}
-use mathlib.Core.List.{List, [], ◌∷◌, ◌++◌}
-use mathlib.Core.Bool.{Bool, true, false, cond, not, ◌&&◌}
-use native.Mathlib.Omega.{arith}
-use lib.ListN.{length, take, drop, set, get_or, length-append, length-set}
-use lib.Seq.{take-append_seam, take-take}
-use lib.Dec.{eqb, ltb}
-use borrow.Author.Tests.{eq-eqb, ne_eqb, eqb-true, eqb-false}
+use Rattle.std.specs.Prelude.{ℕ, zero, suc, ◌+◌, ◌-◌, ◌≤◌, ◌<◌, ◌≡◌, refl, List, [], ◌∷◌, ◌++◌, Bool, true, false, cond, not, ◌&&◌, Option, is_some, Ok, Err, Some, length, take, drop, set, get_or, eqb, ltb}
+use Rattle.std.proofs.Common.{sym, ap, ap₂, ◌∙◌, subst, arith, length-append, length-set, eq-eqb, eqb-true}
+use Rattle.std.proofs.Math.Path.{subst⁻¹}
+use Rattle.std.proofs.Math.Seq.{take-append_seam}
+use Rattle.std.proofs.lemmas.Bool.{ne_eqb, eqb-false}
+use Rattle.std.proofs.lemmas.List.{take-take}
 use Rattle.records.specs.Changes.{entry, whole, parse_any}
 use Rattle.book.specs.Layer.{Key, View, Change, key_of, kind_of, write, Good, Input, fine, fault, parse, put_bytes, limit_of, Wanted, Any, Changing, TakeBack, Close, is_filing, is_withdrawal}
 use Rattle.book.specs.tables.LayerTables.{viewed_bytes}
 use Rattle.book.specs.laws.LayerLaws.{parse-fine, viewed-put, store-front, store_length, Padded, good-padded, good-hour}
 use Rattle.book.specs.Layer.{bad, Entry, changed, taking_back, closing_entry, act_of, mark_is, begins, take_back_bytes, close_bytes}
-use Rattle.book.specs.laws.LayerLaws.{entry-bad, alone, as_entry, any-back, any-close, any-change}
+use Rattle.book.specs.laws.LayerLaws.{number-some, entry-bad, alone, as_entry, any-back, any-close, any-change}
 use Rattle.book.specs.declared.book.Book.{Book}
-use Rattle.book.specs.declared.answers.Answer.TheVariants.{Accepted, Refused}
+use Rattle.money.specs.declared.refusals.Refusal.TheVariants.{Closed, NothingToTakeBack}
 use Rattle.book.specs.declared.answers.Done.{Done}
-use Rattle.book.specs.declared.log.rows.Seek.{Seek}
+use Rattle.book.specs.declared.log.rows.Standing.{Standing}
 use Rattle.book.specs.Register.{Reg, refused, Step, answered, becomes, listed, judged, taken_back, closing, general, shorter, after, bare_take_back, bare_close, write_all, refusal, space_fault, stands, standing, count}
 use Rattle.book.specs.Meaning.{belongs, load, Valid, book_of, stepped, Leaves}
 use Rattle.book.specs.tables.Tables.{viewed, change_fault}
 use Rattle.book.specs.tables.Index.{hour_slot, bucket, latest_of}
-use Rattle.book.specs.tables.Rows.{packed, row_start, Rows, Rowed, Ruled, Rules, Logged, Log, Sought, cleared}
+use Rattle.book.specs.tables.Rows.{packed, row_start, Rows, Rowed, Logged, Log, Sought, cleared}
 use Rattle.book.specs.tables.Checked.{Checked, Makes, Since, IsChange, IsEntry}
 use Rattle.book.specs.laws.RegisterLaws.{by-test, survey-found, refusal-judge}
 use Rattle.book.specs.laws.ReplayLaws.{listed-valid}
@@ -31,8 +28,9 @@ use Rattle.book.proofs.log.Survey.{judge-room, room-facts, valid-size}
 use Rattle.book.proofs.log.index.Lemmas.{latest-few}
 use Rattle.book.proofs.log.rows.Lemmas.{ruled-at, ruled-seen}
 use Rattle.book.proofs.log.replay.Lemmas.{cleared-size, rows_next}
+use Rattle.book.proofs.book.Loading.{loaded-logged}
 use Rattle.book.proofs.book.Rows.{is-rowed}
-use Rattle.book.specs.Layer.{Act, seen_view, seen_act}
+use Rattle.book.specs.Layer.{Act, seen_view, seen_act, Refusal, number_of}
 use Rattle.book.proofs.book.Lemmas.{reg_of, step_is, leaves-answered, leaves-accepted, bare-fault}
 
 -- ---- a checked book
@@ -40,19 +38,16 @@ use Rattle.book.proofs.book.Lemmas.{reg_of, step_is, leaves-answered, leaves-acc
 pub checked-from : (b : Book) (s : List ℕ) {ok : Bool} {rows : List ℕ} → Rowed (load b s) ok rows → ok ≡ true → Checked b s rows
 checked-from b s w t = let x = is-rowed b s w t in record { base = x; kept = w.kept x.list x.is; size = w.size }
 
+-- a log that holds n rows
+pub held-says : {hs hr : List ℕ} {n : ℕ} {l : List Change} → length hr ≡ n → Logged hs hr n l → Logged hs hr (length hr) l
+held-says {hs} {hr} {n} {l} e g = subst⁻¹ (λ (m : ℕ). Logged hs hr m l) e g
+
 module _ {b : Book} {s rows : List ℕ} (h : Checked b s rows) where
   checked-logged : Logged s rows b.changes h.base.list
-  checked-logged = record {
-    ruled = record { valid = h.base.valid; kept = h.kept; count = h.base.count-is };
-    within = omega (arith, h.base.within, h.base.size);
-    bytes = ap (λ (m : ℕ). take m s) h.base.size ∙ sym h.base.bytes;
-  }
+  checked-logged = loaded-logged b s h.base h.kept
 
   pub checked-log : Log s rows b.changes
   checked-log = record { list = h.base.list; logged = checked-logged }
-
-  pub checked-rules : Rules rows b.changes
-  checked-rules = record { list = h.base.list; ruled = checked-logged.ruled }
 
 -- ---- what a step of the register leaves of the rows
 
@@ -60,24 +55,26 @@ belongs-one : {l l' : List Change} → belongs l ≡ belongs l' → l ≡ l'
 belongs-one e = cc
 
 module _ {f : ℕ → Reg → Step} {b : Book} {s rows : List ℕ} {k : Key} (h : Checked b s rows) where
-  makes-refused : (n : ℕ) → stepped f b s (load b s) ≡ answered (refused n) → Makes f b s k (record { book = b; answer = Refused n }) s rows
-  makes-refused n e = record {
-    leaves = leaves-answered f b s (refused n) e;
+  makes-refused : (x : Refusal) {d : Done} → d ≡ record { book = b; answer = Err x } → stepped f b s (load b s) ≡ answered (refused (number_of x))
+      → Makes f b s k d s rows
+  makes-refused x d e = subst⁻¹ (λ (y : Done). Makes f b s k y s rows) d (record {
+    leaves = leaves-answered f b s (refused (number_of x)) e;
     checked = h;
     older = λ l l' p p' m z. omega (arith, ap (latest_of m) (belongs-one (sym p ∙ p')));
-  }
+  })
 
-  makes-accepted : (g : Reg) (b' : Book) (s' rows' : List ℕ) → stepped f b s (load b s) ≡ becomes g → b' ≡ book_of g → length s' ≡ length s
+  makes-accepted : (g : Reg) (b' : Book) (s' rows' : List ℕ) {d : Done} → d ≡ record { book = b'; answer = Ok tt }
+      → stepped f b s (load b s) ≡ becomes g → b' ≡ book_of g → length s' ≡ length s
       → take (length (write_all g.list)) s' ≡ write_all g.list → Valid g.list → Rows rows' g.list g.list → length rows' ≡ 512
-      → ((m : ℕ) → (m ≡ bucket k → ⊥) → latest_of m g.list ≤ latest_of m h.base.list) → Makes f b s k (record { book = b'; answer = Accepted }) s' rows'
-  makes-accepted g b' s' rows' e is size q v kept n o = record {
+      → ((m : ℕ) → (m ≡ bucket k → ⊥) → latest_of m g.list ≤ latest_of m h.base.list) → Makes f b s k d s' rows'
+  makes-accepted g b' s' rows' d e is size q v kept n o = subst⁻¹ (λ (y : Done). Makes f b s k y s' rows') d (record {
     leaves = leaves-accepted f b s g b' s' e is size q;
     checked = subst⁻¹ (λ (y : Book). Checked y s' rows') is (record { base = loaded-whole g s' v q; kept = kept; size = n });
     older = λ l l' p p' m z.
         let was : h.base.list ≡ l = belongs-one (sym h.base.is ∙ p) in
         let now-is : g.list ≡ l' = belongs-one (sym (load-whole g s' v q) ∙ ap (λ (y : Book). load y s') (sym is) ∙ p') in
         omega (arith, o m z, ap (latest_of m) was, ap (latest_of m) now-is);
-  }
+  })
 
 -- the latest change of a number after one change more, and after one less
 newer-other : (c : Change) (l : List Change) (m : ℕ) → (m ≡ bucket (key_of c) → ⊥) → latest_of m (c ∷ l) ≤ latest_of m l
@@ -120,33 +117,38 @@ module _ {b : Book} {s rows : List ℕ} (h : Checked b s rows) {want : Wanted} {
   open-or t e = step-listed ∙ ap
       (λ (y : Bool). cond y (answered (refused 9)) (judged r.what (reg_of b s h.base) (refusal h.base.list (length s) r.what))) e
 
-  pub listed-closed : b.closed ≡ true → Makes (listed (parse want rec)) b s v.key (record { book = b; answer = Refused 9 }) s rows
-  listed-closed t = makes-refused h 9 (open-or true t)
+  pub listed-closed : b.closed ≡ true → {d : Done} → d ≡ record { book = b; answer = Err Closed } → Makes (listed (parse want rec)) b s v.key d s rows
+  listed-closed t d = makes-refused h Closed d (open-or true t)
 
   -- it is open; the key was looked for, and the records of its mark and hour were counted
-  module _ (t : b.closed ≡ false) {from : ℕ} (sn : Since b s v.key from) {x : Seek}
-      (fs : (l : List Change) → Logged s rows b.changes l → v.key.hour < 32 → Padded v.key.name → latest_of (bucket v.key) l ≤ from → Sought rows
-      b.changes v.key x l)
-      {m : ℕ} (fm : (l : List Change) → Ruled rows b.changes l → v.key.hour < 32 → m ≡ count v.key (standing l))
-      {most : ℕ} (em : most ≡ limit_of v.key) {w : ℕ} (ew : w ≡ change_fault v.kind x.found m most b.changes b.used v.len (length s))
+  module _ (t : b.closed ≡ false) {from : ℕ} (sn : Since b s v.key from) {hs hr : List ℕ}
+      (front : hr ≡ take b.changes rows) (size : length hr ≡ b.changes)
+      (says : (l : List Change) → Logged s rows b.changes l → Logged hs hr b.changes l) {x : Option Standing}
+      (fs : (l : List Change) → Logged hs hr (length hr) l → v.key.hour < 32 → Padded v.key.name → latest_of (bucket v.key) l ≤ from → Sought hr v.key x l)
+      {m : ℕ} (fm : (l : List Change) → Logged hs hr (length hr) l → v.key.hour < 32 → m ≡ count v.key (standing l))
+      {most : ℕ} (em : most ≡ limit_of v.key) {w : ℕ} (ew : w ≡ change_fault v.kind (is_some x) m most b.changes b.used v.len (length s))
     where
-      sought : Sought rows b.changes v.key x h.base.list
-      sought = fs h.base.list (checked-logged h) low padded (sn.none h.base.list h.base.is)
+      held : Logged hs hr (length hr) h.base.list
+      held = held-says size (says h.base.list (checked-logged h))
+
+      sought : Sought hr v.key x h.base.list
+      sought = fs h.base.list held low padded (sn.none h.base.list h.base.is)
 
       -- the code's judgement is the register's
       judged-is : refusal h.base.list (length s) r.what ≡ w
       judged-is =
           let c = r.what in
           let l = h.base.list in
-          let fd : x.found ≡ stands (key_of c) (standing l) = sought.found ∙ survey-found v.key l ∙ ap (λ (y : Key). stands y (standing l)) (sym key-is) in
-          let cs : m ≡ count (key_of c) (standing l) = fm l (checked-logged h).ruled low ∙ ap (λ (y : Key). count y (standing l)) (sym key-is) in
+          let fd : is_some x ≡ stands (key_of c) (standing l) = sought.found ∙ survey-found v.key l ∙ ap (λ (y : Key). stands y (standing l)) (sym key-is) in
+          let cs : m ≡ count (key_of c) (standing l) = fm l held low ∙ ap (λ (y : Key). count y (standing l)) (sym key-is) in
           let ms : most ≡ limit_of (key_of c) = em ∙ ap limit_of (sym key-is) in
           sym (ew ∙ (λ i. change_fault (r.is i).kind (fd i) (cs i) (ms i) (sym h.base.count-is i) (sym h.base.size i) (r.is i).len (length s))
           ∙ sym (refusal-judge l (length s) c))
 
-      pub listed-refused : (w ≡ 0 → ⊥) → Makes (listed (parse want rec)) b s v.key (record { book = b; answer = Refused w }) s rows
-      listed-refused z = makes-refused h w
-          (open-or false t ∙ ap (judged r.what (reg_of b s h.base)) judged-is ∙ judged-no r.what (reg_of b s h.base) w z)
+      pub listed-refused : (y : Refusal) → w ≡ number_of y → {d : Done} → d ≡ record { book = b; answer = Err y }
+          → Makes (listed (parse want rec)) b s v.key d s rows
+      listed-refused y e d = makes-refused h y d
+          (open-or false t ∙ ap (judged r.what (reg_of b s h.base)) (judged-is ∙ e) ∙ judged-no r.what (reg_of b s h.base) (number_of y) (number-some y))
 
       -- it is taken
       module _ (z : w ≡ 0) where
@@ -154,10 +156,10 @@ module _ {b : Book} {s rows : List ℕ} (h : Checked b s rows) {want : Wanted} {
         unfolding change_fault
         listed-few =
             room-facts b.changes b.used v.len (length s)
-            (judge-room (is_filing v.kind) x.found (ltb m most) (space_fault b.changes b.used v.len (length s)) (sym ew ∙ z))
+            (judge-room (is_filing v.kind) (is_some x) (ltb m most) (space_fault b.changes b.used v.len (length s)) (sym ew ∙ z))
 
-        pub listed-clear : x.found ≡ true → x.at < 512
-        listed-clear f = omega (arith, sought.inside f, listed-few.0)
+        pub listed-clear : (y : Standing) → x ≡ Some y → y.at < 512
+        listed-clear y e = omega (arith, (sought.stood y e).inside, size, listed-few.0)
 
         pub listed-row : {hour : ℕ} → hour < 512 → (hour < 512) × (b.used < 65536)
         listed-row hs = (hs, omega (arith, listed-few.2))
@@ -167,11 +169,10 @@ module _ {b : Book} {s rows : List ℕ} (h : Checked b s rows) {want : Wanted} {
 
         pub makes-listed : {hour : ℕ} → hour ≡ hour_slot v.key → {s' : List ℕ} → s' ≡ viewed_bytes v b.used rec s
             → {rows₁ : List ℕ} → rows₁ ≡ cleared rows x → {row : ℕ} → row ≡ packed (not (is_withdrawal v.kind)) v.kind hour b.used
-            → Makes (listed (parse want rec)) b s v.key
-            (record { book = record { changes = b.changes + 1; used = b.used + v.len; closed = b.closed }; answer = Accepted }) s'
-            (set rows₁ b.changes row)
+            → {d : Done} → d ≡ record { book = record { changes = b.changes + 1; used = b.used + v.len; closed = b.closed }; answer = Ok tt }
+            → Makes (listed (parse want rec)) b s v.key d s' (set rows₁ b.changes row)
         unfolding write_all
-        makes-listed {hour} eh {s'} ev {rows₁} ex {row} er =
+        makes-listed {hour} eh {s'} ev {rows₁} ex {row} er d =
             let c = r.what in
             let es : s' ≡ put_bytes (parse want rec) b.used s = ev ∙ (viewed-put want rec v
             (ap seen_view r.input ∙ ap fine (sym r.is)) b.used s).1 in
@@ -183,11 +184,12 @@ module _ {b : Book} {s rows : List ℕ} (h : Checked b s rows) {want : Wanted} {
             y.size in
             let u : b.changes + 1 ≡ suc (length l) = omega (arith, y.count-is) in
             let st : listed (parse want rec) (length s) (reg_of b s y) ≡ becomes g = sym (step_is (listed (parse want rec)) b s y) ∙ step-taken in
-            let f : Sought rows b.changes (key_of c) x l = subst (λ (k : Key). Sought rows b.changes k x l) (sym key-is) sought in
+            let f : Sought (take b.changes rows) (key_of c) x l = subst (λ (k : Key). Sought (take b.changes rows) k x l) (sym key-is)
+            (subst (λ (y : List ℕ). Sought y v.key x l) front sought) in
             let hr : hour ≡ hour_slot (key_of c) = eh ∙ ap hour_slot (sym key-is) in
             let er' : row ≡ packed (not (is_withdrawal (kind_of c))) (kind_of c) (hour_slot (key_of c)) (length (write_all l)) =
             er ∙ (λ i. packed (not (is_withdrawal (r.is i).kind)) (r.is i).kind (hr i) (sym y.size i)) in
-            makes-accepted h g _ s' (set rows₁ b.changes row) step-taken
+            makes-accepted h g _ s' (set rows₁ b.changes row) d step-taken
             (λ i. record { changes = u i; used = (ap (λ (k : ℕ). b.used + k) len ∙ sym n) i; closed = b.closed })
             (ap length es ∙ store_length (parse want rec) b.used s)
             (ap₂ take n es ∙ store-front (parse want rec) c b.used s r.input (omega (arith, listed-few.1)) ∙ ap (λ (k : List ℕ). k ++ write c)
@@ -226,11 +228,12 @@ module _ {b : Book} {s rows : List ℕ} (h : Checked b s rows) where
   back_step : (t : Bool) → b.closed ≡ t → stepped (taken_back 0) b s (load b s) ≡ cond t (answered (refused 9)) (shorter b.closed h.base.list)
   back_step t e = step_is (taken_back 0) b s h.base ∙ ap (λ (y : Bool). cond y (answered (refused 9)) (shorter b.closed h.base.list)) e
 
-  pub back-closed : {k : Key} → b.closed ≡ true → Makes (taken_back 0) b s k (record { book = b; answer = Refused 9 }) s rows
-  back-closed t = makes-refused h 9 (back_step true t)
+  pub back-closed : {k : Key} → b.closed ≡ true → {d : Done} → d ≡ record { book = b; answer = Err Closed } → Makes (taken_back 0) b s k d s rows
+  back-closed t d = makes-refused h Closed d (back_step true t)
 
-  pub back_none : {k : Key} → b.closed ≡ false → b.changes ≡ 0 → Makes (taken_back 0) b s k (record { book = b; answer = Refused 14 }) s rows
-  back_none t e = makes-refused h 14 (back_step false t ∙ go h.base.list h.base.count-is)
+  pub back_none : {k : Key} → b.closed ≡ false → b.changes ≡ 0 → {d : Done} → d ≡ record { book = b; answer = Err NothingToTakeBack }
+      → Makes (taken_back 0) b s k d s rows
+  back_none t e d = makes-refused h NothingToTakeBack d (back_step false t ∙ go h.base.list h.base.count-is)
     where
       go : (l : List Change) → length l ≡ b.changes → shorter b.closed l ≡ answered (refused 14)
       go [] w = refl
@@ -289,15 +292,17 @@ module _ {b : Book} {s rows : List ℕ} (h : Checked b s rows) where
           λ i. record { changes = n i; used = (eq ∙ last.start) i; closed = b.closed }
 
       back-taken : {k : Key} {rows' : List ℕ} → Rows rows' last.rest last.rest → length rows' ≡ 512
-          → Makes (taken_back 0) b s k (record { book = record { changes = b.changes - 1; used = q; closed = b.closed }; answer = Accepted }) s rows'
-      back-taken {rows' = rows'} kept n =
-          makes-accepted h less _ s rows' (back_step false t ∙ ap (shorter b.closed) last.list-is) book-is refl rest-bytes rest-valid kept n
+          → {d : Done} → d ≡ record { book = record { changes = b.changes - 1; used = q; closed = b.closed }; answer = Ok tt }
+          → Makes (taken_back 0) b s k d s rows'
+      back-taken {rows' = rows'} kept n d =
+          makes-accepted h less _ s rows' d (back_step false t ∙ ap (shorter b.closed) last.list-is) book-is refl rest-bytes rest-valid kept n
           (λ m z. omega (arith, older-less last.what last.rest m, ap (latest_of m) last.list-is))
 
       pub back-makes : {k : Key} {rows' : List ℕ}
           → ((c : Change) (l : List Change) → Logged s rows b.changes (c ∷ l) → Rows rows' l l) × (length rows' ≡ 512)
-          → Makes (taken_back 0) b s k (record { book = record { changes = b.changes - 1; used = q; closed = b.closed }; answer = Accepted }) s rows'
-      back-makes w = back-taken (w.0 last.what last.rest (subst (Logged s rows b.changes) last.list-is (checked-logged h))) w.1
+          → {d : Done} → d ≡ record { book = record { changes = b.changes - 1; used = q; closed = b.closed }; answer = Ok tt }
+          → Makes (taken_back 0) b s k d s rows'
+      back-makes w d = back-taken (w.0 last.what last.rest (subst (Logged s rows b.changes) last.list-is (checked-logged h))) w.1 d
 
 -- ---- a book that is closed
 
@@ -307,14 +312,14 @@ module _ {b : Book} {s rows : List ℕ} (h : Checked b s rows) where
   close-step t e = step_is (closing 0) b s h.base ∙ ap
       (λ (y : Bool). cond y (answered (refused 9)) (becomes (record { list = h.base.list; closed = true }))) e
 
-  pub close-closed : {k : Key} → b.closed ≡ true → Makes (closing 0) b s k (record { book = b; answer = Refused 9 }) s rows
-  close-closed t = makes-refused h 9 (close-step true t)
+  pub close-closed : {k : Key} → b.closed ≡ true → {d : Done} → d ≡ record { book = b; answer = Err Closed } → Makes (closing 0) b s k d s rows
+  close-closed t d = makes-refused h Closed d (close-step true t)
 
-  pub close-taken : {k : Key} → b.closed ≡ false → Makes (closing 0) b s k
-      (record { book = record { changes = b.changes; used = b.used; closed = true }; answer = Accepted }) s rows
-  close-taken t =
+  pub close-taken : {k : Key} → b.closed ≡ false → {d : Done}
+      → d ≡ record { book = record { changes = b.changes; used = b.used; closed = true }; answer = Ok tt } → Makes (closing 0) b s k d s rows
+  close-taken t d =
       let x = h.base in
-      makes-accepted h (record { list = x.list; closed = true }) _ s rows (close-step false t)
+      makes-accepted h (record { list = x.list; closed = true }) _ s rows d (close-step false t)
       (λ i. record { changes = sym x.count-is i; used = sym x.size i; closed = true }) refl
       (ap (λ (k : ℕ). take k s) x.size ∙ sym x.bytes) x.valid h.kept h.size (λ m z. omega arith)
 
@@ -403,7 +408,9 @@ module _ (rec : List ℕ) where
       other (fault n) q = absurd (let z : ◌≡◌ {A = ℕ} 0 1 = cc in omega arith)
 
       go : Sort rec → general rec ≡ closing 0
-      go (is-back a p) = let w = (alone-taken taking_back closing_entry (bare_take_back rec) (sym p ∙ e)).1 in absurd (let z : ◌≡◌ {A = ℕ} 0 1 = cc in omega arith)
+      go (is-back a p) =
+          let w = (alone-taken taking_back closing_entry (bare_take_back rec) (sym p ∙ e)).1 in
+          absurd (let z : ◌≡◌ {A = ℕ} 0 1 = cc in omega arith)
       go (is-close a p) = a ∙ ap closing (alone-taken closing_entry closing_entry (bare_close rec) (sym p ∙ e)).0
       go (is-other a p) = other (parse Any rec) (sym p ∙ e)
 
@@ -415,7 +422,9 @@ module _ (rec : List ℕ) where
       other (fault n) q = absurd (let z : ◌≡◌ {A = ℕ} 0 1 = cc in omega arith)
 
       go : Sort rec → (general rec ≡ listed (parse Any rec)) × (parse Any rec ≡ fine c)
-      go (is-back a p) = let w = (alone-taken taking_back (changed c) (bare_take_back rec) (sym p ∙ e)).1 in absurd (let z : ◌≡◌ {A = ℕ} 0 1 = cc in omega arith)
+      go (is-back a p) =
+          let w = (alone-taken taking_back (changed c) (bare_take_back rec) (sym p ∙ e)).1 in
+          absurd (let z : ◌≡◌ {A = ℕ} 0 1 = cc in omega arith)
       go (is-close a p) = let w = (alone-taken closing_entry (changed c) (bare_close rec) (sym p ∙ e)).1 in absurd (let z : ◌≡◌ {A = ℕ} 0 1 = cc in omega arith)
       go (is-other a p) = (a, other (parse Any rec) (sym p ∙ e))
 

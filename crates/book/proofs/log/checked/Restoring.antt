@@ -1,13 +1,8 @@
 -- A correction or withdrawal taken back: the record that it replaced or removed stands again.
-use Prim.Native.Nat.{ℕ, suc, ◌+◌, ◌*◌, ◌-◌, ◌≤◌, ◌<◌}
-use mathlib.Core.Path.{◌≡◌, refl, sym, ap, ap₂, ◌∙◌, subst}
-use mathlib.Core.List.{List, [], ◌∷◌}
-use mathlib.Core.Bool.{Bool, true, false, cond, not, ◌&&◌}
-use native.Mathlib.Omega.{arith}
-use lib.ListN.{length, take, drop, get_or, set, length-set, drop_of_length-le}
-use lib.Seq.{get_or-set_same, get_or-set_other}
-use lib.Dec.{eqb}
-use borrow.Author.Tests.{eq-eqb, eqb-true, eqb-false}
+use Rattle.std.specs.Prelude.{ℕ, suc, ◌+◌, ◌*◌, ◌-◌, ◌≤◌, ◌<◌, ◌≡◌, refl, List, [], ◌∷◌, Bool, true, false, cond, not, ◌&&◌, length, take, drop, get_or, set, eqb}
+use Rattle.std.proofs.Common.{sym, ap, ap₂, ◌∙◌, subst, arith, length-set, get_or-set_same, get_or-set_other, eq-eqb, eqb-true}
+use Rattle.std.proofs.Math.ListN.{drop_of_length-le}
+use Rattle.std.proofs.lemmas.Bool.{eqb-false}
 use Rattle.book.specs.Layer.{Change, filed, corrected, withdrawn, key_of, kind_of, Good, begins, same, same_hour, order, Key, Input, fine, fault, input_of, Kind, is_filing, is_correction, is_withdrawal}
 use Rattle.book.specs.tables.LayerTables.{head_key, nameable, name_head}
 use Rattle.book.specs.laws.LayerLaws.{good-hour, good-padded, good-able, same-sym, same_alike, head-written}
@@ -20,8 +15,9 @@ use Rattle.book.specs.tables.Rows.{packed, row_start, row_slot, row_kind, row_pl
 use Rattle.book.specs.tables.Checked.{row_stands, Undoing, Wrote}
 use Rattle.book.specs.laws.RegisterLaws.{by-test, true≠false, survey-found, refusal-found}
 use Rattle.book.proofs.log.Survey.{to_end, valid-size, valid-drop}
-use Rattle.book.proofs.log.rows.Lemmas.{Seen, row_seen, rows_at, ruled-at, ruled-few, ruled-seen, ruled-good, code-few, slot-few, live-true, survey-same, WrittenAt, name-within, told_at, ChangeAt, change-at, record-at, and_left, and_right}
+use Rattle.book.proofs.log.rows.Lemmas.{Seen, row_seen, rows_at, ruled-at, ruled-seen, ruled-good, code-few, slot-few, live-true, survey-same, WrittenAt, told_at, ChangeAt, change-at, record-at, and_left, and_right}
 use Rattle.book.proofs.log.index.Lemmas.{slot-hour}
+use Rattle.book.proofs.log.checked.Lemmas.{held-says}
 use Rattle.book.proofs.log.replay.Lemmas.{place-one, live-passed, live-over, rows-build, rows_back, under}
 
 not-not : (b : Bool) → not b ≡ true → b ≡ false
@@ -100,8 +96,8 @@ module _ {s rows : List ℕ} {n : ℕ} {c : Change} {l : List Change} (g : Logge
           let o : new ≡ true = (w.live d m (ap (λ (y : ℕ). drop (length l - (y + 1)) l) (sym ej) ∙ e)).1 in
           ap (λ (y : ℕ). get_or (set rows r x) y 0) ej ∙ get_or-set_same rows r x 0 (omega (arith, w.inside, (valid-size l l-valid).0)) ∙ ap
           (λ (y : ℕ). row_stands (get_or rows y 0)) (sym ej)
-          ∙ ap row_stands (row_is j lt d m e) ∙ stands-packed old (kind_of d) (hour_slot (key_of d)) q (slot-few (key_of d) (low j lt d m e)) (q-few j lt d m e) ∙ ap
-          row (sym o))
+          ∙ ap row_stands (row_is j lt d m e) ∙ stands-packed old (kind_of d) (hour_slot (key_of d)) q (slot-few (key_of d) (low j lt d m e)) (q-few j lt d m e)
+          ∙ ap row (sym o))
           (λ t. get_or-set_other rows r j x 0 (eqb-false j r t) ∙ row_is j lt d m e
           ∙ ap row (by-test (same (key_of d) (key_of c))
           (λ u. live-over c l (key_of d) (kind_of d) q u (under d m l (length l - (j + 1)) e)
@@ -116,32 +112,33 @@ restored {rows = rows} size r f = ((λ c l g. rows-restored g size r (f c l g)),
 
 -- ---- the search for the change that wrote the record which stands again, the newest first
 
-pub record Backward (s rows : List ℕ) (n hs : ℕ) (name : List ℕ) (i : ℕ) : Type 0 where
-  pub inside : i < n
-  pub is : (c : Change) (l : List Change) → Undoing s rows n hs name c l
-      → ((survey (key_of c) (drop (n - i) (c ∷ l))).found ≡ true) × ((survey (key_of c) (drop (n - i) (c ∷ l))).start ≡ (survey (key_of c) l).start)
+pub record Backward (s rows : List ℕ) (hs : ℕ) (name : List ℕ) (i : ℕ) : Type 0 where
+  pub inside : i < length rows
+  pub is : (c : Change) (l : List Change) → Undoing s rows hs name c l
+      → ((survey (key_of c) (drop (length rows - i) (c ∷ l))).found ≡ true)
+      × ((survey (key_of c) (drop (length rows - i) (c ∷ l))).start ≡ (survey (key_of c) l).start)
 
 -- one of the changes has the key
-pub backward-end : {s rows : List ℕ} {n hs : ℕ} {name : List ℕ} {i : ℕ} → Backward s rows n hs name i → i ≤ 0 → (r : ℕ) (c : Change) (l : List Change)
-    → Undoing s rows n hs name c l → Wrote (length l) (key_of c) r l
+pub backward-end : {s rows : List ℕ} {hs : ℕ} {name : List ℕ} {i : ℕ} → Backward s rows hs name i → i ≤ 0 → (r : ℕ) (c : Change) (l : List Change)
+    → Undoing s rows hs name c l → Wrote (length l) (key_of c) r l
 unfolding survey
-backward-end {n = n} {i = i} h z r c l u =
-    let e : drop (n - i) (c ∷ l) ≡ [] = drop_of_length-le (c ∷ l) {i = n - i} (omega (arith, u.logged.ruled.count)) in
+backward-end {rows = rows} {i = i} h z r c l u =
+    let e : drop (length rows - i) (c ∷ l) ≡ [] = drop_of_length-le (c ∷ l) {i = length rows - i} (omega (arith, u.logged.ruled.count)) in
     true≠false (ap (λ (y : List Change). (survey (key_of c) y).found) (sym e) ∙ (h.is c l u).0) refl
 
 -- a turn: the change before i
-module _ {s rows : List ℕ} {n hs : ℕ} {name : List ℕ} {i : ℕ} (h : Backward s rows n hs name i) (above : 0 < i) (j : ℕ) (ej : j ≡ i - 1) where
-  pub back_inside : j < n
+module _ {s rows : List ℕ} {hs : ℕ} {name : List ℕ} {i : ℕ} (h : Backward s rows hs name i) (above : 0 < i) (j : ℕ) (ej : j ≡ i - 1) where
+  back_inside : j < length rows
   back_inside = omega (arith, h.inside)
 
-  module _ {l : List Change} (g : Logged s rows n l) where
+  module _ {l : List Change} (g : Logged s rows (length rows) l) where
     what : Change
     what = (ruled-at g.ruled back_inside).what
 
     older : List Change
-    older = drop (n - j) l
+    older = drop (length rows - j) l
 
-    older-is : drop (n - (j + 1)) l ≡ what ∷ older
+    older-is : drop (length rows - (j + 1)) l ≡ what ∷ older
     unfolding what older
     older-is = (ruled-at g.ruled back_inside).rest
 
@@ -153,11 +150,11 @@ module _ {s rows : List ℕ} {n hs : ℕ} {name : List ℕ} {i : ℕ} (h : Backw
     unfolding what
     good-there = ruled-good g.ruled back_inside
 
-  module _ {c : Change} {l : List Change} (u : Undoing s rows n hs name c l) where
+  module _ {c : Change} {l : List Change} (u : Undoing s rows hs name c l) where
     turn : ((survey (key_of c) (what u.logged ∷ older u.logged)).found ≡ true) ×
         ((survey (key_of c) (what u.logged ∷ older u.logged)).start ≡ (survey (key_of c) l).start)
     turn =
-        let e : n - i ≡ n - (j + 1) = omega arith in
+        let e : length rows - i ≡ length rows - (j + 1) = omega arith in
         subst (λ (y : List Change). ((survey (key_of c) y).found ≡ true) × ((survey (key_of c) y).start ≡ (survey (key_of c) l).start))
         (ap (λ (m : ℕ). drop m (c ∷ l)) e ∙ older-is u.logged) (h.is c l u)
 
@@ -166,14 +163,14 @@ module _ {s rows : List ℕ} {n hs : ℕ} {name : List ℕ} {i : ℕ} (h : Backw
     unfolding survey
     turn-wrote t = sym (ap (λ (b : Bool). cond b (not (is_withdrawal (kind_of (what u.logged)))) (survey (key_of c) (older u.logged)).found) t) ∙ turn.0
 
-  skip : ((c : Change) (l : List Change) (u : Undoing s rows n hs name c l) → same (key_of c) (key_of (what u.logged)) ≡ false) → Backward s rows n hs name j
+  skip : ((c : Change) (l : List Change) (u : Undoing s rows hs name c l) → same (key_of c) (key_of (what u.logged)) ≡ false) → Backward s rows hs name j
   unfolding survey older
   skip f = record {
     inside = back_inside;
     is = λ c l u.
         let k = key_of c in
         let x = what u.logged in
-        let m = drop (n - j) (c ∷ l) in
+        let m = drop (length rows - j) (c ∷ l) in
         let q = length (write_all m) in
         let t = turn u in
         let e = f c l u in (
@@ -186,7 +183,7 @@ module _ {s rows : List ℕ} {n hs : ℕ} {name : List ℕ} {i : ℕ} (h : Backw
   row = get_or rows j 0
 
   -- a withdrawal, or of another mark or hour
-  pub back-skip : (not (is_withdrawal (row_kind row)) && eqb (row_slot row) hs) ≡ false → Backward s rows n hs name j
+  pub back-skip : (not (is_withdrawal (row_kind row)) && eqb (row_slot row) hs) ≡ false → Backward s rows hs name j
   back-skip e = skip (λ c l u.
       let x = what u.logged in
       by-test (same (key_of c) (key_of x))
@@ -198,23 +195,21 @@ module _ {s rows : List ℕ} {n hs : ℕ} {name : List ℕ} {i : ℕ} (h : Backw
 
   -- it filed or corrected a record of the mark and hour
   module _ (e : (not (is_withdrawal (row_kind row)) && eqb (row_slot row) hs) ≡ true) (x : ℕ) (ex : x ≡ row_place row) where
-    there : {l : List Change} (g : Logged s rows n l) → WrittenAt s x (key_of (what g))
+    there : {l : List Change} (g : Logged s rows (length rows) l) → WrittenAt s x (key_of (what g))
     there g =
         subst (λ (y : ℕ). WrittenAt s y (key_of (what g))) (sym (ex ∙ (seen_at g).place))
-        (record-at (what g) (change-at g (n - (j + 1)) (what g) (older g) (older-is g)) (good-there g)
-        (ap is_withdrawal (sym (seen_at g).kind) ∙ not-not (is_withdrawal (row_kind row)) (and_left (not (is_withdrawal (row_kind row))) (eqb (row_slot row) hs) e)))
-
-    pub back-within : Log s rows n → x + 3 ≤ length s
-    back-within o = name-within (there o.logged)
+        (record-at (what g) (change-at g (length rows - (j + 1)) (what g) (older g) (older-is g)) (good-there g)
+        (ap is_withdrawal (sym (seen_at g).kind) ∙ not-not (is_withdrawal (row_kind row))
+        (and_left (not (is_withdrawal (row_kind row))) (eqb (row_slot row) hs) e)))
 
     -- it is of the mark and hour
-    hour-there : {c : Change} {l : List Change} (u : Undoing s rows n hs name c l) → same_hour (key_of c) (key_of (what u.logged)) ≡ true
+    hour-there : {c : Change} {l : List Change} (u : Undoing s rows hs name c l) → same_hour (key_of c) (key_of (what u.logged)) ≡ true
     unfolding Valid
     hour-there {c} u =
         slot-hour (key_of c) (key_of (what u.logged)) (omega (arith, (good-hour c u.logged.ruled.valid.0).1)) (seen_at u.logged).low
         (sym u.slot_is ∙ sym (eqb-true (row_slot row) hs (and_right (not (is_withdrawal (row_kind row))) (eqb (row_slot row) hs) e)) ∙ (seen_at u.logged).slot)
 
-    same-there : {c : Change} {l : List Change} (u : Undoing s rows n hs name c l)
+    same-there : {c : Change} {l : List Change} (u : Undoing s rows hs name c l)
         → begins name (drop (x + 3) s) ≡ same (key_of c) (key_of (what u.logged))
     unfolding Valid
     same-there {c} u =
@@ -222,11 +217,11 @@ module _ {s rows : List ℕ} {n hs : ℕ} {name : List ℕ} {i : ℕ} (h : Backw
         ∙ told_at (there u.logged) (key_of c) (good-padded c u.logged.ruled.valid.0) u.able (hour-there u)
 
     -- of another name
-    pub back-other : begins name (drop (x + 3) s) ≡ false → Backward s rows n hs name j
+    pub back-other : begins name (drop (x + 3) s) ≡ false → Backward s rows hs name j
     back-other t = skip (λ c l u. sym (same-there u) ∙ t)
 
     -- of the key
-    pub back-hit : begins name (drop (x + 3) s) ≡ true → (c : Change) (l : List Change) → Undoing s rows n hs name c l → Wrote (length l) (key_of c) j l
+    pub back-hit : begins name (drop (x + 3) s) ≡ true → (c : Change) (l : List Change) → Undoing s rows hs name c l → Wrote (length l) (key_of c) j l
     unfolding survey live_at
     back-hit t c l u = record {
       inside = before;
@@ -234,14 +229,16 @@ module _ {s rows : List ℕ} {n hs : ℕ} {name : List ℕ} {i : ℕ} (h : Backw
           g ≡ m = cc in wrote d m y z;
     }
       where
-        g : Logged s rows n (c ∷ l)
+        g : Logged s rows (length rows) (c ∷ l)
         g = u.logged
 
         before : j < length l
         before = omega (arith, h.inside, g.ruled.count)
 
         older-l : drop (length l - (j + 1)) l ≡ what g ∷ older g
-        older-l = let z : suc (length l - (j + 1)) ≡ n - (j + 1) = omega (arith, g.ruled.count, before) in ap (λ (m : ℕ). drop m (c ∷ l)) z ∙ older-is g
+        older-l =
+            let z : suc (length l - (j + 1)) ≡ length rows - (j + 1) = omega (arith, g.ruled.count, before) in
+            ap (λ (m : ℕ). drop m (c ∷ l)) z ∙ older-is g
 
         sc : same (key_of c) (key_of (what g)) ≡ true
         sc = sym (same-there u) ∙ t
@@ -298,9 +295,6 @@ module _ {s rows : List ℕ} {n : ℕ} {c : Change} {l : List Change} (g : Logge
   last-at : ChangeAt s (length (write_all l)) c
   last-at = change-at g 0 c l refl
 
-  last_within : {x : ℕ} → x ≡ row_start (get_or rows (n - 1) 0) → x ≤ length s
-  last_within ex = omega (arith, ex, last-seen.start, last-at.inside)
-
   -- the bytes from there on begin with it
   last-read : {x : ℕ} → x ≡ row_start (get_or rows (n - 1) 0) → input_of (head_key (take (length s - x) (drop x s))) ≡ fine (key_of c)
   unfolding Valid
@@ -319,45 +313,38 @@ module _ {s rows : List ℕ} {n : ℕ} {c : Change} {l : List Change} (g : Logge
 
   pub undoing : {kind : Kind} → kind ≡ row_kind (get_or rows (n - 1) 0) → is_filing kind ≡ false → {x : ℕ} → x ≡ row_start (get_or rows (n - 1) 0)
       → {key : Key} → fine key ≡ input_of (head_key (take (length s - x) (drop x s))) → {hs : ℕ} → hs ≡ hour_slot key
-      → {name : List ℕ} → name ≡ name_head key → Undoing s rows n hs name c l
+      → {name : List ℕ} → name ≡ name_head key → length rows ≡ n → Undoing s rows hs name c l
   unfolding Valid
-  undoing {kind} ek z {x} ex {key} ea {hs} es {name} en =
+  undoing {kind} ek z {x} ex {key} ea {hs} es {name} en size =
       let key-is = last-key ex ea in
       record {
-        logged = g;
+        logged = held-says size g;
         slot_is = es ∙ ap hour_slot key-is;
         able = good-able c g.ruled.valid.0;
         name-is = en ∙ ap name_head key-is;
         stood = survey-found (key_of c) l ∙ refusal-found l 65535 c g.ruled.valid.1 ∙ ap not (ap is_filing (sym (ek ∙ last-seen.kind)) ∙ z);
       }
 
-  -- a filing
-  pub back-rows : {kind : Kind} → kind ≡ row_kind (get_or rows (n - 1) 0) → is_filing kind ≡ true → Rows rows l l
-  back-rows {kind} ek one = go c g (ap is_filing (sym (ek ∙ last-seen.kind)) ∙ one)
+  -- a filing, of the first n of some rows
+  pub back-rows : {kind : Kind} → kind ≡ row_kind (get_or rows (n - 1) 0) → is_filing kind ≡ true → {t all : List ℕ} → Logged t all n (c ∷ l) → Rows all l l
+  back-rows {kind} ek one {t} {all} w = go c w (ap is_filing (sym (ek ∙ last-seen.kind)) ∙ one)
     where
-      go : (d : Change) → Logged s rows n (d ∷ l) → is_filing (kind_of d) ≡ true → Rows rows l l
-      go (filed r) o z = rows_back rows r l o.ruled.valid o.ruled.kept
+      go : (d : Change) → Logged t all n (d ∷ l) → is_filing (kind_of d) ≡ true → Rows all l l
+      go (filed r) o z = rows_back all r l o.ruled.valid o.ruled.kept
       go (corrected r) o z = true≠false z refl
       go (withdrawn k) o z = true≠false z refl
 
-module _ {s rows : List ℕ} {n : ℕ} (o : Log s rows n) (h : 0 < n) where
-  pub newest-few : n - 1 < 512
-  newest-few = ruled-few o.logged.ruled (omega arith)
-
-  pub newest-within : {x : ℕ} → x ≡ row_start (get_or rows (n - 1) 0) → x ≤ length s
-  newest-within ex = last_within (newest o h).logged ex
-
-  pub wrote-few : {r : ℕ} → ((c : Change) (l : List Change) → Logged s rows n (c ∷ l) → Wrote (length l) (key_of c) r l) → r < 512
-  wrote-few f =
-      let x = newest o h in
-      omega (arith, (f x.what x.rest x.logged).inside, x.logged.ruled.count, (valid-size (x.what ∷ x.rest) x.logged.ruled.valid).0)
+-- the log that is held, of the bytes and rows of some
+module _ {t all : List ℕ} {n : ℕ} (o : Log t all n) (h : 0 < n) {s rows : List ℕ} (says : (l : List Change) → Logged t all n l → Logged s rows n l) where
+  last : Newest s rows n
+  last = newest (record { list = o.list; logged = says o.list o.logged }) h
 
   -- its key can be read, and its name written
   pub newest-read : {x : ℕ} → x ≡ row_start (get_or rows (n - 1) 0) → {k : ℕ} → fault k ≡ input_of (head_key (take (length s - x) (drop x s))) → ⊥
   newest-read ex {k} ea =
-      let p : ◌≡◌ {A = Input Key} (fault k) (fine (key_of (newest o h).what)) = ea ∙ last-read (newest o h).logged ex in
+      let p : ◌≡◌ {A = Input Key} (fault k) (fine (key_of last.what)) = ea ∙ last-read last.logged ex in
       let z : ◌≡◌ {A = ℕ} 0 1 = cc in omega arith
 
   pub newest-able : {x : ℕ} → x ≡ row_start (get_or rows (n - 1) 0) → {key : Key} → fine key ≡ input_of (head_key (take (length s - x) (drop x s)))
       → nameable key ≡ false → ⊥
-  newest-able ex ea z = true≠false (last-able (newest o h).logged ex ea) z
+  newest-able ex ea z = true≠false (last-able last.logged ex ea) z

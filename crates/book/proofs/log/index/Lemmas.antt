@@ -1,15 +1,5 @@
 -- The index of a replay: its numbers, and the latest change of a number.
-use Prim.Native.Nat.{ℕ, suc, ◌+◌, ◌-◌, ◌*◌, ◌%◌, ◌≤◌, ◌<◌}
-use mathlib.Core.Path.{◌≡◌, sym, ap, ◌∙◌}
-use mathlib.Core.List.{List, [], ◌∷◌}
-use mathlib.Core.Bool.{Bool, true, false, cond}
-use native.Mathlib.Nat.{mul-le-mul}
-use native.Mathlib.Numerals.{add-one}
-use native.Mathlib.Omega.{arith}
-use lib.ListN.{length, drop, get_or, set, drop_of_length-le}
-use lib.Seq.{drop-cons, get_or-set_same, get_or-set_other}
-use lib.Dec.{eqb}
-use borrow.Author.Tests.{eq-eqb, eqb-true}
+use Rattle.std.proofs.Common.{◌≡◌, sym, ap, ◌∙◌, ℕ, suc, ◌+◌, ◌-◌, ◌*◌, ◌%◌, ◌≤◌, ◌<◌, List, [], ◌∷◌, Bool, true, false, cond, arith, mul-le-mul, add-one, length, drop, get_or, set, eqb, drop_of_length-le, drop-cons, get_or-set_same, get_or-set_other, eq-eqb, eqb-true}
 use Rattle.book.specs.Layer.{Key, Change, Good, key_of, kind_of, same, same_hour, order, key_order, is_filing, is_withdrawal}
 use Rattle.book.specs.laws.LayerLaws.{Padded, good-padded, same_alike, same-name, one-mark, hour-parts, parts-hour}
 use Rattle.book.specs.tables.Tables.{survey}

@@ -1,21 +1,15 @@
 -- The loop that replays the log into rows: what it keeps, and what each way out of it shows.
-use Prim.Native.Nat.{ℕ, zero, suc, ◌+◌, ◌-◌, ◌≤◌, ◌<◌}
-use mathlib.Core.Path.{◌≡◌, refl, sym, ap, ap₂, ◌∙◌, subst}
-use mathlib.Core.List.{List, [], ◌∷◌, ◌++◌, append_assoc}
-use mathlib.Core.Bool.{Bool, true, false, cond, not, ◌&&◌}
-use native.Mathlib.Omega.{arith}
-use lib.ListN.{length, take, drop, get_or, set, replicate, length-replicate, length-append, length-drop, length-set, drop_of_length-le}
-use lib.Seq.{drop-drop, get_or-set_same, get_or-set_other, take-length, take-append-le}
-use lib.Dec.{eqb, ltb}
-use borrow.Author.Tests.{eq-eqb, ne_eqb, eqb-true, ltb-true, ltb-false}
-use Rattle.book.specs.Layer.{Key, View, Rec, Change, filed, corrected, withdrawn, key_of, kind_of, write, unseen, scan, limit_of, same, Kind, is_filing, is_correction, is_withdrawal}
-use Rattle.book.specs.laws.LayerLaws.{write-pos, write-co, Found, scan-got, Read, good-hour, good-padded, Padded, same_refl}
+use Rattle.std.proofs.Common.{◌≡◌, refl, sym, ap, ap₂, ◌∙◌, subst, ℕ, zero, suc, ◌+◌, ◌-◌, ◌≤◌, ◌<◌, List, [], ◌∷◌, ◌++◌, append_assoc, Bool, true, false, cond, not, arith, length, take, drop, get_or, set, replicate, eqb, ltb, Option, Some, None, is_some, Result, Ok, Err, is_err, length-append, length-drop, length-set, length-take-le, drop_of_length-le, drop-drop, get_or-take, get_or-set_same, get_or-set_other, eq-eqb, ne_eqb, eqb-true, ltb-true, ltb-false}
+use Rattle.std.proofs.Math.Seq.{take-length}
+use Rattle.std.proofs.lemmas.List.{length-replicate, take-append-le}
+use Rattle.book.specs.Layer.{Key, View, Rec, Change, filed, corrected, withdrawn, key_of, kind_of, write, unseen, scan, limit_of, same, Kind, is_filing, is_correction, is_withdrawal, Refusal, fault_in}
+use Rattle.book.specs.laws.LayerLaws.{number-some, write-pos, write-co, Found, scan-got, Read, good-hour, good-padded, Padded, same_refl}
 use Rattle.book.specs.Register.{write_all, refusal, space_fault, stands, count, standing}
 use Rattle.book.specs.Meaning.{Load, belongs, mismatched, replay_on, ended, replay, Valid}
 use Rattle.book.specs.tables.Tables.{Survey, together, survey, change_fault}
 use Rattle.book.specs.tables.Index.{hour_slot, bucket, latest_of}
 use Rattle.book.specs.tables.Places.{lead_length, live_at}
-use Rattle.book.specs.declared.log.rows.Seek.{Seek}
+use Rattle.book.specs.declared.log.rows.Standing.{Standing}
 use Rattle.book.specs.tables.Rows.{packed, row_place, row_of, Rows, Rowed, Ruled, Logged, Sought, row_gone, cleared}
 use Rattle.book.specs.laws.RegisterLaws.{by-test, true≠false, survey-found, survey-count, refusal-judge, refusal-found}
 use Rattle.book.proofs.log.Survey.{survey-few, judge-room, room-facts}
@@ -110,31 +104,48 @@ rows-build rows all (c ∷ l) n e f =
           (λ j d m lt w. let y : n - (j + 1) ≡ suc (length l - (j + 1)) = omega arith in f j d m (omega arith) (ap (λ (x : ℕ). drop x (c ∷ l)) y ∙ w)),
     )
 
-pub cleared-size : (rows : List ℕ) (x : Seek) → length (cleared rows x) ≡ length rows
-cleared-size rows x = go x.found
-  where
-    go : (b : Bool) → length (cond b (set rows x.at (row_gone (get_or rows x.at 0))) rows) ≡ length rows
-    go true = length-set rows x.at (row_gone (get_or rows x.at 0))
-    go false = refl
+pub cleared-size : (rows : List ℕ) (x : Option Standing) → length (cleared rows x) ≡ length rows
+cleared-size rows None = refl
+cleared-size rows (Some y) = length-set rows y.at (row_gone (get_or rows y.at 0))
+
+-- whether it is the row of the record that was found
+abbrev at_row : Option Standing → ℕ → Bool
+at_row None j = false
+at_row (Some y) j = eqb j y.at
+
+at-found : (x : Option Standing) (j : ℕ) → at_row x j ≡ true → (y : Standing) × (x ≡ Some y) × (j ≡ y.at)
+at-found None j e = true≠false e refl
+at-found (Some y) j e = (y, refl, eqb-true j y.at e)
+
+found-some : (x : Option Standing) → is_some x ≡ true → (y : Standing) × (x ≡ Some y)
+found-some None e = true≠false e refl
+found-some (Some y) e = (y, refl)
 
 module _ {s rows : List ℕ} {n : ℕ} {l : List Change} (g : Logged s rows n l) (size : length rows ≡ 512) (few : n < 512)
-    (c : Change) (x : Seek) (f : Sought rows n (key_of c) x l) where
-  entered_at : (row j : ℕ) → j < n → get_or (set (cleared rows x) n row) j 0 ≡ cond (x.found && eqb j x.at) (row_gone (get_or rows j 0)) (get_or rows j 0)
-  entered_at row j lt = get_or-set_other (cleared rows x) n j row 0 (λ e. omega arith) ∙ go x.found f.inside
-    where
-      gone : ℕ
-      gone = row_gone (get_or rows x.at 0)
+    (c : Change) (x : Option Standing) (f : Sought (take n rows) (key_of c) x l) where
+  front : length (take n rows) ≡ n
+  front = length-take-le n rows (omega arith)
 
-      go : (b : Bool) → (b ≡ true → x.at < n)
-          → get_or (cond b (set rows x.at gone) rows) j 0 ≡ cond (b && eqb j x.at) (row_gone (get_or rows j 0)) (get_or rows j 0)
-      go false h = refl
-      go true h =
-          by-test (eqb j x.at)
-          (λ t. let e = eqb-true j x.at t in
-          ap (λ (m : ℕ). get_or (set rows x.at gone) m 0) e ∙ get_or-set_same rows x.at gone 0 (omega (arith, h refl)) ∙ ap
+  found-inside : (y : Standing) → x ≡ Some y → y.at < n
+  found-inside y e = omega (arith, (f.stood y e).inside, front)
+
+  found-place : (y : Standing) → x ≡ Some y → row_place (get_or rows y.at 0) ≡ y.start
+  found-place y e = ap row_place (sym (get_or-take n rows y.at 0 (found-inside y e))) ∙ (f.stood y e).place
+
+  entered_at : (row j : ℕ) → j < n → get_or (set (cleared rows x) n row) j 0 ≡ cond (at_row x j) (row_gone (get_or rows j 0)) (get_or rows j 0)
+  entered_at row j lt = get_or-set_other (cleared rows x) n j row 0 (λ e. omega arith) ∙ go x found-inside
+    where
+      go : (x : Option Standing) → ((y : Standing) → x ≡ Some y → y.at < n)
+          → get_or (cleared rows x) j 0 ≡ cond (at_row x j) (row_gone (get_or rows j 0)) (get_or rows j 0)
+      go None h = refl
+      go (Some y) h =
+          let gone = row_gone (get_or rows y.at 0) in
+          by-test (eqb j y.at)
+          (λ t. let e = eqb-true j y.at t in
+          ap (λ (m : ℕ). get_or (set rows y.at gone) m 0) e ∙ get_or-set_same rows y.at gone 0 (omega (arith, h y refl)) ∙ ap
           (λ (m : ℕ). row_gone (get_or rows m 0)) (sym e)
           ∙ sym (ap (λ (b : Bool). cond b (row_gone (get_or rows j 0)) (get_or rows j 0)) t))
-          (λ t. get_or-set_other rows x.at j gone 0 (λ e. true≠false (eq-eqb j x.at e) t)
+          (λ t. get_or-set_other rows y.at j gone 0 (λ e. true≠false (eq-eqb j y.at e) t)
           ∙ sym (ap (λ (b : Bool). cond b (row_gone (get_or rows j 0)) (get_or rows j 0)) t))
 
   -- an earlier change
@@ -171,29 +182,29 @@ module _ {s rows : List ℕ} {n : ℕ} {l : List Change} (g : Logged s rows n l)
     new = live_at (survey (key_of d) (c ∷ l)) (kind_of d) (length (write_all m))
 
     -- the record of the key that stood is the one that was found
-    old-false : same (key_of d) (key_of c) ≡ true → (x.found && eqb j x.at) ≡ false → old ≡ false
+    old-false : same (key_of d) (key_of c) ≡ true → at_row x j ≡ false → old ≡ false
     unfolding old
     old-false t h =
         by-test old
         (λ o. let w = live-true (survey (key_of d) l) (kind_of d) (length (write_all m)) o in
         let kd = survey-same (key_of d) (key_of c) t l in
-        let fd : x.found ≡ true = f.found ∙ ap (λ (y : Survey). y.found) (sym kd) ∙ w.0 in
-        let p : row_place (get_or rows x.at 0) ≡ row_place (get_or rows j 0) = f.place fd ∙ f.start fd ∙ ap (λ (y : Survey). y.start) (sym kd) ∙ w.1 ∙ sym
-        place_is in
-        let a : x.at ≡ j = place-one g.ruled x.at j (f.inside fd) lt p in
-        true≠false (ap₂ ◌&&◌ fd (eq-eqb j x.at (sym a))) h)
+        let fd = found-some x (f.found ∙ ap (λ (y : Survey). y.found) (sym kd) ∙ w.0) in
+        let p : row_place (get_or rows fd.0.at 0) ≡ row_place (get_or rows j 0) = found-place fd.0 fd.1 ∙ (f.stood fd.0 fd.1).start
+        ∙ ap (λ (y : Survey). y.start) (sym kd) ∙ w.1 ∙ sym place_is in
+        let a : fd.0.at ≡ j = place-one g.ruled fd.0.at j (found-inside fd.0 fd.1) lt p in
+        true≠false (ap (λ (y : Option Standing). at_row y j) fd.1 ∙ eq-eqb j fd.0.at (sym a)) h)
         (λ o. o)
 
-    row_next : cond (x.found && eqb j x.at) (row_gone (get_or rows j 0)) (get_or rows j 0) ≡ row_of (c ∷ l) (length (write_all m)) d
+    row_next : cond (at_row x j) (row_gone (get_or rows j 0)) (get_or rows j 0) ≡ row_of (c ∷ l) (length (write_all m)) d
     unfolding old new
     row_next =
         let k = kind_of d in
         let sl = hour_slot (key_of d) in
         let q = length (write_all m) in
-        by-test (x.found && eqb j x.at)
-        (λ h. let fd = and_left x.found (eqb j x.at) h in
-        let a = eqb-true j x.at (and_right x.found (eqb j x.at) h) in
-        let kd : same (key_of d) (key_of c) ≡ true = f.wrote fd d m (ap (λ (y : ℕ). drop (n - (y + 1)) l) (sym a) ∙ e) in
+        by-test (at_row x j)
+        (λ h. let fd = at-found x j h in
+        let kd : same (key_of d) (key_of c) ≡ true =
+        (f.stood fd.0 fd.1).wrote d m (ap₂ (λ (a b : ℕ). drop (a - (b + 1)) l) front (sym fd.2) ∙ e) in
         let nf : new ≡ false = live-over c l (key_of d) (kind_of d) q kd below in
         ap (λ (b : Bool). cond b (row_gone (get_or rows j 0)) (get_or rows j 0)) h ∙ ap row_gone row_is
         ∙ gone-packed old k sl q (slot-few (key_of d) low) q-few ∙ ap (λ (b : Bool). packed b k sl q) (sym nf))
@@ -202,14 +213,6 @@ module _ {s rows : List ℕ} {n : ℕ} {l : List Change} (g : Logged s rows n l)
         (by-test (same (key_of d) (key_of c))
         (λ t. old-false t h ∙ sym (live-over c l (key_of d) (kind_of d) q t below))
         (λ t. sym (live-passed c l (key_of d) (kind_of d) q t))))
-      where
-        and_left : (a b : Bool) → (a && b) ≡ true → a ≡ true
-        and_left true b h = refl
-        and_left false b h = true≠false h refl
-
-        and_right : (a b : Bool) → (a && b) ≡ true → b ≡ true
-        and_right true b h = h
-        and_right false b h = true≠false h refl
 
   -- the rows with the change in them
   pub rows_next : (row : ℕ) → row ≡ packed (not (is_withdrawal (kind_of c))) (kind_of c) (hour_slot (key_of c)) (length (write_all l))
@@ -232,6 +235,21 @@ judge-few kind f n most changes used len e = let r = room-facts changes used len
 
 belongs-one : (a b : List Change) → belongs a ≡ belongs b → a ≡ b
 belongs-one a b e = cc
+
+-- a refusal has a number
+pub no-fault : {A : Type 0} (r : Result A Refusal) {b : Bool} → b ≡ is_err r → b ≡ false → fault_in r ≡ 0
+no-fault r e h = go r (sym e ∙ h)
+  where
+    go : {A : Type 0} (r : Result A Refusal) → is_err r ≡ false → fault_in r ≡ 0
+    go (Ok x) e = refl
+    go (Err y) e = true≠false refl e
+
+pub some-fault : {A : Type 0} (r : Result A Refusal) {b : Bool} → b ≡ is_err r → b ≡ true → fault_in r ≡ 0 → ⊥
+some-fault r e h = go r (sym e ∙ h)
+  where
+    go : {A : Type 0} (r : Result A Refusal) → is_err r ≡ true → fault_in r ≡ 0 → ⊥
+    go (Ok x) e = true≠false e refl
+    go (Err y) e = number-some y
 
 pub record Head (part : List ℕ) (n : ℕ) (rows latest counts : List ℕ) (q i : ℕ) : Type 0 where
   pub acc : List Change
@@ -330,9 +348,9 @@ module _ {part : List ℕ} {n : ℕ} {rows latest counts : List ℕ} {q i : ℕ}
       (mismatched-rowed _ rows h.size (left_over le (λ z. true≠false (eq-eqb q (length part) z) t))))
 
   -- a change is read, and its key was looked for
-  module _ (lt : i < n) {v : View} (r : Read (drop q part) v) {sl : ℕ} (es : sl ≡ bucket v.key) {x : Seek}
-      (fs : (l : List Change) → Logged part rows i l → v.key.hour < 32 → Padded v.key.name → latest_of (bucket v.key) l ≤ get_or latest sl 0 → Sought rows
-      i v.key x l) where
+  module _ (lt : i < n) {v : View} (r : Read (drop q part) v) {sl : ℕ} (es : sl ≡ bucket v.key) {x : Option Standing}
+      (fs : (l : List Change) → Logged part rows i l → v.key.hour < 32 → Padded v.key.name → latest_of (bucket v.key) l ≤ get_or latest sl 0
+      → Sought (take i rows) v.key x l) where
     c-is : key_of r.what ≡ v.key
     c-is = sym (ap (λ (y : View). y.key) r.view-is)
 
@@ -345,11 +363,11 @@ module _ {part : List ℕ} {n : ℕ} {rows latest counts : List ℕ} {q i : ℕ}
     padded-key : Padded v.key.name
     padded-key = subst (λ (k : Key). Padded k.name) c-is (good-padded r.what good.good)
 
-    sought : Sought rows i v.key x h.acc
+    sought : Sought (take i rows) v.key x h.acc
     sought = fs h.acc head-logged low-key padded-key (omega (arith, h.latest-is sl, ap (λ (m : ℕ). latest_of m h.acc) es))
 
-    pub head_clear : x.found ≡ true → x.at < 512
-    head_clear t = omega (arith, sought.inside t, h.few)
+    pub head_clear : (y : Standing) → x ≡ Some y → y.at < 512
+    head_clear y e = omega (arith, (sought.stood y e).inside, length-take-le i rows (omega (arith, h.size, h.few)), h.few)
 
     module _ {hour : ℕ} (eh : hour ≡ hour_slot v.key) where
       head-count : get_or counts hour 0 ≡ (survey v.key h.acc).count
@@ -358,13 +376,13 @@ module _ {part : List ℕ} {n : ℕ} {rows latest counts : List ℕ} {q i : ℕ}
       pub head-fewer : get_or counts hour 0 < 65536
       head-fewer = omega (arith, head-count, survey-few v.key h.acc, h.count, h.few)
 
-      module _ {most : ℕ} (em : most ≡ limit_of v.key) {w : ℕ} (e : w ≡ change_fault v.kind x.found (get_or counts hour 0) most i q v.len 65535)
+      module _ {most : ℕ} (em : most ≡ limit_of v.key) {w : ℕ} (e : w ≡ change_fault v.kind (is_some x) (get_or counts hour 0) most i q v.len 65535)
         where
           -- the code's judgement is the register's
           judged-is : refusal h.acc 65535 r.what ≡ w
           judged-is =
               let c = r.what in
-              let fd : x.found ≡ stands (key_of c) (standing h.acc) = sought.found ∙ ap (λ (y : Key). (survey y h.acc).found) (sym c-is) ∙ survey-found
+              let fd : is_some x ≡ stands (key_of c) (standing h.acc) = sought.found ∙ ap (λ (y : Key). (survey y h.acc).found) (sym c-is) ∙ survey-found
               (key_of c) h.acc in
               let cs : get_or counts hour 0 ≡ count (key_of c) (standing h.acc) = head-count ∙ ap (λ (y : Key). (survey y h.acc).count) (sym c-is) ∙
               survey-count (key_of c) h.acc h.valid in
@@ -381,7 +399,7 @@ module _ {part : List ℕ} {n : ℕ} {rows latest counts : List ℕ} {q i : ℕ}
           -- it is taken
           module _ (z : w ≡ 0) where
             pub head_few : (i < 512) × (q + v.len ≤ 65535)
-            head_few = judge-few v.kind x.found (get_or counts hour 0) most i q v.len (sym e ∙ z)
+            head_few = judge-few v.kind (is_some x) (get_or counts hour 0) most i q v.len (sym e ∙ z)
 
             pub head-row : (hour < 512) × (q < 65536)
             head-row = (omega (arith, eh, slot-few v.key low-key), omega (arith, head_few.1))
@@ -399,7 +417,7 @@ module _ {part : List ℕ} {n : ℕ} {rows latest counts : List ℕ} {q i : ℕ}
                 let sk : sl ≡ bucket (key_of c) = es ∙ ap bucket (sym c-is) in
                 let i-is : i + 1 ≡ length h.acc + 1 = omega (arith, h.count) in
                 let hr : hour ≡ hour_slot (key_of c) = eh ∙ ap hour_slot (sym c-is) in
-                let f : Sought rows i (key_of c) x h.acc = subst (λ (k : Key). Sought rows i k x h.acc) (sym c-is) sought in
+                let f : Sought (take i rows) (key_of c) x h.acc = subst (λ (k : Key). Sought (take i rows) k x h.acc) (sym c-is) sought in
                 let er' : row ≡ packed (not (is_withdrawal (kind_of c))) (kind_of c) (hour_slot (key_of c)) (length (write_all h.acc)) =
                 er ∙ (λ t. packed (not (is_withdrawal (r.view-is t).kind)) (r.view-is t).kind (hr t) (sym h.at t)) in
                 record {

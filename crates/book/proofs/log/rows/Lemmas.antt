@@ -1,16 +1,10 @@
 -- The rows of a checked book: what a row says of its change, and the loops over the rows.
-use Prim.Native.Nat.{ℕ, zero, suc, ◌+◌, ◌*◌, ◌-◌, ◌/◌, ◌%◌, ◌≤◌, ◌<◌}
-use mathlib.Core.Path.{◌≡◌, refl, sym, ap, ap₂, ◌∙◌, subst}
-use mathlib.Core.List.{List, [], ◌∷◌, ◌++◌, append_assoc, append-nil}
-use mathlib.Core.Bool.{Bool, true, false, cond, not, ◌&&◌}
-use native.Mathlib.Omega.{arith}
-use lib.ListN.{length, take, drop, get_or, drop_of_length-le, length-drop, length-take, length-append, take-append-drop}
-use lib.Seq.{drop_at, drop-drop, drop-append-le, length-take-le, get_or-take}
-use native.Mathlib.Numerals.{add-one}
-use Rattle.std.specs.List.{count_by}
+use Rattle.std.proofs.Common.{◌≡◌, refl, sym, ap, ap₂, ◌∙◌, subst, ℕ, zero, suc, ◌+◌, ◌*◌, ◌-◌, ◌/◌, ◌%◌, ◌≤◌, ◌<◌, List, [], ◌∷◌, ◌++◌, append_assoc, append-nil, Bool, true, false, cond, not, ◌&&◌, arith, add-one, length, take, drop, get_or, eqb, leb, count_by, Option, Some, None, drop_of_length-le, length-drop, length-take, length-append, take-append-drop, drop_at, drop-drop, take_all, length-take-le, get_or-take, eq-eqb, ne_eqb, eqb-true, le-leb, leb-true, leb-false}
+use Rattle.std.proofs.Math.Bridge.{le_prop}
+use Rattle.std.proofs.Math.Logic.{∥∥₁_elim}
+use Rattle.std.proofs.lemmas.Bool.{lt-leb}
+use Rattle.std.proofs.lemmas.List.{drop-append-le}
 use Rattle.std.proofs.lemmas.List.Sums.{count_by_more_yes, count_by_more_no}
-use lib.Dec.{eqb, leb}
-use borrow.Author.Tests.{eq-eqb, ne_eqb, eqb-true, le-leb, lt-leb, leb-true, leb-false}
 use Rattle.book.specs.Layer.{Key, Rec, Change, filed, corrected, withdrawn, kind_of, key_of, key_mark, write, begins, Good, value_or, no_key, same, same_hour, same_key_mark, order, Kind, File, Correct, Withdraw, is_filing, is_correction, is_withdrawal}
 use Rattle.money.specs.Names.{same_name}
 use Rattle.book.specs.tables.LayerTables.{head_key, nameable, name_head}
@@ -24,7 +18,8 @@ use Rattle.book.specs.tables.Worked.{begun}
 use Rattle.book.specs.laws.StandLaws.{At, Found, found_at, pick-key}
 use Rattle.book.specs.laws.RegisterLaws.{by-test, true≠false, valid-new, survey-found}
 use Rattle.book.specs.laws.GatherLaws.{Pass, gather, collect, gather-standing}
-use Rattle.book.specs.tables.Rows.{kind_code, kind_at, packed, row_start, row_slot, row_kind, row_live, row_place, row_of, Rows, Ruled, Logged, Log, key_at, Search, Sought}
+use Rattle.book.specs.declared.log.rows.Standing.{Standing}
+use Rattle.book.specs.tables.Rows.{kind_code, kind_at, packed, row_start, row_slot, row_kind, row_live, row_place, row_of, Rows, Ruled, Logged, Log, InReach, key_at, Search, Stood, Sought}
 use Rattle.book.proofs.log.Survey.{to_end, valid-size, valid-drop}
 use Rattle.book.proofs.log.index.Lemmas.{other-slot, slot-hour}
 
@@ -100,17 +95,17 @@ row_seen row all q c e low hq =
     }
 
 -- the change at a place, and those before it
-pub record Stood (rows : List ℕ) (all : List Change) (n : ℕ) (l : List Change) (j : ℕ) : Type 0 where
+pub record RowAt (rows : List ℕ) (all : List Change) (n : ℕ) (l : List Change) (j : ℕ) : Type 0 where
   pub what : Change
   pub rest : drop (n - (j + 1)) l ≡ what ∷ drop (n - j) l
   pub row : get_or rows j 0 ≡ row_of all (length (write_all (drop (n - j) l))) what
 
-pub rows_at : (rows : List ℕ) (all l : List Change) (j n : ℕ) → Rows rows all l → length l ≡ n → j < n → Stood rows all n l j
+pub rows_at : (rows : List ℕ) (all l : List Change) (j n : ℕ) → Rows rows all l → length l ≡ n → j < n → RowAt rows all n l j
 unfolding Rows
 rows_at rows all [] j n k e h = absurd (omega arith)
 rows_at rows all (c ∷ l) j n k e h = go (leb (length l) j) refl (λ lt. rows_at rows all l j (length l) k.1 refl lt)
   where
-    go : (b : Bool) → leb (length l) j ≡ b → (j < length l → Stood rows all (length l) l j) → Stood rows all n (c ∷ l) j
+    go : (b : Bool) → leb (length l) j ≡ b → (j < length l → RowAt rows all (length l) l j) → RowAt rows all n (c ∷ l) j
     go true t ih =
         let le = leb-true (length l) j t in
         let ej : j ≡ length l = omega arith in
@@ -134,7 +129,7 @@ rows_at rows all (c ∷ l) j n k e h = go (leb (length l) j) refl (λ lt. rows_a
 
 -- what the row of a place says
 module _ {rows : List ℕ} {n : ℕ} {l : List Change} (r : Ruled rows n l) {j : ℕ} (lt : j < n) where
-  pub ruled-at : Stood rows l n l j
+  pub ruled-at : RowAt rows l n l j
   ruled-at = rows_at rows l l j n r.kept r.count lt
 
   pub ruled-few : j < 512
@@ -180,6 +175,13 @@ logged-front {rows = rows} {n = n} {l = l} g =
 
 pub log-front : {s rows : List ℕ} {n : ℕ} → Log s rows n → Log s (take n rows) n
 log-front o = record { list = o.list; logged = logged-front o.logged }
+
+pub log-whole : {s rows : List ℕ} {n : ℕ} → Log s rows n → n ≤ length rows → Log s (take n rows) (length (take n rows))
+log-whole {s} {rows} {n} o h = subst (Log s (take n rows)) (sym (length-take-le n rows h)) (log-front o)
+
+-- a bound that holds of every list of changes that a checked log can say
+pub bound-by : {s rows : List ℕ} {n a b : ℕ} → ∥ Log s rows n ∥₁ → ((l : List Change) → Logged s rows n l → a ≤ b) → a ≤ b
+bound-by o f = ∥∥₁_elim o le_prop (λ x. f x.list x.logged)
 
 pub row-in : (rows : List ℕ) (n : ℕ) {i : ℕ} → i < length (take n rows) → i < n
 row-in rows n h = omega (arith, length-take n rows)
@@ -275,11 +277,12 @@ module _ (rows : List ℕ) (n slot : ℕ) (long : n ≤ length rows) where
       (ran-next (counting i (omega arith)) lt (count_by in_slot (take (i + 1) rows))
       (λ l r k ek hk. counted-more in_slot rows i (omega arith) ∙ ap (λ (b : Bool). cond b (m + 1) m) (picked (ruled-seen r lt) k slot ek hk)))
 
-pub counted-all : {rows : List ℕ} {n slot : ℕ} {l : List Change} → Ruled rows n l → n ≤ length rows → (key : Key) → slot ≡ hour_slot key → key.hour < 32
-    → count_by (λ row. row_live row && eqb (row_slot row) slot) (take n rows) ≡ count key (standing l)
+pub counted-all : {rows : List ℕ} {slot : ℕ} {l : List Change} → Ruled rows (length rows) l → (key : Key) → slot ≡ hour_slot key → key.hour < 32
+    → count_by (λ row. row_live row && eqb (row_slot row) slot) rows ≡ count key (standing l)
 unfolding in_slot
-counted-all {rows} {n} {slot} {l} r long key e hk =
-    ran-end (counting rows n slot long n (omega arith)) (omega arith) l r key e hk ∙ collect-count key l (standing l)
+counted-all {rows} {slot} {l} r key e hk =
+    ap (count_by (λ (row : ℕ). row_live row && eqb (row_slot row) slot)) (sym (take_all (length rows) rows (omega arith)))
+    ∙ ran-end (counting rows (length rows) slot (omega arith) (length rows) (omega arith)) (omega arith) l r key e hk ∙ collect-count key l (standing l)
 
 -- ---- what is live, by the survey of its key
 
@@ -319,7 +322,7 @@ name-within {s} {x} w = omega (
   ap length w.at.bytes,
   length-drop x s,
   length-append (write (filed w.what)) w.at.rest,
-  write-long w.what,
+  write-long (filed w.what),
 )
 
 -- of a key of the mark and hour it is found there by its name alone
@@ -368,8 +371,28 @@ change-at {s} {l = l} g m d r e =
       bytes = ap (drop q) whole ∙ drop_at (write_all r) (write d ++ (w.rest ++ v)) q refl;
     }
 
+-- its record begins there, behind the mark of a correction, and has three bytes at least
+lead-long : (d : Change) → lead_length (kind_of d) + 3 ≤ length (write d)
+lead-long (filed r) = omega (arith, write-long (filed r))
+lead-long (corrected r) = omega (arith, (write-co r).0, write-long (filed r))
+lead-long (withdrawn k) = omega (arith, write-long (withdrawn k))
+
+-- so what the rows say is in reach
+pub in-reach : {s rows : List ℕ} {n : ℕ} {l : List Change} → Logged s rows n l → length rows ≤ n → InReach s rows
+in-reach {rows} {n} {l} g long j lt =
+    let h : j < n = omega arith in
+    let d = (ruled-at g.ruled h).what in
+    let w = change-at g (n - (j + 1)) d (drop (n - j) l) (ruled-at g.ruled h).rest in
+    let z = ruled-seen g.ruled h in
+    let hour : row_slot (get_or rows j 0) % 32 ≡ (key_of d).hour = omega (arith, z.slot, z.low) in (
+      omega (arith, z.place, w.inside, lead-long d),
+      omega (arith, hour, (good-hour d (ruled-good g.ruled h)).0),
+      omega (arith, hour, (good-hour d (ruled-good g.ruled h)).1),
+    )
+
 -- its record, behind the mark of a correction
-pub record-at : {s : List ℕ} {q : ℕ} (d : Change) → ChangeAt s q d → Good d → is_withdrawal (kind_of d) ≡ false → WrittenAt s (q + lead_length (kind_of d)) (key_of d)
+pub record-at : {s : List ℕ} {q : ℕ} (d : Change) → ChangeAt s q d → Good d → is_withdrawal (kind_of d) ≡ false
+    → WrittenAt s (q + lead_length (kind_of d)) (key_of d)
 record-at {s} {q} (filed r) w g z = record {
   what = r;
   at = subst (λ (x : ℕ). At s x r) (sym (zero_more q))
@@ -480,18 +503,12 @@ unfolding hit-or
 hit-none true x e = sym (ap (λ (h : Hit). h.found) e)
 hit-none false x e = refl
 
-not-sought : {rows : List ℕ} {n : ℕ} (k : Key) (l : List Change) → false ≡ (survey k l).found → Sought rows n k (record { found = false; at = 0; start = 0 }) l
-not-sought k l e = record {
-  found = e;
-  start = λ t. true≠false t refl;
-  inside = λ t. true≠false t refl;
-  place = λ t. true≠false t refl;
-  wrote = λ t. true≠false t refl;
-}
+not-sought : {rows : List ℕ} (k : Key) (l : List Change) → false ≡ (survey k l).found → Sought rows k None l
+not-sought k l e = record { found = e; stood = λ x h. cc }
 
-pub record Seeking (s rows : List ℕ) (n from hs : ℕ) (name : List ℕ) (i : ℕ) : Type 0 where
-  pub inside : i ≤ n
-  pub is : (k : Key) (l : List Change) → Search s rows n from hs name k l → gather (find_pass k) l l ≡ gather (find_pass k) l (drop (n - i) l)
+pub record Seeking (s rows : List ℕ) (from hs : ℕ) (name : List ℕ) (i : ℕ) : Type 0 where
+  pub inside : i ≤ length rows
+  pub is : (k : Key) (l : List Change) → Search s rows from hs name k l → gather (find_pass k) l l ≡ gather (find_pass k) l (drop (length rows - i) l)
 
 -- no change newer than the latest of its number has the key
 skip-newer : (k : Key) → Padded k.name → (all l : List Change) → Valid l → (from : ℕ) → latest_of (key_number k) l ≤ from → from ≤ length l
@@ -515,37 +532,37 @@ skip-newer k p all (c ∷ l) v from h le = by-test (leb from (length l)) (inside
         ∙ ih (omega (arith, h, ap (λ (b : Bool). cond b (length l + 1) (latest_of (key_number k) l)) u)) lt
         ∙ ap (λ (m : ℕ). gather (find_pass k) all (drop m (c ∷ l))) (sym e))
 
-pub seeking-start : (s rows : List ℕ) (n from hs : ℕ) (name : List ℕ) → from ≤ n → Seeking s rows n from hs name from
-seeking-start s rows n from hs name le = record {
+pub seeking-start : (s rows : List ℕ) (from hs : ℕ) (name : List ℕ) → from ≤ length rows → Seeking s rows from hs name from
+seeking-start s rows from hs name le = record {
   inside = le;
   is = λ k l w. skip-newer k w.padded l l w.logged.ruled.valid from w.few (omega (arith, w.logged.ruled.count)) ∙ ap
       (λ (m : ℕ). gather (find_pass k) l (drop (m - from) l)) w.logged.ruled.count;
 }
 
-pub seeking-end : {s rows : List ℕ} {n from hs : ℕ} {name : List ℕ} {i : ℕ} → Seeking s rows n from hs name i → i ≤ 0 → (k : Key) (l : List Change)
-    → Search s rows n from hs name k l
-    → Sought rows n k (record { found = false; at = 0; start = 0 }) l
+pub seeking-end : {s rows : List ℕ} {from hs : ℕ} {name : List ℕ} {i : ℕ} → Seeking s rows from hs name i → i ≤ 0 → (k : Key) (l : List Change)
+    → Search s rows from hs name k l
+    → Sought rows k None l
 unfolding gather
-seeking-end {n = n} {i = i} h z k l w =
-    let e : drop (n - i) l ≡ [] = drop_of_length-le l {i = n - i} (omega (arith, w.logged.ruled.count)) in
+seeking-end {rows = rows} {i = i} h z k l w =
+    let e : drop (length rows - i) l ≡ [] = drop_of_length-le l {i = length rows - i} (omega (arith, w.logged.ruled.count)) in
     not-sought k l
     (hit-none (survey k l).found (survey k l).start (sym (find-is k l w.logged.ruled.valid) ∙ h.is k l w ∙ ap (gather (find_pass k) l) e))
 
 -- no change has the number of the key
-pub seeking-none : {s rows : List ℕ} {n from : ℕ} → from ≤ n → from ≡ 0 → (k : Key) (l : List Change) → Logged s rows n l → k.hour < 32 → Padded k.name
+pub seeking-none : {s rows : List ℕ} {from : ℕ} → from ≡ 0 → (k : Key) (l : List Change) → Logged s rows (length rows) l → Padded k.name
     → latest_of (key_number k) l ≤ from
-    → Sought rows n k (record { found = false; at = 0; start = 0 }) l
+    → Sought rows k None l
 unfolding gather
-seeking-none {n = n} {from = from} le z k l g hk hp few =
-    let e : drop (n - from) l ≡ [] = drop_of_length-le l {i = n - from} (omega (arith, g.ruled.count)) in
-    let w : length l - from ≡ n - from = omega (arith, g.ruled.count) in
+seeking-none {rows = rows} {from = from} z k l g hp few =
+    let e : drop (length rows - from) l ≡ [] = drop_of_length-le l {i = length rows - from} (omega (arith, g.ruled.count)) in
+    let w : length l - from ≡ length rows - from = omega (arith, g.ruled.count) in
     not-sought k l (hit-none (survey k l).found (survey k l).start (sym (find-is k l g.ruled.valid)
     ∙ skip-newer k hp l l g.ruled.valid from few (omega (arith, g.ruled.count)) ∙ ap (λ (m : ℕ). gather (find_pass k) l (drop m l)) w
     ∙ ap (gather (find_pass k) l) e))
 
 -- no record can have the name
 pub seeking-untold : {s rows : List ℕ} {n : ℕ} (k : Key) (l : List Change) → Logged s rows n l → Padded k.name → nameable k ≡ false
-    → Sought rows n k (record { found = false; at = 0; start = 0 }) l
+    → Sought rows k None l
 seeking-untold k l g p e = not-sought k l (sym (by-test (survey k l).found
     (λ t. let f = found_at (begun g) k t in
     let one = pick-key k (standing l) f.what f.picked in
@@ -555,39 +572,39 @@ seeking-untold k l g p e = not-sought k l (sym (by-test (survey k l).found
     (λ t. t)))
 
 -- a turn: the change before i
-module _ {s rows : List ℕ} {n from hs : ℕ} {name : List ℕ} {i : ℕ} (h : Seeking s rows n from hs name i) (above : 0 < i) (j : ℕ) (ej : j ≡ i - 1) where
-  pub turn_inside : j < n
+module _ {s rows : List ℕ} {from hs : ℕ} {name : List ℕ} {i : ℕ} (h : Seeking s rows from hs name i) (above : 0 < i) (j : ℕ) (ej : j ≡ i - 1) where
+  pub turn_inside : j < length rows
   turn_inside = omega (arith, h.inside)
 
-  module _ {l : List Change} (g : Logged s rows n l) where
+  module _ {l : List Change} (g : Logged s rows (length rows) l) where
     what : Change
     what = (ruled-at g.ruled turn_inside).what
 
     begun-at : ℕ
-    begun-at = length (write_all (drop (n - j) l))
+    begun-at = length (write_all (drop (length rows - j) l))
 
     live : Bool
     live = live_at (survey (key_of what) l) (kind_of what) begun-at
 
-  turn_is : (k : Key) (l : List Change) (w : Search s rows n from hs name k l)
+  turn_is : (k : Key) (l : List Change) (w : Search s rows from hs name k l)
       → gather (find_pass k) l l ≡ cond (same k (key_of (what w.logged)) && live w.logged)
-      (record { found = true; start = begun-at w.logged + lead_length (kind_of (what w.logged)) }) (gather (find_pass k) l (drop (n - j) l))
+      (record { found = true; start = begun-at w.logged + lead_length (kind_of (what w.logged)) }) (gather (find_pass k) l (drop (length rows - j) l))
   unfolding gather what begun-at live
   turn_is k l w =
-      let e : n - i ≡ n - (j + 1) = omega arith in
+      let e : length rows - i ≡ length rows - (j + 1) = omega arith in
       h.is k l w ∙ ap (λ (m : ℕ). gather (find_pass k) l (drop m l)) e ∙ ap (gather (find_pass k) l) (ruled-at w.logged.ruled turn_inside).rest
 
-  skip : ((k : Key) (l : List Change) (w : Search s rows n from hs name k l) → (same k (key_of (what w.logged)) && live w.logged) ≡ false)
-      → Seeking s rows n from hs name j
+  skip : ((k : Key) (l : List Change) (w : Search s rows from hs name k l) → (same k (key_of (what w.logged)) && live w.logged) ≡ false)
+      → Seeking s rows from hs name j
   skip f = record {
     inside = omega (arith, turn_inside);
     is = λ k l w.
         turn_is k l w ∙ ap (λ (b : Bool). cond b (record { found = true; start = begun-at w.logged + lead_length (kind_of (what w.logged)) })
-        (gather (find_pass k) l (drop (n - j) l))) (f k l w);
+        (gather (find_pass k) l (drop (length rows - j) l))) (f k l w);
   }
 
   -- its record does not stand, or is of another mark or hour
-  pub seeking-skip : (row_live (get_or rows j 0) && eqb (row_slot (get_or rows j 0)) hs) ≡ false → Seeking s rows n from hs name j
+  pub seeking-skip : (row_live (get_or rows j 0) && eqb (row_slot (get_or rows j 0)) hs) ≡ false → Seeking s rows from hs name j
   unfolding what begun-at live
   seeking-skip m = skip (λ k l w.
       let c = what w.logged in
@@ -598,35 +615,32 @@ module _ {s rows : List ℕ} {n from hs : ℕ} {name : List ℕ} {i : ℕ} (h : 
       (λ t. ap (λ (x : Bool). x && live w.logged) t))
 
   module _ (m : (row_live (get_or rows j 0) && eqb (row_slot (get_or rows j 0)) hs) ≡ true) (x : ℕ) (ex : x ≡ row_place (get_or rows j 0)) where
-    live-there : {l : List Change} (g : Logged s rows n l) → live g ≡ true
+    live-there : {l : List Change} (g : Logged s rows (length rows) l) → live g ≡ true
     unfolding what begun-at live
     live-there g = sym (ruled-seen g.ruled turn_inside).live ∙ and_left (row_live (get_or rows j 0)) (eqb (row_slot (get_or rows j 0)) hs) m
 
     -- its record is written there
-    there : {l : List Change} (g : Logged s rows n l) → WrittenAt s x (key_of (what g))
+    there : {l : List Change} (g : Logged s rows (length rows) l) → WrittenAt s x (key_of (what g))
     unfolding what begun-at live
     there {l} g =
         subst (λ (y : ℕ). WrittenAt s y (key_of (what g))) (sym (ex ∙ (ruled-seen g.ruled turn_inside).place)) (written_at g turn_inside (live-there g))
 
-    pub seeking-within : Log s rows n → x + 3 ≤ length s
-    seeking-within o = name-within (there o.logged)
-
     -- it is of the mark and hour
-    hour-there : (k : Key) (l : List Change) (w : Search s rows n from hs name k l) → same_hour k (key_of (what w.logged)) ≡ true
+    hour-there : (k : Key) (l : List Change) (w : Search s rows from hs name k l) → same_hour k (key_of (what w.logged)) ≡ true
     unfolding what begun-at live
     hour-there k l w = and_left (same_hour k (key_of (what w.logged))) (live w.logged)
         (sym (picked (ruled-seen w.logged.ruled turn_inside) k hs w.slot_is w.low) ∙ m)
 
-    same-there : (k : Key) (l : List Change) (w : Search s rows n from hs name k l) → begins name (drop (x + 3) s) ≡ same k (key_of (what w.logged))
+    same-there : (k : Key) (l : List Change) (w : Search s rows from hs name k l) → begins name (drop (x + 3) s) ≡ same k (key_of (what w.logged))
     same-there k l w = ap (λ (y : List ℕ). begins y (drop (x + 3) s)) w.name-is ∙ told_at (there w.logged) k w.padded w.able (hour-there k l w)
 
     -- of another name
-    pub seeking-other : begins name (drop (x + 3) s) ≡ false → Seeking s rows n from hs name j
+    pub seeking-other : begins name (drop (x + 3) s) ≡ false → Seeking s rows from hs name j
     seeking-other t = skip (λ k l w. ap (λ (y : Bool). y && live w.logged) (sym (same-there k l w) ∙ t))
 
     -- of the key
-    pub seeking-hit : begins name (drop (x + 3) s) ≡ true → (k : Key) (l : List Change) → Search s rows n from hs name k l
-        → Sought rows n k (record { found = true; at = j; start = x }) l
+    pub seeking-hit : begins name (drop (x + 3) s) ≡ true → (k : Key) (l : List Change) → Search s rows from hs name k l
+        → Sought rows k (Some (record { at = j; start = x })) l
     unfolding what begun-at live
     seeking-hit t k l w =
         let g = w.logged in
@@ -635,16 +649,25 @@ module _ {s rows : List ℕ} {n from hs : ℕ} {name : List ℕ} {i : ℕ} (h : 
         let sc : same k (key_of c) ≡ true = sym (same-there k l w) ∙ t in
         let e : hit-or (survey k l).found (survey k l).start ≡ record { found = true; start = q + lead_length (kind_of c) } =
         sym (find-is k l g.ruled.valid) ∙ turn_is k l w
-        ∙ ap₂ (λ (a b : Bool). cond (a && b) (record { found = true; start = q + lead_length (kind_of c) }) (gather (find_pass k) l (drop (n - j) l))) sc
-        (live-there g) in
+        ∙ ap₂ (λ (a b : Bool). cond (a && b) (record { found = true; start = q + lead_length (kind_of c) })
+        (gather (find_pass k) l (drop (length rows - j) l))) sc (live-there g) in
         let f = hit-there (survey k l).found (survey k l).start (q + lead_length (kind_of c)) e in
-        record {
-          found = f.0;
-          start = λ z. ex ∙ (ruled-seen g.ruled turn_inside).place ∙ f.1;
-          inside = λ z. turn_inside;
-          place = λ z. sym ex;
-          wrote = λ z d m r.
-              let p : c ∷ drop (n - j) l ≡ d ∷ m = sym (ruled-at g.ruled turn_inside).rest ∙ r in
+        let here : Stood rows k (record { at = j; start = x }) l = record {
+          start = ex ∙ (ruled-seen g.ruled turn_inside).place ∙ f.1;
+          inside = turn_inside;
+          place = sym ex;
+          wrote = λ d m r.
+              let p : c ∷ drop (length rows - j) l ≡ d ∷ m = sym (ruled-at g.ruled turn_inside).rest ∙ r in
               let y : c ≡ d = cc in
               same-sym (key_of d) k ∙ ap (λ (v : Change). same k (key_of v)) (sym y) ∙ sc;
-        }
+        } in
+        record { found = f.0; stood = λ y r. let p : record { at = j; start = x } ≡ y = cc in subst (λ (z : Standing). Stood rows k z l) p here }
+
+-- ---- of a log whose rows are the first n
+
+pub sought-front : {s rows hs hr : List ℕ} {n from : ℕ} {k : Key} {x : Option Standing} → hr ≡ take n rows → length hr ≡ n
+    → ((l : List Change) → Logged s rows n l → Logged hs hr n l)
+    → ((l : List Change) → Logged hs hr (length hr) l → k.hour < 32 → Padded k.name → latest_of (key_number k) l ≤ from → Sought hr k x l)
+    → (l : List Change) → Logged s rows n l → k.hour < 32 → Padded k.name → latest_of (key_number k) l ≤ from → Sought (take n rows) k x l
+sought-front {hs} {hr} {k} {x} er en says f l g hk hp few =
+    subst (λ (y : List ℕ). Sought y k x l) er (f l (subst (λ (m : ℕ). Logged hs hr m l) (sym en) (says l g)) hk hp few)

@@ -1,5 +1,5 @@
 use Rattle.book.proofs.amounts.failures.Lemmas.{Charging}
 use Rattle.book.proofs.amounts.failures.charges_at.Given as goal
 
-abbrev pub invariant-loop-i : goal.invariant-loop-i
-invariant-loop-i l = Charging l.log l.mark l.prices l.p l.ticks l.i
+abbrev pub invariant-loop-spot : goal.invariant-loop-spot
+invariant-loop-spot l = Charging l.log l.mark l.prices l.places l.charges.items l.spot-index

@@ -1,8 +1,9 @@
-use Rattle.records.specs.Amounts.{no_import}
-use Rattle.book.specs.laws.Built.{Filling}
-use Rattle.book.specs.tables.Worked.{entry_credit}
-use Rattle.book.specs.Layer.{no_ticks}
+use Rattle.std.proofs.Common.{map, length}
+use Rattle.book.specs.tables.Worked.{entry_credit, named_of}
+use Rattle.book.proofs.amounts.guarantees.Pairing.{Naming}
 use Rattle.book.proofs.amounts.guarantees.credits_of.Given as goal
 
-abbrev pub invariant-loop-i : goal.invariant-loop-i
-invariant-loop-i l = Filling entry_credit l.entries no_import l.ticks no_ticks 16 l.n l.i
+abbrev pub invariant-loop-spot : goal.invariant-loop-spot
+invariant-loop-spot l =
+    Naming (named_of l.places (map entry_credit l.entries)) (length l.places) l.credits.items l.spot-iterator.a.rest.now
+    (map entry_credit l.spot-iterator.b.rest.now)

@@ -1,27 +1,15 @@
-use Rattle.std.specs.Prelude.{◌≡◌, length}
-use Rattle.std.proofs.Common.{rules, ◌∙◌}
-use Rattle.book.specs.laws.Inserting.{unmapped}
-use Rattle.book.proofs.amounts.guarantees.Lemmas.{worked-offset, worked-is, never-refused}
-use Rattle.book.proofs.amounts.Handed.{with-credits}
+use Rattle.std.proofs.Common.{◌≡◌, ◌∙◌, map, take, length, ap, List, rules}
+use Rattle.book.specs.declared.amounts.places.Spot.{Spot}
+use Rattle.book.specs.tables.Worked.{entry_credit, named_of}
+use Rattle.book.proofs.amounts.guarantees.Lemmas.{worked-never, worked-is}
 use Rattle.book.proofs.amounts.guarantees.worked.Goals as goal
 
-pub returns-in-Ok : goal.returns-in-Ok
-returns-in-Ok c =
-    let la : length c.args.imports.at ≡ 16 = search (rules, unmapped) in (
-      λ w. worked-is c.args.log.now c.args.imports c.args.exports c.args.prices c.entries_at-entries.result c.entries_at-entries.ensures
-          c.credits_of-ticks.result c.credits_of-ticks.ensures c.named_credits-credits.result c.named_credits-credits.ensures.0 _
-          (c.in-Ok.ensures ∙ worked-offset c.args.log.now c.args.imports c.args.exports c.args.prices w c.requires la
-          c.entries_at-entries.result c.entries_at-entries.ensures c.totals_at-totals.result c.totals_at-totals.ensures),
-      c.named_credits-credits.ensures.1,
-      with-credits c.named_credits-credits.result _ c.named_credits-credits.ensures.2,
-    )
+pub returns-in_err-offset : goal.returns-in_err-offset
+returns-in_err-offset c =
+    λ w. worked-never w _ c.entries_at-entries.ensures c.len.ensures.value c.totals_at-totals.ensures c.hour_offset.ensures c.in_err-offset.was
 
-pub returns-in-Err : goal.returns-in-Err
-returns-in-Err c =
-    let la : length c.args.imports.at ≡ 16 = search (rules, unmapped) in (
-      λ w. never-refused
-          (c.in-Err.ensures ∙ worked-offset c.args.log.now c.args.imports c.args.exports c.args.prices w c.requires la
-          c.entries_at-entries.result c.entries_at-entries.ensures c.totals_at-totals.result c.totals_at-totals.ensures),
-      c.no_guarantees.ensures.1,
-      c.no_guarantees.ensures.2,
-    )
+pub returns : goal.returns
+returns c =
+    let is : c.deref.result.now ≡ c.args.imports.now.items = search rules in
+    λ w. worked-is w _ c.entries_at-entries.ensures c.len.ensures.value c.totals_at-totals.ensures c.hour_offset.ensures c.in_ok-offset.was
+    (c.credits_of-credits.ensures ∙ ap (λ (xs : List Spot). named_of xs (map entry_credit (take (length xs) c.entries_at-entries.result))) is)

@@ -1,22 +1,19 @@
-use Rattle.std.proofs.Common.{length, ◌≡◌, rules, arith}
-use Rattle.book.specs.laws.Inserting.{unmapped}
 use Rattle.book.proofs.amounts.units.Lemmas.{name-here, name-there, name-on, name-end}
 use Rattle.book.proofs.amounts.units.place_for.Goals as goal
 
 pub returns-then-comes_before-clause-added : goal.returns-then-comes_before-clause-added
-returns-then-comes_before-clause-added c = let z : length c.args.u.names ≡ 512 = search (rules, unmapped) in
-    name-here c.args.name c.args.u c.loop-i.i c.loop-i.invariant (omega arith) _ c.loop-i-test.true c.comes_before.ensures c.if-comes_before.true
+returns-then-comes_before-clause-added c =
+    name-here c.args.name c.args.names.now c.loop-i.i c.loop-i.invariant _ c.loop-i-test.true c.comes_before.ensures c.if-comes_before.true
 
 pub returns-then-not-comes_before-clause-added : goal.returns-then-not-comes_before-clause-added
-returns-then-not-comes_before-clause-added c = let z : length c.args.u.names ≡ 512 = search (rules, unmapped) in
-    name-there c.args.name c.args.u c.loop-i.i c.loop-i.invariant (omega arith) _ c.loop-i-test.true
+returns-then-not-comes_before-clause-added c =
+    name-there c.args.name c.args.names.now c.loop-i.i c.loop-i.invariant _ c.loop-i-test.true
     c.comes_before.ensures c.if-comes_before.false c.comes_before-in-loop-i.ensures c.if-not-comes_before.true
 
 pub loop-i-preserved : goal.loop-i-preserved
-loop-i-preserved c = let z : length c.args.u.names ≡ 512 = search (rules, unmapped) in
-    name-on c.args.name c.args.u c.loop-i.i c.loop-i.invariant (omega arith) _ c.loop-i-test.true
+loop-i-preserved c =
+    name-on c.args.name c.args.names.now c.loop-i.i c.loop-i.invariant _ c.loop-i-test.true
     c.comes_before.ensures c.if-comes_before.false c.comes_before-in-loop-i.ensures c.if-not-comes_before.false
 
 pub returns-clause-added : goal.returns-clause-added
-returns-clause-added c = let z : length c.args.u.names ≡ 512 = search (rules, unmapped) in
-    name-end c.args.name c.args.u c.loop-i.i c.loop-i.invariant (omega arith) c.loop-i-test.false
+returns-clause-added c = name-end c.args.name c.args.names.now c.loop-i.i c.loop-i.invariant c.loop-i-test.false

@@ -1,4 +1,4 @@
-use mathlib.Core.Path.{subst⁻¹}
+use Rattle.std.proofs.Math.Path.{subst⁻¹}
 use Rattle.book.specs.Layer.{Act, Any}
 use Rattle.book.specs.Register.{general}
 use Rattle.book.specs.tables.Checked.{Makes, key_in}

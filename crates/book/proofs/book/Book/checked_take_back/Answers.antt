@@ -2,10 +2,10 @@ use Rattle.book.proofs.log.checked.Lemmas.{checked-log, back-closed, back_none, 
 use Rattle.book.proofs.book.Book.checked_take_back.Goals as goal
 
 pub returns-then-self : goal.returns-then-self
-returns-then-self c = λ k. back-closed c.requires c.if-self.true
+returns-then-self c = λ k. back-closed c.requires c.if-self.true c.refused.ensures
 
 pub returns-then-self-eq0 : goal.returns-then-self-eq0
-returns-then-self-eq0 c = λ k. back_none c.requires c.if-self.false c.if-self-eq0.true
+returns-then-self-eq0 c = λ k. back_none c.requires c.if-self.false c.if-self-eq0.true c.refused-then-self-eq0.ensures
 
 pub bounds-rows-n : goal.bounds-rows-n
 bounds-rows-n c =
@@ -16,4 +16,4 @@ restore-requires c = record { log_rows = checked-log c.requires; some_row = abov
 
 pub returns : goal.returns
 returns c =
-    λ k. back-makes c.requires c.if-self.false c.if-self-eq0.false c.start_in.ensures.0 c.restore.ensures
+    λ k. back-makes c.requires c.if-self.false c.if-self-eq0.false c.start_in.ensures.0 c.restore.ensures c.accepted.ensures

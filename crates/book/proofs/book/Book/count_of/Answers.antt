@@ -1,8 +1,12 @@
-use Rattle.book.proofs.book.Rows.{is-rowed, rowed-logged, count-rowed}
+use Rattle.std.proofs.Common.{refl}
+use Rattle.book.proofs.book.Rows.{apart-on, handed-on, uncounted, count-rowed}
 use Rattle.book.proofs.book.Book.count_of.Goals as goal
 
-pub returns-in-Ok : goal.returns-in-Ok
-returns-in-Ok c =
-    let x = is-rowed c.args.self c.args.log.now c.check_rows.ensures c.if-check_rows.true in
-    count-rowed c.args.self c.args.log.now c.args.mark.now c.args.hour x c.in-Ok.ensures _
-    (c.count_in.ensures x.list (rowed-logged _ _ c.check_rows.ensures x).ruled)
+pub returns-in_err-check_rows : goal.returns-in_err-check_rows
+returns-in_err-check_rows c = apart-on c.in_err-check_rows.ensures.rowed _ _ _ c.from_residual.ensures.1 (c.in_err-check_rows.ensures.apart _ refl)
+
+pub returns-in_err-key : goal.returns-in_err-key
+returns-in_err-key c = handed-on _ _ _ c.from_residual-in_err-key.ensures.1 (uncounted _ _ c.in_ok-check_rows.ensures.rowed _ _ c.in_err-key.ensures)
+
+pub returns : goal.returns
+returns c = count-rowed _ _ c.in_ok-check_rows.ensures.rowed c.checked_log.ensures.says _ _ c.in_ok-key.ensures c.count.ensures

@@ -1,70 +1,30 @@
-use Rattle.std.proofs.Common.{length, ◌≡◌, ◌∙◌, ap, rules}
+use Rattle.std.proofs.Common.{ap, ◌∙◌, refl}
 use Rattle.book.specs.Layer.{Key}
 use Rattle.book.specs.Amounts.{price_of}
-use Rattle.book.specs.Meaning.{load}
 use Rattle.book.specs.ByName.{names_of}
 use Rattle.book.specs.Register.{standing}
-use Rattle.book.proofs.book.Rows.{is-rowed, not-rowed, rowed-logged, rowed-log}
-use Rattle.book.specs.laws.Inserting.{unmapped}
-use Rattle.book.proofs.amounts.whole_day.Lemmas.{day-made, day-mismatched, names-formed}
+use Rattle.book.proofs.book.Rows.{loaded-by, log-by, not-rowed}
+use Rattle.book.proofs.amounts.whole_day.Lemmas.{day-made, day-apart, names-formed}
 use Rattle.book.proofs.book.Book.day.Goals as goal
 
-pub price_table-table-requires : goal.price_table-table-requires
-price_table-table-requires c =
-    rowed-log c.args.self c.args.log.now c.check_rows.ensures
-    (is-rowed c.args.self c.args.log.now c.check_rows.ensures c.if-check_rows.true)
+pub checked_log-held-requires : goal.checked_log-held-requires
+checked_log-held-requires c = log-by c.args.self c.args.log.now c.in_ok-check_rows.ensures.rowed
 
-pub hours_of-hours-requires : goal.hours_of-hours-requires
-hours_of-hours-requires c =
-    rowed-log c.args.self c.args.log.now c.check_rows.ensures
-    (is-rowed c.args.self c.args.log.now c.check_rows.ensures c.if-check_rows.true)
+pub each_unit-units-requires : goal.each_unit-units-requires
+each_unit-units-requires c =
+    let x = loaded-by c.args.self c.args.log.now c.in_ok-check_rows.ensures.rowed in
+    names-formed c.names.result.items x.list x.valid
+    (c.names.ensures x.list (c.checked_log-held.ensures.says x.list x.is) ∙ ap (λ (k : Key). names_of k (standing x.list)) c.key_of.ensures)
 
-pub names_in-u-requires : goal.names_in-u-requires
-names_in-u-requires c =
-    rowed-log c.args.self c.args.log.now c.check_rows.ensures
-    (is-rowed c.args.self c.args.log.now c.check_rows.ensures c.if-check_rows.true)
-
-pub units_of-units-requires : goal.units_of-units-requires
-units_of-units-requires c =
-    let x = is-rowed c.args.self
-    c.args.log.now
-    c.check_rows.ensures
-    c.if-check_rows.true in
-    let g = rowed-logged c.args.self
-    c.args.log.now
-    c.check_rows.ensures x in
-    let size : length c.names_in-u.result.names ≡ 512 = search (rules, unmapped) in
-    let named = c.names_in-u.ensures.0 x.list g ∙ ap (λ (y : Key). names_of y (standing x.list)) c.key_of.ensures in
-    record {
-      log_rows = rowed-log c.args.self
-          c.args.log.now
-          c.check_rows.ensures x;
-      named = names-formed
-          c.names_in-u.result c.names_in-u.ensures.1 size x.list x.valid named;
-    }
-
-pub returns-then-check_rows : goal.returns-then-check_rows
-returns-then-check_rows c =
-    let x = is-rowed c.args.self
-    c.args.log.now
-    c.check_rows.ensures
-    c.if-check_rows.true in
-    let g = rowed-logged c.args.self
-    c.args.log.now
-    c.check_rows.ensures x in
-    let size : length c.names_in-u.result.names ≡ 512 = search (rules, unmapped) in
-    let named = c.names_in-u.ensures.0 x.list g ∙ ap (λ (y : Key). names_of y (standing x.list))
-    c.key_of.ensures in
-    let q = price_of (standing x.list) in
-    let t = c.price_table-table.ensures x.list g in
-    day-made (load c.args.self
-    c.args.log.now) x.list x.is
-    c.hours_of-hours.result (c.hours_of-hours.ensures x.list g q t)
-    c.names_in-u.result c.names_in-u.ensures.1 size named c.units_of-units.result (c.units_of-units.ensures x.list
-    g named q t)
+pub returns-in_err-check_rows : goal.returns-in_err-check_rows
+returns-in_err-check_rows c = day-apart _ _ c.from_residual.ensures.1 (c.in_err-check_rows.ensures.apart _ refl)
+    (not-rowed c.args.self c.args.log.now c.in_err-check_rows.ensures.rowed refl)
 
 pub returns : goal.returns
 returns c =
-    day-mismatched (load c.args.self c.args.log.now)
-    (not-rowed c.args.self c.args.log.now c.check_rows.ensures c.if-check_rows.false) c.no_hour-hour.result
-    c.no_hour-hour.ensures c.no_unit-unit.result c.no_unit-unit.ensures
+    let x = loaded-by c.args.self c.args.log.now c.in_ok-check_rows.ensures.rowed in
+    let g = c.checked_log-held.ensures.says x.list x.is in
+    let named = c.names.ensures x.list g ∙ ap (λ (k : Key). names_of k (standing x.list)) c.key_of.ensures in
+    let q = price_of (standing x.list) in
+    let t = c.prices-table.ensures x.list g in
+    day-made c.each_hour-hours.result c.each_unit-units.result x.is (c.each_hour-hours.ensures x.list g q t) (c.each_unit-units.ensures x.list g named q t)

@@ -1,5 +1,4 @@
-use mathlib.Core.Path.{subst}
-use borrow.Author.Rules.{rules}
+use Rattle.std.proofs.Common.{subst, rules}
 use Rattle.book.proofs.log.index.Lemmas.{Hashing, hashing-next, hashing-end}
 use Rattle.book.proofs.log.index.bucket_of.Goals as goal
 

@@ -1,6 +1,7 @@
-use native.Mathlib.Omega.{arith}
+use Rattle.std.proofs.Common.{arith}
 use Rattle.book.proofs.log.Survey.{read_there, unread_there}
-use Rattle.book.proofs.log.replay.Lemmas.{head-start, head_near, head-bad, head-end, head_clear, head-fewer, head-refused, head_few, head-row, head-next}
+use Rattle.book.proofs.log.replay.Lemmas.{head-start, head_near, head-bad, head-end, head_clear, head-fewer, head-refused, head_few, head-row, head-next, no-fault, some-fault}
+use Rattle.book.proofs.log.rows.Lemmas.{sought-front}
 use Rattle.book.proofs.log.replay.replayed_rows.Goals as goal
 
 pub loop-i-init : goal.loop-i-init
@@ -13,45 +14,61 @@ pub overflow_cast-near : goal.overflow_cast-near
 overflow_cast-near c =
     omega (arith, (head_near c.loop-i.invariant c.bucket_of-bucket.result), c.loop-i.invariant.few)
 
-pub find_in-s-requires-clause-from_in : goal.find_in-s-requires-clause-from_in
-find_in-s-requires-clause-from_in c = head_near c.loop-i.invariant c.bucket_of-bucket.result
+pub find_from-standing-requires : goal.find_from-standing-requires
+find_from-standing-requires c = omega (arith, head_near c.loop-i.invariant c.bucket_of-bucket.result, c.new.ensures.count)
 
-pub returns-then-change_fault-ne0 : goal.returns-then-change_fault-ne0
-returns-then-change_fault-ne0 c =
-    head-refused c.loop-i.invariant c.loop-i-test.true (read_there c.args.part.now c.loop-i.q c.peek.ensures c.in-Some.is) c.bucket_of-bucket.ensures.0 c.find_in-s.ensures c.hour_slot-hour.ensures.0
-    c.limit_of-most.ensures c.change_fault.ensures c.if-change_fault-ne0.true
+pub returns-then-is_err : goal.returns-then-is_err
+returns-then-is_err c =
+    head-refused c.loop-i.invariant c.loop-i-test.true
+    (read_there c.args.part.now c.loop-i.q c.peek.ensures c.in-Some.is) c.bucket_of-bucket.ensures.0
+    (sought-front c.new.ensures.rows c.new.ensures.count c.new.ensures.says c.find_from-standing.ensures)
+    c.hour_slot-hour.ensures.0 c.limit_of-most.ensures c.check_change.ensures (some-fault c.check_change.result c.is_err.ensures.value c.if-is_err.true)
 
 pub clear_row-requires : goal.clear_row-requires
 clear_row-requires c =
-    head_clear c.loop-i.invariant c.loop-i-test.true (read_there c.args.part.now c.loop-i.q c.peek.ensures c.in-Some.is) c.bucket_of-bucket.ensures.0 c.find_in-s.ensures
+    head_clear c.loop-i.invariant c.loop-i-test.true
+    (read_there c.args.part.now c.loop-i.q c.peek.ensures c.in-Some.is) c.bucket_of-bucket.ensures.0
+    (sought-front c.new.ensures.rows c.new.ensures.count c.new.ensures.says c.find_from-standing.ensures)
 
 pub row_for-row-requires : goal.row_for-row-requires
 row_for-row-requires c =
-    head-row c.loop-i.invariant c.loop-i-test.true (read_there c.args.part.now c.loop-i.q c.peek.ensures c.in-Some.is) c.bucket_of-bucket.ensures.0 c.find_in-s.ensures c.hour_slot-hour.ensures.0
-    c.limit_of-most.ensures c.change_fault.ensures c.if-change_fault-ne0.false
+    head-row c.loop-i.invariant c.loop-i-test.true
+    (read_there c.args.part.now c.loop-i.q c.peek.ensures c.in-Some.is) c.bucket_of-bucket.ensures.0
+    (sought-front c.new.ensures.rows c.new.ensures.count c.new.ensures.says c.find_from-standing.ensures)
+    c.hour_slot-hour.ensures.0 c.limit_of-most.ensures c.check_change.ensures (no-fault c.check_change.result c.is_err.ensures.value c.if-is_err.false)
 
 pub bounds-rows-i : goal.bounds-rows-i
 bounds-rows-i c =
-    (head_few c.loop-i.invariant c.loop-i-test.true (read_there c.args.part.now c.loop-i.q c.peek.ensures c.in-Some.is) c.bucket_of-bucket.ensures.0 c.find_in-s.ensures c.hour_slot-hour.ensures.0
-    c.limit_of-most.ensures c.change_fault.ensures c.if-change_fault-ne0.false).0
+    (head_few c.loop-i.invariant c.loop-i-test.true
+    (read_there c.args.part.now c.loop-i.q c.peek.ensures c.in-Some.is) c.bucket_of-bucket.ensures.0
+    (sought-front c.new.ensures.rows c.new.ensures.count c.new.ensures.says c.find_from-standing.ensures)
+    c.hour_slot-hour.ensures.0 c.limit_of-most.ensures c.check_change.ensures (no-fault c.check_change.result c.is_err.ensures.value c.if-is_err.false)).0
 
 pub count_with-requires : goal.count_with-requires
 count_with-requires c =
-    head-fewer c.loop-i.invariant c.loop-i-test.true (read_there c.args.part.now c.loop-i.q c.peek.ensures c.in-Some.is) c.bucket_of-bucket.ensures.0 c.find_in-s.ensures c.hour_slot-hour.ensures.0
+    head-fewer c.loop-i.invariant c.loop-i-test.true
+    (read_there c.args.part.now c.loop-i.q c.peek.ensures c.in-Some.is) c.bucket_of-bucket.ensures.0
+    (sought-front c.new.ensures.rows c.new.ensures.count c.new.ensures.says c.find_from-standing.ensures)
+    c.hour_slot-hour.ensures.0
 
 pub overflow_add-q : goal.overflow_add-q
 overflow_add-q c =
     omega (
       arith,
-      (head_few c.loop-i.invariant c.loop-i-test.true (read_there c.args.part.now c.loop-i.q c.peek.ensures c.in-Some.is) c.bucket_of-bucket.ensures.0 c.find_in-s.ensures
-          c.hour_slot-hour.ensures.0 c.limit_of-most.ensures c.change_fault.ensures c.if-change_fault-ne0.false).1,
+      (head_few c.loop-i.invariant c.loop-i-test.true
+          (read_there c.args.part.now c.loop-i.q c.peek.ensures c.in-Some.is) c.bucket_of-bucket.ensures.0
+          (sought-front c.new.ensures.rows c.new.ensures.count c.new.ensures.says c.find_from-standing.ensures)
+          c.hour_slot-hour.ensures.0 c.limit_of-most.ensures c.check_change.ensures
+          (no-fault c.check_change.result c.is_err.ensures.value c.if-is_err.false)).1,
     )
 
 pub loop-i-preserved : goal.loop-i-preserved
 loop-i-preserved c =
-    head-next c.loop-i.invariant c.loop-i-test.true (read_there c.args.part.now c.loop-i.q c.peek.ensures c.in-Some.is) c.bucket_of-bucket.ensures.0 c.find_in-s.ensures
-    c.hour_slot-hour.ensures.0 c.limit_of-most.ensures c.change_fault.ensures c.if-change_fault-ne0.false c.bucket_of-bucket.ensures.1
-    c.clear_row.ensures c.row_for-row.ensures c.count_with.ensures
+    head-next c.loop-i.invariant c.loop-i-test.true
+    (read_there c.args.part.now c.loop-i.q c.peek.ensures c.in-Some.is) c.bucket_of-bucket.ensures.0
+    (sought-front c.new.ensures.rows c.new.ensures.count c.new.ensures.says c.find_from-standing.ensures)
+    c.hour_slot-hour.ensures.0 c.limit_of-most.ensures c.check_change.ensures (no-fault c.check_change.result c.is_err.ensures.value c.if-is_err.false)
+    c.bucket_of-bucket.ensures.1 c.clear_row.ensures c.row_for-row.ensures c.count_with.ensures
 
 pub returns : goal.returns
 returns c = head-end c.loop-i.invariant c.loop-i-test.false
