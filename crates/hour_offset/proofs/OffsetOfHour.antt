@@ -16,7 +16,7 @@ use Rattle.book.specs.Register.{max_used, Reg, file, called, listed, judged, ref
 use Rattle.book.specs.laws.CallLaws.{called-long}
 use Rattle.hour_offset.specs.HourOffset.{record_on, recorded, offset_after, hour_offset, as_answer}
 use Rattle.hour_offset.proofs.laws.HourOffsetLaws.{at_none, first_then}
-use Rattle.hour_offset.specs.tables.Tally.{Sheet, no_sheet, sheet_of, Few, add_fault, adding, end_of}
+use Rattle.hour_offset.specs.tables.Tally.{Sheet, no_sheet, sheet_of, add_fault, adding, end_of}
 use Rattle.hour_offset.proofs.laws.TallyLaws.{Stood, Booked, booked-none, booked-few, rebased, added_is, stepped}
 use Rattle.hour_offset.proofs.laws.EndLaws.{ended}
 use Rattle.hour_offset.specs.declared.tally.Tally.{Tally}
@@ -49,15 +49,13 @@ reg_of l = record { list = l; closed = false }
 -- the register's list, and what is still to be read
 pub record Going (records : List ℕ) (t : Tally) (o at : ℕ) : Type 0 where
   pub within : at ≤ length records
-  pub few : Few t
   pub list : List Change
   pub booked : Booked records o list (sheet_of t)
   pub so_far : hour_offset records ≡ offset_after o (reg_of list) (drop at records)
 
-pub started : (records : List ℕ) (t : Tally) → (sheet_of t ≡ no_sheet) × Few t → Going records t 0 0
+pub started : (records : List ℕ) (t : Tally) → sheet_of t ≡ no_sheet → Going records t 0 0
 unfolding hour_offset
-started records t w = record
-    { within = omega arith; few = w.1; list = []; booked = subst (Booked records 0 []) (sym w.0) (booked-none records); so_far = refl }
+started records t w = record { within = omega arith; list = []; booked = subst (Booked records 0 []) (sym w) (booked-none records); so_far = refl }
 
 -- the used part of so few records
 used-few : (s : List ℕ) (o : ℕ) (l : List Change) (h : Sheet) → Booked s o l h → length (write_all l) ≤ max_used
@@ -150,17 +148,16 @@ module _ {records : List ℕ} {t : Tally} {o at : ℕ} (g : Going records t o at
 
       -- or tallied
       pub continues : 0 ≡ add_fault f.key.mark f.key.name (sheet_of t) → (u : Tally)
-          → Few u × (sheet_of u ≡ adding f.key.mark (record { name = f.key.name; start = at }) (sheet_of t)) → Going records u f.key.hour (at + f.end)
+          → sheet_of u ≡ adding f.key.mark (record { name = f.key.name; start = at }) (sheet_of t) → Going records u f.key.hour (at + f.end)
       continues z u w =
           let e : number ≡ 0 = number_is z in
           let hour-is : f.key.hour ≡ r.key.hour = ap (λ (k : Key). k.hour) key-is in
           let sheet-is : sheet_of u ≡ adding r.key.mark (record { name = r.key.name; start = at }) (sheet_of t) =
-          w.1 ∙ ap (λ (k : Key). adding k.mark (record { name = k.name; start = at }) (sheet_of t)) key-is in
+          w ∙ ap (λ (k : Key). adding k.mark (record { name = k.name; start = at }) (sheet_of t)) key-is in
           let stood : Stood records (record { name = r.key.name; start = at }) r = record
           { name = refl; rest = x.left; front = rd.front } in
           record {
             within = end-within;
-            few = w.0;
             list = filed r ∷ g.list;
             booked = subst (λ (h : Sheet). Booked records f.key.hour (filed r ∷ g.list) h) (sym sheet-is)
                 (subst (λ (n : ℕ). Booked records n (filed r ∷ g.list) (adding r.key.mark (record { name = r.key.name; start = at }) (sheet_of t)))

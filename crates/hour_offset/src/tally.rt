@@ -1,12 +1,12 @@
 // What is kept of an hour's records as they are read: where its prices, imports and exports stand in the lent bytes.
-ghost use Rattle.std.specs.Prelude.{◌≡◌, ◌≤◌, IfOk};
+ghost use Rattle.std.specs.Prelude.{◌≡◌, IfOk};
 ghost use Rattle.money.specs.Answers.{answer_of, fault_in};
 ghost use Rattle.records.specs.Names.{empty_name};
-ghost use Rattle.book.specs.tables.Places.{max_places, put_spot, spots};
-ghost use Rattle.hour_offset.specs.tables.Tally.{Few, sheet_of, no_sheet, among, placed_fault, with_price, with_import, with_export, add_fault, adding, end_of};
+ghost use Rattle.book.specs.tables.Places.{put_spot};
+ghost use Rattle.hour_offset.specs.tables.Tally.{sheet_of, no_sheet, among, placed_fault, with_price, with_import, with_export, add_fault, adding, end_of};
 
 use book::amounts::guarantees::{entries_at, totals_at};
-use book::amounts::places::{PLACES_MAX, Places, Spot, no_spots, with_spot};
+use book::amounts::places::{Places, Spot, put_spot};
 use book::amounts::prices::prices_at;
 use money::names::{Name, same_name};
 use money::refusals::Refusal;
@@ -16,7 +16,7 @@ use records::keys::Key;
 use records::marks::Mark;
 
 // The place of the hour's prices, if there is one, and those of its imports and its exports, by name.
-#[derive(Clone, Copy)]
+#[derive(Drop)]
 pub struct Tally {
     pub price: Option<usize>,
     pub imports: Places,
@@ -25,45 +25,41 @@ pub struct Tally {
 
 // The tally before the first record.
 pub(crate) fn no_records() -> Tally
-    ensures { (sheet_of result ≡ no_sheet) × Few result }
+    ensures { sheet_of result ≡ no_sheet }
 {
-    let imports = no_spots();
-    let exports = no_spots();
     Tally {
         price: None,
-        imports,
-        exports,
+        imports: Places::new(),
+        exports: Places::new(),
     }
 }
 
 // Whether one of the places has the name.
-fn holds(p: Places, name: Name) -> bool
-    requires { p.n ≤ max_places }
-    ensures { result ≡ among name (spots p) }
+fn holds(places: &[Spot], name: Name) -> bool
+    ensures { result ≡ among name places.now }
 {
-    p.at[..p.n].iter().any(|s| same_name(name, s.name))
+    places.iter().any(|s| same_name(name, s.name))
 }
 
 // With a record's name and place; 10 where the name is there, 12 where all places are taken.
-fn with_place(p: Places, s: Spot) -> Result<Places, Refusal>
-    requires { p.n ≤ max_places }
-    ensures fault { fault_in result ≡ placed_fault s.name (spots p) }
-    ensures placed { IfOk result (λ q. (q.n ≤ max_places) × (spots q ≡ put_spot s (spots p))) }
+fn with_place(places: &mut Places, s: Spot) -> Result<(), Refusal>
+    ensures fault { fault_in result ≡ placed_fault s.name places.old.items }
+    ensures placed { IfOk result (λ u. places.new.items ≡ put_spot s places.old.items) }
 {
-    if holds(p, s.name) {
+    if holds(places, s.name) {
         return Err(Refusal::KeyStands);
     }
-    if PLACES_MAX <= p.n {
+    if places.is_full() {
         return Err(Refusal::HourFull);
     }
-    Ok(with_spot(p, s))
+    put_spot(places, s);
+    Ok(())
 }
 
 // With the hour's prices at a place; 10 where they are there.
 fn with_price(mut t: Tally, at: usize) -> Result<Tally, Refusal>
-    requires { Few t }
     ensures fault { fault_in result ≡ add_fault Mark.Pr (empty_name) (sheet_of t) }
-    ensures tallied { IfOk result (λ u. Few u × (sheet_of u ≡ with_price at (sheet_of t))) }
+    ensures tallied { IfOk result (λ u. sheet_of u ≡ with_price at (sheet_of t)) }
 {
     if t.price.is_some() {
         return Err(Refusal::KeyStands);
@@ -74,29 +70,26 @@ fn with_price(mut t: Tally, at: usize) -> Result<Tally, Refusal>
 
 // With an import's name and place.
 fn with_import(mut t: Tally, s: Spot) -> Result<Tally, Refusal>
-    requires { Few t }
     ensures fault { fault_in result ≡ placed_fault s.name (sheet_of t).imports }
-    ensures tallied { IfOk result (λ u. Few u × (sheet_of u ≡ with_import s (sheet_of t))) }
+    ensures tallied { IfOk result (λ u. sheet_of u ≡ with_import s (sheet_of t)) }
 {
-    t.imports = with_place(t.imports, s)?;
+    with_place(&mut t.imports, s)?;
     Ok(t)
 }
 
 // With an export's name and place.
 fn with_export(mut t: Tally, s: Spot) -> Result<Tally, Refusal>
-    requires { Few t }
     ensures fault { fault_in result ≡ placed_fault s.name (sheet_of t).exports }
-    ensures tallied { IfOk result (λ u. Few u × (sheet_of u ≡ with_export s (sheet_of t))) }
+    ensures tallied { IfOk result (λ u. sheet_of u ≡ with_export s (sheet_of t)) }
 {
-    t.exports = with_place(t.exports, s)?;
+    with_place(&mut t.exports, s)?;
     Ok(t)
 }
 
 // With the record of a key that begins at a place, or its refusal.
 pub(crate) fn with_record(t: Tally, key: Key, at: usize) -> Result<Tally, Refusal>
-    requires { Few t }
     ensures fault { fault_in result ≡ add_fault key.mark key.name (sheet_of t) }
-    ensures tallied { IfOk result (λ u. Few u × (sheet_of u ≡ adding key.mark (record { name = key.name; start = at }) (sheet_of t))) }
+    ensures tallied { IfOk result (λ u. sheet_of u ≡ adding key.mark (record { name = key.name; start = at }) (sheet_of t)) }
 {
     let spot = Spot {
         name: key.name,
@@ -115,16 +108,14 @@ pub(crate) fn with_record(t: Tally, key: Key, at: usize) -> Result<Tally, Refusa
 // The offset of the records that were tallied; 0 without imports, 15 for imports without prices.
 #[tactic(auto, using(crate::proofs::tally::AtEnd::ends))]
 pub(crate) fn at_end(s: &[u8], t: Tally) -> Result<Ticks, Refusal>
-    requires { Few t }
     ensures { answer_of result ≡ end_of s.now (sheet_of t) }
 {
-    let imports = t.imports;
-    if imports.n == 0 {
+    if t.imports.is_empty() {
         return Ok(Ticks(0));
     }
     let at = t.price.ok_or(Refusal::PriceMissing)?;
     let prices = prices_at(s, at);
-    let entries = entries_at(s, imports, prices);
-    let totals = totals_at(s, t.exports);
-    hour_offset(imports.n as u8, entries, prices, totals)
+    let entries = entries_at(s, &t.imports, prices);
+    let totals = totals_at(s, &t.exports);
+    hour_offset(t.imports.len() as u8, entries, prices, totals)
 }

@@ -142,7 +142,8 @@ module _ (s : List ℕ) (l : List Change) (h : Sheet) (r : Rec) (g : Good (filed
       (λ t. filing-refused l r room-is true (ltb (count k rs) (limit_of k)) (st ∙ t) refl ∙ sym (ap (λ (x : Bool). cond x key_stands 0) t))
       (λ t.
       let none_yet : count k rs ≡ 0 = ap (λ (x : Key). count x rs) (sym q) ∙ no-prices k.hour all-good (ap (λ (x : Key). stands x rs) q ∙ st ∙ t) in
-      filing-refused l r room-is false true (st ∙ t) (ap₂ ltb none_yet (hour-limit k o) ∙ lt-ltb 0 max_places (omega arith)) ∙ sym (ap (λ (x : Bool). cond x key_stands 0) t))
+      filing-refused l r room-is false true (st ∙ t) (ap₂ ltb none_yet (hour-limit k o) ∙ lt-ltb 0 max_places (omega arith))
+      ∙ sym (ap (λ (x : Bool). cond x key_stands 0) t))
 
   pub added_is : refusal l max_used (filed r) ≡ add_fault k.mark k.name h
   added_is = go k.mark refl o
@@ -248,7 +249,8 @@ either_is : (a b : Bool) → a ≡ false → (a || b) ≡ true → b ≡ true
 either_is true b e h = true≠false refl e
 either_is false b e h = h
 
-pub rebased : (s : List ℕ) (h : Sheet) (p : ℕ) → 1 ≤ p → p ≤ day_hours → {o : ℕ} {l : List Change} → Hour o l → Booked s o l h → same_as o p ≡ true → Booked s p l h
+pub rebased : (s : List ℕ) (h : Sheet) (p : ℕ) → 1 ≤ p → p ≤ day_hours → {o : ℕ} {l : List Change} → Hour o l → Booked s o l h → same_as o p ≡ true
+    → Booked s p l h
 rebased s h p lo hi unknown b f = record {
   valid = b.valid;
   hour = known p [] lo hi;

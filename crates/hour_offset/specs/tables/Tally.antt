@@ -1,5 +1,5 @@
 -- What the call for C programs keeps of an hour's records as it reads them: where they stand, by name. Assumes nothing.
-use Rattle.std.specs.Prelude.{List, [], ◌∷◌, Bool, true, false, cond, ℕ, ◌≤◌, eqb, ltb, pos, length, drop, Option, Some, None}
+use Rattle.std.specs.Prelude.{List, [], ◌∷◌, Bool, true, false, cond, ℕ, eqb, ltb, pos, length, drop, Option, Some, None}
 use Rattle.money.specs.Refusals.{mark_unknown, key_stands, hour_full, price_missing}
 use Rattle.money.specs.Names.{same_name}
 use Rattle.money.specs.declared.names.Name.{Name}
@@ -10,7 +10,7 @@ use Rattle.records.specs.declared.layouts.HourPrices.{HourPrices}
 use Rattle.records.specs.declared.marks.Mark.{Mark}
 use Rattle.records.specs.declared.marks.Mark.TheVariants.{Pr, Im, Ex, Gh, Fi, Fe}
 use Rattle.book.specs.declared.amounts.places.Spot.{Spot}
-use Rattle.book.specs.tables.Places.{max_places, put_spot, spots}
+use Rattle.book.specs.tables.Places.{max_places, put_spot}
 use Rattle.book.specs.tables.Worked.{entries_in, totals_in}
 use Rattle.hour_offset.specs.declared.tally.Tally.{Tally}
 
@@ -36,12 +36,7 @@ place_or (Some n) = n
 
 -- the places that a tally uses
 abbrev pub sheet_of : Tally → Sheet
-sheet_of t = record { priced = is_there t.price; price = place_or t.price; imports = spots t.imports; exports = spots t.exports }
-
--- no more than a mark's limit
-pub record Few (t : Tally) : Type 0 where
-  pub imports : t.imports.n ≤ max_places
-  pub exports : t.exports.n ≤ max_places
+sheet_of t = record { priced = is_there t.price; price = place_or t.price; imports = t.imports.items; exports = t.exports.items }
 
 -- ---- a record more
 
