@@ -2,7 +2,7 @@
 -- which a `GH` stands, `book/specs/UnitNames.antt`.) Proved in `BesideLaws.antt`.
 use Rattle.std.specs.Prelude.{ℕ, zero, suc, ◌≡◌, List, [], ◌∷◌, ◌++◌, map, true, length, take, drop, replicate}
 use Rattle.laws.specs.Lists.{All}
-use Rattle.book.specs.Layer.{Change, HourPrices, Mark, Rec, got, ask_hour_of, is_failure, charge_ticks}
+use Rattle.book.specs.Layer.{Change, HourPrices, Mark, Rec, got, ask_hour_of, is_failure, charge_ticks, fault_in}
 use Rattle.book.specs.ByName.{by_name}
 use Rattle.book.specs.declared.book.Book.{Book}
 use Rattle.book.specs.declared.feed.Fed.{Fed}
@@ -44,7 +44,7 @@ after_input ts lent input = record_turns (length input) lent (run ts) input ++ t
 pub record CallsMade (ts : List Turn) (rs : List Reply) (s input : List ℕ) (r : Fed) (s' : List ℕ) : Type 0 where
   pub book : r.book ≡ book_of (run (after_input ts (length s) input))
   pub used : take (length (write_all (run (after_input ts (length s) input)).list)) s' ≡ write_all (run (after_input ts (length s) input)).list
-  pub answers : replies_of (after_input ts (length s) input) ≡ ending r.number (replicate r.count accepted ++ rs)
+  pub answers : replies_of (after_input ts (length s) input) ≡ ending (fault_in r.end) (replicate r.count accepted ++ rs)
 
 -- what reading an input leaves, whatever list of calls came before on this book, all used bytes being lent
 abbrev pub ReadAsCalls : Book → List ℕ → List ℕ → Fed → List ℕ → Type 0

@@ -3,7 +3,7 @@ use Rattle.std.specs.Prelude.{ℕ, zero, suc, ◌+◌, ◌<◌, ◌≡◌, refl,
 use Rattle.std.proofs.Common.{sym, ◌∙◌, subst, append_assoc, arith}
 use Rattle.std.proofs.Math.Path.{ap}
 use Rattle.laws.specs.Lists.{All}
-use Rattle.book.specs.Layer.{Change, HourPrices, Mark, Rec, ask_hour_of, same_hour}
+use Rattle.book.specs.Layer.{Change, HourPrices, Mark, Rec, ask_hour_of, same_hour, fault_in}
 use Rattle.book.specs.laws.LayerLaws.{hour-parts}
 use Rattle.book.specs.ByName.{by_name}
 use Rattle.book.specs.declared.book.Book.{Book}
@@ -97,7 +97,7 @@ read-as-calls b s input r s' f ts rs log σ h =
       answers = m.said ∙ (λ j. ending (number_is g e.number j) (replicate (count-is g e.count j) accepted ++ sym a.answers j));
     }
   where
-    number_is : {x y : FeedReply} → x ≡ y → r.number ≡ x.number → y.number ≡ r.number
+    number_is : {x y : FeedReply} → x ≡ y → fault_in r.end ≡ x.number → y.number ≡ fault_in r.end
     number_is p q = sym (q ∙ ap (λ (z : FeedReply). z.number) p)
 
     count-is : {x y : FeedReply} → x ≡ y → r.count ≡ x.count → y.count ≡ r.count

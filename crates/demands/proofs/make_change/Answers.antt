@@ -1,29 +1,23 @@
-use Rattle.std.proofs.Common.{eq-eqb, ne_eqb}
-use Rattle.demands.proofs.laws.DemandLaws.{demanded}
+use Rattle.demands.proofs.Lemmas.{change-made, other-change}
 use Rattle.demands.proofs.make_change.Goals as goal
 
-pub returns-then-method-eq1 : goal.returns-then-method-eq1
-returns-then-method-eq1 c = rw (eq-eqb _ _ c.if-method-eq1.true) (demanded _ _ _ _ _ _ c.file.ensures)
+pub returns-in-File : goal.returns-in-File
+returns-in-File c = change-made _ c.in-File.ensures c.file.ensures
 
-pub returns-then-method-eq2 : goal.returns-then-method-eq2
-returns-then-method-eq2 c =
-    rw (ne_eqb _ _ c.if-method-eq1.false, eq-eqb _ _ c.if-method-eq2.true) (demanded _ _ _ _ _ _ c.correct.ensures)
+pub returns-in-Correct : goal.returns-in-Correct
+returns-in-Correct c = change-made _ c.in-Correct.ensures c.correct.ensures
 
-pub returns-then-method-eq3 : goal.returns-then-method-eq3
-returns-then-method-eq3 c =
-    rw (ne_eqb _ _ c.if-method-eq1.false, ne_eqb _ _ c.if-method-eq2.false, eq-eqb _ _ c.if-method-eq3.true) (demanded _ _ _ _ _ _ c.withdraw.ensures)
+pub returns-in-Withdraw : goal.returns-in-Withdraw
+returns-in-Withdraw c = change-made _ c.in-Withdraw.ensures c.withdraw.ensures
 
-pub returns-then-method-eq4 : goal.returns-then-method-eq4
-returns-then-method-eq4 c =
-    rw (ne_eqb _ _ c.if-method-eq1.false, ne_eqb _ _ c.if-method-eq2.false, ne_eqb _ _ c.if-method-eq3.false, eq-eqb _ _ c.if-method-eq4.true)
-    (demanded _ _ _ _ _ _ c.take_back.ensures)
+pub returns-in-TakeBack : goal.returns-in-TakeBack
+returns-in-TakeBack c = change-made _ c.in-TakeBack.ensures c.take_back.ensures
 
-pub returns-then-method-eq5 : goal.returns-then-method-eq5
-returns-then-method-eq5 c =
-    rw (ne_eqb _ _ c.if-method-eq1.false, ne_eqb _ _ c.if-method-eq2.false, ne_eqb _ _ c.if-method-eq3.false, ne_eqb _ _ c.if-method-eq4.false, eq-eqb _ _ c.if-method-eq5.true)
-    (demanded _ _ _ _ _ _ c.close.ensures)
+pub returns-in-Close : goal.returns-in-Close
+returns-in-Close c = change-made _ c.in-Close.ensures c.close.ensures
 
-pub returns : goal.returns
-returns c =
-    rw (ne_eqb _ _ c.if-method-eq1.false, ne_eqb _ _ c.if-method-eq2.false, ne_eqb _ _ c.if-method-eq3.false, ne_eqb _ _ c.if-method-eq4.false, ne_eqb _ _ c.if-method-eq5.false)
-    (demanded _ _ _ _ _ _ c.change.ensures)
+pub returns-in_default : goal.returns-in_default
+returns-in_default c =
+    let n = c.in_default in
+    change-made c.args.bytes.now c.from.ensures
+    (rw (other-change c.from.result c.args.bytes.now n.not-File n.not-Correct n.not-Withdraw n.not-TakeBack n.not-Close) c.change.ensures)

@@ -1,22 +1,29 @@
-use Rattle.std.proofs.Common.{refl, lt-ltb, le-ltb, eq-eqb, ne_eqb}
-use Rattle.demands.proofs.laws.DemandLaws.{demanded}
+use Rattle.std.proofs.Common.{◌≡◌, refl, rules}
+use Rattle.book.specs.Register.{ask}
+use Rattle.book.specs.Meaning.{change_reply}
+use Rattle.demands.specs.declared.Method.{Method}
+use Rattle.demands.specs.declared.Said.TheVariants.{Guarantees, Day}
+use Rattle.demands.specs.Script.{change_by, question_by, said_reply}
+use Rattle.demands.proofs.Lemmas.{told-as, call-made, call-of, question-is, change-is}
 use Rattle.demands.proofs.step.Goals as goal
 
-pub returns-then-method-lt6 : goal.returns-then-method-lt6
-returns-then-method-lt6 c =
-    rw (lt-ltb _ _ c.if-method-lt6.true, c.with_answer.ensures) (c.make_change-d.ensures, (refl, refl))
+pub returns-in-HourGuarantees : goal.returns-in-HourGuarantees
+returns-in-HourGuarantees c = call-made _ _ _ c.in-HourGuarantees.ensures (told-as Guarantees _ _ c.map.ensures.cases) c.guarantees.ensures
 
-pub returns-then-method-eq6 : goal.returns-then-method-eq6
-returns-then-method-eq6 c =
-    rw (le-ltb _ _ c.if-method-lt6.false, eq-eqb _ _ c.if-method-eq6.true)
-    (demanded _ _ _ _ _ _ c.guarantees-guarantees.ensures.0, (refl, c.guarantees-guarantees.ensures.2, c.no_day-day.ensures))
+pub returns-in-DayOf : goal.returns-in-DayOf
+returns-in-DayOf c = call-made _ _ _ c.in-DayOf.ensures (told-as Day _ _ c.map-in-DayOf.ensures.cases) c.unit_day.ensures
 
-pub returns-then-method-eq10 : goal.returns-then-method-eq10
-returns-then-method-eq10 c =
-    rw (le-ltb _ _ c.if-method-lt6.false, ne_eqb _ _ c.if-method-eq6.false, eq-eqb _ _ c.if-method-eq10.true)
-    (demanded _ _ _ _ _ _ c.unit_day-day.ensures.0, (refl, c.no_guarantees-guarantees.ensures, c.unit_day-day.ensures.1))
+pub returns-in-RecordOf : goal.returns-in-RecordOf
+returns-in-RecordOf c =
+    let a = c.args in
+    call-of (λ (m : Method). ask (question_by m a.mark.now a.hour a.bytes.now)) a.mark.now a.hour a.bytes.now c.from.ensures
+    (question-is a.mark.now a.hour a.bytes.now c.from.result c.in-RecordOf.is) refl c.put_question.ensures
 
-pub returns : goal.returns
-returns c =
-    rw (le-ltb _ _ c.if-method-lt6.false, ne_eqb _ _ c.if-method-eq6.false, ne_eqb _ _ c.if-method-eq10.false, c.with_answer-2.ensures)
-    (c.put_question.ensures, (refl, refl))
+pub returns-in_default : goal.returns-in_default
+returns-in_default c =
+    let a = c.args in
+    let n = c.in_default in
+    let told : change_reply c.make_change-done.result.answer ≡ said_reply c.map-in_default.result = search rules in
+    call-of (λ (m : Method). change_by m a.bytes.now) a.mark.now a.hour a.bytes.now c.from.ensures
+    (change-is a.mark.now a.hour a.bytes.now c.from.result n.not-HourGuarantees n.not-RecordOf n.not-CountOf n.not-FreeBytes n.not-DayOf n.not-FailureCharge)
+    told c.make_change-done.ensures
