@@ -1,3 +1,4 @@
+pub mod DayLaws
 pub mod DecimalLaws
 pub mod LineLaws
 pub mod TotalLaws

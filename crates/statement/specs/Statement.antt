@@ -1,8 +1,10 @@
--- 01, "The statement and its examples", with the total of 02, W1: the lines of the statement, over the two things that book's amounts are over (the standing records
--- and the price of an hour), and what a call for its text answers. Assumes nothing.
-use Rattle.std.specs.Prelude.{◌≡◌, cond, List, [], ◌∷◌, ◌++◌, map, ℕ, zero, suc, ◌+◌, ◌*◌, ◌≤◌, eqb, leb, ℤ, pos, length}
+-- 01, "The statement and its examples", with the total of 02, W1: the lines of the statement, over the two things that book's amounts are over
+-- (the standing records and the price of an hour), and what a call for its text answers. Assumes nothing.
+use Rattle.std.specs.Prelude.{◌≡◌, cond, List, [], ◌∷◌, ◌++◌, map, ℕ, zero, suc, ◌+◌, ◌*◌, ◌≤◌, eqb, leb, ℤ, pos, Result, Ok, Err, length}
 use Rattle.money.specs.Units.{cents_of, day_hours}
 use Rattle.money.specs.Refusals.{no_space, price_missing, not_together}
+use Rattle.money.specs.declared.refusals.Refusal.{Refusal}
+use Rattle.money.specs.Answers.{fault_in}
 use Rattle.records.specs.Changes.{put}
 use Rattle.book.specs.Layer.{Name, Rec, Change, Fi, Fe, empty_name}
 use Rattle.book.specs.declared.answers.NamedAmount.{NamedAmount}
@@ -18,7 +20,6 @@ use Rattle.statement.specs.Total.{with_total}
 use Rattle.statement.specs.declared.lines.Kind.{Kind}
 use Rattle.statement.specs.declared.lines.Kind.TheVariants.{Iog, Off, Ifc, Efc, Pcg, Rev, Err}
 use Rattle.statement.specs.declared.lines.Line.{Line}
-use Rattle.statement.specs.declared.day.Written.{Written}
 
 -- ---- lines
 
@@ -110,6 +111,11 @@ statement_of l = text_of (statement_lines (standing l) (price_of (standing l)))
 
 -- ---- a call for a text
 
+-- how many bytes a call wrote: none where it is refused
+abbrev pub written : Result ℕ Refusal → ℕ
+written (Ok n) = n
+written (Err e) = 0
+
 -- a number, how many bytes were written, and the lent bytes as they are left
 pub record Outcome : Type 0 where
   pub number : ℕ
@@ -122,9 +128,9 @@ fitted t out = cond (leb (length t) (length out)) (record { number = 0; len = le
     (record { number = no_space; len = 0; bytes = out })
 
 -- a text that is written from the first lent byte on, from the bytes lent to the bytes left
-pub record Fits (t lent left : List ℕ) (w : Written) : Type 0 where
-  pub number : w.number ≡ (fitted t lent).number
-  pub len : w.len ≡ (fitted t lent).len
+pub record Fits (t lent left : List ℕ) (w : Result ℕ Refusal) : Type 0 where
+  pub number : fault_in w ≡ (fitted t lent).number
+  pub len : written w ≡ (fitted t lent).len
   pub bytes : left ≡ (fitted t lent).bytes
 
 -- the text t of the changes in a book; "16 comes before all others, for questions too"
@@ -133,12 +139,16 @@ outcome_by t mismatched out = record { number = not_together; len = 0; bytes = o
 outcome_by t (belongs l) out = fitted (t l) out
 
 -- what a call for it promises, from the bytes lent to the bytes left
-pub record AnswersBy (t : List Change → List ℕ) (longest : ℕ) (x : Load) (lent left : List ℕ) (w : Written) : Type 0 where
-  pub number : w.number ≡ (outcome_by t x lent).number
-  pub len : w.len ≡ (outcome_by t x lent).len
+pub record AnswersBy (t : List Change → List ℕ) (longest : ℕ) (x : Load) (lent left : List ℕ) (w : Result ℕ Refusal) : Type 0 where
+  pub number : fault_in w ≡ (outcome_by t x lent).number
+  pub len : written w ≡ (outcome_by t x lent).len
   pub bytes : left ≡ (outcome_by t x lent).bytes
   -- no text is longer than this
   pub most : (l : List Change) → x ≡ belongs l → length (t l) ≤ longest
+
+-- a layout's text of a day, of a list of changes: the statement's lines in it
+abbrev pub text_by : (List Line → List ℕ) → List Change → List ℕ
+text_by t l = t (statement_lines (standing l) (price_of (standing l)))
 
 -- ---- a call for the statement
 
@@ -163,5 +173,5 @@ abbrev pub longest_statement : ℕ
 longest_statement = max_line * max_lines
 
 -- what a call for the statement promises, from the bytes lent to the bytes left
-abbrev pub Answers : Load → List ℕ → List ℕ → Written → Type 0
+abbrev pub Answers : Load → List ℕ → List ℕ → Result ℕ Refusal → Type 0
 Answers x lent left w = AnswersBy statement_of longest_statement x lent left w

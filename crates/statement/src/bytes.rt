@@ -1,11 +1,11 @@
-// Bytes written at a place of lent bytes. Each function answers the place behind them.
+// Bytes written at a place of lent bytes. Each function answers the place behind them. Bytes and place stand in no struct, here or in the lines and
+// columns: one that held `&mut` bytes would have each promise add that it holds the same ones still. The room that a function asks for is its own fact.
 ghost use Rattle.std.specs.Prelude.{[], ◌∷◌, ◌+◌, ◌≤◌, ◌<◌, length};
 ghost use Rattle.statement.specs.Decimal.{decimal, two_digits};
 ghost use Rattle.statement.specs.Statement.{Fits};
 ghost use Rattle.statement.specs.tables.Inner.{Writes};
 
-use crate::day::Written;
-use money::refusals::NO_SPACE;
+use money::refusals::Refusal;
 
 pub(crate) fn put_byte(out: &mut [u8], at: usize, b: u8) -> usize
     requires { at < length out.old }
@@ -13,15 +13,6 @@ pub(crate) fn put_byte(out: &mut [u8], at: usize, b: u8) -> usize
 {
     out[at] = b;
     at + 1
-}
-
-pub(crate) fn put_three(out: &mut [u8], at: usize, a: u8, b: u8, c: u8) -> usize
-    requires { at + 3 ≤ length out.old }
-    ensures { Writes out.old at (a ∷ b ∷ c ∷ []) out.new result }
-{
-    let second = put_byte(out, at, a);
-    let third = put_byte(out, second, b);
-    put_byte(out, third, c)
 }
 
 // Two digits of a number below 100.
@@ -55,15 +46,11 @@ pub(crate) fn put_part(out: &mut [u8], at: usize, part: &[u8]) -> usize
 }
 
 // Writes a text from the first lent byte on: 13 where it is longer than what is lent.
-pub(crate) fn write_front(out: &mut [u8], text: &[u8]) -> Written
+pub(crate) fn write_front(out: &mut [u8], text: &[u8]) -> Result<usize, Refusal>
     ensures { Fits text.now out.old out.new result }
 {
     if out.len() < text.len() {
-        return Written {
-            number: NO_SPACE,
-            len: 0,
-        };
+        return Err(Refusal::NoSpace);
     }
-    let len = put_part(out, 0, text);
-    Written { number: 0, len }
+    Ok(put_part(out, 0, text))
 }

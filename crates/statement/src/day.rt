@@ -1,22 +1,21 @@
 // The statement of the day that a book holds.
-ghost use Rattle.std.specs.Prelude.{◌≡◌, [], ◌∷◌, ◌+◌, ◌*◌, ◌≤◌, pos, length, take};
+ghost use Rattle.std.specs.Prelude.{◌≡◌, ℕ, List, [], ◌∷◌, ◌+◌, ◌*◌, ◌^◌, ◌≤◌, ◌<◌, pos, length};
 ghost use Rattle.money.specs.Units.{day_hours};
-ghost use Rattle.book.specs.Register.{max_changes};
 ghost use Rattle.book.specs.Meaning.{load};
-ghost use Rattle.statement.specs.Lines.{line_bytes, text_of, max_line};
+ghost use Rattle.statement.specs.Lines.{text_of};
 ghost use Rattle.statement.specs.Total.{total_of, with_total};
-ghost use Rattle.statement.specs.Statement.{max_hour_lines, max_unit_lines, max_lines, longest_statement, Answers};
-ghost use Rattle.statement.specs.tables.Inner.{Writes, PrintableHours, PrintableUnits, PrintableDay, lines_of_hours, lines_of_units, lines_of_day};
+ghost use Rattle.statement.specs.Statement.{Fits, max_hour_lines, max_unit_lines, max_lines, text_by, Answers, AnswersBy};
+ghost use Rattle.statement.specs.tables.Inner.{Writes, BoundedHours, BoundedUnits, BoundedDay, lines_of_hours, lines_of_units, lines_of_day};
 ghost use Rattle.statement.specs.tables.Cursors.{top, SheetRoom, SheetLines};
 
 use crate::bytes::write_front;
-use crate::cursor::{Cursor, Sheet, put_line};
+use crate::cursor::{Cursor, put_line};
 use crate::hours::put_hour;
-use crate::lines::{Kind, LINE_MAX, Line, put_text};
+use crate::lines::{Kind, LINE_MAX, Line};
 use crate::units::put_unit;
 use book::answers::{CHARGES_MAX, CREDITS_MAX, DayAmounts, HourAmounts, UnitAmounts};
 use book::book::{Book, CHANGES_MAX};
-use money::refusals::NOT_TOGETHER;
+use money::refusals::Refusal;
 use money::units::{Cents, HOURS};
 use records::names::no_name;
 
@@ -31,32 +30,25 @@ pub(crate) const LINES_MAX: usize = HOUR_LINES_MAX * HOURS + UNIT_LINES_MAX * CH
 // The most bytes of a statement: 145,266.
 pub const STATEMENT_MAX: usize = LINE_MAX * LINES_MAX;
 
-// 0 and how many bytes were written, or the number of a refusal.
-#[derive(Clone, Copy)]
-pub struct Written {
-    pub number: u8,
-    pub len: usize,
-}
-
 // Writes the hours in turn.
-fn put_hours(out: &mut [u8], c: Cursor, hours: [HourAmounts; HOURS]) -> Cursor
-    requires { SheetRoom out.old c (max_hour_lines * day_hours) × PrintableHours hours }
-    ensures { SheetLines out.old c (max_hour_lines * day_hours) (lines_of_hours day_hours hours) out.new result }
+fn put_hours(out: &mut [u8], c: Cursor, hours: &[HourAmounts; HOURS]) -> Cursor
+    requires { SheetRoom out.old c (max_hour_lines * day_hours) × BoundedHours hours.now }
+    ensures { SheetLines out.old c (max_hour_lines * day_hours) (lines_of_hours day_hours hours.now) out.new result }
 {
     let mut next = c;
     for (h, a) in hours.iter().enumerate() {
-        next = put_hour(out, next, h as u8 + 1, *a);
+        next = put_hour(out, next, h as u8 + 1, a);
     }
     next
 }
 
-// Writes the first n units in turn.
-fn put_units(out: &mut [u8], c: Cursor, units: [UnitAmounts; CHANGES_MAX], n: usize) -> Cursor
-    requires { (n ≤ max_changes) × SheetRoom out.old c (max_unit_lines * n) × PrintableUnits n units }
-    ensures { SheetLines out.old c (max_unit_lines * n) (lines_of_units (take n units)) out.new result }
+// Writes the units in turn.
+fn put_units(out: &mut [u8], c: Cursor, units: &[UnitAmounts]) -> Cursor
+    requires { SheetRoom out.old c (max_unit_lines * length units.now) × BoundedUnits units.now }
+    ensures { SheetLines out.old c (max_unit_lines * length units.now) (lines_of_units units.now) out.new result }
 {
     let mut next = c;
-    for u in &units[..n] {
+    for u in units {
         next = put_unit(out, next, *u);
     }
     next
@@ -66,46 +58,29 @@ fn put_units(out: &mut [u8], c: Cursor, units: [UnitAmounts; CHANGES_MAX], n: us
 fn total_line(cents: Cents) -> Line
     ensures { result ≡ total_of cents.0 }
 {
-    let name = no_name();
     Line {
         hour: 0,
         kind: Kind::Tot,
-        name,
+        name: no_name(),
         cents,
     }
 }
 
 // Writes the line of the total, which no sum counts.
-fn put_total(out: &mut [u8], at: usize, cents: Cents) -> usize
-    requires { at + max_line ≤ length out.old }
-    ensures { Writes out.old at (line_bytes (total_of cents.0)) out.new result × (length (line_bytes (total_of cents.0)) ≤ max_line) }
-{
-    put_text(out, at, total_line(cents))
-}
-
-// The same behind a cursor, on pages or without.
 fn put_foot(out: &mut [u8], c: Cursor) -> Cursor
     requires { SheetRoom out.old c 1 }
     ensures { SheetLines out.old c 1 (total_of c.sum.0 ∷ []) out.new result }
 {
-    let sum = c.sum;
-    let sheet = c.sheet;
-    if sheet.page == 0 {
-        let at = put_total(out, c.at, sum);
-        return Cursor { at, sum, sheet };
-    }
-    put_line(out, c, total_line(sum))
+    put_line(out, c, total_line(c.sum))
 }
 
 // Writes all lines of a day and their total from a cursor on.
-pub(crate) fn put_lines(out: &mut [u8], c: Cursor, day: DayAmounts) -> Cursor
-    requires { PrintableDay day × SheetRoom out.old c max_lines × (c.sum.0 ≡ pos 0) }
-    ensures { SheetLines out.old c max_lines (with_total (lines_of_day day)) out.new result }
+pub(crate) fn put_lines(out: &mut [u8], c: Cursor, day: &DayAmounts) -> Cursor
+    requires { BoundedDay day.now × SheetRoom out.old c max_lines × (c.sum.0 ≡ pos 0) }
+    ensures { SheetLines out.old c max_lines (with_total (lines_of_day day.now)) out.new result }
 {
-    let hours = day.hours;
-    let units = day.units;
-    let d = put_hours(out, c, hours);
-    let e = put_units(out, d, units, day.n);
+    let d = put_hours(out, c, &day.hours);
+    let e = put_units(out, d, &day.units);
     put_foot(out, e)
 }
 
@@ -116,40 +91,68 @@ fn top() -> Cursor
     Cursor {
         at: 0,
         sum: Cents(0),
-        sheet: Sheet {
-            page: 0,
-            entries: 0,
-            sum: Cents(0),
-        },
+        sheet: None,
     }
 }
 
-// Writes all lines of a day and their total from the first byte on, and answers the place behind them.
-fn put_day(out: &mut [u8], day: DayAmounts) -> usize
-    requires { PrintableDay day × (longest_statement ≤ length out.old) }
-    ensures { Writes out.old 0 (text_of (with_total (lines_of_day day))) out.new result × (result ≤ longest_statement) }
-{
-    let end = put_lines(out, top(), day);
-    end.at
+// A way to lay out lines as a text, of a day's no longer than MAX.
+pub(crate) trait Layout<const MAX: usize> {
+    ghost use Rattle.statement.specs.declared.lines.Line.{Line};
+
+    ghost text: { List Line → List ℕ };
+
+    // Writes all lines of a day and their total from the first byte on, and answers the place behind them.
+    fn put(out: &mut [u8], day: &DayAmounts) -> usize
+        requires { BoundedDay day.now × (MAX ≤ length out.old) }
+        ensures { Writes out.old 0 (text (with_total (lines_of_day day.now))) out.new result × (result ≤ MAX) };
 }
 
-// Writes the statement from the first lent byte on: 13 where it is longer than what is lent, 16 where book and log don't
-// belong together. No statement is longer than STATEMENT_MAX: where less is lent it is written aside first.
-pub fn statement(book: Book, log: &[u8], out: &mut [u8]) -> Written
+// The text of a day where less is lent than the longest takes: it is written aside first. Its bytes aside are on the stack only where it is called.
+#[inline(never)]
+fn write_aside<L: Layout<MAX>, const MAX: usize>(
+    day: &DayAmounts,
+    out: &mut [u8],
+) -> Result<usize, Refusal>
+    requires { BoundedDay day.now × (MAX < 2 ^ 63) }
+    ensures fits { Fits (L.text (with_total (lines_of_day day.now))) out.old out.new result }
+    ensures short { length (L.text (with_total (lines_of_day day.now))) ≤ MAX }
+{
+    let mut aside = [0u8; MAX];
+    let len = L::put(&mut aside, day);
+    write_front(out, &aside[..len])
+}
+
+// The text of a day that a book holds, from the first lent byte on: 13 where it is longer than what is lent, 16 where book and log don't belong
+// together.
+pub(crate) fn write_day<L: Layout<MAX>, const MAX: usize>(
+    book: Book,
+    log: &[u8],
+    out: &mut [u8],
+) -> Result<usize, Refusal>
+    requires { MAX < 2 ^ 63 }
+    ensures { AnswersBy (text_by L.text) MAX (load book log.now) out.old out.new result }
+{
+    let day = book.day(log)?;
+    if MAX <= out.len() {
+        return Ok(L::put(out, &day));
+    }
+    write_aside::<L, MAX>(&day, out)
+}
+
+// Lines one after the other.
+struct Plain;
+
+impl Layout<STATEMENT_MAX> for Plain {
+    ghost text = { text_of };
+
+    fn put(out: &mut [u8], day: &DayAmounts) -> usize {
+        put_lines(out, top(), day).at
+    }
+}
+
+// Writes the statement. No statement is longer than STATEMENT_MAX.
+pub fn statement(book: Book, log: &[u8], out: &mut [u8]) -> Result<usize, Refusal>
     ensures { Answers (load book log.now) out.old out.new result }
 {
-    let day = book.day(log);
-    if day.number != 0 {
-        return Written {
-            number: NOT_TOGETHER,
-            len: 0,
-        };
-    }
-    if STATEMENT_MAX <= out.len() {
-        let len = put_day(out, day);
-        return Written { number: 0, len };
-    }
-    let mut aside = [0u8; STATEMENT_MAX];
-    let len = put_day(&mut aside, day);
-    write_front(out, &aside[..len])
+    write_day::<Plain, STATEMENT_MAX>(book, log, out)
 }

@@ -4,7 +4,7 @@ ghost use Rattle.records.specs.Names.{max_spelling};
 ghost use Rattle.statement.specs.Lines.{when_bytes, kind_bytes, is_number, name_bytes, sign, figure, line_bytes, max_figure, max_line};
 ghost use Rattle.statement.specs.tables.Inner.{Writes, label_bytes, label_size};
 
-use crate::bytes::{put_byte, put_decimal, put_part, put_three, put_two};
+use crate::bytes::{put_byte, put_decimal, put_part, put_two};
 use money::names::Name;
 use money::units::Cents;
 use records::names::{SPELLING_MAX, spell_name};
@@ -24,6 +24,24 @@ pub enum Kind {
     Rev,
     Err,
     Tot,
+}
+
+impl Kind {
+    #[tactic(auto, unfolding(crate::specs::Lines::kind_bytes))]
+    fn mark(self) -> [u8; 3]
+        ensures { result ≡ kind_bytes self }
+    {
+        match self {
+            Kind::Iog => *b"IOG",
+            Kind::Off => *b"OFF",
+            Kind::Ifc => *b"IFC",
+            Kind::Efc => *b"EFC",
+            Kind::Pcg => *b"PCG",
+            Kind::Rev => *b"REV",
+            Kind::Err => *b"ERR",
+            Kind::Tot => *b"TOT",
+        }
+    }
 }
 
 // Hour 0 is the day. A name that breaks its rule, as one of no bytes, is none. The cents of an `Err` are its number.
@@ -47,22 +65,6 @@ fn put_when(out: &mut [u8], at: usize, hour: u8) -> usize
     put_two(out, at, hour)
 }
 
-fn put_kind(out: &mut [u8], at: usize, kind: Kind) -> usize
-    requires { at + 3 ≤ length out.old }
-    ensures { Writes out.old at (kind_bytes kind) out.new result }
-{
-    match kind {
-        Kind::Iog => put_three(out, at, b'I', b'O', b'G'),
-        Kind::Off => put_three(out, at, b'O', b'F', b'F'),
-        Kind::Ifc => put_three(out, at, b'I', b'F', b'C'),
-        Kind::Efc => put_three(out, at, b'E', b'F', b'C'),
-        Kind::Pcg => put_three(out, at, b'P', b'C', b'G'),
-        Kind::Rev => put_three(out, at, b'R', b'E', b'V'),
-        Kind::Err => put_three(out, at, b'E', b'R', b'R'),
-        Kind::Tot => put_three(out, at, b'T', b'O', b'T'),
-    }
-}
-
 // Hour and kind, and a blank behind each.
 pub(crate) fn put_label(out: &mut [u8], at: usize, hour: u8, kind: Kind) -> usize
     requires { at + label_size ≤ length out.old }
@@ -70,7 +72,7 @@ pub(crate) fn put_label(out: &mut [u8], at: usize, hour: u8, kind: Kind) -> usiz
 {
     let a = put_when(out, at, hour);
     let b = put_byte(out, a, b' ');
-    let c = put_kind(out, b, kind);
+    let c = put_part(out, b, &kind.mark());
     put_byte(out, c, b' ')
 }
 
@@ -81,11 +83,12 @@ pub(crate) fn put_name(out: &mut [u8], at: usize, name: Name) -> usize
     ensures { Writes out.old at (name_bytes name) out.new result }
 {
     match spell_name(name) {
-        Ok(s) => put_part(out, at, &s.bytes[..s.len as usize]),
+        Ok(s) => put_part(out, at, s.as_slice()),
         Err(_) => put_byte(out, at, b'-'),
     }
 }
 
+// No derived `==` says it: a kind is compared with one case, and the line's definition has the word.
 fn is_number(kind: Kind) -> bool
     ensures { result ≡ is_number kind }
 {

@@ -1,58 +1,55 @@
 // What a line counts in a sum of lines.
-ghost use Rattle.std.specs.Prelude.{◌≡◌, ◌+ℤ◌, ◌-ℤ◌};
+ghost use Rattle.std.specs.Prelude.{◌≡◌, ◌+ℤ◌};
 ghost use Rattle.money.specs.tables.Numbers.{Moderate};
-ghost use Rattle.statement.specs.Total.{effect_of, signed};
+ghost use Rattle.statement.specs.Total.{effect_of, towards};
+ghost use Rattle.statement.specs.tables.Inner.{Countable};
 
-use crate::lines::Kind;
+use crate::lines::{Kind, Line};
 use money::units::Cents;
 
-// What becomes of a line's amount in a sum.
+// What becomes of an amount that counts in a sum.
 #[derive(Clone, Copy)]
 pub enum Effect {
     Added,
     TakenOff,
-    Nothing,
 }
 
-pub(crate) fn effect_of(kind: Kind) -> Effect
-    ensures { result ≡ effect_of kind }
-{
-    match kind {
-        Kind::Iog => Effect::Added,
-        Kind::Off => Effect::TakenOff,
-        Kind::Ifc => Effect::TakenOff,
-        Kind::Efc => Effect::TakenOff,
-        Kind::Pcg => Effect::Added,
-        Kind::Rev => Effect::Added,
-        Kind::Err => Effect::Nothing,
-        Kind::Tot => Effect::Nothing,
+impl Kind {
+    // None: it counts nothing.
+    pub(crate) fn effect(self) -> Option<Effect>
+        ensures { result ≡ effect_of self }
+    {
+        match self {
+            Kind::Iog => Some(Effect::Added),
+            Kind::Off => Some(Effect::TakenOff),
+            Kind::Ifc => Some(Effect::TakenOff),
+            Kind::Efc => Some(Effect::TakenOff),
+            Kind::Pcg => Some(Effect::Added),
+            Kind::Rev => Some(Effect::Added),
+            Kind::Err => None,
+            Kind::Tot => None,
+        }
     }
 }
 
-// The sum with an amount added.
-fn plus(sum: Cents, cents: Cents) -> Cents
-    requires { Moderate sum.0 × Moderate cents.0 }
-    ensures { result.0 ≡ sum.0 +ℤ cents.0 }
-{
-    Cents(sum.0 + cents.0)
-}
-
-// The sum with an amount taken off.
-fn minus(sum: Cents, cents: Cents) -> Cents
-    requires { Moderate sum.0 × Moderate cents.0 }
-    ensures { result.0 ≡ sum.0 -ℤ cents.0 }
-{
-    Cents(sum.0 - cents.0)
+impl Line {
+    // Its cents as they count.
+    pub(crate) fn towards(self) -> Cents
+        requires { Countable self }
+        ensures { result.0 ≡ towards self }
+    {
+        match self.kind.effect() {
+            Some(Effect::Added) => self.cents,
+            Some(Effect::TakenOff) => Cents(-self.cents.0),
+            None => Cents(0),
+        }
+    }
 }
 
 // The sum with one more amount, as it counts.
-pub(crate) fn counted(sum: Cents, effect: Effect, cents: Cents) -> Cents
-    requires { Moderate sum.0 × Moderate (signed effect cents.0) }
-    ensures { result.0 ≡ sum.0 +ℤ signed effect cents.0 }
+pub(crate) fn counted(sum: Cents, towards: Cents) -> Cents
+    requires { Moderate sum.0 × Moderate towards.0 }
+    ensures { result.0 ≡ sum.0 +ℤ towards.0 }
 {
-    match effect {
-        Effect::Added => plus(sum, cents),
-        Effect::TakenOff => minus(sum, cents),
-        Effect::Nothing => sum,
-    }
+    Cents(sum.0 + towards.0)
 }

@@ -14,13 +14,9 @@ pub(crate) fn put_unit(out: &mut [u8], c: Cursor, u: UnitAmounts) -> Cursor
     requires { SheetRoom out.old c max_unit_lines × BoundedUnit u }
     ensures { SheetLines out.old c max_unit_lines (lines_of_unit u) out.new result }
 {
-    let name = u.name;
-    let day = u.day;
-    if day.number != 0 {
-        return put_error(out, c, 0, name);
-    }
-    let total = day.total;
-    let reversal = day.reversal;
-    let rev = put_line(out, c, amount_line(0, Kind::Pcg, name, total));
-    put_line(out, rev, amount_line(0, Kind::Rev, name, reversal))
+    let Ok(day) = u.day else {
+        return put_error(out, c, 0, u.name);
+    };
+    let rev = put_line(out, c, amount_line(0, Kind::Pcg, u.name, day.total));
+    put_line(out, rev, amount_line(0, Kind::Rev, u.name, day.reversal))
 }

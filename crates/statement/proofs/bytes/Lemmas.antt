@@ -1,4 +1,4 @@
--- Bytes written one behind the other.
+-- Bytes written one behind the other. `put_mid`, of which a goal of a part that is copied speaks, has no name in std.
 use Rattle.std.proofs.Common.{◌≡◌, refl, sym, ap, ◌∙◌, List, [], ◌∷◌, ◌++◌, ℕ, ◌+◌, ◌-◌, ◌≤◌, ◌<◌, arith, length, take, drop, set, length-append, take_all}
 use Rattle.std.proofs.Math.Seq.{paste}
 use borrow.Rule.Slice.PartMut.{put_mid}
@@ -8,6 +8,10 @@ use Rattle.statement.specs.tables.Inner.{Writes}
 
 pub writes-size : {d e xs : List ℕ} {at r : ℕ} → Writes d at xs e r → length e ≡ length d
 writes-size {d} {e} {xs} {at} w = ap length w.bytes ∙ put-length d at xs
+
+-- the room that is left behind what was written
+pub room-behind : {d e xs : List ℕ} {at r : ℕ} (n m : ℕ) → Writes d at xs e r → at + n ≤ length d → length xs + m ≤ n → r + m ≤ length e
+room-behind n m w h k = omega (arith, w.behind, writes-size w)
 
 pub writes-none : (d : List ℕ) (at : ℕ) → at ≤ length d → Writes d at [] d at
 writes-none d at h = record { room = omega arith; bytes = put-none d at h; behind = omega arith }

@@ -1,4 +1,5 @@
--- 01's cases of printed lines, those marked (P) among them, 02's of totals (W1) and pages (W2), and some of their neighbours: one list, one test. Assumes nothing.
+-- 01's cases of printed lines, those marked (P) among them, 02's of totals (W1) and pages (W2), and some of their neighbours: one list, one test.
+-- Assumes nothing. The type of a text in quotes has no name in std.
 use Rattle.std.specs.Prelude.{◌≡◌, refl, Bool, true, ◌&&◌, List, [], ◌∷◌, ◌++◌, ℕ, ◌+◌, ◌-◌, ◌*◌, eqb, ℤ, pos, negsuc, length, take, drop, replicate}
 use Prim.Native.String.{String}
 use Rattle.laws.specs.Text.{bytes}
@@ -164,6 +165,6 @@ cases =
     ∷ []
 
 pub examples : all cases ≡ true
-unfolding text_of line_bytes when_bytes two_digits kind_bytes name_bytes name_ok every spell spell_byte unreserved digit figure sign dollars number decimal digits
-    cents_of same_bytes sum_of pages_to page_text page_head entries_bytes entry_bytes number_line sum_line blank_line blank_lines left_in right_in blanks
+unfolding text_of line_bytes when_bytes two_digits kind_bytes name_bytes name_ok every spell spell_byte unreserved digit figure sign dollars number decimal
+    digits cents_of same_bytes sum_of pages_to page_text page_head entries_bytes entry_bytes number_line sum_line blank_line blank_lines left_in right_in blanks
 examples = refl

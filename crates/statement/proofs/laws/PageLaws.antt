@@ -1,5 +1,5 @@
 -- Laws of pages: their sums add up to the day's total; each is 60 lines of 72 columns, whatever the changes are. Assumes nothing.
-use Rattle.std.specs.Prelude.{◌≡◌, refl, Bool, true, false, cond, ℕ, zero, suc, ◌+◌, ◌-◌, ◌*◌, ◌^◌, ◌≤◌, ◌<◌, eqb, ℤ, nat_abs, ◌+ℤ◌, length, take, drop, get_or}
+use Rattle.std.specs.Prelude.{◌≡◌, refl, Bool, true, false, cond, ℕ, zero, suc, ◌+◌, ◌-◌, ◌*◌, ◌^◌, ◌≤◌, ◌<◌, eqb, ℤ, nat_abs, ◌+ℤ◌, Result, Ok, Err, IfOk, length, take, drop, get_or}
 use Rattle.std.proofs.Common.{sym, ap, ◌∙◌, arith, length-append, length-take, take_all, take-add, List, [], ◌∷◌, ◌++◌, append_assoc, append-nil, map}
 use Rattle.std.proofs.Math.Path.{subst}
 use Rattle.std.proofs.lemmas.List.{length-map}
@@ -11,27 +11,30 @@ use Rattle.money.specs.Units.{day_hours}
 use Rattle.money.specs.Refusals.{price_missing}
 use Rattle.money.specs.tables.Numbers.{Bounded}
 use Rattle.money.proofs.laws.UnitLaws.{cents-bounded}
-use Rattle.book.specs.Layer.{Name, Rec, Change, empty_name}
+use Rattle.arrayvec.specs.ArrayVec.{ArrayVec as Items}
+use Rattle.money.specs.declared.production.DayTotals.{DayTotals}
+use Rattle.book.specs.Layer.{Name, Rec, Change, Refusal, empty_name}
+use Rattle.book.specs.declared.answers.Guarantees.{Guarantees}
 use Rattle.book.specs.declared.answers.NamedAmount.{NamedAmount}
 use Rattle.book.specs.declared.answers.HourAmounts.{HourAmounts}
 use Rattle.book.specs.declared.answers.UnitAmounts.{UnitAmounts}
 use Rattle.book.specs.declared.answers.DayAmounts.{DayAmounts}
-use Rattle.book.specs.Amounts.{HourPricing, charged, no, price_of}
-use Rattle.book.specs.Replies.{refused, guarantees, unit_day}
+use Rattle.book.specs.Amounts.{HourPricing, charged, price_of}
+use Rattle.book.specs.Replies.{guarantees}
 use Rattle.book.specs.Register.{standing}
 use Rattle.book.specs.Handed.{max_credits, max_charges}
-use Rattle.book.specs.Meaning.{Valid}
-use Rattle.book.specs.WholeDay.{no_hour}
+use Rattle.book.specs.Meaning.{Valid, guarantees_reply, charges_reply, day_reply}
 use Rattle.book.specs.laws.StandLaws.{all_map}
-use Rattle.book.specs.tables.Sizes.{AllBounded, BoundedUnit}
+use Rattle.book.specs.tables.Sizes.{AllBounded, BoundedGuarantees, BoundedTotals, BoundedUnit}
 use Rattle.statement.specs.Lines.{newline}
 use Rattle.statement.specs.Total.{towards, effect_of, sum_of, total_of, with_total}
 use Rattle.statement.specs.Statement.{line_of, error_line, offset_lines, hour_lines, unit_lines, hours_to, day_lines, statement_lines, max_hour_lines, max_unit_lines, max_lines}
 use Rattle.statement.specs.Pages.{page_columns, page_lines, page_entries, line_size, page_size, blank_lines, entries_bytes, page_head, page_text, page_of, page_count, pages_to, pages_of}
-use Rattle.statement.specs.tables.Inner.{max_printed, lines_of_hour, lines_of_hours, lines_of_unit, lines_of_units, lines_of_day, PrintableHour, PrintableHours, PrintableUnits, PrintableDay}
+use Rattle.statement.specs.tables.Inner.{max_printed, no_hour, lines_of_hour, lines_of_hours, lines_of_unit, lines_of_units, lines_of_day, BoundedUnits, PrintableHour, PrintableHours, PrintableDay}
 use Rattle.statement.proofs.laws.LineLaws.{Fits64}
 use Rattle.statement.proofs.laws.TotalLaws.{signed-size, sum-none, sum-append}
 use Rattle.statement.proofs.laws.StatementLaws.{day-lines, day-printable, statement-sum}
+use Rattle.statement.proofs.laws.DayLaws.{day_for_list, list-told}
 use Rattle.statement.proofs.laws.PageLineLaws.{all_append, all_take, all_drop, PageLine, entry-line, number-line, sum-line, blank-line}
 use Rattle.statement.specs.declared.lines.Kind.{Kind}
 use Rattle.statement.specs.declared.lines.Kind.TheVariants.{Iog, Ifc, Efc}
@@ -152,13 +155,12 @@ small-append k {xs} {ys} a b h = record { few = omega (arith, length-append xs y
 small_one : (l : Line) → Within max_printed l → Small 1 (l ∷ [])
 small_one l h = record { few = omega arith; all = also h done }
 
-small-amounts : (h : ℕ) (k : Kind) (m n : ℕ) (xs : List NamedAmount) → AllBounded n xs → n ≤ m → Small m (map (line_of h k) (take n xs))
-small-amounts h k m n xs b few = record { few = omega (arith, length-map (take n xs) (line_of h k), length-take n xs); all = go n xs b }
+small-amounts : (h : ℕ) (k : Kind) (m : ℕ) (xs : List NamedAmount) → AllBounded xs → length xs ≤ m → Small m (map (line_of h k) xs)
+small-amounts h k m xs b few = record { few = omega (arith, length-map xs (line_of h k)); all = go xs b }
   where
-    go : (n : ℕ) (xs : List NamedAmount) → AllBounded n xs → All (Within max_printed) (map (line_of h k) (take n xs))
-    go zero xs b = done
-    go (suc n) [] b = done
-    go (suc n) (x ∷ xs) b = also (cents-bounded x.ticks.0 (b 0 (omega arith) x)) (go n xs (λ i l d. b (suc i) (omega arith) d))
+    go : (xs : List NamedAmount) → AllBounded xs → All (Within max_printed) (map (line_of h k) xs)
+    go [] b = done
+    go (x ∷ xs) b = also (cents-bounded x.ticks.0 (b 0 (omega arith) x)) (go xs (λ i l d. b (suc i) (omega arith) d))
 
 small-offset : (h n : ℕ) (o : ℤ) → Bounded o → Small 1 (offset_lines h n o)
 small-offset h n o b = go (eqb n 0)
@@ -170,21 +172,26 @@ small-offset h n o b = go (eqb n 0)
 small-error : (n h : ℕ) (name : Name) → 1 ≤ n → Small n (error_line h name ∷ [])
 small-error n h name l = let p : price_missing ≤ max_printed = omega arith in record { few = l; all = also p done }
 
-small-answers : (h n k m : ℕ) (o : ℤ) (cs fs es : List NamedAmount) → Small max_credits (map (line_of h Iog) cs) → Bounded o
-    → Small max_charges (map (line_of h Ifc) fs) → Small max_charges (map (line_of h Efc) es) → (x y z : Bool)
-    → Small max_hour_lines (hour_lines h (cond x (guarantees cs o) (refused n)) (cond y (charged fs) (no k)) (cond z (charged es) (no m)))
-small-answers h n k m o cs fs es a b c d false y z = small-error max_hour_lines h empty_name (omega arith)
-small-answers h n k m o cs fs es a b c d true false z = small-error max_hour_lines h empty_name (omega arith)
-small-answers h n k m o cs fs es a b c d true true false = small-error max_hour_lines h empty_name (omega arith)
-small-answers h n k m o cs fs es a b c d true true true =
+small-charged : (h : ℕ) (cs fs es : List NamedAmount) (o : ℤ) → Small max_credits (map (line_of h Iog) cs) → Bounded o
+    → Small max_charges (map (line_of h Ifc) fs) → Small max_charges (map (line_of h Efc) es)
+    → Small max_hour_lines (hour_lines h (guarantees cs o) (charged fs) (charged es))
+small-charged h cs fs es o a b c d =
     let offset = small-append (max_credits + 1) a (small-offset h (length cs) o b) (omega arith) in
     small-append max_hour_lines (small-append (max_credits + 1 + max_charges) offset c (omega arith)) d (omega arith)
 
 small-hour : (h : ℕ) (a : HourAmounts) → PrintableHour a → Small max_hour_lines (lines_of_hour h a)
-small-hour h a p =
-    small-answers h _ _ _ _ _ _ _ (small-amounts h Iog max_credits _ _ p.bounded.credits p.credits) p.bounded.offset
-    (small-amounts h Ifc max_charges _ _ p.bounded.imports p.imports) (small-amounts h Efc max_charges _ _ p.bounded.exports p.exports)
-    (eqb a.guarantees.number 0) (eqb a.imports.number 0) (eqb a.exports.number 0)
+small-hour h a p = go a.guarantees a.imports a.exports p.credits p.imports p.exports p.bounded.guarantees p.bounded.imports p.bounded.exports
+  where
+    go : (g : Result Guarantees Refusal) (f e : Result (Items NamedAmount) Refusal) → IfOk g (λ x. length x.credits.items ≤ max_credits)
+        → IfOk f (λ c. length c.items ≤ max_charges) → IfOk e (λ c. length c.items ≤ max_charges) → IfOk g BoundedGuarantees
+        → IfOk f (λ c. AllBounded c.items) → IfOk e (λ c. AllBounded c.items)
+        → Small max_hour_lines (hour_lines h (guarantees_reply g) (charges_reply f) (charges_reply e))
+    go (Err k) f e i j n x y z = small-error max_hour_lines h empty_name (omega arith)
+    go (Ok g) (Err k) e i j n x y z = small-error max_hour_lines h empty_name (omega arith)
+    go (Ok g) (Ok f) (Err k) i j n x y z = small-error max_hour_lines h empty_name (omega arith)
+    go (Ok g) (Ok f) (Ok e) i j n x y z =
+        small-charged h _ _ _ _ (small-amounts h Iog max_credits _ x.credits i) x.offset (small-amounts h Ifc max_charges _ y j)
+        (small-amounts h Efc max_charges _ z n)
 
 small-hours : (hs : List HourAmounts) → PrintableHours hs → (n : ℕ) → n ≤ day_hours → Small (max_hour_lines * n) (lines_of_hours n hs)
 unfolding hours_to
@@ -194,22 +201,21 @@ small-hours hs p (suc n) h =
     (small-hour (suc n) (get_or hs (suc n - 1) no_hour) (p (suc n - 1) (omega arith) no_hour)) (omega arith)
 
 small-unit : (u : UnitAmounts) → BoundedUnit u → Small max_unit_lines (lines_of_unit u)
-small-unit u b = go (eqb u.day.number 0)
+small-unit u b = go u.day b
   where
-    go : (x : Bool) → Small max_unit_lines (unit_lines u.name (cond x (unit_day u.day.total.0 u.day.reversal.0) (refused u.day.number)))
-    go true = record { few = omega arith; all = also (cents-bounded _ b.total) (also (cents-bounded _ b.reversal) done) }
-    go false = small-error max_unit_lines 0 u.name (omega arith)
+    go : (d : Result DayTotals Refusal) → IfOk d BoundedTotals → Small max_unit_lines (unit_lines u.name (day_reply d))
+    go (Ok d) b = record { few = omega arith; all = also (cents-bounded _ b.total) (also (cents-bounded _ b.reversal) done) }
+    go (Err k) b = small-error max_unit_lines 0 u.name (omega arith)
 
-small_units : (n : ℕ) (us : List UnitAmounts) → PrintableUnits n us → Small (max_unit_lines * n) (lines_of_units (take n us))
+small_units : (us : List UnitAmounts) → BoundedUnits us → Small (max_unit_lines * length us) (lines_of_units us)
 unfolding lines_of_units
-small_units zero us p = small-none 0
-small_units (suc n) [] p = small-none _
-small_units (suc n) (u ∷ us) p =
-    small-append (max_unit_lines * suc n) (small-unit u (p 0 (omega arith) u)) (small_units n us (λ i l d. p (suc i) (omega arith) d)) (omega arith)
+small_units [] p = small-none 0
+small_units (u ∷ us) p =
+    small-append (max_unit_lines * suc (length us)) (small-unit u (p 0 (omega arith) u)) (small_units us (λ i l d. p (suc i) (omega arith) d)) (omega arith)
 
 small-day : (d : DayAmounts) → PrintableDay d → Small (max_lines - 1) (lines_of_day d)
 small-day d p =
-    small-append (max_lines - 1) (small-hours d.hours p.hours day_hours (omega arith)) (small_units d.n d.units p.units) (omega (arith, p.few))
+    small-append (max_lines - 1) (small-hours d.hours p.hours day_hours (omega arith)) (small_units d.units.items p.units) (omega (arith, p.few))
 
 -- ---- the lines of a statement
 
@@ -229,7 +235,8 @@ total-fits {ls} s =
 module _ (l : List Change) (v : Valid l) where
   statement-fits : Fitting (statement_lines (standing l) (price_of (standing l)))
   unfolding statement_lines
-  statement-fits = subst (λ (ls : List Line). Fitting (with_total ls)) (day-lines l v) (total-fits (small-day _ (day-printable l v)))
+  statement-fits = subst (λ (ls : List Line). Fitting (with_total ls)) (day-lines l v (day_for_list l) (list-told l))
+      (total-fits (small-day _ (day-printable l v (day_for_list l) (list-told l))))
 
   -- "pages of exactly 72 columns and 60 lines, each line ending in one newline": every line of every page, for every list of changes that a book can stand for
   pub ruled : let ls = statement_lines (standing l) (price_of (standing l)) in Ruled (page_lines * page_count (length ls)) (pages_of l)

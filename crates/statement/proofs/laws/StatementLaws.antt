@@ -1,26 +1,33 @@
 -- The lines of a day's amounts, as the book hands them over, are those of the statement; its last line is their total. Assumes nothing.
-use Rattle.std.specs.Prelude.{◌≡◌, refl, length, take, get_or}
-use Rattle.std.proofs.Common.{sym, ◌∙◌, add-one, take-suc, List, [], ◌∷◌, ◌++◌, map, append_assoc, append-nil, ℕ, zero, suc, ◌+◌, ◌-◌, ◌<◌, arith}
+use Rattle.std.specs.Prelude.{◌≡◌, refl, Result, Ok, Err, IfOk, length, take, get_or}
+use Rattle.std.proofs.Common.{sym, ◌∙◌, add-one, take-suc, List, [], ◌∷◌, ◌++◌, map, append_assoc, append-nil, ℕ, zero, suc, ◌+◌, ◌-◌, ◌≤◌, ◌<◌, arith}
+use Rattle.std.proofs.lemmas.List.{length-map}
 use Rattle.std.proofs.Math.Path.{ap, subst}
 use Rattle.money.specs.Units.{day_hours}
 use Rattle.money.specs.declared.names.Name.{Name}
-use Rattle.book.specs.Layer.{Rec, Change}
+use Rattle.arrayvec.specs.ArrayVec.{ArrayVec as Items}
+use Rattle.book.specs.Layer.{Rec, Change, Refusal, Im, Fi, Fe}
+use Rattle.book.specs.declared.answers.NamedAmount.{NamedAmount}
+use Rattle.book.specs.declared.answers.Guarantees.{Guarantees}
 use Rattle.book.specs.declared.answers.HourAmounts.{HourAmounts}
 use Rattle.book.specs.declared.answers.UnitAmounts.{UnitAmounts}
 use Rattle.book.specs.declared.answers.DayAmounts.{DayAmounts}
-use Rattle.book.specs.Amounts.{HourPricing, price_of}
+use Rattle.book.specs.Amounts.{HourPricing, priced, unpriced, hour_key, price_of, credit_at, charge_line, guarantees_at, guarantees_of, charges_at, charges_of}
 use Rattle.book.specs.ByName.{names_of}
 use Rattle.book.specs.laws.ChargeLaws.{get_or-same}
-use Rattle.book.specs.UnitNames.{gh_key, unit_key}
+use Rattle.book.specs.UnitNames.{gh_key}
 use Rattle.book.specs.Register.{standing}
-use Rattle.book.specs.Meaning.{belongs, Valid}
-use Rattle.book.specs.WholeDay.{no_hour, day_amounts, day_from}
-use Rattle.book.specs.laws.WholeDayLaws.{HourIs, hour-is, unit_in, units-are, day-back}
+use Rattle.book.specs.Handed.{max_credits, max_charges}
+use Rattle.book.specs.Meaning.{belongs, Valid, guarantees_reply, charges_reply}
+use Rattle.book.specs.WholeDay.{UnitReply, unit_reply, day_amounts, told_unit, told_day}
+use Rattle.book.specs.laws.ValidLaws.{by_name-few}
+use Rattle.book.specs.laws.WholeDayLaws.{HourIs, hour-is, units-are}
 use Rattle.book.specs.laws.SizeLaws.{hours-bounded, units-bounded}
+use Rattle.book.specs.tables.Sizes.{BoundedHour}
 use Rattle.statement.specs.Lines.{line_bytes, text_of}
 use Rattle.statement.specs.Total.{sum_of, total_of, with_total}
 use Rattle.statement.specs.Statement.{hour_lines, hour_of, unit_lines, unit_of, hours_to, each_unit, day_lines, statement_lines, statement_of}
-use Rattle.statement.specs.tables.Inner.{lines_of_hour, lines_of_hours, lines_of_unit, lines_of_units, lines_of_day, PrintableDay}
+use Rattle.statement.specs.tables.Inner.{no_hour, lines_of_hour, lines_of_hours, lines_of_unit, lines_of_units, lines_of_day, PrintableHour, PrintableDay}
 use Rattle.statement.proofs.laws.TotalLaws.{total-is, total-text}
 use Rattle.statement.specs.declared.lines.Line.{Line}
 
@@ -40,7 +47,8 @@ hours-more hs n d h =
 unit-last : (us : List UnitAmounts) (u : UnitAmounts) → lines_of_units (us ++ (u ∷ [])) ≡ lines_of_units us ++ lines_of_unit u
 unfolding lines_of_units
 unit-last [] u = append-nil (lines_of_unit u)
-unit-last (x ∷ us) u = ap (λ (l : List Line). lines_of_unit x ++ l) (unit-last us u) ∙ sym (append_assoc (lines_of_unit x) (lines_of_units us) (lines_of_unit u))
+unit-last (x ∷ us) u = ap (λ (l : List Line). lines_of_unit x ++ l) (unit-last us u)
+    ∙ sym (append_assoc (lines_of_unit x) (lines_of_units us) (lines_of_unit u))
 
 pub units-none : lines_of_units [] ≡ []
 unfolding lines_of_units
@@ -58,18 +66,39 @@ unfolding hours_to
 hours-same f g zero e = refl
 hours-same f g (suc n) e = let s = hours-same f g n (λ h l. e h (omega arith)) in let t = e n (omega arith) in λ i. s i ++ t i
 
-units-same : (l : List Change) (ns : List Name) → lines_of_units (map (unit_in l) ns) ≡ each_unit (unit_of (standing l) (price_of (standing l))) ns
+units-same : (l : List Change) (us : List UnitAmounts) (ns : List Name)
+    → map told_unit us ≡ map (unit_reply (standing l) (price_of (standing l))) ns
+    → lines_of_units us ≡ each_unit (unit_of (standing l) (price_of (standing l))) ns
 unfolding lines_of_units each_unit unit_of
-units-same l [] = refl
-units-same l (n ∷ ns) =
-    let s = units-same l ns in
-    let t : lines_of_unit (unit_in l n) ≡ _ = ap (unit_lines n) (day-back (unit_key n) (standing l) (price_of (standing l))) in
+units-same l [] [] e = refl
+units-same l [] (n ∷ ns) e = cc
+units-same l (u ∷ us) [] e = cc
+units-same l (u ∷ us) (n ∷ ns) e =
+    let first : told_unit u ≡ unit_reply (standing l) (price_of (standing l)) n = cc in
+    let t : lines_of_unit u ≡ _ = ap (λ (r : UnitReply). unit_lines r.name r.day) first in
+    let s = units-same l us ns cc in
     λ i. t i ++ s i
 
-module _ (l : List Change) (v : Valid l) where
-  abbrev day : DayAmounts
-  day = day_from (day_amounts (belongs l))
+-- an hour holds few records of a mark, so few credits are handed back
+few-credits : (r : Result Guarantees Refusal) (q : HourPricing) (is es : List Rec) → guarantees_reply r ≡ guarantees_at q is es → length is ≤ max_credits
+    → IfOk r (λ g. length g.credits.items ≤ max_credits)
+few-credits (Err k) q is es e h = tt
+few-credits (Ok g) q [] es e h = let x : g.credits.items ≡ [] = cc in omega (arith, ap length x)
+few-credits (Ok g) unpriced (i ∷ rest) es e h = cc
+few-credits (Ok g) (priced p) (i ∷ rest) es e h =
+    let x : g.credits.items ≡ map (credit_at p) (i ∷ rest) = cc in omega (arith, ap length x, length-map (i ∷ rest) (credit_at p))
 
+-- and few charges
+few-charges : (r : Result (Items NamedAmount) Refusal) (q : HourPricing) (fs : List Rec) → charges_reply r ≡ charges_at q fs → length fs ≤ max_charges
+    → IfOk r (λ c. length c.items ≤ max_charges)
+few-charges (Err k) q fs e h = tt
+few-charges (Ok c) q [] e h = let x : c.items ≡ [] = cc in omega (arith, ap length x)
+few-charges (Ok c) unpriced (f ∷ fs) e h = cc
+few-charges (Ok c) (priced p) (f ∷ fs) e h =
+    let x : c.items ≡ map (charge_line p) (f ∷ fs) = cc in omega (arith, ap length x, length-map (f ∷ fs) (charge_line p))
+
+-- a day that was handed back for a list
+module _ (l : List Change) (v : Valid l) (day : DayAmounts) (told : told_day (Ok day) ≡ day_amounts (belongs l)) where
   hour-lines : (h : ℕ) → h < day_hours → lines_of_hour (suc h) (get_or day.hours (suc h - 1) no_hour) ≡ hour_of (standing l) (price_of (standing l)) (suc h)
   unfolding hour_of
   hour-lines h lt =
@@ -77,27 +106,34 @@ module _ (l : List Change) (v : Valid l) where
       let n : 1 + h ≡ suc h = omega arith in
       let x : HourIs l (suc h) (get_or day.hours (suc h - 1) no_hour) =
       subst (λ (k : ℕ). HourIs l (suc h) (get_or day.hours k no_hour)) (sym m)
-      (subst (λ (k : ℕ). HourIs l k (get_or day.hours h no_hour)) n (hour-is l v h lt no_hour)) in
+      (subst (λ (k : ℕ). HourIs l k (get_or day.hours h no_hour)) n (hour-is l v day told h lt no_hour)) in
       λ i. hour_lines (suc h) (x.guaranteed i) (x.imports i) (x.exports i)
 
   pub day-lines : lines_of_day day ≡ day_lines (standing l) (price_of (standing l))
   unfolding day_lines
   day-lines =
       let s = hours-same (λ (h : ℕ). lines_of_hour h (get_or day.hours (h - 1) no_hour)) (hour_of (standing l) (price_of (standing l))) day_hours hour-lines in
-      let t = ap lines_of_units (units-are l v).units ∙ units-same l (names_of gh_key (standing l)) in
+      let t = units-same l day.units.items (names_of gh_key (standing l)) (units-are l v day told).units in
       λ i. s i ++ t i
 
   pub day-text : text_of (with_total (lines_of_day day)) ≡ statement_of l
   unfolding statement_of statement_lines
   day-text = ap (λ (ls : List Line). text_of (with_total ls)) day-lines
 
+  hour-printable : (h : ℕ) (a : HourAmounts) → HourIs l h a → BoundedHour a → PrintableHour a
+  unfolding guarantees_of charges_of
+  hour-printable h a x b = record {
+    credits = few-credits a.guarantees _ _ _ x.guaranteed (by_name-few (hour_key Im h) l v);
+    imports = few-charges a.imports _ _ x.imports (by_name-few (hour_key Fi h) l v);
+    exports = few-charges a.exports _ _ x.exports (by_name-few (hour_key Fe h) l v);
+    bounded = b;
+  }
+
   pub day-printable : PrintableDay day
   day-printable = record {
-    few = (units-are l v).few;
-    hours = λ j lt d.
-        let x = hour-is l v j lt d in
-        record { credits = x.few-credits; imports = x.few-imports; exports = x.few-exports; bounded = hours-bounded l v j lt d };
-    units = units-bounded l v;
+    few = (units-are l v day told).few;
+    hours = λ j lt d. hour-printable (1 + j) (get_or day.hours j d) (hour-is l v day told j lt d) (hours-bounded l v day told j lt d);
+    units = units-bounded l v day told;
   }
 
 -- ---- the total

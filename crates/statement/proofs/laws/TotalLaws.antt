@@ -1,5 +1,5 @@
 -- Laws of sums of lines: over lines in a row, and of lines with their total, and its text. Assumes nothing.
-use Rattle.std.specs.Prelude.{◌≡◌, refl, List, [], ◌∷◌, ◌++◌, ℕ, ◌≤◌, ℤ, pos, nat_abs, ◌+ℤ◌}
+use Rattle.std.specs.Prelude.{◌≡◌, refl, List, [], ◌∷◌, ◌++◌, ℕ, ◌≤◌, Option, Some, None, ℤ, pos, nat_abs, ◌+ℤ◌}
 use Rattle.std.proofs.Common.{sym, ap, ◌∙◌, arith}
 use Rattle.std.proofs.Math.IntN.{+ℤ_assoc, +ℤ_idl, +ℤ_idr}
 use Rattle.laws.specs.IntLaws.{abs_neg}
@@ -8,13 +8,13 @@ use Rattle.statement.specs.Total.{signed, towards, sum_of, total_of, with_total}
 use Rattle.statement.proofs.laws.LineLaws.{text-one, text-append}
 use Rattle.statement.specs.declared.lines.Line.{Line}
 use Rattle.statement.specs.declared.sums.Effect.{Effect}
-use Rattle.statement.specs.declared.sums.Effect.TheVariants.{Added, TakenOff, Nothing}
+use Rattle.statement.specs.declared.sums.Effect.TheVariants.{Added, TakenOff}
 
 -- nothing counts for more than it is
-pub signed-size : (e : Effect) (z : ℤ) → nat_abs (signed e z) ≤ nat_abs z
-signed-size Added z = omega arith
-signed-size TakenOff z = omega (arith, abs_neg z)
-signed-size Nothing z = omega arith
+pub signed-size : (e : Option Effect) (z : ℤ) → nat_abs (signed e z) ≤ nat_abs z
+signed-size (Some Added) z = omega arith
+signed-size (Some TakenOff) z = omega (arith, abs_neg z)
+signed-size None z = omega arith
 
 pub sum-none : sum_of [] ≡ pos 0
 unfolding sum_of

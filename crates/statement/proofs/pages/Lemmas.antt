@@ -1,12 +1,12 @@
 -- Pages that are written entry by entry are the pages of all entries.
-use Rattle.std.proofs.Common.{◌≡◌, refl, sym, ap, ◌∙◌, subst, Bool, true, false, cond, List, [], ◌∷◌, ◌++◌, append_assoc, append-nil, ℕ, suc, ◌+◌, ◌-◌, ◌*◌, ◌≤◌, arith, add-one, eqb, ltb, ℤ, pos, ◌+ℤ◌, length, take, drop, length-append, take_all, take_at, drop_at, ltb-true, ltb-false, ne_eqb}
+use Rattle.std.proofs.Common.{◌≡◌, refl, sym, ap, ◌∙◌, subst, Bool, true, false, cond, List, [], ◌∷◌, Option, Some, None, ◌++◌, append_assoc, append-nil, ℕ, suc, ◌+◌, ◌-◌, ◌*◌, ◌≤◌, arith, add-one, ltb, ℤ, pos, ◌+ℤ◌, length, take, drop, length-append, take_all, take_at, drop_at, ltb-true, ltb-false}
 use Rattle.std.proofs.Math.IntN.{+ℤ_idl}
 use Rattle.statement.specs.Total.{towards, sum_of}
 use Rattle.statement.specs.Statement.{max_lines}
-use Rattle.statement.specs.Pages.{page_entries, page_size, entry_bytes, sum_line, blank_lines, entries_bytes, page_head, page_text, page_of, page_count, pages_to, pages_text, longest_pages}
+use Rattle.statement.specs.Pages.{page_entries, line_size, page_size, entry_bytes, sum_line, blank_lines, entries_bytes, page_head, page_text, page_of, page_count, pages_to, pages_text, longest_pages}
 use Rattle.statement.proofs.laws.TotalLaws.{sum-none, sum_one, sum-append}
 use Rattle.statement.specs.tables.Inner.{Writes}
-use Rattle.statement.specs.tables.Cursors.{fresh_sheet, with_entry, next_sheet, laid, sheet_after, text_from, first_entry, Placed, SheetRoom, SheetLines}
+use Rattle.statement.specs.tables.Cursors.{fresh_sheet, turned, with_entry, ending, next_sheet, laid, sheet_after, text_from, entry_number, first_entry, Placed, SheetRoom, SheetLines}
 use Rattle.statement.specs.declared.lines.Line.{Line}
 use Rattle.statement.specs.declared.cursor.Sheet.{Sheet}
 use Rattle.statement.specs.declared.cursor.Cursor.{Cursor}
@@ -24,9 +24,10 @@ pages_from p es (l ∷ ls) = cond (ltb (length es) page_entries) (pages_from p (
 abbrev sheet_of : ℕ → List Line → Sheet
 sheet_of p es = record { page = p; entries = length es; sum = record { 0 = sum_of es } }
 
--- what is written at its end
-abbrev pub ending : Sheet → List ℕ
-ending s = blank_lines (page_entries - s.entries) ++ sum_line s.sum.0
+-- what is written at the end of a text: none without pages
+abbrev pub ended : Option Sheet → List ℕ
+ended None = []
+ended (Some s) = ending s
 
 entries-last : (es : List Line) (l : Line) → entries_bytes (es ++ (l ∷ [])) ≡ entries_bytes es ++ entry_bytes l
 unfolding entries_bytes
@@ -46,7 +47,9 @@ entered p es l =
 
 -- the first entry of a page
 entered-first : (p : ℕ) (l : Line) → with_entry (fresh_sheet p) l ≡ sheet_of p (l ∷ [])
-entered-first p l = let z : pos 0 +ℤ towards l ≡ sum_of (l ∷ []) = +ℤ_idl (towards l) ∙ sym (sum_one l) in λ i. record { page = p; entries = 1; sum = record { 0 = z i } }
+entered-first p l =
+    let z : pos 0 +ℤ towards l ≡ sum_of (l ∷ []) = +ℤ_idl (towards l) ∙ sym (sum_one l) in
+    λ i. record { page = p; entries = 1; sum = record { 0 = z i } }
 
 -- ---- text in a row
 
@@ -61,27 +64,26 @@ page-in a s k x t d =
 
 -- ---- what a cursor writes
 
-module _ (p : ℕ) (n : p ≡ 0 → ⊥) (es : List Line) (l : Line) where
-  paged : eqb p 0 ≡ false
-  paged = ne_eqb p 0 n
-
+module _ (p : ℕ) (es : List Line) (l : Line) where
   -- on a page that is not full
-  next-in : ltb (length es) page_entries ≡ true → next_sheet (sheet_of p es) l ≡ sheet_of p (es ++ (l ∷ []))
-  next-in e = rw (paged, e) (entered p es l)
+  next-in : ltb (length es) page_entries ≡ true → next_sheet (Some (sheet_of p es)) l ≡ Some (sheet_of p (es ++ (l ∷ [])))
+  next-in e = rw e (ap Some (entered p es l))
 
-  laid_in : ltb (length es) page_entries ≡ true → laid (sheet_of p es) l ≡ entry_bytes l
-  laid_in e = rw (paged, e)
+  laid_in : ltb (length es) page_entries ≡ true → laid (Some (sheet_of p es)) l ≡ entry_bytes l
+  laid_in e = rw e
 
   -- behind a full one
-  next-over : ltb (length es) page_entries ≡ false → next_sheet (sheet_of p es) l ≡ sheet_of (p + 1) (l ∷ [])
-  next-over e = rw (paged, e) (entered-first (p + 1) l)
+  next-over : ltb (length es) page_entries ≡ false → next_sheet (Some (sheet_of p es)) l ≡ Some (sheet_of (p + 1) (l ∷ []))
+  next-over e = rw e (ap Some (entered-first (p + 1) l))
 
-  laid-over : ltb (length es) page_entries ≡ false → laid (sheet_of p es) l ≡ sum_line (sum_of es) ++ page_head (p + 1) ++ entry_bytes l
-  laid-over e = rw (paged, e)
+  laid-over : ltb (length es) page_entries ≡ false → laid (Some (sheet_of p es)) l ≡ sum_line (sum_of es) ++ page_head (p + 1) ++ entry_bytes l
+  laid-over e = rw e
 
 page-full : (p : ℕ) (es : List Line) → length es ≡ page_entries → page_text p es ≡ page_head p ++ entries_bytes es ++ sum_line (sum_of es)
 unfolding page_text blank_lines
-page-full p es e = let z : page_entries - length es ≡ 0 = omega arith in rw z (ap (λ (y : List ℕ). y ++ sum_line (sum_of es)) (append-nil (page_head p ++ entries_bytes es)))
+page-full p es e =
+    let z : page_entries - length es ≡ 0 = omega arith in
+    rw z (ap (λ (y : List ℕ). y ++ sum_line (sum_of es)) (append-nil (page_head p ++ entries_bytes es)))
 
 page-ends : (p : ℕ) (es : List Line) → page_head p ++ entries_bytes es ++ ending (sheet_of p es) ≡ page_text p es
 unfolding page_text
@@ -89,25 +91,25 @@ page-ends p es = sym (append_assoc (page_head p ++ entries_bytes es) (blank_line
 
 -- the text from a page on, with its end
 abbrev written : ℕ → List Line → List Line → List ℕ
-written p es ls = page_head p ++ entries_bytes es ++ text_from (sheet_of p es) ls ++ ending (sheet_after (sheet_of p es) ls)
+written p es ls = page_head p ++ entries_bytes es ++ text_from (Some (sheet_of p es)) ls ++ ended (sheet_after (Some (sheet_of p es)) ls)
 
-written_is : (p : ℕ) → (p ≡ 0 → ⊥) → (es ls : List Line) → length es ≤ page_entries → written p es ls ≡ pages_from p es ls
+written_is : (p : ℕ) (es ls : List Line) → length es ≤ page_entries → written p es ls ≡ pages_from p es ls
 unfolding text_from sheet_after
-written_is p n es [] h = ap (λ (y : List ℕ). y ++ ending (sheet_of p es)) (append-nil (page_head p ++ entries_bytes es)) ∙ page-ends p es
-written_is p n es (l ∷ ls) h = go (ltb (length es) page_entries) refl (written_is p n (es ++ (l ∷ [])) ls) (written_is (p + 1) (λ z. omega arith) (l ∷ []) ls (omega arith))
+written_is p es [] h = ap (λ (y : List ℕ). y ++ ending (sheet_of p es)) (append-nil (page_head p ++ entries_bytes es)) ∙ page-ends p es
+written_is p es (l ∷ ls) h = go (ltb (length es) page_entries) refl (written_is p (es ++ (l ∷ [])) ls) (written_is (p + 1) (l ∷ []) ls (omega arith))
   where
     -- on the page, and on the next one
     in-text : List ℕ
-    in-text = text_from (sheet_of p (es ++ (l ∷ []))) ls
+    in-text = text_from (Some (sheet_of p (es ++ (l ∷ [])))) ls
 
     in_end : List ℕ
-    in_end = ending (sheet_after (sheet_of p (es ++ (l ∷ []))) ls)
+    in_end = ended (sheet_after (Some (sheet_of p (es ++ (l ∷ [])))) ls)
 
     over-text : List ℕ
-    over-text = text_from (sheet_of (p + 1) (l ∷ [])) ls
+    over-text = text_from (Some (sheet_of (p + 1) (l ∷ []))) ls
 
     over-end : List ℕ
-    over-end = ending (sheet_after (sheet_of (p + 1) (l ∷ [])) ls)
+    over-end = ended (sheet_after (Some (sheet_of (p + 1) (l ∷ []))) ls)
 
     go : (b : Bool) → ltb (length es) page_entries ≡ b
         → (length (es ++ (l ∷ [])) ≤ page_entries → written p (es ++ (l ∷ [])) ls ≡ pages_from p (es ++ (l ∷ [])) ls)
@@ -115,7 +117,7 @@ written_is p n es (l ∷ ls) h = go (ltb (length es) page_entries) refl (written
         → written p es (l ∷ ls) ≡ cond b (pages_from p (es ++ (l ∷ [])) ls) (page_text p es ++ pages_from (p + 1) (l ∷ []) ls)
     go true e more over =
         let first : written p es (l ∷ ls) ≡ page_head p ++ entries_bytes es ++ (entry_bytes l ++ in-text) ++ in_end =
-        (λ i. page_head p ++ entries_bytes es ++ (laid_in p n es l e i ++ text_from (next-in p n es l e i) ls) ++ ending (sheet_after (next-in p n es l e i) ls)) in
+        (λ i. page_head p ++ entries_bytes es ++ (laid_in p es l e i ++ text_from (next-in p es l e i) ls) ++ ended (sheet_after (next-in p es l e i) ls)) in
         first ∙ entry_in (page_head p) (entries_bytes es) (entry_bytes l) in-text in_end
         ∙ ap (λ (y : List ℕ). page_head p ++ y ++ in-text ++ in_end) (sym (entries-last es l))
         ∙ more (omega (arith, length-append es (l ∷ []), ltb-true (length es) page_entries e))
@@ -123,7 +125,8 @@ written_is p n es (l ∷ ls) h = go (ltb (length es) page_entries) refl (written
         let full : length es ≡ page_entries = omega (arith, ltb-false (length es) page_entries e) in
         let k = page_head (p + 1) in
         let first : written p es (l ∷ ls) ≡ page_head p ++ entries_bytes es ++ (sum_line (sum_of es) ++ k ++ entry_bytes l ++ over-text) ++ over-end =
-        (λ i. page_head p ++ entries_bytes es ++ (laid-over p n es l e i ++ text_from (next-over p n es l e i) ls) ++ ending (sheet_after (next-over p n es l e i) ls)) in
+        (λ i. page_head p ++ entries_bytes es ++ (laid-over p es l e i ++ text_from (next-over p es l e i) ls)
+        ++ ended (sheet_after (next-over p es l e i) ls)) in
         first ∙ page-in (page_head p ++ entries_bytes es) (sum_line (sum_of es)) k (entry_bytes l) over-text over-end
         ∙ ap (λ (y : List ℕ). y ++ (k ++ entry_bytes l ++ over-text ++ over-end)) (sym (page-full p es full))
         ∙ ap (λ (y : List ℕ). page_text p es ++ y) (ap (λ (y : List ℕ). k ++ y ++ over-text ++ over-end) (sym (entries-last [] l ∙ entries_none l)) ∙ over)
@@ -147,7 +150,8 @@ by_place [] front es k e a b =
     let count : page_count (length all) ≡ suc k = omega arith in
     let same = page-at k front es [] e ∙ ap (take page_entries) (append-nil es) ∙ take_all page_entries es b in
     sym (pages-more k all es same) ∙ ap (λ (j : ℕ). pages_to j all) (sym count)
-by_place (l ∷ ls) front es k e a b = go (ltb (length es) page_entries) refl (by_place ls front (es ++ (l ∷ [])) k e) (by_place ls (front ++ es) (l ∷ []) (suc k))
+by_place (l ∷ ls) front es k e a b =
+    go (ltb (length es) page_entries) refl (by_place ls front (es ++ (l ∷ [])) k e) (by_place ls (front ++ es) (l ∷ []) (suc k))
   where
     all : List Line
     all = front ++ es ++ (l ∷ ls)
@@ -182,67 +186,76 @@ pages-none ls = refl
 fresh-is : (p : ℕ) → fresh_sheet p ≡ sheet_of p []
 fresh-is p = λ i. record { page = p; entries = 0; sum = record { 0 = sym sum-none i } }
 
-pub pages-are : (ls : List Line) → 1 ≤ length ls → page_head 1 ++ text_from (fresh_sheet 1) ls ++ ending (sheet_after (fresh_sheet 1) ls) ≡ pages_text ls
+pub pages-are : (ls : List Line) → 1 ≤ length ls
+    → page_head 1 ++ text_from (Some (fresh_sheet 1)) ls ++ ended (sheet_after (Some (fresh_sheet 1)) ls) ≡ pages_text ls
 unfolding entries_bytes
 pages-are [] h = absurd (omega arith)
 pages-are (l ∷ ls) h =
-    ap (λ (s : Sheet). page_head 1 ++ text_from s (l ∷ ls) ++ ending (sheet_after s (l ∷ ls))) (fresh-is 1)
-    ∙ ap (λ (y : List ℕ). y ++ text_from (sheet_of 1 []) (l ∷ ls) ++ ending (sheet_after (sheet_of 1 []) (l ∷ ls))) (sym (append-nil (page_head 1)))
-    ∙ written_is 1 (λ z. omega arith) [] (l ∷ ls) (omega arith)
+    ap (λ (s : Sheet). page_head 1 ++ text_from (Some s) (l ∷ ls) ++ ended (sheet_after (Some s) (l ∷ ls))) (fresh-is 1)
+    ∙ ap (λ (y : List ℕ). y ++ text_from (Some (sheet_of 1 [])) (l ∷ ls) ++ ended (sheet_after (Some (sheet_of 1 [])) (l ∷ ls)))
+    (sym (append-nil (page_head 1)))
+    ∙ written_is 1 [] (l ∷ ls) (omega arith)
     ∙ ap (λ (y : List ℕ). y ++ pages_from 1 (l ∷ []) ls) (sym (pages-none (l ∷ ls)))
     ∙ by_place ls [] (l ∷ []) 0 (omega arith) (omega arith) (omega arith)
 
 -- ---- where the last page stands
 
-next-paged : (s : Sheet) (l : Line) → (s.page ≡ 0 → ⊥) → (next_sheet s l).page ≡ 0 → ⊥
-next-paged s l n z = go (ltb s.entries page_entries) (rw (ne_eqb s.page 0 n) at z)
-  where
-    go : (b : Bool) → (cond b s (fresh_sheet (s.page + 1))).page ≡ 0 → ⊥
-    go true e = n e
-    go false e = omega arith
+some-same : {x y : Sheet} → Some x ≡ Some y → x ≡ y
+some-same e = cc
 
-after-paged : (s : Sheet) (ls : List Line) → (s.page ≡ 0 → ⊥) → (sheet_after s ls).page ≡ 0 → ⊥
+-- behind lines that begin on a page a page is there
+record Paged (o : Option Sheet) : Type 0 where
+  sheet : Sheet
+  is : o ≡ Some sheet
+
+after-paged : (s : Sheet) (ls : List Line) → Paged (sheet_after (Some s) ls)
 unfolding sheet_after
-after-paged s [] n = n
-after-paged s (l ∷ ls) n = after-paged (next_sheet s l) ls (next-paged s l n)
+after-paged s [] = record { sheet = s; is = refl }
+after-paged s (l ∷ ls) = after-paged (with_entry (turned s) l) ls
 
 -- an entry stands on it
-last-entries : (s : Sheet) (ls : List Line) (l : Line) → (s.page ≡ 0 → ⊥) → 1 ≤ (sheet_after s (ls ++ (l ∷ []))).entries
-last-entries s ls l n =
-    let r = sheet_after s ls in
-    let e = ap (λ (x : Sheet). x.entries) (after-append s ls (l ∷ []) ∙ after_one r l) in
-    let m : 1 ≤ (next_sheet r l).entries = rw (ne_eqb r.page 0 (after-paged s ls n)) (omega arith) in
-    omega (arith, e)
+last-entries : (s r : Sheet) (ls : List Line) (l : Line) → sheet_after (Some s) (ls ++ (l ∷ [])) ≡ Some r → 1 ≤ r.entries
+last-entries s r ls l e =
+    let p = after-paged s ls in
+    let k : Some (with_entry (turned p.sheet) l) ≡ Some r =
+    ap (λ (x : Option Sheet). next_sheet x l) (sym p.is) ∙ sym (after-append (Some s) ls (l ∷ []) ∙ after_one (sheet_after (Some s) ls) l) ∙ e in
+    omega (arith, ap (λ (x : Sheet). x.entries) (some-same k))
 
 pub room-first : (d : List ℕ) → longest_pages ≤ length d → SheetRoom d first_entry max_lines
 room-first d h = record {
   here = omega arith;
   text = omega arith;
   sum = omega arith;
-  placed = λ n. record { at = omega arith; entries = omega arith; small = omega arith };
+  placed = λ s n. subst (Placed (line_size * 2)) (some-same n)
+      (record { numbered = omega arith; at = omega arith; entries = omega arith; small = omega arith });
 }
 
 -- the last page is the last of the lent bytes' at most
-pub record Last (d : List ℕ) (c : Cursor) : Type 0 where
-  pub placed : Placed c
-  pub paged : c.sheet.page ≡ 0 → ⊥
-  pub within : page_size * c.sheet.page ≤ longest_pages
+pub record Last (c : Cursor) (s : Sheet) : Type 0 where
+  pub placed : Placed c.at s
+  pub within : page_size * s.page ≤ longest_pages
 
-pub last-page : {d e : List ℕ} {r : Cursor} (ls : List Line) (l : Line) → longest_pages ≤ length d → SheetLines d first_entry max_lines (ls ++ (l ∷ [])) e r → Last e r
-last-page {d} {e} {r} ls l h w =
-    let one : ◌≡◌ {A = ℕ} 1 0 → ⊥ = λ z. omega arith in
-    let n : r.sheet.page ≡ 0 → ⊥ = λ z. after-paged (fresh_sheet 1) (ls ++ (l ∷ [])) one (sym (ap (λ (s : Sheet). s.page) w.sheet) ∙ z) in
-    let p = w.placed (room-first d h).placed n in
-    let m : 1 ≤ r.sheet.entries = subst (λ (s : Sheet). 1 ≤ s.entries) (sym w.sheet) (last-entries (fresh_sheet 1) ls l one) in
-    let t : page_size * page_count (page_entries * (r.sheet.page - 1) + r.sheet.entries + 0) ≤ longest_pages = rw (ne_eqb r.sheet.page 0 n) at (w.short 0) in
-    record { placed = p; paged = n; within = omega (arith, p.entries) }
+pub last-page : {d e : List ℕ} {r : Cursor} {s : Sheet} (ls : List Line) (l : Line) → longest_pages ≤ length d
+    → SheetLines d first_entry max_lines (ls ++ (l ∷ [])) e r → r.sheet ≡ Some s → Last r s
+last-page {d} {e} {r} {s} ls l h w z =
+    let p = w.placed (room-first d h).placed s z in
+    let m : 1 ≤ s.entries = last-entries (fresh_sheet 1) s ls l (sym w.sheet ∙ z) in
+    let t : page_size * page_count (entry_number s + 0) ≤ longest_pages = rw z at (w.short 0) in
+    record { placed = p; within = omega (arith, p.entries, p.numbered) }
 
-pub paged-text : {d e f g : List ℕ} {c r : Cursor} {q : ℕ} (ls : List Line) (l : Line) → c ≡ first_entry → Writes d 0 (page_head 1) e c.at
-    → SheetLines e c max_lines (ls ++ (l ∷ [])) f r → Writes f r.at (ending r.sheet) g q → Writes d 0 (pages_text (ls ++ (l ∷ []))) g q
-paged-text {d} {e} {f} {g} {c} {r} {q} ls l z a w b =
+-- there is one
+pub last-there : {A : Type 0} {d e : List ℕ} {r : Cursor} {n : ℕ} {ls : List Line} → SheetLines d first_entry n ls e r → r.sheet ≡ None → A
+last-there {ls = ls} w z =
+    let p = after-paged (fresh_sheet 1) ls in
+    let f : ◌≡◌ {A = Option Sheet} None (Some p.sheet) = sym z ∙ w.sheet ∙ p.is in
+    cc
+
+pub paged-text : {d e f g : List ℕ} {c r : Cursor} {s : Sheet} {q : ℕ} (ls : List Line) (l : Line) → c ≡ first_entry → Writes d 0 (page_head 1) e c.at
+    → SheetLines e c max_lines (ls ++ (l ∷ [])) f r → r.sheet ≡ Some s → Writes f r.at (ending s) g q → Writes d 0 (pages_text (ls ++ (l ∷ []))) g q
+paged-text {d} {e} {f} {g} {c} {r} {s} {q} ls l z a w k b =
     let all = ls ++ (l ∷ []) in
-    let s : c.sheet ≡ fresh_sheet 1 = ap (λ (x : Cursor). x.sheet) z in
-    let t : r.sheet ≡ sheet_after (fresh_sheet 1) all = w.sheet ∙ ap (λ (x : Sheet). sheet_after x all) s in
-    let same : page_head 1 ++ text_from c.sheet all ++ ending r.sheet ≡ pages_text all =
-    (λ i. page_head 1 ++ text_from (s i) all ++ ending (t i)) ∙ pages-are all (omega (arith, length-append ls (l ∷ []))) in
+    let m : c.sheet ≡ Some (fresh_sheet 1) = ap (λ (x : Cursor). x.sheet) z in
+    let t : Some s ≡ sheet_after (Some (fresh_sheet 1)) all = sym k ∙ w.sheet ∙ ap (λ (x : Option Sheet). sheet_after x all) m in
+    let same : page_head 1 ++ text_from c.sheet all ++ ending s ≡ pages_text all =
+    (λ i. page_head 1 ++ text_from (m i) all ++ ended (t i)) ∙ pages-are all (omega (arith, length-append ls (l ∷ []))) in
     subst (λ (y : List ℕ). Writes d 0 y g q) same (writes_then (writes_then a w.text) b)

@@ -1,19 +1,16 @@
 -- Lines written from a cursor on, on pages or without: what they come to, and the room that they take. No definition of 01 or 02 stands here. Assumes nothing.
-use Rattle.std.specs.Prelude.{◌≡◌, cond, List, [], ◌∷◌, ◌++◌, ℕ, ◌+◌, ◌-◌, ◌*◌, ◌≤◌, ◌<◌, eqb, ltb, pos, nat_abs, ◌+ℤ◌, length}
+use Rattle.std.specs.Prelude.{◌≡◌, cond, List, [], ◌∷◌, ◌++◌, Option, Some, None, ℕ, ◌+◌, ◌-◌, ◌*◌, ◌≤◌, ◌<◌, ltb, pos, nat_abs, ◌+ℤ◌, length}
 use Rattle.money.specs.tables.Numbers.{max_moderate}
 use Rattle.statement.specs.Lines.{line_bytes, max_line}
 use Rattle.statement.specs.Total.{towards, sum_of}
-use Rattle.statement.specs.Pages.{page_entries, line_size, page_size, page_count, entry_bytes, sum_line, page_head}
+use Rattle.statement.specs.Pages.{page_entries, line_size, page_size, page_count, entry_bytes, sum_line, page_head, blank_lines}
 use Rattle.statement.specs.tables.Inner.{Writes, max_printed}
 use Rattle.statement.specs.declared.lines.Line.{Line}
 use Rattle.statement.specs.declared.cursor.Sheet.{Sheet}
+use Rattle.statement.specs.declared.cursor.Spot.{Spot}
 use Rattle.statement.specs.declared.cursor.Cursor.{Cursor}
 
 -- ---- sheets
-
--- a text without pages
-abbrev pub no_sheet : Sheet
-no_sheet = record { page = 0; entries = 0; sum = record { 0 = pos 0 } }
 
 -- a page without entries
 abbrev pub fresh_sheet : ℕ → Sheet
@@ -31,45 +28,60 @@ turning s = cond (ltb s.entries page_entries) [] (sum_line s.sum.0 ++ page_head 
 abbrev pub with_entry : Sheet → Line → Sheet
 with_entry s l = record { page = s.page; entries = s.entries + 1; sum = record { 0 = s.sum.0 +ℤ towards l } }
 
--- ---- a line more
+-- what is written at the end of the last page: blanks for the entries that it lacks, and its sum
+abbrev pub ending : Sheet → List ℕ
+ending s = blank_lines (page_entries - s.entries) ++ sum_line s.sum.0
 
-abbrev pub next_sheet : Sheet → Line → Sheet
-next_sheet s l = cond (eqb s.page 0) s (with_entry (turned s) l)
+-- ---- a line more, of a text that has pages or has none
 
-abbrev pub laid : Sheet → Line → List ℕ
-laid s l = cond (eqb s.page 0) (line_bytes l) (turning s ++ entry_bytes l)
+abbrev pub next_sheet : Option Sheet → Line → Option Sheet
+next_sheet None l = None
+next_sheet (Some s) l = Some (with_entry (turned s) l)
+
+abbrev pub laid : Option Sheet → Line → List ℕ
+laid None l = line_bytes l
+laid (Some s) l = turning s ++ entry_bytes l
 
 -- ---- lines
 
 -- where a text without pages begins, and the entries of the first page
 abbrev pub top : Cursor
-top = record { at = 0; sum = record { 0 = pos 0 }; sheet = no_sheet }
+top = record { at = 0; sum = record { 0 = pos 0 }; sheet = None }
 
 abbrev pub first_entry : Cursor
-first_entry = record { at = line_size * 2; sum = record { 0 = pos 0 }; sheet = fresh_sheet 1 }
+first_entry = record { at = line_size * 2; sum = record { 0 = pos 0 }; sheet = Some (fresh_sheet 1) }
 
-unfoldable pub sheet_after : Sheet → List Line → Sheet
+unfoldable pub sheet_after : Option Sheet → List Line → Option Sheet
 sheet_after s [] = s
 sheet_after s (l ∷ ls) = sheet_after (next_sheet s l) ls
 
-unfoldable pub text_from : Sheet → List Line → List ℕ
+unfoldable pub text_from : Option Sheet → List Line → List ℕ
 text_from s [] = []
 text_from s (l ∷ ls) = laid s l ++ text_from (next_sheet s l) ls
 
 -- ---- places
 
--- the end of the room that n more lines take: of their text, or of the pages that they are on
-abbrev pub reach : Cursor → ℕ → ℕ
-reach c n = cond (eqb c.sheet.page 0) (c.at + max_line * n) (page_size * page_count (page_entries * (c.sheet.page - 1) + c.sheet.entries + n))
+-- how many entries stand before the next one on the pages up to a sheet
+abbrev pub entry_number : Sheet → ℕ
+entry_number s = page_entries * (s.page - 1) + s.entries
 
--- a cursor on a page stands behind its entries, whose sum is not larger than so many of the largest amounts
-pub record Placed (c : Cursor) : Type 0 where
-  pub at : c.at ≡ page_size * (c.sheet.page - 1) + line_size * (c.sheet.entries + 2)
-  pub entries : c.sheet.entries ≤ page_entries
-  pub small : nat_abs c.sheet.sum.0 ≤ max_printed * c.sheet.entries
+-- the end of the room that n more lines take from a place on: of their text, or of the pages that they are on
+abbrev pub reach_from : Option Sheet → ℕ → ℕ → ℕ
+reach_from None at n = at + max_line * n
+reach_from (Some s) at n = page_size * page_count (entry_number s + n)
+
+abbrev pub reach : Cursor → ℕ → ℕ
+reach c n = reach_from c.sheet c.at n
+
+-- the place behind the entries of a sheet, of a page from 1 on, whose sum is not larger than so many of the largest amounts
+pub record Placed (place : ℕ) (s : Sheet) : Type 0 where
+  pub numbered : 1 ≤ s.page
+  pub at : place ≡ page_size * (s.page - 1) + line_size * (s.entries + 2)
+  pub entries : s.entries ≤ page_entries
+  pub small : nat_abs s.sum.0 ≤ max_printed * s.entries
 
 abbrev pub InPlace : Cursor → Type 0
-InPlace c = (c.sheet.page ≡ 0 → ⊥) → Placed c
+InPlace c = (s : Sheet) → c.sheet ≡ Some s → Placed c.at s
 
 -- ---- writing
 
@@ -89,20 +101,22 @@ pub record SheetLines (d : List ℕ) (c : Cursor) (n : ℕ) (ls : List Line) (e 
   pub short : (m : ℕ) → reach r m ≤ reach c (n + m)
   pub placed : InPlace c → InPlace r
 
+-- room for an entry, on a page or on the next one
+pub record EntryRoom (d : List ℕ) (p : Spot) : Type 0 where
+  pub placed : Placed p.at p.sheet
+  pub text : page_size * page_count (entry_number p.sheet + 1) ≤ length d
+
 -- a page was turned where it was full
-pub record Turns (d : List ℕ) (c : Cursor) (e : List ℕ) (r : Cursor) : Type 0 where
-  pub text : Writes d c.at (turning c.sheet) e r.at
-  pub sheet : r.sheet ≡ turned c.sheet
-  pub sum : r.sum ≡ c.sum
+pub record Turns (d : List ℕ) (p : Spot) (e : List ℕ) (r : Spot) : Type 0 where
+  pub text : Writes d p.at (turning p.sheet) e r.at
+  pub sheet : r.sheet ≡ turned p.sheet
   -- there is room for an entry on the page, which is as far from the first one
-  pub room : SheetRoom e r 1
-  pub paged : r.sheet.page ≡ 0 → ⊥
+  pub room : EntryRoom e r
   pub free : r.sheet.entries < page_entries
-  pub same : page_entries * (r.sheet.page - 1) + r.sheet.entries ≡ page_entries * (c.sheet.page - 1) + c.sheet.entries
+  pub same : entry_number r.sheet ≡ entry_number p.sheet
 
 -- an entry was put on a page and counted
-pub record Enters (d : List ℕ) (c : Cursor) (l : Line) (e : List ℕ) (r : Cursor) : Type 0 where
-  pub text : Writes d c.at (entry_bytes l) e r.at
-  pub sheet : r.sheet ≡ with_entry c.sheet l
-  pub sum : r.sum.0 ≡ c.sum.0 +ℤ towards l
-  pub behind : r.at ≡ c.at + line_size
+pub record Enters (d : List ℕ) (p : Spot) (l : Line) (e : List ℕ) (r : Spot) : Type 0 where
+  pub text : Writes d p.at (entry_bytes l) e r.at
+  pub sheet : r.sheet ≡ with_entry p.sheet l
+  pub behind : r.at ≡ p.at + line_size

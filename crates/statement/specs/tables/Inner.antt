@@ -1,13 +1,13 @@
 -- What the values that inner functions take and return say. No definition of 01 stands here. Assumes nothing.
-use Rattle.std.specs.Prelude.{◌≡◌, List, [], ◌∷◌, ◌++◌, ℕ, ◌+◌, ◌-◌, ◌*◌, ◌/◌, ◌≤◌, ◌<◌, nat_abs, ◌+ℤ◌, length, take, get_or}
+use Rattle.std.specs.Prelude.{◌≡◌, List, [], ◌∷◌, ◌++◌, ℕ, ◌+◌, ◌-◌, ◌*◌, ◌/◌, ◌≤◌, ◌<◌, nat_abs, ◌+ℤ◌, Err, IfOk, length, get_or}
 use Rattle.money.specs.Units.{day_hours, ticks_per_cent}
 use Rattle.money.specs.tables.Numbers.{max_moderate, max_amount}
+use Rattle.money.specs.declared.refusals.Refusal.TheVariants.{NoSuchKey}
 use Rattle.records.specs.Changes.{put}
 use Rattle.book.specs.declared.answers.HourAmounts.{HourAmounts}
 use Rattle.book.specs.declared.answers.UnitAmounts.{UnitAmounts}
 use Rattle.book.specs.declared.answers.DayAmounts.{DayAmounts}
 use Rattle.book.specs.Meaning.{guarantees_reply, charges_reply, day_reply}
-use Rattle.book.specs.WholeDay.{no_hour}
 use Rattle.book.specs.Handed.{max_credits, max_charges}
 use Rattle.book.specs.Register.{max_changes}
 use Rattle.book.specs.tables.Sizes.{BoundedHour, BoundedUnit}
@@ -55,6 +55,10 @@ pub record WritesLines (d : List ℕ) (c : Cursor) (n : ℕ) (ls : List Line) (e
 
 -- ---- the lines of a day's amounts, as the book hands them over
 
+-- what stands for an hour that is none of the day
+abbrev pub no_hour : HourAmounts
+no_hour = record { guarantees = Err NoSuchKey; imports = Err NoSuchKey; exports = Err NoSuchKey }
+
 -- an hour's
 abbrev pub lines_of_hour : ℕ → HourAmounts → List Line
 lines_of_hour h a = hour_lines h (guarantees_reply a.guarantees) (charges_reply a.imports) (charges_reply a.exports)
@@ -74,25 +78,34 @@ lines_of_units (u ∷ us) = lines_of_unit u ++ lines_of_units us
 
 -- all of them
 abbrev pub lines_of_day : DayAmounts → List Line
-lines_of_day d = lines_of_hours day_hours d.hours ++ lines_of_units (take d.n d.units)
+lines_of_day d = lines_of_hours day_hours d.hours ++ lines_of_units d.units.items
+
+-- no amount of an hour of the day is larger than the largest
+abbrev pub BoundedHours : List HourAmounts → Type 0
+BoundedHours hs = (j : ℕ) → j < day_hours → (d : HourAmounts) → BoundedHour (get_or hs j d)
+
+-- nor one of a unit
+abbrev pub BoundedUnits : List UnitAmounts → Type 0
+BoundedUnits us = (i : ℕ) → i < length us → (d : UnitAmounts) → BoundedUnit (get_or us i d)
+
+-- nor any of the day
+pub record BoundedDay (day : DayAmounts) : Type 0 where
+  pub hours : BoundedHours day.hours
+  pub units : BoundedUnits day.units.items
 
 -- an hour has at most 16 `IOG`, an `OFF`, 16 `IFC` and 16 `EFC`, none of a larger amount than the largest
 pub record PrintableHour (a : HourAmounts) : Type 0 where
-  pub credits : a.guarantees.credits.n ≤ max_credits
-  pub imports : a.imports.charges.n ≤ max_charges
-  pub exports : a.exports.charges.n ≤ max_charges
+  pub credits : IfOk a.guarantees (λ g. length g.credits.items ≤ max_credits)
+  pub imports : IfOk a.imports (λ c. length c.items ≤ max_charges)
+  pub exports : IfOk a.exports (λ c. length c.items ≤ max_charges)
   pub bounded : BoundedHour a
 
 -- so in each hour of the day
 abbrev pub PrintableHours : List HourAmounts → Type 0
 PrintableHours hs = (j : ℕ) → j < day_hours → (d : HourAmounts) → PrintableHour (get_or hs j d)
 
--- and each of the first n units
-abbrev pub PrintableUnits : ℕ → List UnitAmounts → Type 0
-PrintableUnits n us = (i : ℕ) → i < n → (d : UnitAmounts) → BoundedUnit (get_or us i d)
-
 -- all of a day
 pub record PrintableDay (day : DayAmounts) : Type 0 where
-  pub few : day.n ≤ max_changes
+  pub few : length day.units.items ≤ max_changes
   pub hours : PrintableHours day.hours
-  pub units : PrintableUnits day.n day.units
+  pub units : BoundedUnits day.units.items

@@ -17,4 +17,5 @@ returns c =
     let n = length (name_bytes c.args.name) in
     let e : c.args.at + max_spelling - c.put_name-end.result ≡ max_spelling - n = omega (arith, c.put_name-end.ensures.behind) in
     let w = writes_then c.put_name-end.ensures c.put_blanks.ensures in
-    (rw e at w, omega (arith, c.put_name-end.ensures.behind, c.put_blanks.ensures.behind, name-length c.args.name, blanks-length (c.args.at + max_spelling - c.put_name-end.result)))
+    let b = blanks-length (c.args.at + max_spelling - c.put_name-end.result) in
+    (rw e at w, omega (arith, c.put_name-end.ensures.behind, c.put_blanks.ensures.behind, name-length c.args.name, b))

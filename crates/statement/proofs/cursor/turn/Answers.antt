@@ -3,8 +3,10 @@ use Rattle.statement.proofs.cursor.turn.Goals as goal
 
 pub returns-then-sheet-lt-ENTRIES : goal.returns-then-sheet-lt-ENTRIES
 returns-then-sheet-lt-ENTRIES c =
-    turns-none c.requires.0 c.requires.1 c.if-sheet-lt-ENTRIES.true
+    turns-none c.requires c.if-sheet-lt-ENTRIES.true
 
 pub returns : goal.returns
 returns c =
-    turns-full c.requires.0 c.requires.1 c.if-sheet-lt-ENTRIES.false c.put_sum-head.ensures.0 c.put_sum-head.ensures.1 c.put_head-at.ensures.0 c.put_head-at.ensures.1
+    let foot = c.put_sum-head.ensures in
+    let head = c.put_head-at.ensures in
+    rw c.fresh.ensures (turns-full c.requires c.if-sheet-lt-ENTRIES.false foot.0 foot.1 head.0 head.1)

@@ -1,19 +1,13 @@
 use Rattle.std.proofs.Common.{sym, ◌∙◌, arith}
+use Rattle.statement.specs.Lines.{max_figure}
 use Rattle.statement.proofs.laws.LineLaws.{figure-number, figure-dollars, sign-length, number_digits, dollar-digits}
-use Rattle.statement.proofs.bytes.Lemmas.{writes_then, writes-size}
+use Rattle.statement.proofs.bytes.Lemmas.{writes_then, room-behind}
 use Rattle.statement.proofs.lines.put_figure.Goals as goal
 
 pub put_decimal-requires : goal.put_decimal-requires
 put_decimal-requires c =
-    omega (
-      arith,
-      c.requires,
-      c.put_sign-first.ensures.behind,
-      writes-size c.put_sign-first.ensures,
-      sign-length c.args.cents.0,
-      number_digits
-          c.magnitude-n.result c.magnitude-n.ensures.bounded,
-    )
+    let a = room-behind max_figure 20 c.put_sign-first.ensures c.requires (omega (arith, sign-length c.args.cents.0)) in
+    omega (arith, a, number_digits c.magnitude-n.result c.magnitude-n.ensures.bounded)
 
 pub returns-then-is_number : goal.returns-then-is_number
 returns-then-is_number c = (
@@ -24,45 +18,22 @@ returns-then-is_number c = (
 
 pub put_decimal-point-requires : goal.put_decimal-point-requires
 put_decimal-point-requires c =
-    omega (
-      arith,
-      c.requires,
-      c.put_sign-first.ensures.behind,
-      writes-size c.put_sign-first.ensures,
-      sign-length c.args.cents.0,
-      dollar-digits
-          c.magnitude-n.result c.magnitude-n.ensures.bounded,
-    )
+    let a = room-behind max_figure 20 c.put_sign-first.ensures c.requires (omega (arith, sign-length c.args.cents.0)) in
+    omega (arith, a, dollar-digits c.magnitude-n.result c.magnitude-n.ensures.bounded)
 
 pub put_byte-decimals-requires : goal.put_byte-decimals-requires
 put_byte-decimals-requires c =
-    omega (
-      arith,
-      c.requires,
-      c.put_sign-first.ensures.behind,
-      writes-size c.put_sign-first.ensures,
-      c.put_decimal-point.ensures.behind,
-      writes-size
-          c.put_decimal-point.ensures,
-      sign-length c.args.cents.0,
-      dollar-digits c.magnitude-n.result c.magnitude-n.ensures.bounded,
-    )
+    let a = room-behind max_figure 20 c.put_sign-first.ensures c.requires (omega (arith, sign-length c.args.cents.0)) in
+    let n = dollar-digits c.magnitude-n.result c.magnitude-n.ensures.bounded in
+    let b = room-behind 20 3 c.put_decimal-point.ensures a (omega (arith, n)) in
+    omega (arith, b)
 
 pub put_two-requires : goal.put_two-requires
 put_two-requires c =
-    omega (
-      arith,
-      c.requires,
-      c.put_sign-first.ensures.behind,
-      writes-size c.put_sign-first.ensures,
-      c.put_decimal-point.ensures.behind,
-      writes-size
-          c.put_decimal-point.ensures,
-      c.put_byte-decimals.ensures.behind,
-      writes-size c.put_byte-decimals.ensures,
-      sign-length c.args.cents.0,
-      dollar-digits c.magnitude-n.result c.magnitude-n.ensures.bounded,
-    )
+    let a = room-behind max_figure 20 c.put_sign-first.ensures c.requires (omega (arith, sign-length c.args.cents.0)) in
+    let n = dollar-digits c.magnitude-n.result c.magnitude-n.ensures.bounded in
+    let b = room-behind 20 3 c.put_decimal-point.ensures a (omega (arith, n)) in
+    room-behind 3 2 c.put_byte-decimals.ensures b (omega arith)
 
 pub returns : goal.returns
 returns c = (

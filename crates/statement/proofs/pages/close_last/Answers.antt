@@ -4,4 +4,6 @@ use Rattle.statement.proofs.pages.close_last.Goals as goal
 
 pub returns : goal.returns
 returns c =
-    (writes_then c.put_blank_lines-foot.ensures.0 c.put_sum.ensures.0, omega (arith, c.requires.0.at, c.requires.0.entries, c.put_blank_lines-foot.ensures.1, c.put_sum.ensures.1))
+    let foot = c.put_blank_lines-foot.ensures in
+    let end = c.put_sum.ensures in
+    (writes_then foot.0 end.0, omega (arith, c.requires.0.at, c.requires.0.entries, foot.1, end.1))

@@ -5,13 +5,15 @@ use Rattle.statement.proofs.units.put_unit.Goals as goal
 
 pub put_line-rev-requires : goal.put_line-rev-requires
 put_line-rev-requires c =
-    (room-less (omega arith) c.requires.0, countable _ c.amount_line.ensures c.requires.1.total)
+    let b = rw c.in-Ok.is at c.requires.1 in
+    (room-less (omega arith) c.requires.0, countable _ c.amount_line.ensures b.total)
 
 pub put_line-requires : goal.put_line-requires
 put_line-requires c =
-    (room-then (omega arith) c.requires.0 c.put_line-rev.ensures, countable _ c.amount_line-2.ensures c.requires.1.reversal)
+    let b = rw c.in-Ok.is at c.requires.1 in
+    (room-then (omega arith) c.requires.0 c.put_line-rev.ensures, countable _ c.amount_line-2.ensures b.reversal)
 
 pub returns : goal.returns
 returns c =
-    rw c.if-day-ne0.false (lines_then (lines-as (ap (λ (l : Line). l ∷ []) c.amount_line.ensures) c.put_line-rev.ensures)
+    rw c.in-Ok.is (lines_then (lines-as (ap (λ (l : Line). l ∷ []) c.amount_line.ensures) c.put_line-rev.ensures)
     (lines-as (ap (λ (l : Line). l ∷ []) c.amount_line-2.ensures) c.put_line.ensures))
