@@ -1,2 +1,3 @@
 pub mod ToFront
 pub mod Lemmas
+pub mod Output

@@ -1,8 +1,8 @@
 -- 01, "The statement and its examples": a program's reads of its input, and the one claim about what it prints.
-use Rattle.std.specs.Prelude.{◌≡◌, List, [], ◌∷◌, ◌++◌, ℕ, ◌+◌, ◌≤◌, length, take}
+use Rattle.std.specs.Prelude.{◌≡◌, Result, List, [], ◌∷◌, ◌++◌, ℕ, ◌+◌, ◌≤◌, length, take}
 use Rattle.records.specs.Changes.{Change}
-use Rattle.statement.specs.Statement.{Fits}
-use Rattle.statement.specs.declared.day.Written.{Written}
+use Rattle.money.specs.declared.refusals.Refusal.{Refusal}
+use Rattle.statement.specs.Statement.{Fits, written}
 use Rattle.filter.specs.Output.{output_by}
 use Rattle.filter.specs.Reading.{begun, ReadsOn}
 use Rattle.filter.specs.declared.reading.Reading.{Reading}
@@ -25,10 +25,10 @@ pub data Run : List (List ℕ) → Reading → List ℕ → List ℕ → Type 0 
 -- ---- what is claimed
 
 -- of the input s, by a program that prints the text t: what a call for the output wrote, from the bytes lent to the bytes left
-pub record Settles (t : List Change → List ℕ) (longest : ℕ) (s lent left : List ℕ) (w : Written) : Type 0 where
+pub record Settles (t : List Change → List ℕ) (longest : ℕ) (s lent left : List ℕ) (w : Result ℕ Refusal) : Type 0 where
   -- it is the output, all of it from the first byte on; 13 where it is longer than what is lent
   pub fits : Fits (output_by t s) lent left w
   -- no output is longer than this
   pub most : length (output_by t s) ≤ longest
   -- so that of so many bytes those that were written are the output
-  pub whole : longest ≤ length lent → take w.len left ≡ output_by t s
+  pub whole : longest ≤ length lent → take (written w) left ≡ output_by t s

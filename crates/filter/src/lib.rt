@@ -3,3 +3,4 @@
 
 pub mod output;
 pub mod reading;
+pub mod text;

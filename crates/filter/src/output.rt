@@ -1,13 +1,11 @@
 // The output of a reading.
 ghost use Rattle.std.specs.Prelude.{◌≡◌};
 ghost use Rattle.book.specs.Meaning.{load};
-ghost use Rattle.statement.specs.Statement.{statement_of, longest_statement};
-ghost use Rattle.statement.specs.Pages.{pages_of, longest_pages};
 ghost use Rattle.filter.specs.Reading.{ordinal, Prints};
 
 use crate::reading::{Reading, plus};
-use statement::day::{Written, statement};
-use statement::pages::pages;
+use crate::text::Text;
+use money::refusals::Refusal;
 use statement::refusal::refusal;
 
 impl Reading {
@@ -18,28 +16,14 @@ impl Reading {
         plus(self.count, 1)
     }
 
-    // Writes from the first lent byte on all that is printed if the input ends here: the statement of the book, or `REF n r`. 13 where it is longer
-    // than what is lent; STATEMENT_MAX bytes are enough.
-    pub fn output(self, log: &[u8], out: &mut [u8]) -> Written
-        ensures { Prints statement_of longest_statement self (load self.book log.now) out.old out.new result }
+    // Writes from the first lent byte on all that is printed if the input ends here: the text of the book's changes, or `REF n r`, which stands on no page.
+    // 13 where it is longer than what is lent; as many bytes as the longest text has are enough.
+    pub fn output<T: Text>(self, log: &[u8], out: &mut [u8]) -> Result<usize, Refusal>
+        ensures { Prints T.text T.longest self (load self.book log.now) out.old out.new result }
     {
-        let book = self.book;
-        let number = self.number;
-        if number == 0 {
-            return statement(book, log, out);
+        match self.end {
+            Ok(()) => T::write(self.book, log, out),
+            Err(fault) => refusal(self.ordinal(), fault.number(), out),
         }
-        refusal(self.ordinal(), number, out)
-    }
-
-    // The same with the pages in the place of the statement; `REF n r` stands on no page. PAGES_MAX bytes are enough.
-    pub fn pages(self, log: &[u8], out: &mut [u8]) -> Written
-        ensures { Prints pages_of longest_pages self (load self.book log.now) out.old out.new result }
-    {
-        let book = self.book;
-        let number = self.number;
-        if number == 0 {
-            return pages(book, log, out);
-        }
-        refusal(self.ordinal(), number, out)
     }
 }

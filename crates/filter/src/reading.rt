@@ -6,20 +6,20 @@ ghost use Rattle.filter.specs.Reading.{counted, begun, is_over, waits, part, Rea
 
 use book::book::Book;
 use book::feed::{Fed, feed};
-use money::refusals::{ENDS_EARLY, Refusal};
+use money::refusals::Refusal;
 use records::parse::first_change;
 
 // The most that is counted: 2^64 - 1.
 pub const COUNT_MAX: u64 = 18446744073709551615;
 
-// The book so far, and the records that it took; how many bytes of the next one are held, at the front of the input's bytes; and the number
-// of the refusal at which the reading stands, 0 for none. Bytes that end early may still go on.
+// The book so far, and the records that it took; how many bytes of the next one are held, at the front of the input's bytes; and the refusal
+// at which the reading stands, if it does. Bytes that end early may still go on.
 #[derive(Clone, Copy)]
 pub struct Reading {
     pub book: Book,
     pub count: u64,
     pub held: usize,
-    pub number: u8,
+    pub end: Result<(), Refusal>,
 }
 
 // The sum, as far as 64 bits go.
@@ -77,7 +77,7 @@ impl Reading {
             book: Book::fresh(),
             count: 0,
             held: 0,
-            number: 0,
+            end: Ok(()),
         }
     }
 
@@ -85,7 +85,7 @@ impl Reading {
     pub fn is_over(self) -> bool
         ensures { result ≡ is_over self }
     {
-        ENDS_EARLY < self.number
+        !matches!(self.end, Ok(()) | Err(Refusal::EndsEarly))
     }
 
     // After a read of n bytes, which stand in the input's bytes behind those that were held: takes the records that are whole, and holds what is
@@ -103,17 +103,16 @@ impl Reading {
                 book,
                 count: self.count,
                 held: end,
-                number: ENDS_EARLY,
+                end: Err(Refusal::EndsEarly),
             };
         }
         let f = feed_front(book, log, &input[..], end);
         let held = to_front(input, f.taken, end);
-        let next = f.book;
         Reading {
-            book: next,
+            book: f.book,
             count: plus(self.count, f.count),
             held,
-            number: f.number,
+            end: f.end,
         }
     }
 }

@@ -3,49 +3,28 @@
 #![tactic(auto)]
 
 ghost use Rattle.statement.specs.Pages.{pages_of, longest_pages};
-ghost use Rattle.stdio.specs.Printing.{Shows, Printed};
+ghost use Rattle.stdio.specs.Printing.{Printed};
 
-use book::book::USED_MAX;
-use statement::day::Written;
+use filter::text::Pages;
+use money::refusals::Refusal;
 use statement::pages::PAGES_MAX;
 use std::io::Read;
-use stdin::{Input, read_input};
-use stdio::output::{Settled, has_argument, say, write_out};
-
-// Puts into the lent bytes all that is printed for an input.
-fn print_input(input: Input, log: &[u8], out: &mut [u8]) -> Settled
-    ensures { Shows pages_of longest_pages input log.now out.old out.new result }
-{
-    if input.failed() {
-        return Settled {
-            written: Written { number: 0, len: 0 },
-            failed: true,
-        };
-    }
-    let reading = input.reading;
-    let written = reading.pages(log, out);
-    Settled {
-        written,
-        failed: false,
-    }
-}
+use stdio::output::{has_argument, print, say, write_out};
 
 // Puts into the lent bytes all that is printed for an input, as standard input.
-fn page_input<R: Read>(source: &mut R, out: &mut [u8]) -> Settled
+fn page_input<R: Read>(source: &mut R, out: &mut [u8]) -> Option<Result<usize, Refusal>>
     ensures { Printed pages_of longest_pages out.old out.new result }
 {
-    let mut log = [0u8; USED_MAX];
-    let input = read_input(source, &mut log);
-    print_input(input, &log, out)
+    print::<Pages, R>(source, out)
 }
 
 // Prints what there is for standard input, or says what failed.
 fn run(rt: &HostRuntime) {
     let mut out = [0u8; PAGES_MAX];
-    let s = page_input(&mut rt.stdin(), &mut out);
+    let printed = page_input(&mut rt.stdin(), &mut out);
     write_out(
         rt,
-        s,
+        printed,
         &out,
         b"pages: the input can't be read\n",
         b"pages: the output can't be written\n",

@@ -1,9 +1,11 @@
 -- 01, "The statement and its examples": "reads records back to back from standard input". The program's reads one after the other, whatever each of
 -- them brings. Assumes nothing.
-use Rattle.std.specs.Prelude.{◌≡◌, Bool, true, false, not, ◌&&◌, ◌||◌, List, [], ◌∷◌, ℕ, ◌-◌, ◌/◌, ◌≤◌, eqb, ℤ, pos, length, take, drop}
+use Rattle.std.specs.Prelude.{◌≡◌, Bool, true, false, cond, ◌||◌, List, [], ◌∷◌, ℕ, ◌-◌, ◌/◌, ◌≤◌, eqb, ℤ, pos, length, take, drop}
 use Rattle.std.specs.Int.Signed.{lt_z}
 use Rattle.filter.specs.Reading.{max_count, begun, is_over, ReadsOn}
 use Rattle.filter.specs.declared.reading.Reading.{Reading}
+use Rattle.stdin.specs.declared.Extent.{Extent}
+use Rattle.stdin.specs.declared.Extent.TheVariants.{Open, Whole, Broken}
 use Rattle.stdin.specs.declared.Input.{Input}
 use Rattle.io.specs.Counts.{clamp_len}
 
@@ -21,25 +23,29 @@ brought got r bytes = clamp_len got (length bytes - r.held)
 abbrev pub broke_off : ℤ → Bool
 broke_off got = lt_z got (pos 0)
 
+-- by whether the read broke off, and how many bytes it brought: there may be more to read where it brought some, unless a refusal stands that no more bytes
+-- can change
+abbrev pub extent_after : Bool → ℕ → Bool → Extent
+extent_after broke n over = cond broke Broken (cond (eqb n 0 || over) Whole Open)
+
 -- from the log and the bytes as a read left them, what is made of its answer
 pub record TakesIn (i : Input) (got : ℤ) (log bytes : List ℕ) (i' : Input) (log' bytes' : List ℕ) : Type 0 where
   -- the records that are whole with what it brought are taken
   pub reading : ReadsOn i.reading log bytes (brought got i.reading bytes) i'.reading log' bytes'
-  -- there may be more to read where it brought bytes, unless a refusal stands that no more bytes can change
-  pub more : i'.more ≡ (not (eqb (brought got i.reading bytes) 0) && not (is_over i'.reading))
-  pub broke : i'.broke ≡ broke_off got
+  -- how far the input was read
+  pub extent : i'.extent ≡ extent_after (broke_off got) (brought got i.reading bytes) (is_over i'.reading)
 
 -- ---- all reads
 
 -- nothing was read
 abbrev pub unread : Input
-unread = record { reading = begun; more = true; broke = false }
+unread = record { reading = begun; extent = Open }
 
 -- what the reads brought, the newest first, and input, log and bytes as they were left. A read is made where there may be more to read; it keeps the
 -- bytes that are held, and what it brought stands behind them
 pub data Rounds : List (List ℕ) → Input → List ℕ → List ℕ → Type 0 where
   none : (log bytes : List ℕ) → length bytes ≡ max_read → Rounds [] unread log bytes
-  round : {ps : List (List ℕ)} {i : Input} {log bytes : List ℕ} → Rounds ps i log bytes → i.more ≡ true
+  round : {ps : List (List ℕ)} {i : Input} {log bytes : List ℕ} → Rounds ps i log bytes → i.extent ≡ Open
       → (got : ℤ) (lent : List ℕ) → length lent ≡ max_read → take i.reading.held lent ≡ take i.reading.held bytes
       → (i' : Input) (log' bytes' : List ℕ) → TakesIn i got log lent i' log' bytes'
       → Rounds (take (brought got i.reading lent) (drop i.reading.held lent) ∷ ps) i' log' bytes'
@@ -54,8 +60,13 @@ pub record ReadAll (i : Input) (log : List ℕ) : Type 0 where
   pub bytes : List ℕ
   pub rounds : Rounds pieces i log bytes
   pub few : length pieces ≤ max_reads
-  pub ended : i.more ≡ true → length pieces ≡ max_reads
+  pub ended : i.extent ≡ Open → length pieces ≡ max_reads
 
 -- the input was not read to its end: the last read broke off, or there may be more to read
+abbrev pub not_whole : Extent → Bool
+not_whole Open = true
+not_whole Whole = false
+not_whole Broken = true
+
 abbrev pub failed : Input → Bool
-failed i = i.broke || i.more
+failed i = not_whole i.extent

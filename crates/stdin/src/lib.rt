@@ -1,8 +1,8 @@
 // Standard input, read to its end into a book.
 #![tactic(auto)]
 
-ghost use Rattle.std.specs.Prelude.{◌≡◌, not, ◌&&◌, ◌≤◌, eqb, length, take};
-ghost use Rattle.stdin.specs.Rounds.{TakesIn, unread, ReadAll, failed};
+ghost use Rattle.std.specs.Prelude.{◌≡◌, ◌≤◌, length, take};
+ghost use Rattle.stdin.specs.Rounds.{TakesIn, broke_off, extent_after, unread, ReadAll, failed};
 
 use filter::reading::{COUNT_MAX, Reading};
 use std::io::Read;
@@ -12,22 +12,32 @@ const READ_MAX: u64 = 65536;
 
 const READS_MAX: u64 = COUNT_MAX / READ_MAX;
 
-// The reading of all that was read; whether there may be more to read, and whether the last read broke off.
+// How far an input was read: there may be more to read, it was read to its end, or the last read broke off.
+#[derive(Clone, Copy, PartialEq, Eq)]
+pub enum Extent {
+    Open,
+    Whole,
+    Broken,
+}
+
+// The reading of all that was read, and how far that is.
 #[derive(Clone, Copy)]
 pub struct Input {
     pub reading: Reading,
-    pub more: bool,
-    pub broke: bool,
+    pub extent: Extent,
 }
 
-// Whether there may be more to read, after a read of n bytes.
-fn goes_on(n: usize, over: bool) -> bool
-    ensures { result ≡ (not (eqb n 0) && not over) }
+// How far the input was read after a read that answered so, and brought n bytes.
+fn extent_after(got: isize, n: usize, over: bool) -> Extent
+    ensures { result ≡ extent_after (broke_off got) n over }
 {
-    if n == 0 {
-        return false;
+    if got < 0 {
+        Extent::Broken
+    } else if n == 0 || over {
+        Extent::Whole
+    } else {
+        Extent::Open
     }
-    !over
 }
 
 impl Input {
@@ -37,8 +47,7 @@ impl Input {
     {
         Input {
             reading: Reading::fresh(),
-            more: true,
-            broke: false,
+            extent: Extent::Open,
         }
     }
 
@@ -47,23 +56,17 @@ impl Input {
         requires { self.reading.held ≤ length bytes.old }
         ensures { TakesIn self got log.old bytes.old result log.new bytes.new }
     {
-        let reading = self.reading;
-        let held = reading.held;
-        let n = io::count(got, &bytes[held..]);
-        let next = reading.read_on(log, bytes, n);
-        let more = goes_on(n, next.is_over());
-        Input {
-            reading: next,
-            more,
-            broke: got < 0,
-        }
+        let n = io::count(got, &bytes[self.reading.held..]);
+        let reading = self.reading.read_on(log, bytes, n);
+        let extent = extent_after(got, n, reading.is_over());
+        Input { reading, extent }
     }
 
     // Whether the input was not read to its end.
     pub fn failed(self) -> bool
         ensures { result ≡ failed self }
     {
-        self.broke || self.more
+        self.extent != Extent::Whole
     }
 }
 
@@ -85,11 +88,10 @@ pub fn read_input<R: Read>(source: &mut R, log: &mut [u8]) -> Input
     let mut bytes = io::large_buffer();
     let mut input = Input::unread();
     for _ in 0..READS_MAX {
-        if !input.more {
+        if input.extent != Extent::Open {
             return input;
         }
-        let reading = input.reading;
-        let got = read_behind(source, &mut bytes, reading.held);
+        let got = read_behind(source, &mut bytes, input.reading.held);
         input = input.take_in(got, log, &mut bytes);
     }
     input

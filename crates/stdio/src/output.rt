@@ -1,13 +1,30 @@
 // What a program writes out, once standard input is read.
-use statement::day::Written;
-use std::env::{Env, FillError};
-use std::io::Write;
+ghost use Rattle.stdio.specs.Printing.{Shows, Printed};
 
-// What was written, unless the input could not be read.
-#[derive(Clone, Copy)]
-pub struct Settled {
-    pub written: Written,
-    pub failed: bool,
+use book::book::USED_MAX;
+use filter::text::Text;
+use money::refusals::Refusal;
+use std::env::{Env, FillError};
+use std::io::{Read, Write};
+use stdin::{Input, read_input};
+
+// Puts into the lent bytes all that is printed for an input: how many bytes these are, and none where the input could not be read.
+fn print_input<T: Text>(input: Input, log: &[u8], out: &mut [u8]) -> Option<Result<usize, Refusal>>
+    ensures { Shows T.text T.longest input log.now out.old out.new result }
+{
+    if input.failed() {
+        return None;
+    }
+    Some(input.reading.output::<T>(log, out))
+}
+
+// The same for an input, as standard input, that is read to its end.
+pub fn print<T: Text, R: Read>(source: &mut R, out: &mut [u8]) -> Option<Result<usize, Refusal>>
+    ensures { Printed T.text T.longest out.old out.new result }
+{
+    let mut log = [0u8; USED_MAX];
+    let input = read_input(source, &mut log);
+    print_input::<T>(input, &log, out)
 }
 
 // Says something on standard error, as far as it can be written.
@@ -18,28 +35,28 @@ pub fn say(rt: &HostRuntime, text: &[u8]) {
 // Whether the program was given an argument.
 pub fn has_argument(rt: &HostRuntime) -> bool {
     let mut first = [0u8; 1];
-    match rt.arg(1, &mut first) {
-        Err(FillError::NotPresent) => false,
-        _ => true,
-    }
+    !matches!(rt.arg(1, &mut first), Err(FillError::NotPresent))
 }
 
 // Writes the first bytes of the output to standard output. Whether all of them are written.
 fn write_first(rt: &HostRuntime, out: &[u8], len: usize) -> bool {
-    if out.len() < len {
-        return false;
-    }
-    rt.stdout().write_all(&out[..len]).is_ok()
+    len <= out.len() && rt.stdout().write_all(&out[..len]).is_ok()
 }
 
-// Writes what there is to standard output, or to standard error what failed: the reading, or the writing.
-pub fn write_out(rt: &HostRuntime, s: Settled, out: &[u8], unread: &[u8], unwritten: &[u8]) {
-    if s.failed {
-        say(rt, unread);
-        return;
-    }
-    let written = s.written;
-    if !write_first(rt, out, written.len) {
-        say(rt, unwritten);
+// Writes what was printed to standard output, or to standard error what failed: the reading, or the writing.
+pub fn write_out(
+    rt: &HostRuntime,
+    printed: Option<Result<usize, Refusal>>,
+    out: &[u8],
+    unread: &[u8],
+    unwritten: &[u8],
+) {
+    match printed {
+        None => say(rt, unread),
+        Some(written) => {
+            if !write_first(rt, out, written.unwrap_or(0)) {
+                say(rt, unwritten);
+            }
+        }
     }
 }

@@ -1,5 +1,5 @@
 -- 01's cases, all of those marked (P) among them, and 02's, of the definitions of every layer and of the whole program, from an input's bytes to all that is
--- printed: one list, one test. Assumes nothing.
+-- printed: one list, one test. Assumes nothing. The type of a text in quotes has no name in std.
 use Rattle.std.specs.Prelude.{◌≡◌, refl, Bool, true, ◌&&◌, List, [], ◌∷◌, ◌++◌, map, ℕ, ◌-◌, ◌*◌, length, take, drop}
 use Prim.Native.String.{String}
 use Rattle.laws.specs.Ints.{minℤ, maxℤ}
@@ -160,13 +160,14 @@ abbrev pub cases : List Case
 cases = whole ++ (map tells register.examples ++ (map reads records.cases ++ (map amounts money.cases ++ map shows statement.cases)))
 
 pub examples : all cases ≡ true
-unfolding output_by refusal_line settled fed first_record called run refusal stands count standing write_all without same_hour same limit_of parse parse_any bare write
-    head_bytes name_bytes entry change head mark mark_among rest hour byte name_for body_for name_field some decode_name name_up_to one escaped hex_val visible taken
-    layout hour_prices import export schedules reserve_series lists unit failure many pair pairs list_from price quantity amount word statement_of statement_lines day_lines
-    sum_of hours_to hour_of each_unit unit_of text_of line_bytes when_bytes two_digits kind_bytes line_name spell spell_byte unreserved digit figure sign dollars number decimal
-    digits cents_of place_of guarantees_of by_name in_order price_of pick charges_of unit_day_of day_total at_hour names_of add_name exported credit_ticks unit_ticks
-    charge_ticks series_of offset precedes up_to counted same_name same_bytes name_before profits cost full_pairs Σℤ Σℕ minℤ maxℤ every cost_answer offer_fault numbers_ok
-    order_ok credit_answer prices_ok quantities_ok within_ok offset_answer rates_ok entries_fault nth_fault fresh_name entry_fault name_ok first_of shortfall arranged
-    congestion component4 C1 C2 C3 C4 interval hour_amount reserve_fault reserves_numbers_ok numbers_fine within_fine lists_fault unit_fault interval_fault charge
-    failure_ok pages_of pages_to page_text page_head entries_bytes entry_bytes number_line sum_line blank_line blank_lines left_in right_in blanks
+unfolding output_by refusal_line settled fed first_record called run refusal stands count standing write_all without same_hour same limit_of parse parse_any
+    bare write head_bytes name_bytes entry change head mark mark_among rest hour byte name_for body_for name_field some decode_name name_up_to one escaped
+    hex_val visible taken layout hour_prices import export schedules reserve_series lists unit failure many pair pairs list_from price quantity amount word
+    statement_of statement_lines day_lines sum_of hours_to hour_of each_unit unit_of text_of line_bytes when_bytes two_digits kind_bytes line_name spell
+    spell_byte unreserved digit figure sign dollars number decimal digits cents_of place_of guarantees_of by_name in_order price_of pick charges_of
+    unit_day_of day_total at_hour names_of add_name exported credit_ticks unit_ticks charge_ticks series_of offset precedes up_to counted same_name same_bytes
+    name_before profits cost full_pairs Σℤ Σℕ minℤ maxℤ every cost_answer offer_fault numbers_ok order_ok credit_answer prices_ok quantities_ok within_ok
+    offset_answer rates_ok entries_fault nth_fault fresh_name entry_fault name_ok first_of shortfall arranged congestion component4 C1 C2 C3 C4 interval
+    hour_amount reserve_fault reserves_numbers_ok numbers_fine within_fine lists_fault unit_fault interval_fault charge failure_ok pages_of pages_to page_text
+    page_head entries_bytes entry_bytes number_line sum_line blank_line blank_lines left_in right_in blanks
 examples = refl

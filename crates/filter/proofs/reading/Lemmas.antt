@@ -28,12 +28,12 @@ module _ (r : Reading) (log input : List ℕ) (n end : ℕ) (e : end ≡ min (r.
     -- the records among them are taken
     pub going : {log' input' : List ℕ} {held count : ℕ} → is_over r ≡ false → false ≡ waits (take end input) → Feeds r.book log (take end input) f log'
         → (input' ≡ put input 0 (part f.taken end input)) × (held ≡ length (part f.taken end input)) → count ≡ counted (r.count + f.count)
-        → ReadsOn r log input n (record { book = f.book; count = count; held = held; number = f.number }) log' input'
+        → ReadsOn r log input n (record { book = f.book; count = count; held = held; end = f.end }) log' input'
     going {log'} {input'} {held} {count} g w m p q =
         let h : held ≡ length (drop f.taken (at_hand r n input)) = p.1 ∙ ap length left_is in
         reads_on g w (record {
           fed = f;
           feeds = subst (λ (s : List ℕ). Feeds r.book log s f log') hand-is m;
-          reading = λ i. record { book = f.book; count = q i; held = h i; number = f.number };
+          reading = λ i. record { book = f.book; count = q i; held = h i; end = f.end };
           rest = p.0 ∙ ap (put input 0) left_is;
         })

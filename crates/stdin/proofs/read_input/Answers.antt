@@ -1,5 +1,4 @@
 use Rattle.std.proofs.Common.{sym, refl, ◌∙◌, rules}
-use Rattle.std.proofs.lemmas.Bool.{not-false}
 use Rattle.stdin.proofs.Rounds.{reached-none, reached-more}
 use Rattle.stdin.proofs.read_input.Goals as goal
 
@@ -8,7 +7,7 @@ loop-init g c = (reached-none c.unread-input.ensures _ _ (sym c.large_buffer-byt
 
 pub loop-preserved : goal.loop-preserved
 loop-preserved g c = (
-  reached-more c.loop.invariant.0 (not-false _ c.if-not-input.false) (c.read_behind-got.ensures.0 ∙ c.loop.invariant.1) c.read_behind-got.ensures.1
+  reached-more c.loop.invariant.0 (search rules) (c.read_behind-got.ensures.0 ∙ c.loop.invariant.1) c.read_behind-got.ensures.1
       c.take_in-input.ensures,
   search rules,
   search rules,

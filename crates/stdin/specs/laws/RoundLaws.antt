@@ -1,11 +1,13 @@
 -- What holds of every list of rounds.
-use Rattle.std.specs.Prelude.{◌≡◌, refl, Bool, true, false, not, ◌&&◌, List, ◌++◌, ℕ, ◌+◌, ◌-◌, ◌*◌, ◌≤◌, ◌<◌, eqb, ℤ, pos, negsuc, length, take, drop}
+use Rattle.std.specs.Prelude.{◌≡◌, refl, Bool, true, false, ◌||◌, cond, List, ◌++◌, ℕ, ◌+◌, ◌-◌, ◌*◌, ◌≤◌, ◌<◌, eqb, ℤ, pos, negsuc, length, take, drop}
 use Rattle.std.proofs.Common.{sym, ap, ◌∙◌, subst, arith, length-drop, length-append, take-add, length-take-le}
 use Rattle.filter.specs.Reading.{max_count, is_over, ReadsOn}
 use Rattle.filter.specs.Program.{input_of, Run, start, next}
 use Rattle.filter.proofs.laws.OutputLaws.{held-short}
 use Rattle.filter.specs.declared.reading.Reading.{Reading}
-use Rattle.stdin.specs.Rounds.{max_read, brought, Rounds, none, round, ReadAll}
+use Rattle.stdin.specs.Rounds.{max_read, brought, broke_off, Rounds, none, round, ReadAll}
+use Rattle.stdin.specs.declared.Extent.{Extent}
+use Rattle.stdin.specs.declared.Extent.TheVariants.{Open, Whole, Broken}
 use Rattle.stdin.specs.declared.Input.{Input}
 use Rattle.io.specs.Counts.{clamp_len}
 use Rattle.book.specs.laws.LayerLaws.{longest_record}
@@ -17,16 +19,23 @@ clamped-most : (got : ℤ) (most : ℕ) → clamp_len got most ≤ most
 clamped-most (pos k) most = omega arith
 clamped-most (negsuc k) most = omega arith
 
-right-false : (a b : Bool) → (a && not b) ≡ true → b ≡ false
-right-false a false e = refl
-right-false true true e = apart refl (sym e)
-right-false false true e = apart refl (sym e)
+-- an extent that is open
+abbrev is_open : Extent → Bool
+is_open Open = true
+is_open Whole = false
+is_open Broken = false
+
+open-after : (broke ended over : Bool) → cond broke Broken (cond (ended || over) Whole Open) ≡ Open → over ≡ false
+open-after true ended over e = apart refl (sym (ap is_open e))
+open-after false ended false e = refl
+open-after false true true e = apart refl (sym (ap is_open e))
+open-after false false true e = apart refl (sym (ap is_open e))
 
 -- where there may be more to read, no refusal stands
-pub more-open : {ps : List (List ℕ)} {i : Input} {log bytes : List ℕ} → Rounds ps i log bytes → i.more ≡ true → is_over i.reading ≡ false
+pub more-open : {ps : List (List ℕ)} {i : Input} {log bytes : List ℕ} → Rounds ps i log bytes → i.extent ≡ Open → is_over i.reading ≡ false
 more-open (none log bytes e) m = refl
-more-open (round {ps} {i} before o got lent e f i' log' bytes' t) m = right-false (not (eqb (brought got i.reading lent) 0)) (is_over i'.reading)
-    (sym t.more ∙ m)
+more-open (round {ps} {i} before o got lent e f i' log' bytes' t) m =
+    open-after (broke_off got) (eqb (brought got i.reading lent) 0) (is_over i'.reading) (sym t.extent ∙ m)
 
 -- the rounds are a run over what the reads brought, and each brought no more than a read can
 record Brings (ps : List (List ℕ)) (i : Input) (log bytes : List ℕ) : Type 0 where
@@ -52,7 +61,7 @@ brings (round {ps} {i} {log} {bytes} before o got lent e f i' log' bytes' t) =
     }
 
 -- there is room to read on
-pub room : {ps : List (List ℕ)} {i : Input} {log bytes : List ℕ} → Rounds ps i log bytes → i.more ≡ true → i.reading.held < longest_record
+pub room : {ps : List (List ℕ)} {i : Input} {log bytes : List ℕ} → Rounds ps i log bytes → i.extent ≡ Open → i.reading.held < longest_record
 room x m = held-short (brings x).run (more-open x m)
 
 -- ---- all that was read

@@ -2,8 +2,8 @@ use Rattle.std.specs.Prelude.{ℕ}
 use Rattle.std.proofs.Common.{◌∙◌}
 use Rattle.std.proofs.lemmas.List.{length-replicate}
 use Rattle.book.specs.Register.{max_used}
-use Rattle.settle.specs.laws.SettleLaws.{printed}
-use Rattle.settle.proofs.settle_input.Goals as goal
+use Rattle.stdio.specs.laws.PrintingLaws.{printed}
+use Rattle.stdio.proofs.output.print.Goals as goal
 
 pub returns : goal.returns
 returns g c =
