@@ -13,14 +13,13 @@ use Rattle.records.specs.declared.layouts.HourPrices.{HourPrices}
 use Rattle.records.specs.Amounts.{credit_in, unit_amount_in, charge_in}
 use Rattle.records.specs.Changes.{begins, write, Entry, changed, taking_back, closing, Input, fine, fault, parse, parse_any, put_number, put_bytes, bare, take_back_bytes, close_bytes}
 use Rattle.records.specs.Answers.{input_of, spelling_of}
-use Rattle.records.specs.declared.names.Spelling.{Spelling}
+use Rattle.arrayvec.specs.ArrayVec.{ArrayVec}
 use Rattle.records.specs.declared.parse.Front.{Front}
 use Rattle.records.specs.declared.marks.Kind.TheVariants.{File, Correct, Withdraw}
 use Rattle.records.specs.declared.marks.Wanted.{Wanted}
 use Rattle.records.specs.declared.marks.Wanted.TheVariants.{Any, Only}
 use Rattle.book.specs.declared.book.Book.{Book}
 use Rattle.book.specs.declared.answers.NamedAmount.{NamedAmount}
-use Rattle.book.specs.declared.feed.Fed.{Fed}
 use Rattle.book.specs.Register.{Call, ask, Question, record_of, Reply, refused, accepted, place, number, guarantees, unit_day, charge, step_of, write_all}
 use Rattle.book.specs.Meaning.{outcome, book_of, Load, belongs, mismatched, load}
 use Rattle.book.specs.Layer.{Change}
@@ -161,8 +160,8 @@ hour_in h = cond (ltb max_u8 h) max_u8 h
 abbrev pub method_in : ℕ → ℕ
 method_in m = cond (ltb 5 m) 0 m
 
--- a change on the book that three numbers carry, over lent bytes: its number; the book is handed back where it is 0, and else the state stays; the bytes are those of the
--- book's own promise (`Meaning.Leaves`)
+-- a change on the book that three numbers carry, over lent bytes: its number; the book is handed back where it is 0, and else the state stays; the bytes
+-- are those of the book's own promise (`Meaning.Leaves`)
 pub record Changed (call : Call) (state lent : List ℕ) (r : ℕ) (state' lent' : List ℕ) : Type 0 where
   pub number : r ≡ replied (outcome (step_of call) (book_in state) lent).answer
   pub handed : state' ≡ cond (eqb r 0) (handed_back (outcome (step_of call) (book_in state) lent).book state) state
@@ -196,8 +195,8 @@ amounts_told (unit_day t v) row = stored (stored row 0 t) 1 v
 amounts_told (charge t) row = stored row 0 t
 
 -- the bytes of a name as it is written
-abbrev pub spelled_in : Input Spelling → List ℕ
-spelled_in (fine s) = take s.len s.bytes
+abbrev pub spelled_in : Input (ArrayVec ℕ) → List ℕ
+spelled_in (fine s) = s.items
 spelled_in (fault n) = []
 
 abbrev pub spelled_bytes : Name → List ℕ
@@ -290,23 +289,30 @@ amount_told p s row = cond (eqb (amount_fault p s) 0) (ticks_told (amount_in p s
 
 -- ---- records back to back, the statement and its pages
 
+-- what an input leaves: the book, how many records and bytes were taken, and the number of the refusal that ended the reading, 0 for none
+pub record Taken : Type 0 where
+  pub book : Book
+  pub count : ℕ
+  pub taken : ℕ
+  pub number : ℕ
+
 -- an input for a book over n lent bytes; 16 is its first record's, where there is one
-abbrev pub feed_of : Load → Book → ℕ → List ℕ → Fed
+abbrev pub feed_of : Load → Book → ℕ → List ℕ → Taken
 feed_of mismatched b n input = record { book = b; count = 0; taken = 0; number = cond (eqb (length input) 0) 0 not_together }
 feed_of (belongs l) b n input =
     let f = feeds.feeding n (record { list = l; closed = b.closed }) input in
     record { book = book_of f.reg; count = f.count; taken = f.taken; number = f.number }
 
 -- for the book that three numbers carry
-unfoldable pub feed_in : List ℕ → List ℕ → List ℕ → Fed
+unfoldable pub feed_in : List ℕ → List ℕ → List ℕ → Taken
 feed_in state lent input = feed_of (load (book_in state) lent) (book_in state) (length lent) input
 
 -- the book is handed back where a record was taken
-abbrev pub feed_state : Fed → List ℕ → List ℕ
+abbrev pub feed_state : Taken → List ℕ → List ℕ
 feed_state f state = cond (eqb f.count 0) state (handed_back f.book state)
 
 -- how many records and bytes were taken, at a refusal too
-abbrev pub feed_sizes : Fed → List ℕ → List ℕ
+abbrev pub feed_sizes : Taken → List ℕ → List ℕ
 feed_sizes f row = stored (stored row 0 f.count) 1 f.taken
 
 -- s begins with w

@@ -1,28 +1,31 @@
 // The proved crates over numbers and slices, for a program in another language that holds them against its own. A slice is a
 // pointer and a count. Each function answers 0 or the number of the refusal, and promises what it leaves in every lent place: at a
-// refusal what stood there.
+// refusal what stood there. Arguments that travel together are C's, each by itself; so are the numbers of methods and marks, which
+// each function tells apart once.
 #![tactic(auto)]
 
-ghost use Rattle.std.specs.Prelude.{◌≡◌, ◌+◌, ◌≤◌, cond, eqb, take, IfOk};
+ghost use Rattle.std.specs.Prelude.{◌≡◌, ◌+◌, ◌≤◌, cond, eqb, length, IfOk};
 ghost use Rattle.money.specs.Answers.{Amount, answer_of, fault_in};
 ghost use Rattle.records.specs.Changes.{parse, put_number, put_bytes, entry};
 ghost use Rattle.records.specs.Answers.{front_of};
 ghost use Rattle.book.specs.Register.{record_of, count_of, free_bytes, hour_guarantees, day_of, failure_charge};
-ghost use Rattle.book.specs.Meaning.{reply_of, guarantees_reply, day_reply};
+ghost use Rattle.book.specs.Meaning.{place_reply, number_reply, charge_reply, guarantees_reply, day_reply};
 ghost use Rattle.book.specs.Replies.{replied};
 ghost use Rattle.book.specs.Handed.{max_credits};
 ghost use Rattle.demands.specs.Script.{change_of};
+ghost use Rattle.statement.specs.Statement.{written};
 ghost use Rattle.bridge.specs.Bridge.{stored, told, fault_of, end_in, size_in, order, compare_fault, order_of, any_fault, any_size, any_bytes, write_fault, write_size, write_bytes, wanted_by};
 ghost use Rattle.bridge.specs.Bridge.{filing_fault, has_amount, amount_at, amount_in, amount_fault, amount_told};
-ghost use Rattle.bridge.specs.Bridge.{no_book, book_from, book_in, flag_of, handed_back, method_in, hour_in, Changed};
+ghost use Rattle.bridge.specs.Bridge.{no_book, book_from, book_in, handed_back, method_in, hour_in, Changed};
 ghost use Rattle.bridge.specs.Bridge.{asked, sizes_told, amounts_told, import_place, place_told, credit_sizes, credits_sizes, credits_amounts, hour_sizes, hour_amounts};
 ghost use Rattle.bridge.specs.Bridge.{feed_in, feed_state, feed_sizes, FeedBytes, statement_in, pages_in};
 
-use book::answers::{Answer as Said, Credits, Guarantees, NamedAmount, UnitDay, refusal_in};
+use book::answers::{Done, Guarantees, NamedAmount, Place};
 use book::book::Book;
-use book::feed::feed;
+use book::feed::{Fed, feed};
 use demands::make_change;
 use money::names::Name;
+use money::production::DayTotals;
 use money::refusals::Refusal;
 use money::units::Ticks;
 use records::amounts::{failure_charge, import_credit, unit_amount};
@@ -34,15 +37,11 @@ use records::names::spell_name;
 use records::parse::{Act, first_change, parse_any, parse_change, parse_close, parse_take_back};
 use records::views::prices_of;
 use records::writing::put;
-use statement::day::{Written, statement};
+use statement::day::statement;
 use statement::pages::pages;
 
-// The greatest numbers of 8 bits, an hour's, of 16, a book's changes, and of 32, its used bytes.
+// The greatest number of 8 bits, an hour's.
 const U8_MAX: u32 = 255;
-
-const U16_MAX: u64 = 65535;
-
-const U32_MAX: u64 = 4294967295;
 
 #[unsafe(no_mangle)]
 pub extern "C" fn pewatuno_interface() -> u32
@@ -60,22 +59,19 @@ pub extern "C" fn pewatuno_layers() -> u32
     63
 }
 
-// Sets a number that is lent for an answer, where there is a place for it.
-fn set(numbers: &mut [u64], i: usize, n: u64)
-    ensures { numbers.new ≡ stored numbers.old i n }
+// Sets a place that is lent for an answer, where there is such a place.
+fn set<T: Copy>(row: &mut [T], i: usize, x: T)
+    ensures { row.new ≡ stored row.old i x }
 {
-    if i < numbers.len() {
-        numbers[i] = n;
+    if i < row.len() {
+        row[i] = x;
     }
 }
 
 fn set_amount(amounts: &mut [i64], i: usize, t: Ticks)
     ensures { amounts.new ≡ stored amounts.old i t.0 }
 {
-    if i < amounts.len() {
-        let ticks = t.0;
-        amounts[i] = ticks;
-    }
+    set(amounts, i, t.0);
 }
 
 fn write_change(want: Wanted, bytes: &[u8], out: &mut [u8], sizes: &mut [u64]) -> u32
@@ -119,17 +115,12 @@ fn write_any(bytes: &[u8], out: &mut [u8], sizes: &mut [u64]) -> u32
 fn wanted_by(method: u32) -> Wanted
     ensures { result ≡ wanted_by method }
 {
-    let k = method % 4;
-    if k == 1 {
-        return Wanted::Only(Kind::File);
+    match method % 4 {
+        1 => Wanted::Only(Kind::File),
+        2 => Wanted::Only(Kind::Correct),
+        3 => Wanted::Only(Kind::Withdraw),
+        _ => Wanted::Any,
     }
-    if k == 2 {
-        return Wanted::Only(Kind::Correct);
-    }
-    if k == 3 {
-        return Wanted::Only(Kind::Withdraw);
-    }
-    Wanted::Any
 }
 
 // Reads one change, for any mark (0) or a method's (1 to 5), and writes it in its written form.
@@ -144,16 +135,12 @@ pub extern "C" fn pewatuno_write(
     ensures out_after { out.new ≡ write_bytes method bytes.now out.old }
     ensures sizes_after { sizes.new ≡ told result (write_size method bytes.now) sizes.old }
 {
-    if method == 0 {
-        return write_any(bytes, out, sizes);
+    match method {
+        0 => write_any(bytes, out, sizes),
+        4 => mark_alone(parse_take_back(bytes), sizes),
+        5 => mark_alone(parse_close(bytes), sizes),
+        _ => write_change(wanted_by(method), bytes, out, sizes),
     }
-    if method == 4 {
-        return mark_alone(parse_take_back(bytes), sizes);
-    }
-    if method == 5 {
-        return mark_alone(parse_close(bytes), sizes);
-    }
-    write_change(wanted_by(method), bytes, out, sizes)
 }
 
 // Where the change ends that the bytes begin with.
@@ -292,16 +279,13 @@ fn no_book() -> Book
 fn book_of(changes: u64, used: u64, closed: u64) -> Book
     ensures { result ≡ book_from changes used closed }
 {
-    if U16_MAX < changes {
-        return no_book();
-    }
-    if U32_MAX < used {
-        return no_book();
-    }
-    Book {
-        changes: changes as u16,
-        used: used as u32,
-        closed: closed != 0,
+    match (u16::try_from(changes), u32::try_from(used)) {
+        (Ok(changes), Ok(used)) => Book {
+            changes,
+            used,
+            closed: closed != 0,
+        },
+        _ => no_book(),
     }
 }
 
@@ -315,30 +299,18 @@ fn book_in(state: &[u64]) -> Book
     book_of(state[0], state[1], state[2])
 }
 
-fn flag(b: bool) -> u64
-    ensures { result ≡ flag_of b }
-{
-    if b { 1 } else { 0 }
-}
-
 fn hand_back(state: &mut [u64], b: Book)
     ensures { state.new ≡ handed_back b state.old }
 {
-    let changes = b.changes;
-    let used = b.used;
-    let closed = b.closed;
-    set(state, 0, changes as u64);
-    set(state, 1, used as u64);
-    set(state, 2, flag(closed));
+    set(state, 0, b.changes as u64);
+    set(state, 1, b.used as u64);
+    set(state, 2, b.closed as u64);
 }
 
 fn method_of(method: u32) -> u8
     ensures { result ≡ method_in method }
 {
-    if 5 < method {
-        return 0;
-    }
-    method as u8
+    if method < 6 { method as u8 } else { 0 }
 }
 
 // One of the five changes (1 to 5), or any.
@@ -352,42 +324,50 @@ pub extern "C" fn pewatuno_change(
     ensures { Changed (change_of (method_in method) bytes.now) state.old lent.old result state.new lent.new }
 {
     let b = book_in(&state[..]);
-    let d = make_change(b, lent, method_of(method), bytes);
-    let said = d.answer;
-    let n = refusal_in(said);
-    if n != 0 {
-        return n as u32;
+    let Done { book, answer } = make_change(b, lent, method_of(method), bytes);
+    match answer {
+        Ok(()) => {
+            hand_back(state, book);
+            0
+        }
+        Err(fault) => fault.number() as u32,
     }
-    let next = d.book;
-    hand_back(state, next);
-    0
 }
 
 fn hour_of(hour: u32) -> u8
     ensures { result ≡ hour_in hour }
 {
-    if U8_MAX < hour {
-        return U8_MAX as u8;
-    }
-    hour as u8
+    hour.min(U8_MAX) as u8
 }
 
-fn tell_said(sizes: &mut [u64], a: Said) -> u32
-    ensures value { result ≡ replied (reply_of a) }
-    ensures sizes_after { sizes.new ≡ sizes_told (reply_of a) sizes.old }
+// The place of a record, or the number of the refusal.
+fn tell_place(sizes: &mut [u64], answer: Result<Place, Refusal>) -> u32
+    ensures value { result ≡ replied (place_reply answer) }
+    ensures sizes_after { sizes.new ≡ sizes_told (place_reply answer) sizes.old }
 {
-    match a {
-        Said::Refused(n) => n as u32,
-        Said::Place(start, len) => {
-            set(sizes, 0, start as u64);
-            set(sizes, 1, len as u64);
+    match answer {
+        Ok(place) => {
+            set(sizes, 0, place.start as u64);
+            set(sizes, 1, place.len as u64);
             0
         }
-        Said::Number(n) => {
+        Err(fault) => fault.number() as u32,
+    }
+}
+
+// A number of records or of bytes, or the number of the refusal.
+fn tell_number(sizes: &mut [u64], answer: Result<usize, Refusal>) -> u32
+    ensures value { result ≡ fault_in answer }
+    ensures sizes_after { sizes.new ≡ told result (written answer) sizes.old }
+    ensures replied { replied (number_reply answer) ≡ fault_in answer }
+    ensures told_so { sizes_told (number_reply answer) sizes.old ≡ sizes.new }
+{
+    match answer {
+        Ok(n) => {
             set(sizes, 0, n as u64);
             0
         }
-        Said::Accepted | Said::Charge(_) => 0,
+        Err(fault) => fault.number() as u32,
     }
 }
 
@@ -406,7 +386,7 @@ pub extern "C" fn pewatuno_record(
     ensures sizes_after { sizes.new ≡ sizes_told (asked (record_of mark.now (hour_in hour) name.now) state.now lent.now) sizes.old }
 {
     let b = book_in(state);
-    tell_said(sizes, b.record_of(lent, mark, hour_of(hour), name))
+    tell_place(sizes, b.record_of(lent, mark, hour_of(hour), name))
 }
 
 #[tactic(auto, unfolding(crate::specs::Bridge::asked))]
@@ -422,7 +402,7 @@ pub extern "C" fn pewatuno_count(
     ensures sizes_after { sizes.new ≡ sizes_told (asked (count_of mark.now (hour_in hour)) state.now lent.now) sizes.old }
 {
     let b = book_in(state);
-    tell_said(sizes, b.count_of(lent, mark, hour_of(hour)))
+    tell_number(sizes, b.count_of(lent, mark, hour_of(hour)))
 }
 
 #[tactic(auto, unfolding(crate::specs::Bridge::asked))]
@@ -432,29 +412,29 @@ pub extern "C" fn pewatuno_free(state: &[u64], lent: &[u8], sizes: &mut [u64]) -
     ensures sizes_after { sizes.new ≡ sizes_told (asked free_bytes state.now lent.now) sizes.old }
 {
     let b = book_in(state);
-    tell_said(sizes, b.free_bytes(lent))
+    tell_number(sizes, b.free_bytes(lent))
 }
 
 // ---- the book's questions for amounts
 
 // Where the record of an hour's import i starts, counted from 0, and its length.
-fn tell_place(i: usize, a: Said, sizes: &mut [u64])
+fn tell_import(i: usize, answer: Result<Place, Refusal>, sizes: &mut [u64])
     requires { i ≤ max_credits }
-    ensures { sizes.new ≡ place_told i (reply_of a) sizes.old }
+    ensures { sizes.new ≡ place_told i (place_reply answer) sizes.old }
 {
-    if let Said::Place(start, len) = a {
-        set(sizes, 2 * i + 1, start as u64);
-        set(sizes, 2 * i + 2, len as u64);
+    if let Ok(place) = answer {
+        set(sizes, 2 * i + 1, place.start as u64);
+        set(sizes, 2 * i + 2, place.len as u64);
     }
 }
 
 // The record of an hour's import, by its decoded name.
-#[tactic(auto, using(crate::proofs::Names::spelled), unfolding(crate::specs::Bridge::import_place))]
-fn place_of(b: Book, lent: &[u8], hour: u8, name: Name) -> Said
-    ensures { reply_of result ≡ import_place b lent.now hour name }
+#[tactic(auto, unfolding(crate::specs::Bridge::import_place))]
+fn place_of(b: Book, lent: &[u8], hour: u8, name: Name) -> Result<Place, Refusal>
+    ensures { place_reply result ≡ import_place b lent.now hour name }
 {
     match spell_name(name) {
-        Ok(s) => b.record_of(lent, b"IM", hour, &s.bytes[..s.len as usize]),
+        Ok(s) => b.record_of(lent, b"IM", hour, s.as_slice()),
         Err(_) => b.record_of(lent, b"IM", hour, b""),
     }
 }
@@ -473,18 +453,25 @@ fn tell_credit(
     ensures sizes_after { sizes.new ≡ credit_sizes b lent.now hour i c sizes.old }
     ensures amounts_after { amounts.new ≡ stored amounts.old (i + 1) c.ticks.0 }
 {
-    tell_place(i, place_of(b, lent, hour, c.name), sizes);
+    tell_import(i, place_of(b, lent, hour, c.name), sizes);
     set_amount(amounts, i + 1, c.ticks);
 }
 
 #[tactic(auto, using(crate::proofs::Credits::all_told))]
-fn tell_credits(b: Book, lent: &[u8], hour: u8, a: Credits, sizes: &mut [u64], amounts: &mut [i64])
-    requires { a.n ≤ max_credits }
-    ensures sizes_after { sizes.new ≡ credits_sizes b lent.now hour 0 (take a.n a.list) (stored sizes.old 0 a.n) }
-    ensures amounts_after { amounts.new ≡ credits_amounts 0 (take a.n a.list) amounts.old }
+fn tell_credits(
+    b: Book,
+    lent: &[u8],
+    hour: u8,
+    credits: &[NamedAmount],
+    sizes: &mut [u64],
+    amounts: &mut [i64],
+)
+    requires { length credits.now ≤ max_credits }
+    ensures sizes_after { sizes.new ≡ credits_sizes b lent.now hour 0 credits.now (stored sizes.old 0 (length credits.now)) }
+    ensures amounts_after { amounts.new ≡ credits_amounts 0 credits.now amounts.old }
 {
-    set(sizes, 0, a.n as u64);
-    for (i, c) in a.list[..a.n].iter().enumerate() {
+    set(sizes, 0, credits.len() as u64);
+    for (i, c) in credits.iter().enumerate() {
         tell_credit(b, lent, hour, i, *c, sizes, amounts);
     }
 }
@@ -493,22 +480,22 @@ fn tell_guarantees(
     b: Book,
     lent: &[u8],
     hour: u8,
-    g: Guarantees,
+    answer: Result<Guarantees, Refusal>,
     sizes: &mut [u64],
     amounts: &mut [i64],
 ) -> u32
-    requires { g.credits.n ≤ max_credits }
-    ensures value { result ≡ replied (guarantees_reply g) }
-    ensures sizes_after { sizes.new ≡ hour_sizes b lent.now hour (guarantees_reply g) sizes.old }
-    ensures amounts_after { amounts.new ≡ hour_amounts (guarantees_reply g) amounts.old }
+    ensures value { result ≡ replied (guarantees_reply answer) }
+    ensures sizes_after { sizes.new ≡ hour_sizes b lent.now hour (guarantees_reply answer) sizes.old }
+    ensures amounts_after { amounts.new ≡ hour_amounts (guarantees_reply answer) amounts.old }
 {
-    let n = g.number;
-    if n != 0 {
-        return n as u32;
+    match answer {
+        Ok(Guarantees { credits, offset }) => {
+            set_amount(amounts, 0, offset);
+            tell_credits(b, lent, hour, &credits, sizes, amounts);
+            0
+        }
+        Err(fault) => fault.number() as u32,
     }
-    set_amount(amounts, 0, g.offset);
-    tell_credits(b, lent, hour, g.credits, sizes, amounts);
-    0
 }
 
 // An hour's guarantees: the number of imports, then start and length of each; the offset, then each credit.
@@ -531,31 +518,31 @@ pub extern "C" fn pewatuno_guarantees(
     tell_guarantees(b, lent, h, b.guarantees(lent, h), sizes, amounts)
 }
 
-fn tell_amounts(amounts: &mut [i64], a: Said) -> u32
-    ensures value { result ≡ replied (reply_of a) }
-    ensures amounts_after { amounts.new ≡ amounts_told (reply_of a) amounts.old }
+fn tell_charge(amounts: &mut [i64], answer: Result<Ticks, Refusal>) -> u32
+    ensures value { result ≡ replied (charge_reply answer) }
+    ensures amounts_after { amounts.new ≡ amounts_told (charge_reply answer) amounts.old }
 {
-    match a {
-        Said::Refused(n) => n as u32,
-        Said::Charge(t) => {
-            set_amount(amounts, 0, t);
+    match answer {
+        Ok(ticks) => {
+            set_amount(amounts, 0, ticks);
             0
         }
-        Said::Accepted | Said::Place(..) | Said::Number(_) => 0,
+        Err(fault) => fault.number() as u32,
     }
 }
 
-fn tell_day(amounts: &mut [i64], d: UnitDay) -> u32
-    ensures value { result ≡ replied (day_reply d) }
-    ensures amounts_after { amounts.new ≡ amounts_told (day_reply d) amounts.old }
+fn tell_day(amounts: &mut [i64], answer: Result<DayTotals, Refusal>) -> u32
+    ensures value { result ≡ replied (day_reply answer) }
+    ensures amounts_after { amounts.new ≡ amounts_told (day_reply answer) amounts.old }
 {
-    let n = d.number;
-    if n != 0 {
-        return n as u32;
+    match answer {
+        Ok(day) => {
+            set_amount(amounts, 0, day.total);
+            set_amount(amounts, 1, day.reversal);
+            0
+        }
+        Err(fault) => fault.number() as u32,
     }
-    set_amount(amounts, 0, d.total);
-    set_amount(amounts, 1, d.reversal);
-    0
 }
 
 // A unit's day: its total, and the reversal.
@@ -589,7 +576,7 @@ pub extern "C" fn pewatuno_failure_charge(
     ensures amounts_after { amounts.new ≡ amounts_told (asked (failure_charge mark.now (hour_in hour) name.now) state.now lent.now) amounts.old }
 {
     let b = book_in(state);
-    tell_amounts(amounts, b.failure_charge(lent, mark, hour_of(hour), name))
+    tell_charge(amounts, b.failure_charge(lent, mark, hour_of(hour), name))
 }
 
 // ---- records back to back, the statement and its pages
@@ -598,10 +585,9 @@ pub extern "C" fn pewatuno_failure_charge(
 fn hand_back_fed(state: &mut [u64], count: u64, b: Book)
     ensures { state.new ≡ cond (eqb count 0) state.old (handed_back b state.old) }
 {
-    if count == 0 {
-        return;
+    if count != 0 {
+        hand_back(state, b);
     }
-    hand_back(state, b);
 }
 
 // Takes records back to back, up to the first that is refused. How many were taken, and how many bytes, are told at a refusal too, and
@@ -620,27 +606,19 @@ pub extern "C" fn pewatuno_feed(
     ensures sizes_after { sizes.new ≡ feed_sizes (feed_in state.old lent.old input.now) sizes.old }
 {
     let b = book_in(&state[..]);
-    let f = feed(b, lent, input);
-    let count = f.count;
-    let taken = f.taken;
+    let Fed {
+        book,
+        count,
+        taken,
+        end,
+    } = feed(b, lent, input);
     set(sizes, 0, count);
     set(sizes, 1, taken as u64);
-    hand_back_fed(state, count, f.book);
-    f.number as u32
-}
-
-// The number of a text's writing, and its length.
-fn tell_written(sizes: &mut [u64], w: Written) -> u32
-    ensures value { result ≡ w.number }
-    ensures sizes_after { sizes.new ≡ told result w.len sizes.old }
-{
-    let n = w.number;
-    if n != 0 {
-        return n as u32;
+    hand_back_fed(state, count, book);
+    match end {
+        Ok(()) => 0,
+        Err(fault) => fault.number() as u32,
     }
-    let len = w.len;
-    set(sizes, 0, len as u64);
-    0
 }
 
 // The text of the statement, and its length.
@@ -657,7 +635,7 @@ pub extern "C" fn pewatuno_statement(
     ensures sizes_after { sizes.new ≡ told result (statement_in state.now lent.now out.old).len sizes.old }
 {
     let b = book_in(state);
-    tell_written(sizes, statement(b, lent, out))
+    tell_number(sizes, statement(b, lent, out))
 }
 
 // The pages of the statement, and their length.
@@ -674,5 +652,5 @@ pub extern "C" fn pewatuno_pages(
     ensures sizes_after { sizes.new ≡ told result (pages_in state.now lent.now out.old).len sizes.old }
 {
     let b = book_in(state);
-    tell_written(sizes, pages(b, lent, out))
+    tell_number(sizes, pages(b, lent, out))
 }

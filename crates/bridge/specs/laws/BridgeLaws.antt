@@ -57,7 +57,8 @@ beyond-change call state lent r state' lent' b c =
 -- every question: 16, so nothing is told
 pub beyond-asked : (q : Question) (state lent : List ℕ) → Beyond state → asked q state lent ≡ refused not_together
 unfolding asked
-beyond-asked q state lent b = ap (λ (x : Book). (outcome (step_of (ask q)) x lent).answer) (beyond state b) ∙ ap (λ (x : After). x.answer) (sixteen (ask q) lent)
+beyond-asked q state lent b =
+    ap (λ (x : Book). (outcome (step_of (ask q)) x lent).answer) (beyond state b) ∙ ap (λ (x : After). x.answer) (sixteen (ask q) lent)
 
 -- an input: 16 where it holds a record, 0 for none, and nothing is taken
 pub beyond-feed : (state lent input : List ℕ) → Beyond state → feed_in state lent input ≡ feed_of mismatched (book_in state) (length lent) input
