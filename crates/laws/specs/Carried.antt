@@ -1,13 +1,14 @@
 -- What a signed local of the machine holds. Code on signed numbers reads back what it wrote, `to_z w (of_z w z)`, which is z where z fits the width.
 -- `Carried m z B` says that the machine's m is the number z, of magnitude at most B. Sums, differences and products of carried numbers are carried.
 -- That one fits an `i64` is `B < 2 ^ 63`: `lit< tt` or `omega arith`.
+-- std has no name for `hbits`, the bits of a width below its sign.
 -- Assumes nothing.
 use Rattle.std.specs.Prelude.{◌≡◌, refl, Bool, ℕ, ◌+◌, ◌*◌, ◌^◌, ◌≤◌, ◌<◌, T, ℤ, pos, negsuc, neg_ℤ, nat_abs, ◌+ℤ◌, ◌-ℤ◌, ◌*ℤ◌, ◌≤ℤ◌}
-use Rattle.std.proofs.Common.{sym, ap, ◌∙◌, subst, le_refl, lt_of_le_of_lt, arith, to_z-of_z}
+use Rattle.std.proofs.Common.{sym, ap, ◌∙◌, subst, le_refl, lt_of_le_of_lt, arith, Fits, SFits, to_z, of_z, to_z-of_z}
 use Rattle.std.proofs.Math.IntN.{+ℤ_idl}
 use Rattle.std.specs.Int.Signed.{mag, lt_z, le_z, non_neg, yes_non_neg}
 use Rattle.std.specs.Int.{Width, w32, w64}
-use mir.Val.{Fits, SFits, to_z, of_z, hbits}
+use mir.Val.{hbits}
 use Rattle.std.proofs.Math.Facts.{to_z_pos, Fits-nat_abs}
 use Rattle.laws.specs.IntLaws.{add-within, sub_within, mul-within, abs_neg}
 
