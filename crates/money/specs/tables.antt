@@ -1,3 +1,4 @@
 pub mod Numbers
 pub mod Ready
 pub mod Taken
+pub mod Blank

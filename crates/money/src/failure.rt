@@ -77,6 +77,7 @@ impl GoodFailure {
         Ok(GoodFailure { failure, pd })
     }
 
+    // The two differ in which price each gap begins with, as 01's two formulas do: a function of both would take the order as a closure.
     fn of_import(self) -> Ticks
         ensures { result.0 ≡ import_charge self.failure self.pd }
     {

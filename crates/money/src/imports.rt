@@ -13,7 +13,7 @@ use crate::units::{INTERVALS, Quantity, Ticks, quantities_ok, within_ok};
 pub const IMPORTS_MAX: usize = 16;
 
 // An hour's import, as the offset takes it.
-#[derive(Clone, Copy)]
+#[derive(Clone, Copy, Default)]
 pub struct Import {
     pub name: Name,
     pub credit: Ticks,
@@ -79,7 +79,7 @@ fn check_nth(entries: &[Import; IMPORTS_MAX], hour: HourPrices, i: usize) -> Res
     Ok(())
 }
 
-// Whether the first n entries keep their rules, or the first fault of them.
+// Whether the first n entries keep their rules, or the first fault of them. A number and all places, as at `GoodImports`.
 pub(crate) fn check_entries(
     n: usize,
     entries: &[Import; IMPORTS_MAX],
@@ -88,6 +88,7 @@ pub(crate) fn check_entries(
     requires { n ≤ max_imports }
     ensures { fault_in result ≡ entries_fault n hour.prices entries.now }
 {
+    // By number: each entry is held against those before it.
     for i in 0..n {
         check_nth(entries, hour, i)?;
     }

@@ -3,17 +3,12 @@ ghost use Rattle.std.specs.Prelude.{◌≡◌, refl, Some, nat_eq};
 ghost use Rattle.std.specs.Ordering.{nat_cmp, on};
 ghost use Rattle.std.specs.Cmp.{on_po, partial_equiv_from_equiv};
 ghost use Rattle.std.specs.Cmp.Lexicographic.{pointwise, slice_cmp, on_texts, on_texts_equal, texts_po, texts_ties};
-ghost use Rattle.money.specs.Names.{decoded_bytes, name_before, same_name, name_byte_ok, name_ok};
+ghost use Rattle.money.specs.Names.{decoded_bytes, name_before, same_name, name_ok};
 
 use std::cmp::Ordering;
 
 // Bytes of a decoded name, at most.
 pub const NAME_MAX: usize = 12;
-
-// The first and the last visible byte.
-const FIRST_VISIBLE: u8 = 0x21;
-
-const LAST_VISIBLE: u8 = 0x7E;
 
 // A decoded name: its length, and places for twelve bytes. No ArrayVec: that is no `Copy`, and keys and entries that hold a name go by value.
 // No derived `==` and `<`: the places behind the length would count.
@@ -85,15 +80,9 @@ pub fn same_name(a: Name, b: Name) -> bool
     a == b
 }
 
-fn byte_ok(b: u8) -> bool
-    ensures { result ≡ name_byte_ok b }
-{
-    FIRST_VISIBLE <= b && b <= LAST_VISIBLE
-}
-
-// 1 to 12 bytes, each 0x21 to 0x7E.
+// 1 to 12 bytes, each 0x21 to 0x7E: std's graphic bytes.
 pub fn name_ok(a: Name) -> bool
     ensures { result ≡ name_ok a }
 {
-    (1..=NAME_MAX as u8).contains(&a.len) && a.decoded().iter().all(|b| byte_ok(*b))
+    (1..=NAME_MAX as u8).contains(&a.len) && a.decoded().iter().all(|b| b.is_ascii_graphic())
 }

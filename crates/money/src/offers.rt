@@ -14,7 +14,7 @@ use crate::units::{Price, Quantity, Ticks};
 pub const PAIRS_MAX: usize = 20;
 
 // A count, and places for twenty pairs of a price and a quantity: the form that 01 names, by value.
-#[derive(Clone, Copy)]
+#[derive(Clone, Copy, Default)]
 pub struct Offer {
     pub count: u8,
     pub prices: [Price; PAIRS_MAX],
@@ -80,7 +80,7 @@ pub fn check_offer(o: Offer) -> Result<(), Refusal>
 }
 
 // The quantity of the last pair, 0 where no pair is.
-pub(crate) fn last_of(o: Offer) -> Quantity
+pub fn last_of(o: Offer) -> Quantity
     ensures { result.0 ≡ last_q o }
 {
     let n = o.count as usize;
@@ -137,7 +137,7 @@ impl GoodOffer {
         let mut costs = [Ticks(0); PAIRS_MAX];
         let mut acc = Ticks(0);
         let mut last = Quantity(0);
-        // No iterator: each cost stands at the place of its pair.
+        // By number: with `iter_mut` of the costs zipped with the pairs, the proof lacks what the slice of costs ends as; std tells it of no adapter.
         for i in 0..o.count as usize {
             costs[i] = acc;
             let w = o.quantities[i];

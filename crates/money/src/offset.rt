@@ -1,16 +1,16 @@
 // The wheel offset of an hour.
 ghost use Rattle.std.specs.Prelude.{◌≡◌, ℕ, ◌<◌, ◌+◌, ◌-◌, min, ◌&&◌, length};
+ghost use Rattle.laws.specs.Sums.{Σℕ};
 ghost use Rattle.money.specs.Units.{intervals, quantity_at};
 ghost use Rattle.money.specs.Answers.{answer_of};
-ghost use Rattle.money.specs.Offset.{max_total, mqsi, counted, reach, adj, offset, totals_with, rates_ok, offset_answer};
+ghost use Rattle.money.specs.Offset.{max_total, entry, mqsi, counted, offset, totals_with, rates_ok, offset_answer};
 ghost use Rattle.money.specs.tables.Numbers.{Fits};
 ghost use Rattle.money.specs.tables.Ready.{Listed};
 ghost use Rattle.money.specs.tables.Taken.{start_of, add_of, finish_of};
 
 use crate::guarantee::{HourPrices, credit_of};
 use crate::imports::{IMPORTS_MAX, Import, check_entries, up_to};
-use crate::names::{NAME_MAX, Name};
-use crate::offers::{GoodOffer, Offer, PAIRS_MAX};
+use crate::offers::GoodOffer;
 use crate::refusals::Refusal;
 use crate::series::zip_series;
 use crate::units::{INTERVALS, Price, Quantity, Ticks, prices_ok};
@@ -44,18 +44,18 @@ fn series_sum(a: [Quantity; INTERVALS], b: [Quantity; INTERVALS]) -> [Quantity; 
 }
 
 // Sums with an import's quantities, if it precedes `e` or is `e`.
-fn counted_in(sums: [Quantity; INTERVALS], a: Import, e: Import) -> [Quantity; INTERVALS]
-    requires { (k : ℕ) → k < intervals → Fits (quantity_at sums k + mqsi a k) }
-    ensures { (k : ℕ) → k < intervals → quantity_at result k ≡ quantity_at sums k + counted a e k }
+fn counted_in(sums: [Quantity; INTERVALS], a: &Import, e: &Import) -> [Quantity; INTERVALS]
+    requires { (k : ℕ) → k < intervals → Fits (quantity_at sums k + mqsi a.now k) }
+    ensures { (k : ℕ) → k < intervals → quantity_at result k ≡ quantity_at sums k + counted a.now e.now k }
 {
-    if up_to(a, e) {
-        let more = a.quantities;
-        return series_sum(sums, more);
+    if up_to(*a, *e) {
+        return series_sum(sums, a.quantities);
     }
     sums
 }
 
-// The first n entries, of which each keeps its rules, and the hour's prices. It is a view of them, so that none is copied.
+// The first n entries, of which each keeps its rules, and the hour's prices: a view, so that their list is not copied. A number and all places, no slice: the
+// definitions of the core count n entries of a list (`offset`, `reach`, `entries_fault`), and each promise would cut the list first.
 #[derive(Clone, Copy)]
 struct GoodImports<'a> {
     n: usize,
@@ -65,39 +65,37 @@ struct GoodImports<'a> {
 }
 
 impl<'a> GoodImports<'a> {
-    // For twelve intervals, the sum of the quantities up to and including import i.
-    fn reach_series(self, i: usize) -> [Quantity; INTERVALS]
-        requires { i < self.n }
-        ensures { (k : ℕ) → k < intervals → quantity_at result k ≡ reach self.entry.n self.entry.entries.now i k }
+    // For twelve intervals, the sum of the quantities up to and including an import.
+    fn reach_series(self, e: &Import) -> [Quantity; INTERVALS]
+        ensures { (k : ℕ) → k < intervals → quantity_at result k ≡ Σℕ self.entry.n (λ j. counted (entry self.entry.entries.now j) e.now k) }
     {
         let entries = self.entries;
-        let e = entries[i];
         let mut sums = [Quantity(0); INTERVALS];
         for a in &entries[..self.n] {
-            // The borrow checker takes no call's result into an array that the loop carries.
-            let next = counted_in(sums, *a, e);
+            // By way of `next`: the borrow checker refuses `sums = counted_in(sums, a, e)` ("a call's result is laid in a local that .. holds .. an array").
+            let next = counted_in(sums, a, e);
             sums = next;
         }
         sums
     }
 
-    // The twelve adjusted quantities of import i.
-    fn adj_series(self, totals: [Quantity; INTERVALS], i: usize) -> [Quantity; INTERVALS]
-        requires { i < self.n }
-        ensures { (k : ℕ) → k < intervals → quantity_at result k ≡ adj self.entry.n self.entry.entries.now totals i k }
+    // The twelve adjusted quantities of an import.
+    fn adj_series(self, totals: [Quantity; INTERVALS], e: &Import) -> [Quantity; INTERVALS]
+        ensures { (k : ℕ) → k < intervals
+            → quantity_at result k ≡ min (mqsi e.now k) (Σℕ self.entry.n (λ j. counted (entry self.entry.entries.now j) e.now k) - quantity_at totals k) }
     {
-        let beyond = zip_series(self.reach_series(i), totals, Quantity::above);
-        zip_series(self.entries[i].quantities, beyond, Quantity::lesser)
+        let beyond = zip_series(self.reach_series(e), totals, Quantity::above);
+        zip_series(e.quantities, beyond, Quantity::lesser)
     }
 
     // Their offset.
     fn offset(self, totals: [Quantity; INTERVALS]) -> Ticks
         ensures { result.0 ≡ offset self.entry.n self.entry.entries.now self.entry.hour.prices totals }
     {
+        let entries = self.entries;
         let mut sum = Ticks(0);
-        for i in 0..self.n {
-            let e = self.entries[i];
-            let series = self.adj_series(totals, i);
+        for e in &entries[..self.n] {
+            let series = self.adj_series(totals, e);
             let good = GoodOffer { offer: e.offer };
             sum = sum.plus(e.credit.minus(credit_of(good, self.hour, series)));
         }
@@ -138,7 +136,8 @@ pub fn offset_core(
     Ok(imports.offset(totals))
 }
 
-// The entries taken so far, beside the hour's prices and export totals. 01 names this form: a thin function over a core on arrays.
+// The entries taken so far, beside the hour's prices and export totals. 01 names one thin function by hand over a core on arrays: what it takes one by one, and
+// the theorem that the whole list is answered (`LentLaws.whole`), are of this struct.
 #[derive(Clone, Copy)]
 pub struct Taken {
     pub count: u8,
@@ -150,22 +149,7 @@ pub struct Taken {
 pub(crate) fn start(prices: [Price; INTERVALS], totals: [Quantity; INTERVALS]) -> Taken
     ensures { result ≡ start_of prices totals }
 {
-    let offer = Offer {
-        count: 0,
-        prices: [Price(0); PAIRS_MAX],
-        quantities: [Quantity(0); PAIRS_MAX],
-    };
-    let name = Name {
-        len: 0,
-        bytes: [0; NAME_MAX],
-    };
-    let none = Import {
-        name,
-        credit: Ticks(0),
-        quantities: [Quantity(0); INTERVALS],
-        offer,
-    };
-    let entries = [none; IMPORTS_MAX];
+    let entries = [Import::default(); IMPORTS_MAX];
     Taken {
         count: 0,
         prices,

@@ -60,8 +60,8 @@ fn reserve_numbers_ok(s: Reserve) -> bool
 }
 
 #[tactic(auto, unfolding(crate::specs::Production::reserves_numbers_ok))]
-fn reserves_numbers_ok(h: UnitHour) -> bool
-    ensures { result ≡ reserves_numbers_ok h }
+fn reserves_numbers_ok(h: &UnitHour) -> bool
+    ensures { result ≡ reserves_numbers_ok h.now }
 {
     reserve_numbers_ok(h.spinning)
         && reserve_numbers_ok(h.nonspinning)
@@ -70,8 +70,8 @@ fn reserves_numbers_ok(h: UnitHour) -> bool
 
 // The numbers of an hour, before its lists.
 #[tactic(auto, unfolding(crate::specs::Production::numbers_fine))]
-fn numbers_fine(h: UnitHour) -> bool
-    ensures { result ≡ numbers_fine h }
+fn numbers_fine(h: &UnitHour) -> bool
+    ensures { result ≡ numbers_fine h.now }
 {
     h.startup <= CentsPerStart::MAX
         && h.noload <= CentsPerHour::MAX
@@ -96,8 +96,8 @@ fn check_reserve(s: Reserve) -> Result<(), Refusal>
 
 // Whether the five lists keep their rules, or the first fault of them.
 #[tactic(auto, unfolding(crate::specs::Production::lists_fault))]
-fn check_lists(h: UnitHour) -> Result<(), Refusal>
-    ensures { fault_in result ≡ lists_fault h }
+fn check_lists(h: &UnitHour) -> Result<(), Refusal>
+    ensures { fault_in result ≡ lists_fault h.now }
 {
     check_offer(h.aheadoffer)?;
     check_offer(h.realoffer)?;
@@ -108,8 +108,8 @@ fn check_lists(h: UnitHour) -> Result<(), Refusal>
 
 // Each schedule within its list.
 #[tactic(auto, unfolding(crate::specs::Production::within_fine))]
-fn within_fine(h: UnitHour) -> bool
-    ensures { result ≡ within_fine h }
+fn within_fine(h: &UnitHour) -> bool
+    ensures { result ≡ within_fine h.now }
 {
     within_ok(h.ahead, last_of(h.aheadoffer))
         && within_ok(h.ahead, last_of(h.realoffer))
@@ -194,11 +194,11 @@ impl<'a> ReadyHour<'a> {
         ensures hour_kept { IfOk result (λ r. r.hour.now ≡ h.now) }
         ensures prices_kept { IfOk result (λ r. r.prices.now ≡ prices.now) }
     {
-        if !prices_ok(*prices) || !numbers_fine(*h) {
+        if !prices_ok(*prices) || !numbers_fine(h) {
             return Err(Refusal::NumberOutside);
         }
-        check_lists(*h)?;
-        if !within_fine(*h) {
+        check_lists(h)?;
+        if !within_fine(h) {
             return Err(Refusal::BeyondList);
         }
         Ok(ReadyHour { hour: h, prices })
@@ -385,7 +385,8 @@ fn running_at(noload: CentsPerHour, m: Quantity) -> Ticks
 
 // ---- the four components of an interval, counted from 0
 
-// What they take is bare, as a caller has it; what passed the checks is a `ReadyHour` and an `Interval`.
+// What they take is bare, as a caller has it; what passed the checks is a `ReadyHour` and an `Interval`. Each is two lines: one function that took a method
+// of `ReadyHour` would need the same four to state what they promise.
 
 #[tactic(auto, unfolding(crate::specs::Production::interval_fault))]
 pub fn component_1(h: UnitHour, prices: [Price; INTERVALS], k: usize) -> Result<Ticks, Refusal>
@@ -438,7 +439,8 @@ fn hour_ok(amount: Ticks, start: CentsPerStart) -> bool
     -HOUR_MAX.0 <= amount.0 && amount <= HOUR_MAX && start <= CentsPerStart::MAX
 }
 
-// 24 hours' amounts and start-ups, each within its limit.
+// 24 hours' amounts and start-ups, each within its limit. Two series and no pairs: a day's definition and its laws are over two (`day_answer`, `day_sum`), and
+// each promise would take pairs apart.
 #[derive(Clone, Copy)]
 struct ReadyDay<'a> {
     amounts: &'a [Ticks; HOURS],

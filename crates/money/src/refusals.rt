@@ -24,6 +24,7 @@ pub enum Refusal {
 }
 
 impl Refusal {
+    // The definitions' word for what the enum declares.
     pub fn number(self) -> u8
         ensures { result ≡ number_of self }
     {

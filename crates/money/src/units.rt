@@ -19,7 +19,7 @@ pub const TICKS_PER_CENT: u64 = 120;
 const NOLOAD_TICKS: i64 = 10;
 
 // Cents per MWh.
-#[derive(Clone, Copy, PartialEq, Eq, PartialOrd, Ord)]
+#[derive(Clone, Copy, PartialEq, Eq, PartialOrd, Ord, Default)]
 pub struct Price(pub i32);
 
 // Cents per MWh between two prices, 0 to 400,000: a price's own limits don't bind it.
@@ -27,7 +27,7 @@ pub struct Price(pub i32);
 pub struct PriceGap(pub i32);
 
 // Tenths of a MW.
-#[derive(Clone, Copy, PartialEq, Eq, PartialOrd, Ord)]
+#[derive(Clone, Copy, PartialEq, Eq, PartialOrd, Ord, Default)]
 pub struct Quantity(pub u32);
 
 // 1/120 cent: a price times a quantity for one interval is that many.
@@ -35,7 +35,7 @@ pub struct Quantity(pub u32);
 pub struct Ticks(pub i64);
 
 // Cents for each start of a unit.
-#[derive(Clone, Copy, PartialEq, Eq, PartialOrd, Ord)]
+#[derive(Clone, Copy, PartialEq, Eq, PartialOrd, Ord, Default)]
 pub struct CentsPerStart(pub u32);
 
 // Cents for each hour in which a unit turns with no net energy.
@@ -46,6 +46,8 @@ pub struct CentsPerHour(pub u32);
 #[derive(Clone, Copy)]
 pub struct Cents(pub i64);
 
+// That a number is in range stays a clause of the three products below, and of failure.rt's `gap` and `charge_of`: the types take any number, as a caller may;
+// `HourPrices`, `GoodOffer` and `GoodFailure` hold the fact for their callers.
 impl Price {
     pub const MIN: Price = Price(-200000);
 
@@ -111,7 +113,8 @@ impl PriceGap {
 impl Quantity {
     pub const MAX: Quantity = Quantity(100000);
 
-    // Price's in its shape; a trait for the two would hold these bodies, and a ghost for each range besides.
+    // Price's twin, as are `in_range`, `quantities_ok` for `prices_ok`, and the reader in records. A trait of these short bodies is no plainer: it wants a
+    // ghost for each range, and a law that ties it to 01's words price_ok, quantity_ok, prices_ok and quantities_ok.
     pub fn new(tenths: u32) -> Result<Quantity, Refusal>
         ensures { result ≡ quantity_read tenths }
     {

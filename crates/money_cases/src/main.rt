@@ -6,6 +6,7 @@ ghost use Rattle.std.specs.Prelude.{◌≡◌, ◌≤◌, take};
 ghost use Rattle.money.specs.Answers.{answer_of};
 ghost use Rattle.money.specs.Offset.{offset_answer};
 
+use itoa::Buffer;
 use money::failure::{Failure, export_charge, import_charge};
 use money::guarantee::hour_credit;
 use money::imports::Import;
@@ -21,10 +22,7 @@ use money::units::{Cents, CentsPerHour, CentsPerStart, Price, Quantity, Ticks};
 // ---- printing
 
 fn print_signed(n: Cents) {
-    if n.0 < 0 {
-        io::write_all(1, b"-");
-    }
-    io::print_decimal(1, n.magnitude());
+    io::write_all(1, Buffer::new().format(n.0).as_bytes());
 }
 
 fn print_amount(t: Ticks) {
@@ -57,14 +55,6 @@ fn one(p: i32, q: u32) -> Offer {
     }
 }
 
-fn none() -> Offer {
-    Offer {
-        count: 0,
-        prices: [Price(0); 20],
-        quantities: [Quantity(0); 20],
-    }
-}
-
 fn with_pair(mut o: Offer, p: i32, q: u32) -> Offer {
     let n = o.count as usize;
     if n < 20 {
@@ -76,7 +66,7 @@ fn with_pair(mut o: Offer, p: i32, q: u32) -> Offer {
 }
 
 fn ahead() -> Offer {
-    let a = with_pair(none(), 2800, 100);
+    let a = with_pair(Offer::default(), 2800, 100);
     let b = with_pair(a, 2800, 300);
     let c = with_pair(b, 3500, 500);
     with_pair(c, 4500, 600)
@@ -120,7 +110,7 @@ fn empty() -> Reserve {
     Reserve {
         prices: [Price(0); 12],
         schedules: [Quantity(0); 12],
-        offer: none(),
+        offer: Offer::default(),
     }
 }
 
@@ -264,7 +254,7 @@ fn unit_of_001() {
         schedules: [Quantity(100); 12],
         offer: one(100, 100),
     };
-    let a = with_pair(none(), 2300, 100);
+    let a = with_pair(Offer::default(), 2300, 100);
     let b = with_pair(a, 2300, 300);
     let c = with_pair(b, 3000, 500);
     let h = unit(600, 400, 500, 400, spinning, with_pair(c, 4000, 600));
@@ -279,7 +269,7 @@ fn unit_of_001() {
 }
 
 fn scenarios_of_001() {
-    let a = with_pair(none(), 2300, 100);
+    let a = with_pair(Offer::default(), 2300, 100);
     let b = with_pair(a, 2300, 300);
     let c = with_pair(b, 3000, 400);
     let d = with_pair(c, 4500, 500);

@@ -1,5 +1,5 @@
 -- Lists of imports, what their checks tell, and the loops over them. Assumes nothing.
-use Rattle.std.specs.Prelude.{◌≡◌, refl, Bool, true, false, cond, not, List, ℕ, ◌+◌, ◌≤◌, ◌<◌, min, ℤ, nat_abs, ◌-ℤ◌, get_or}
+use Rattle.std.specs.Prelude.{◌≡◌, refl, Bool, true, false, cond, not, List, ℕ, ◌+◌, ◌-◌, ◌≤◌, ◌<◌, min, ℤ, nat_abs, ◌-ℤ◌, get_or}
 use Rattle.std.proofs.Common.{ap, ◌∙◌, zero-le, arith, le-leb}
 use Rattle.laws.specs.IntLaws.{sub_within}
 use Rattle.laws.specs.Sums.{Σℕ, or_else}
@@ -12,7 +12,7 @@ use Rattle.money.specs.Units.{intervals, no_price, no_quantity, quantity_at, ser
 use Rattle.money.specs.Offers.{last_q, offer_fault}
 use Rattle.money.specs.Guarantee.{credit}
 use Rattle.money.specs.Names.{name_ok, same_name}
-use Rattle.money.specs.Offset.{max_total, max_imports, entry, mqsi, up_to, counted, reach, adj, offset, entry_fault, fresh_name, nth_fault, entries_fault, total_ok, totals_with, rate_ok, rates_ok, offset_answer}
+use Rattle.money.specs.Offset.{max_total, max_imports, entry, mqsi, up_to, counted, adj, offset, entry_fault, fresh_name, nth_fault, entries_fault, total_ok, totals_with, rate_ok, rates_ok, offset_answer}
 use Rattle.money.specs.tables.Numbers.{Moderate, Fits}
 use Rattle.money.specs.tables.Ready.{Rates, Ready, Sound, Listed}
 use Rattle.money.proofs.laws.UnitLaws.{price-in, passes, neither, same-is, same_true, series-same}
@@ -38,15 +38,15 @@ unfolding counted
 counted-no a e k h = rw h
 
 -- twelve sums, after j imports
-pub record Reached (n : ℕ) (es : List Import) (i : ℕ) (sums : List Quantity) (j : ℕ) : Type 0 where
+pub record Reached (n : ℕ) (es : List Import) (e : Import) (sums : List Quantity) (j : ℕ) : Type 0 where
   pub upto : j ≤ n
-  pub so_far : (k : ℕ) → k < intervals → quantity_at sums k ≡ reach j es i k
+  pub so_far : (k : ℕ) → k < intervals → quantity_at sums k ≡ Σℕ j (λ a. counted (entry es a) e k)
 
-pub reached-none : (n : ℕ) (es : List Import) (i : ℕ) (sums : List Quantity) → ((k : ℕ) → k < intervals → quantity_at sums k ≡ 0) → Reached n es i sums 0
+pub reached-none : (n : ℕ) (es : List Import) (e : Import) (sums : List Quantity) → ((k : ℕ) → k < intervals → quantity_at sums k ≡ 0) → Reached n es e sums 0
 unfolding Σℕ
-reached-none n es i sums h = record { upto = zero-le; so_far = h }
+reached-none n es e sums h = record { upto = zero-le; so_far = h }
 
-module _ {n : ℕ} {es : List Import} {i : ℕ} {sums : List Quantity} {j : ℕ} (r : Reached n es i sums j) (l : j < n) where
+module _ {n : ℕ} {es : List Import} {e : Import} {sums : List Quantity} {j : ℕ} (r : Reached n es e sums j) (l : j < n) where
   pub reached-room : Listed n es → (k : ℕ) → k < intervals → Fits (quantity_at sums k + mqsi (entry es j) k)
   reached-room s k m =
       omega (
@@ -55,39 +55,47 @@ module _ {n : ℕ} {es : List Import} {i : ℕ} {sums : List Quantity} {j : ℕ}
         s.most,
         (s.each j l).within k m,
         last-size (entry es j).offer (s.each j l).good,
-        Σℕ-within 100000 j (λ a. counted (entry es a) (entry es i) k) (λ a h. counted-size (entry es a) (entry es i) k (s.each a (omega arith)) m),
+        Σℕ-within 100000 j (λ a. counted (entry es a) e k) (λ a h. counted-size (entry es a) e k (s.each a (omega arith)) m),
       )
 
-  pub reached-more : {series : List Quantity} → ((k : ℕ) → k < intervals → quantity_at series k ≡ quantity_at sums k + counted (entry es j) (entry es i) k)
-      → Reached n es i series (j + 1)
-  reached-more g = record { upto = omega arith; so_far = λ k m. omega (arith, g k m, r.so_far k m, Σℕ-more j (λ a. counted (entry es a) (entry es i) k)) }
+  pub reached-more : {series : List Quantity} → ((k : ℕ) → k < intervals → quantity_at series k ≡ quantity_at sums k + counted (entry es j) e k)
+      → Reached n es e series (j + 1)
+  reached-more g = record { upto = omega arith; so_far = λ k m. omega (arith, g k m, r.so_far k m, Σℕ-more j (λ a. counted (entry es a) e k)) }
 
-pub reached-all : {n : ℕ} {es : List Import} {i : ℕ} {sums : List Quantity} {j : ℕ} → Reached n es i sums j → n ≤ j → (k : ℕ) → k < intervals
-    → quantity_at sums k ≡ reach n es i k
-reached-all {n = n} {es = es} {i = i} {j = j} r h k m = let e : j ≡ n = omega (arith, r.upto) in r.so_far k m ∙ ap (λ (a : ℕ). reach a es i k) e
+pub reached-all : {n : ℕ} {es : List Import} {e : Import} {sums : List Quantity} {j : ℕ} → Reached n es e sums j → n ≤ j → (k : ℕ) → k < intervals
+    → quantity_at sums k ≡ Σℕ n (λ a. counted (entry es a) e k)
+reached-all {n = n} {es = es} {e = e} {j = j} r h k m = let eq : j ≡ n = omega (arith, r.upto) in
+    r.so_far k m ∙ ap (λ (b : ℕ). Σℕ b (λ a. counted (entry es a) e k)) eq
 
 -- ---- the offset
 -- what import i gives
 abbrev pub gives : ℕ → List Import → List Price → List Quantity → ℕ → ℤ
 gives n es ps ts i = (entry es i).credit.0 -ℤ credit (entry es i).offer ps (adj n es ts i)
 
+-- the adjusted quantities of an import that stands in the list
+abbrev pub adj_of : ℕ → List Import → List Quantity → Import → ℕ → ℕ
+adj_of n es ts e k = min (mqsi e k) (Σℕ n (λ j. counted (entry es j) e k) - quantity_at ts k)
+
 module _ (ps : List Price) (ts : List Quantity) {n : ℕ} {es : List Import} (s : Listed n es) (rates : Rates ps) where
-  pub adj-ready : {q : ℕ → ℕ} {i : ℕ} → i < n → ((k : ℕ) → k < intervals → q k ≡ adj n es ts i k) → Ready (entry es i).offer ps q
-  adj-ready {i = i} l h = record { good = (s.each i l).good; prices = rates; within = λ k m. omega (arith, h k m, (s.each i l).within k m) }
+  pub adj-ready : {q : ℕ → ℕ} {i : ℕ} {e : Import} → i < n → e ≡ entry es i → ((k : ℕ) → k < intervals → q k ≡ adj_of n es ts e k) → Ready e.offer ps q
+  adj-ready {q = q} {i = i} l at h =
+      let r : (k : ℕ) → k < intervals → q k ≡ adj_of n es ts (entry es i) k = rw (← at) h in
+      rw at (record { good = (s.each i l).good; prices = rates; within = λ k m. omega (arith, r k m, (s.each i l).within k m) })
 
   pub gives_size : (i : ℕ) → i < n → nat_abs (gives n es ps ts i) ≤ 10560000000000
   gives_size i l = sub_within (entry es i).credit.0 (credit (entry es i).offer ps (adj n es ts i)) (s.each i l).small
-      (credit-size _ _ _ (adj-ready {q = adj n es ts i} {i = i} l (λ k m. refl)))
+      (credit-size _ _ _ (adj-ready {q = adj n es ts i} {i = i} l refl (λ k m. refl)))
 
   module _ {sum : ℤ} {i : ℕ} (r : Summed n (gives n es ps ts) sum i) where
     pub offsets-room : Moderate sum
     offsets-room = rw r.so_far
         (omega (arith, r.upto, s.most, Σℤ-within 10560000000000 i (gives n es ps ts) (λ j h. gives_size j (omega (arith, r.upto)))))
 
-    module _ {q : ℕ → ℕ} {x d : ℤ} (l : i < n) (series : (k : ℕ) → k < intervals → q k ≡ adj n es ts i k) (e : x ≡ credit (entry es i).offer ps q)
-        (g : d ≡ (entry es i).credit.0 -ℤ x) where
+    module _ {q : ℕ → ℕ} {x d : ℤ} {e : Import} (l : i < n) (at : e ≡ entry es i) (series : (k : ℕ) → k < intervals → q k ≡ adj_of n es ts e k)
+        (worked : x ≡ credit e.offer ps q) (g : d ≡ e.credit.0 -ℤ x) where
       pub gives-is : d ≡ gives n es ps ts i
-      gives-is = g ∙ ap (λ (z : ℤ). (entry es i).credit.0 -ℤ z) (e ∙ credit-ext (entry es i).offer ps q (adj n es ts i) series)
+      gives-is = g ∙ ap (λ (z : ℤ). e.credit.0 -ℤ z) (worked ∙ credit-ext e.offer ps q (adj_of n es ts e) series)
+          ∙ ap (λ (a : Import). a.credit.0 -ℤ credit a.offer ps (adj_of n es ts a)) at
 
       pub gives-room : Moderate d
       gives-room = rw gives-is (omega (arith, gives_size i l))
