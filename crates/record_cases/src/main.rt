@@ -7,6 +7,7 @@ use records::marks::Wanted;
 use records::parse::{Act, parse_any};
 use records::writing::put;
 
+// Capital hex digits: `io::print_hex` writes small ones.
 const DIGITS: [u8; 16] = *b"0123456789ABCDEF";
 
 // So many cases at most are read: a program has to end.

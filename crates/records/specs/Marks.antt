@@ -5,10 +5,10 @@
 -- `of_hour` (HourRecord), `body_most` (LengthLaws).
 -- Laws: `order-back` (MarkLaws), `head-again` for each kind (ChangeLaws), `head-file` and a `Layout` (ViewLaws), `ask_mark-bytes` (KeyLaws), `lawful-layout` (ReaderLaws),
 -- `firm-layout` (FirmLaws), `brief-layout` (LengthLaws).
--- Code: `Mark`, `LISTING`, `bytes_of`, `has_name`, `is_failure`, `order`, `key_mark`, `limit` (marks.rt), `of_hour` (hour_records.rt); with an arm in their proofs
+-- Code: `Mark`, `LISTING`, `bytes_of`, `has_name`, `is_failure`, `order`, `limit` (marks.rt), `of_hour` (hour_records.rt); with an arm in their proofs
 -- `layout_at` (layouts.rt) and `charge_for` (amounts.rt).
 -- In other crates: `book/specs/Layer.antt` hands the names on; hour_offset has `add_fault` and `adding` (Tally), the two `go` of TallyLaws, and with an arm in its proof `with_record`
--- (tally.rt). A mark with an amount: `standing-*` (FitLaws), `*-view` (ViewLaws), `has_amount`, `amount_in` (bridge/Bridge), `has_amount`, `amount_of` (bridge).
+-- (tally.rt). A mark with an amount: `standing-*` (FitLaws), `*-view` (ViewLaws), `amount_mark`, `amount_at` (bridge/Bridge), `amount_mark`, `amount_of` (bridge).
 -- One that is printed: `statement/Statement`.
 -- Beside the crates: peer (`records/mod.rs`, `read.rs`, `write.rs`, `questions.rs`, `statement.rs`, `bin/vectors.rs`), recordtext (`layout.rs`), bench (`generate/forms.rs`, `peer_side.rs`,
 -- `worst_day.rs`, `workloads.rs`, `sweeps_records.rs`), tests/pieces, man (`pewatuno-records.5`, `settle.1`, `recordtext.1`), and include/pewatuno.h where the C call reads it.

@@ -80,7 +80,7 @@ pub fn offset_entry(s: &[u8], prices: HourPrices) -> Result<Import, Refusal>
 }
 
 // What a unit's hour adds to its day: its amount, and its start-up.
-#[derive(Clone, Copy)]
+#[derive(Clone, Copy, Default)]
 pub struct UnitPart {
     pub ticks: Ticks,
     pub start: CentsPerStart,

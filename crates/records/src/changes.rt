@@ -22,8 +22,9 @@ pub(crate) struct Read {
     pub(crate) end: usize,
 }
 
-// Bytes and a place go together as in `Field`. That the place lies in the bytes stays a clause of three functions, which hand it on where they read nothing;
-// a type that holds it would be asked of every reader, and those answer for any place. Kind and mark stay two: a caller may name them, where a `Head` was read.
+// Bytes and a place go together as in `Field`. That the place lies in the bytes stays a clause of these three functions, which hand it on where they read
+// nothing; a type that holds it would be asked of every reader, and those answer for any place. Kind and mark stay two: a `Head` is one that was read, and
+// views.rt names its own.
 
 // Where a mark has no name: nothing, or the length byte 0 of a withdrawal.
 fn nameless_at(s: &[u8], at: usize, kind: Kind) -> Result<Got<Name>, Refusal>

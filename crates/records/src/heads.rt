@@ -13,7 +13,7 @@ use money::names::name_ok;
 use money::refusals::Refusal;
 
 // The key of the change that bytes begin with, or the first fault in its head. Its fields are not read.
-#[tactic(auto, using(crate::proofs::heads::Lemmas::keys))]
+#[tactic(auto, using(crate::proofs::fields::Step::told_out), unfolding(crate::specs::tables::Heads::head_key))]
 pub fn head_key(s: &[u8]) -> Result<Key, Refusal>
     ensures { told result ≡ input_of (head_key s.now) }
 {

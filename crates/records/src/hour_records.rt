@@ -9,7 +9,7 @@ use crate::keys::Key;
 use crate::marks::{Kind, Mark, Wanted, head_at};
 use money::refusals::Refusal;
 
-// The first of them: its key, and the place where it ends.
+// The first of them: its key, and the place where it ends. No `Got`, as at parse.rt's `Front`.
 #[derive(Clone, Copy)]
 pub struct HourFront {
     pub key: Key,
@@ -22,7 +22,7 @@ fn of_hour(m: Mark) -> bool
     matches!(m, Mark::Pr | Mark::Im | Mark::Ex)
 }
 
-// Whether an hour may follow the first record's, where there is one. No `==`: any may follow none, and 0 too.
+// Whether an hour may follow the first record's, where there is one. No `==`: any may follow none, and 0 too, which the definitions have for none.
 fn same_as(first: Option<u8>, hour: u8) -> bool
     ensures { result ≡ same_as (first_hour first) hour }
 {
@@ -30,7 +30,7 @@ fn same_as(first: Option<u8>, hour: u8) -> bool
 }
 
 // The first of an hour's records that stand back to back; `first` is the hour of those before it.
-#[tactic(auto, using(crate::proofs::hour_records::Lemmas::fronts))]
+#[tactic(auto, using(crate::proofs::hour_records::Lemmas::fronts), unfolding(crate::specs::HourRecord::hour_record))]
 pub fn first_of_hour(s: &[u8], first: Option<u8>) -> Result<HourFront, Refusal>
     ensures { told result ≡ hour_front_of s.now (hour_record (first_hour first) s.now) }
 {

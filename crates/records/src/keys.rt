@@ -5,32 +5,32 @@ ghost use Rattle.records.specs.Names.{decode_name, empty_name, stored_name};
 ghost use Rattle.records.specs.Keys.{same_hour, same, ask_mark, ask_name, ask_failure_mark, ask_key_of, ask, ask_failure, ask_hour_of, ask_hour, ask_unit};
 
 use crate::fields::hour_ok;
-use crate::marks::{Mark, has_name, is_failure, key_mark, mark_at};
+use crate::marks::{Mark, has_name, is_failure, mark_at};
 use crate::names::{decode, no_name};
 use money::names::Name;
 use money::refusals::Refusal;
 
-#[derive(Clone, Copy)]
+#[derive(Clone, Copy, PartialEq, Eq)]
 pub struct Key {
     pub mark: Mark,
     pub hour: u8,
     pub name: Name,
 }
 
-// The same mark and hour. No derived `==`: the definitions keep `key_mark` for families of marks that share keys; today each mark is by itself.
+// The same mark and hour, whatever the names.
 #[tactic(auto, unfolding(crate::specs::Keys::same_hour))]
 pub fn same_hour(a: Key, b: Key) -> bool
     ensures { result ≡ same_hour a b }
 {
-    key_mark(a.mark) == key_mark(b.mark) && a.hour == b.hour
+    a.mark == b.mark && a.hour == b.hour
 }
 
-// The same mark, hour and decoded name; no derived `==` here either.
-#[tactic(auto, unfolding(crate::specs::Keys::same))]
+// Public, and the word of the definitions; the derived `==`, of decoded names, is its body.
+#[tactic(auto, using(crate::proofs::keys::Lemmas::equals), unfolding(crate::specs::Keys::same, crate::specs::Keys::same_hour))]
 pub fn same_key(a: Key, b: Key) -> bool
     ensures { result ≡ same a b }
 {
-    same_hour(a, b) && a.name == b.name
+    a == b
 }
 
 // ---- the key of a question

@@ -1,24 +1,21 @@
 // The fields of each record, one layout for each mark.
-ghost use Rattle.std.specs.Prelude.{◌≡◌, ◌≤◌, IfOk};
-ghost use Rattle.money.specs.Offers.{max_pairs};
-ghost use Rattle.records.specs.Reading.{from, many};
-ghost use Rattle.records.specs.Numbers.{price, quantity};
-ghost use Rattle.money.specs.Units.{intervals};
+ghost use Rattle.std.specs.Prelude.{◌≡◌};
+ghost use Rattle.records.specs.Reading.{from};
 ghost use Rattle.records.specs.Layouts.{hour_prices, import, export, failure, schedules, reserve_series, fewest, lists, within, all_within, unit_of, reserve_of, unit, skip, layout};
-ghost use Rattle.records.specs.tables.Inner.{read_as, InBytes, Few};
+ghost use Rattle.records.specs.tables.Inner.{read_as, InBytes};
 
 use crate::fields::{Field, Got, amount_at};
-use crate::lists::{last_quantity, list_at};
+use crate::lists::list_at;
 use crate::marks::Mark;
 use crate::series::series_at;
 use money::failure::Failure;
-use money::offers::Offer;
+use money::offers::{Offer, last_of};
 use money::production::{Reserve, UnitHour};
 use money::refusals::Refusal;
 use money::units::{CentsPerHour, CentsPerStart, INTERVALS, Price, Quantity, within_ok};
 
 // The hour's energy prices, and its pre-dispatch price.
-#[derive(Clone, Copy)]
+#[derive(Clone, Copy, Default)]
 pub struct HourPrices {
     pub emp: [Price; INTERVALS],
     pub pd: Price,
@@ -37,6 +34,7 @@ pub struct Export {
 
 // ---- the parts of a unit's hour
 
+// What stands before its reserves. No part of money's `UnitHour`: the formulas there would say it before each field, and only `unit_of` copies.
 #[derive(Clone, Copy)]
 pub struct Schedules {
     pub startup: CentsPerStart,
@@ -55,6 +53,14 @@ pub struct ReserveSeries {
     pub schedules: [Quantity; INTERVALS],
 }
 
+// The series of the three kinds of reserve, each under 01's name.
+#[derive(Clone, Copy)]
+pub struct Reserves {
+    pub spinning: ReserveSeries,
+    pub nonspinning: ReserveSeries,
+    pub thirty: ReserveSeries,
+}
+
 #[derive(Clone, Copy)]
 pub struct Lists {
     pub ahead: Offer,
@@ -66,26 +72,13 @@ pub struct Lists {
 
 // ---- a reader for each layout
 
-fn prices_at(s: &[u8], at: usize) -> Result<Got<[Price; INTERVALS]>, Refusal>
-    ensures value { read_as s.now result ≡ many intervals price (from s.now at) }
-    ensures placed { InBytes s.now result }
-{
-    series_at(s, at, Price(0))
-}
-
-fn quantities_at(s: &[u8], at: usize) -> Result<Got<[Quantity; INTERVALS]>, Refusal>
-    ensures value { read_as s.now result ≡ many intervals quantity (from s.now at) }
-    ensures placed { InBytes s.now result }
-{
-    series_at(s, at, Quantity(0))
-}
-
 impl Field for HourPrices {
     ghost reader = { hour_prices };
 
+    #[tactic(auto, using(crate::proofs::fields::Step::read_out), unfolding(crate::specs::Layouts::hour_prices))]
     #[inline(always)]
     fn read(s: &[u8], at: usize) -> Result<Got<HourPrices>, Refusal> {
-        let Got { value: emp, next } = prices_at(s, at)?;
+        let Got { value: emp, next } = series_at(s, at)?;
         let Got { value: pd, next } = Price::read(s, next)?;
         let value = HourPrices { emp, pd };
         Ok(Got { value, next })
@@ -95,9 +88,10 @@ impl Field for HourPrices {
 impl Field for Import {
     ghost reader = { import };
 
+    #[tactic(auto, using(crate::proofs::fields::Step::read_out), unfolding(crate::specs::Layouts::import))]
     #[inline(always)]
     fn read(s: &[u8], at: usize) -> Result<Got<Import>, Refusal> {
-        let Got { value: mqsi, next } = quantities_at(s, at)?;
+        let Got { value: mqsi, next } = series_at(s, at)?;
         let Got { value: offer, next } = list_at(s, next, 1)?;
         if !inside_list(offer, mqsi) {
             return Err(Refusal::BeyondList);
@@ -110,9 +104,10 @@ impl Field for Import {
 impl Field for Export {
     ghost reader = { export };
 
+    #[tactic(auto, using(crate::proofs::fields::Step::read_out), unfolding(crate::specs::Layouts::export))]
     #[inline(always)]
     fn read(s: &[u8], at: usize) -> Result<Got<Export>, Refusal> {
-        let Got { value: mqsw, next } = quantities_at(s, at)?;
+        let Got { value: mqsw, next } = series_at(s, at)?;
         let value = Export { mqsw };
         Ok(Got { value, next })
     }
@@ -121,6 +116,7 @@ impl Field for Export {
 impl Field for Failure {
     ghost reader = { failure };
 
+    #[tactic(auto, using(crate::proofs::fields::Step::read_out), unfolding(crate::specs::Layouts::failure))]
     #[inline(always)]
     fn read(s: &[u8], at: usize) -> Result<Got<Failure>, Refusal> {
         let Got {
@@ -152,6 +148,7 @@ impl Field for Failure {
 impl Field for Schedules {
     ghost reader = { schedules };
 
+    #[tactic(auto, using(crate::proofs::fields::Step::read_out), unfolding(crate::specs::Layouts::schedules))]
     #[inline(always)]
     fn read(s: &[u8], at: usize) -> Result<Got<Schedules>, Refusal> {
         let Got {
@@ -162,23 +159,23 @@ impl Field for Schedules {
             value: noload,
             next,
         } = amount_at(s, next, CentsPerHour::MAX.0)?;
-        let Got { value: ahead, next } = quantities_at(s, next)?;
+        let Got { value: ahead, next } = series_at(s, next)?;
         let Got {
             value: constrained,
             next,
-        } = quantities_at(s, next)?;
+        } = series_at(s, next)?;
         let Got {
             value: unconstrained,
             next,
-        } = quantities_at(s, next)?;
+        } = series_at(s, next)?;
         let Got {
             value: metered,
             next,
-        } = quantities_at(s, next)?;
+        } = series_at(s, next)?;
         let Got {
             value: capacity,
             next,
-        } = quantities_at(s, next)?;
+        } = series_at(s, next)?;
         let value = Schedules {
             startup: CentsPerStart(startup),
             noload: CentsPerHour(noload),
@@ -195,16 +192,17 @@ impl Field for Schedules {
 impl Field for ReserveSeries {
     ghost reader = { reserve_series };
 
+    #[tactic(auto, using(crate::proofs::fields::Step::read_out), unfolding(crate::specs::Layouts::reserve_series))]
     #[inline(always)]
     fn read(s: &[u8], at: usize) -> Result<Got<ReserveSeries>, Refusal> {
         let Got {
             value: prices,
             next,
-        } = prices_at(s, at)?;
+        } = series_at(s, at)?;
         let Got {
             value: schedules,
             next,
-        } = quantities_at(s, next)?;
+        } = series_at(s, next)?;
         let value = ReserveSeries { prices, schedules };
         Ok(Got { value, next })
     }
@@ -221,34 +219,27 @@ fn fewest_of(schedules: [Quantity; INTERVALS]) -> u8
     }
 }
 
-// The lists of a unit's hour, of which the reserves' may be empty where their schedules are all 0. Three series and no array: each is one of 01's three
-// kinds of reserve, under its own name.
+// The lists of a unit's hour, of which the reserves' may be empty where their schedules are all 0.
+#[tactic(auto, using(crate::proofs::fields::Step::read_out), unfolding(crate::specs::Layouts::lists))]
 #[inline(always)]
-fn lists_at(
-    s: &[u8],
-    at: usize,
-    r1: ReserveSeries,
-    r2: ReserveSeries,
-    r3: ReserveSeries,
-) -> Result<Got<Lists>, Refusal>
-    ensures value { read_as s.now result ≡ lists r1.schedules r2.schedules r3.schedules (from s.now at) }
+fn lists_at(s: &[u8], at: usize, r: Reserves) -> Result<Got<Lists>, Refusal>
+    ensures value { read_as s.now result ≡ lists r.spinning.schedules r.nonspinning.schedules r.thirty.schedules (from s.now at) }
     ensures placed { InBytes s.now result }
-    ensures few { IfOk result (λ r. Few r.value) }
 {
     let Got { value: ahead, next } = list_at(s, at, 1)?;
     let Got { value: real, next } = list_at(s, next, 1)?;
     let Got {
         value: spinning,
         next,
-    } = list_at(s, next, fewest_of(r1.schedules))?;
+    } = list_at(s, next, fewest_of(r.spinning.schedules))?;
     let Got {
         value: nonspinning,
         next,
-    } = list_at(s, next, fewest_of(r2.schedules))?;
+    } = list_at(s, next, fewest_of(r.nonspinning.schedules))?;
     let Got {
         value: thirty,
         next,
-    } = list_at(s, next, fewest_of(r3.schedules))?;
+    } = list_at(s, next, fewest_of(r.thirty.schedules))?;
     let value = Lists {
         ahead,
         real,
@@ -261,29 +252,21 @@ fn lists_at(
 
 #[inline(always)]
 fn inside_list(o: Offer, values: [Quantity; INTERVALS]) -> bool
-    requires { o.count ≤ max_pairs }
     ensures { result ≡ within o values }
 {
-    within_ok(values, last_quantity(o))
+    within_ok(values, last_of(o))
 }
 
 // D within both lists, each reserve schedule within its own.
 #[inline(always)]
-fn all_inside(
-    l: Lists,
-    d: [Quantity; INTERVALS],
-    r1: ReserveSeries,
-    r2: ReserveSeries,
-    r3: ReserveSeries,
-) -> bool
-    requires { Few l }
-    ensures { result ≡ all_within l d r1.schedules r2.schedules r3.schedules }
+fn all_inside(l: Lists, d: [Quantity; INTERVALS], r: Reserves) -> bool
+    ensures { result ≡ all_within l d r.spinning.schedules r.nonspinning.schedules r.thirty.schedules }
 {
     inside_list(l.ahead, d)
         && inside_list(l.real, d)
-        && inside_list(l.spinning, r1.schedules)
-        && inside_list(l.nonspinning, r2.schedules)
-        && inside_list(l.thirty, r3.schedules)
+        && inside_list(l.spinning, r.spinning.schedules)
+        && inside_list(l.nonspinning, r.nonspinning.schedules)
+        && inside_list(l.thirty, r.thirty.schedules)
 }
 
 #[inline(always)]
@@ -300,14 +283,8 @@ fn reserve(series: ReserveSeries, offer: Offer) -> Reserve
 
 // A unit's hour of its parts.
 #[inline(always)]
-fn unit_of(
-    h: Schedules,
-    l: Lists,
-    r1: ReserveSeries,
-    r2: ReserveSeries,
-    r3: ReserveSeries,
-) -> UnitHour
-    ensures { result ≡ unit_of h (reserve_of r1 l.spinning) (reserve_of r2 l.nonspinning) (reserve_of r3 l.thirty) l.ahead l.real }
+fn unit_of(h: Schedules, l: Lists, r: Reserves) -> UnitHour
+    ensures { result ≡ unit_of h (reserve_of r.spinning l.spinning) (reserve_of r.nonspinning l.nonspinning) (reserve_of r.thirty l.thirty) l.ahead l.real }
 {
     let Schedules {
         startup,
@@ -326,9 +303,9 @@ fn unit_of(
         unconstrained,
         metered,
         capacity,
-        spinning: reserve(r1, l.spinning),
-        nonspinning: reserve(r2, l.nonspinning),
-        thirty: reserve(r3, l.thirty),
+        spinning: reserve(r.spinning, l.spinning),
+        nonspinning: reserve(r.nonspinning, l.nonspinning),
+        thirty: reserve(r.thirty, l.thirty),
         aheadoffer: l.ahead,
         realoffer: l.real,
     }
@@ -337,17 +314,32 @@ fn unit_of(
 impl Field for UnitHour {
     ghost reader = { unit };
 
+    #[tactic(auto, using(crate::proofs::fields::Step::read_out), unfolding(crate::specs::Layouts::unit))]
     #[inline(always)]
     fn read(s: &[u8], at: usize) -> Result<Got<UnitHour>, Refusal> {
         let Got { value: h, next } = Schedules::read(s, at)?;
-        let Got { value: r1, next } = ReserveSeries::read(s, next)?;
-        let Got { value: r2, next } = ReserveSeries::read(s, next)?;
-        let Got { value: r3, next } = ReserveSeries::read(s, next)?;
-        let Got { value: l, next } = lists_at(s, next, r1, r2, r3)?;
-        if !all_inside(l, h.ahead, r1, r2, r3) {
+        let Got {
+            value: spinning,
+            next,
+        } = ReserveSeries::read(s, next)?;
+        let Got {
+            value: nonspinning,
+            next,
+        } = ReserveSeries::read(s, next)?;
+        let Got {
+            value: thirty,
+            next,
+        } = ReserveSeries::read(s, next)?;
+        let r = Reserves {
+            spinning,
+            nonspinning,
+            thirty,
+        };
+        let Got { value: l, next } = lists_at(s, next, r)?;
+        if !all_inside(l, h.ahead, r) {
             return Err(Refusal::BeyondList);
         }
-        let value = unit_of(h, l, r1, r2, r3);
+        let value = unit_of(h, l, r);
         Ok(Got { value, next })
     }
 }

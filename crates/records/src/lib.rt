@@ -9,7 +9,6 @@ pub mod hour_records;
 pub mod hours;
 pub mod keys;
 pub mod layouts;
-pub mod leads;
 pub mod lists;
 pub mod marks;
 pub mod names;

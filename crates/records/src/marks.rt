@@ -32,6 +32,7 @@ pub enum Kind {
 }
 
 // What a method asks for: a change of any kind, or of its own only. No type of it and the bytes that are lent: it would be taken apart at once.
+// No `Option<Kind>`: its `None` would stand for any kind, and read as the contrary.
 #[derive(Clone, Copy)]
 pub enum Wanted {
     Any,
@@ -158,7 +159,7 @@ pub fn is_failure(m: Mark) -> bool
     m == Mark::Fi || m == Mark::Fe
 }
 
-// The place of a mark in the listing: the enum's own order.
+// The place of a mark in the listing, the definitions' word for the enum's own order.
 pub fn order(m: Mark) -> u8
     ensures { result ≡ order m }
 {
@@ -172,18 +173,11 @@ pub fn same_mark(a: Mark, b: Mark) -> bool
     a == b
 }
 
-// The mark under whose key a record of a mark stands. The definitions keep it for families of marks that share keys; today each mark is by itself.
+// The mark under whose key a record of a mark stands, which is its own: the definitions keep the word for marks that would share keys.
 pub fn key_mark(m: Mark) -> Mark
     ensures { result ≡ key_mark m }
 {
-    match m {
-        Mark::Pr => Mark::Pr,
-        Mark::Im => Mark::Im,
-        Mark::Ex => Mark::Ex,
-        Mark::Gh => Mark::Gh,
-        Mark::Fi => Mark::Fi,
-        Mark::Fe => Mark::Fe,
-    }
+    m
 }
 
 // The place of that mark in the listing.

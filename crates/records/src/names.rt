@@ -1,9 +1,10 @@
-// Names: read in any spelling, decoded once, written in one spelling.
+// Names: read in any spelling, decoded once, written in one spelling. No type of this crate holds that a name is short: a `Key` holds a caller's `Name`, so
+// what spells the name of a key would ask again. It stays a clause.
 ghost use Rattle.std.specs.Prelude.{◌≡◌, ◌+◌, ◌≤◌, ◌<◌, ◌++◌, length, IfOk};
 ghost use Rattle.arrayvec.specs.ArrayVec.{array_vec_len};
 ghost use Rattle.money.specs.Names.{max_name, decoded_bytes, name_before};
 ghost use Rattle.records.specs.Reading.{from};
-ghost use Rattle.records.specs.Names.{max_spelling, visible, hex_digit, escaped, one, decode_name, unreserved, digit, spell_byte, spell, name_field, empty_name, bytes_of, stored_name};
+ghost use Rattle.records.specs.Names.{max_spelling, hex_digit, escaped, one, decode_name, unreserved, digit, spell_byte, spell, name_field, empty_name, bytes_of, stored_name};
 ghost use Rattle.records.specs.Answers.{told, spelling_of};
 ghost use Rattle.records.specs.tables.Inner.{read_as, InBytes};
 
@@ -18,23 +19,11 @@ pub const SPELLING_MAX: usize = 36;
 // The written spelling of a name.
 pub type Spelling = ArrayVec<u8, SPELLING_MAX>;
 
-#[tactic(auto, unfolding(crate::specs::Names::visible))]
-fn visible(x: u8) -> bool
-    ensures { result ≡ visible x }
-{
-    matches!(x, 0x21..=0x7E)
-}
-
 #[tactic(auto, unfolding(crate::specs::Names::hex_val))]
 fn hex(x: u8) -> Option<u8>
     ensures { result ≡ hex_digit x }
 {
-    match x {
-        b'0'..=b'9' => Some(x - b'0'),
-        b'A'..=b'F' => Some(10 + (x - b'A')),
-        b'a'..=b'f' => Some(10 + (x - b'a')),
-        _ => None,
-    }
+    char::from(x).to_digit(16).map(|d| d as u8)
 }
 
 // Bytes and a place go together as in `Field`.
@@ -51,7 +40,7 @@ fn escaped_at(s: &[u8], at: usize) -> Result<Got<u8>, Refusal>
     let high = hex(s[at]).ok_or(Refusal::NameFault)?;
     let low = hex(s[at + 1]).ok_or(Refusal::NameFault)?;
     let value = 16 * high + low;
-    if !visible(value) {
+    if !value.is_ascii_graphic() {
         return Err(Refusal::NameFault);
     }
     Ok(Got {
@@ -60,7 +49,7 @@ fn escaped_at(s: &[u8], at: usize) -> Result<Got<u8>, Refusal>
     })
 }
 
-#[tactic(auto, using(crate::proofs::names::Lemmas::at_next), unfolding(crate::specs::Names::one))]
+#[tactic(auto, using(crate::proofs::names::Lemmas::at_next), unfolding(crate::specs::Names::one, crate::specs::Names::visible))]
 fn one_at(s: &[u8], at: usize) -> Result<Got<u8>, Refusal>
     requires { at < length s.now }
     ensures value { read_as s.now result ≡ one (from s.now at) }
@@ -70,7 +59,7 @@ fn one_at(s: &[u8], at: usize) -> Result<Got<u8>, Refusal>
     if value == b'%' {
         return escaped_at(s, at + 1);
     }
-    if !visible(value) {
+    if !value.is_ascii_graphic() {
         return Err(Refusal::NameFault);
     }
     Ok(Got {
@@ -83,8 +72,7 @@ fn one_at(s: &[u8], at: usize) -> Result<Got<u8>, Refusal>
 pub fn no_name() -> Name
     ensures { result ≡ empty_name }
 {
-    let bytes = [0u8; NAME_MAX];
-    Name { len: 0, bytes }
+    Name::default()
 }
 
 // A name by the bytes of its spelling, all of them.
@@ -100,7 +88,7 @@ pub(crate) fn decode(spelled: &[u8]) -> Result<Got<Name>, Refusal>
     let mut bytes = [0u8; NAME_MAX];
     let mut n: usize = 0;
     let mut next: usize = 0;
-    // No `for`: a step is one byte or three.
+    // No `for`: a step is one byte or three, which `one_at` says.
     while next < spelled.len() {
         if NAME_MAX <= n {
             return Err(Refusal::NameFault);
@@ -121,9 +109,10 @@ pub(crate) fn decode(spelled: &[u8]) -> Result<Got<Name>, Refusal>
 fn unreserved(x: u8) -> bool
     ensures { result ≡ unreserved x }
 {
-    matches!(x, b'A'..=b'Z' | b'a'..=b'z' | b'0'..=b'9' | b'-' | b'.' | b'_' | b'~')
+    x.is_ascii_alphanumeric() || matches!(x, b'-' | b'.' | b'_' | b'~')
 }
 
+// No `char::from_digit`: it gives small letters, as an `Option` of a char.
 #[tactic(auto, unfolding(crate::specs::Names::digit))]
 fn digit(n: u8) -> u8
     requires { n < 16 }

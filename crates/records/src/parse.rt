@@ -20,7 +20,8 @@ pub enum Act {
     Close,
 }
 
-// The first of several changes, and the place where it ends.
+// The first of several changes, and the place where it ends. No `Got`: callers in the book, the filter and the C call say `act` and `end`, where a reader's
+// `value` and `next` say nothing.
 #[derive(Clone, Copy)]
 pub struct Front {
     pub act: Act,
@@ -82,7 +83,8 @@ pub fn parse_change(s: &[u8], want: Wanted) -> Result<View, Refusal>
     Ok(view)
 }
 
-// The change of any mark that an argument's bytes are, or their first fault.
+// The change of any mark that an argument's bytes are, or their first fault. One function for the two would take the reader as a closure, whose promise would
+// be said once more.
 #[tactic(auto, using(crate::proofs::parse::Lemmas::parses))]
 pub fn parse_any(s: &[u8]) -> Result<Act, Refusal>
     ensures { told result ≡ seen_act (parse_any s.now) }

@@ -16,7 +16,7 @@ pub struct View {
     pub len: usize,
 }
 
-// The change that some bytes of a book begin with, if they are written so.
+// The change that some bytes of a book begin with, if they are written so. Its head is at hand, as it is compared, so that no `change_at` is asked.
 #[tactic(auto, using(crate::proofs::writing::Lemmas::peeks))]
 pub fn peek(s: &[u8]) -> Option<View>
     ensures { result ≡ view_in (scan s.now) }

@@ -8,16 +8,16 @@ use crate::fields::{Field, Got};
 use money::refusals::Refusal;
 use money::units::INTERVALS;
 
-// Twelve fields of one form, one behind the other; `none` stands where none is read yet.
-pub(crate) fn series_at<T: Field>(
+// Twelve fields of one form, one behind the other.
+#[tactic(auto, using(crate::proofs::fields::Step::many_fields))]
+pub(crate) fn series_at<T: Field + Default>(
     s: &[u8],
     at: usize,
-    none: T,
 ) -> Result<Got<[T; INTERVALS]>, Refusal>
     ensures value { read_as s.now result ≡ many intervals T.reader (from s.now at) }
     ensures placed { InBytes s.now result }
 {
-    let mut values = [none; INTERVALS];
+    let mut values = [T::default(); INTERVALS];
     let mut next = at;
     for value in &mut values {
         let r = T::read(s, next)?;

@@ -18,6 +18,7 @@ use money::refusals::Refusal;
 // arguments of 01's calls, and no type of ours binds bytes to a mark that they may not begin with.
 
 // A record's name, and the place behind it, where its fields begin.
+#[tactic(auto, using(crate::proofs::fields::Step::read_out), unfolding(crate::specs::Views::ahead))]
 pub(crate) fn fields_at(s: &[u8], mark: Mark) -> Result<Got<Name>, Refusal>
     ensures value { read_as s.now result ≡ ahead mark s.now }
     ensures placed { InBytes s.now result }
@@ -31,6 +32,7 @@ pub(crate) fn fields_at(s: &[u8], mark: Mark) -> Result<Got<Name>, Refusal>
 }
 
 // The fields of a record of a mark, in its layout.
+#[tactic(auto, using(crate::proofs::fields::Step::told_out), unfolding(crate::specs::Views::viewed))]
 fn view<T: Field>(s: &[u8], mark: Mark) -> Result<T, Refusal>
     ensures { told result ≡ input_of (viewed mark T.reader s.now) }
 {

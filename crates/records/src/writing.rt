@@ -21,7 +21,8 @@ pub const NAME_HEAD_MAX: usize = 37;
 
 const HEAD_MAX: usize = 42;
 
-// Copies bytes to a place with copy_from_slice, and answers the place behind them.
+// Copies bytes to a place, and answers the place behind them. The statement's `put_part` does not call it: each crate's promise is in its own word, `Wrote`
+// here and `Writes` there, and a public `copy` would be std's copy_from_slice under a second name.
 #[tactic(auto, using(crate::proofs::writing::Putting::wrote_part))]
 fn copy(src: &[u8], out: &mut [u8], at: usize) -> usize
     requires { at + length src.now ≤ length out.old }
@@ -52,6 +53,7 @@ fn push_two<const N: usize>(bytes: [u8; 2], out: &mut ArrayVec<u8, N>)
     out.push(bytes[1]);
 }
 
+// Mark and name, no key: the hour stands before them.
 #[tactic(auto, unfolding(crate::specs::Changes::name_bytes))]
 pub(crate) fn push_key_name<const N: usize>(
     kind: Kind,
@@ -119,6 +121,7 @@ fn is_view(view: View, lent: usize) -> bool
 }
 
 // Writes the change that bytes end with, of which the view is known, at a place of the log. 13 where it does not fit there, 2 where the view is none.
+// `put` ends alike, with a body of its own: one end for both would be promised a third time.
 #[tactic(auto, using(crate::proofs::writing::PutViewed::viewed))]
 pub fn put_viewed(log: &mut [u8], at: usize, s: &[u8], view: View) -> Result<(), Refusal>
     ensures value { fault_in result ≡ viewed_number view at s.now log.old }

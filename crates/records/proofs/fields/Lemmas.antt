@@ -1,13 +1,8 @@
 -- Readers at a place of a list.
-use Rattle.std.proofs.Common.{◌≡◌, refl, sym, ap, ◌∙◌, List, [], ◌∷◌, ◌++◌, ℕ, suc, ◌+◌, ◌-◌, ◌≤◌, ◌<◌, Bool, true, false, cond, ltb, ℤ, pos, negsuc, Result, Ok, Err, SFits, w32, to_z, of_z, to_z-of_z, arith, add-one, length, take, drop, get_or, set, length-drop, drop-cons, take-suc-set, take_all, drop_of_length-le, append_assoc, append-nil}
+use Rattle.std.proofs.Common.{◌≡◌, refl, sym, ap, ◌∙◌, List, [], ◌∷◌, ◌++◌, ℕ, suc, ◌+◌, ◌-◌, ◌≤◌, ◌<◌, arith, add-one, length, take, drop, get_or, set, length-drop, drop-cons, take-suc-set, take_all, drop_of_length-le, append_assoc, append-nil}
 use Rattle.std.proofs.Math.Numerals.{towards_suc}
-use Rattle.money.specs.Refusals.{number_of, number_outside}
-use Rattle.money.specs.Units.{price_ok, price_read}
-use Rattle.money.specs.declared.refusals.Refusal.{Refusal}
-use Rattle.money.specs.declared.refusals.Refusal.TheVariants.{NumberOutside}
-use Rattle.money.specs.declared.units.Price.{Price}
-use Rattle.records.specs.Reading.{Res, Reader, bad, got, ◌>>=◌, check, byte, from, many}
-use Rattle.records.specs.Numbers.{word, le32, signed}
+use Rattle.records.specs.Reading.{Res, Reader, bad, got, ◌>>=◌, byte, from, many}
+use Rattle.records.specs.Numbers.{word, le32}
 
 word-short : (l : List ℕ) → length l < 4 → word l ≡ bad 1
 unfolding word
@@ -86,38 +81,3 @@ module _ {A : Type 0} {f : Reader A} {s : List ℕ} where
       let d : n - i ≡ 0 = omega arith in
       let e : i ≡ n = omega arith in
       sym (h.so_far ∙ rw (d, append-nil, e))
-
--- ---- numbers, by what money's constructors answer
-
--- an i32 by its bits
-signed-is : (u : ℕ) → to_z w32 u ≡ signed u
-signed-is u = go (ltb u 2147483648)
-  where
-    e : 4294967296 - suc u ≡ 4294967295 - u
-    e = omega arith
-
-    go : (b : Bool) → cond b (pos u) (negsuc (4294967296 - suc u)) ≡ cond b (pos u) (negsuc (4294967295 - u))
-    go true = refl
-    go false = ap negsuc e
-
--- a constructor's answer as a reader's
-abbrev pub kept : {A : Type 0} → List ℕ → Result A Refusal → Res A
-kept t (Ok v) = got v t
-kept t (Err e) = bad (number_of e)
-
-pub kept-check : {A : Type 0} (b : Bool) (x : A) (k : Refusal) (t : List ℕ) (r : Result A Refusal) → r ≡ cond b (Ok x) (Err k) → kept t r ≡ check b (number_of k) (got x t)
-kept-check true x k t r e = ap (kept t) e
-kept-check false x k t r e = ap (kept t) e
-
-pub price-kept : (u : ℕ) {z : ℤ} (t : List ℕ) (r : Result Price Refusal) → r ≡ price_read (to_z w32 (of_z w32 z)) → SFits w32 z → z ≡ to_z w32 u
-    → kept t r ≡ check (price_ok (record { 0 = signed u })) number_outside (got (record { 0 = signed u }) t)
-price-kept u {z} t r e f i =
-    kept-check _ _ NumberOutside t r (e ∙ ap price_read (to_z-of_z f ∙ i ∙ signed-is u))
-
--- ---- tests of a reader
-
-pub check-yes : {A : Type 0} (k : ℕ) (r : Res A) {b : Bool} → b ≡ true → check b k r ≡ r
-check-yes k r h = ap (λ (b : Bool). check b k r) h
-
-pub check-no : {A : Type 0} (k : ℕ) (r : Res A) {b : Bool} → b ≡ false → check b k r ≡ bad k
-check-no k r h = ap (λ (b : Bool). check b k r) h

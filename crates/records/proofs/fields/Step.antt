@@ -9,6 +9,7 @@ use Rattle.records.specs.Changes.{fault}
 use Rattle.records.specs.Answers.{told}
 use Rattle.records.specs.tables.Inner.{read_as}
 use Rattle.records.specs.declared.fields.Got.{Got}
+use Rattle.records.proofs.fields.Lemmas.{filled-bad, filled-all}
 
 -- the value and the rest go to what follows
 pub bind-ok : {A B : Type 0} {x : Res A} {v : A} {t : List ℕ} (g : A → Reader B) → got v t ≡ x → (x >>= g) ≡ g v t
@@ -18,14 +19,17 @@ bind-ok g h = ap (λ r. r >>= g) (sym h)
 pub bind-err : {A B : Type 0} {x : Res A} {k : ℕ} (g : A → Reader B) → bad k ≡ x → (x >>= g) ≡ bad k
 bind-err g h = ap (λ r. r >>= g) (sym h)
 
-pub read-out : {A : Type 0} (s : List ℕ) (r : Result (Got A) Refusal) (e : Refusal) → IsErrAnd r (λ x. x ≡ e) → read_as s r ≡ bad (number_of e)
-read-out s (Ok x) e h = absurd h
-read-out s (Err x) e h = ap (λ (y : Refusal). bad (number_of y)) h
+pub read_out : {A : Type 0} (s : List ℕ) (r : Result (Got A) Refusal) (e : Refusal) → IsErrAnd r (λ x. x ≡ e) → read_as s r ≡ bad (number_of e)
+read_out s (Ok x) e h = absurd h
+read_out s (Err x) e h = ap (λ (y : Refusal). bad (number_of y)) h
 
-pub told-out : {A : Type 0} (r : Result A Refusal) (e : Refusal) → IsErrAnd r (λ x. x ≡ e) → told r ≡ fault (number_of e)
-told-out (Ok x) e h = absurd h
-told-out (Err x) e h = ap (λ (y : Refusal). fault (number_of y)) h
+pub told_out : {A : Type 0} (r : Result A Refusal) (e : Refusal) → IsErrAnd r (λ x. x ≡ e) → told r ≡ fault (number_of e)
+told_out (Ok x) e h = absurd h
+told_out (Err x) e h = ap (λ (y : Refusal). fault (number_of y)) h
 
 pub fault-out : {A : Type 0} (r : Result A Refusal) (e : Refusal) → IsErrAnd r (λ x. x ≡ e) → fault_in r ≡ number_of e
 fault-out (Ok x) e h = absurd h
 fault-out (Err x) e h = ap number_of h
+
+-- for `series_at`
+pub ruleset many_fields = (filled-bad, filled-all, read_out)

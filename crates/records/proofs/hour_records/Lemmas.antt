@@ -1,5 +1,5 @@
 -- A record of one hour, by the tests that the code makes.
-use Rattle.std.specs.Prelude.{◌≡◌, refl, List, true, false, ℕ, ◌-◌, length, Ok}
+use Rattle.std.specs.Prelude.{◌≡◌, refl, List, true, ℕ, ◌-◌, length, Ok}
 use Rattle.std.proofs.Common.{sym, ap, ◌∙◌, arith}
 use Rattle.money.specs.Refusals.{mark_unknown, hour_outside}
 use Rattle.records.specs.Reading.{bad, got, ◌>>=◌, check, from}
@@ -13,7 +13,7 @@ use Rattle.records.specs.declared.marks.Kind.TheVariants.{File, Correct, Withdra
 use Rattle.records.specs.declared.marks.Wanted.TheVariants.{Only}
 use Rattle.records.specs.declared.keys.Key.{Key}
 use Rattle.records.specs.declared.changes.Read.{Read}
-use Rattle.records.proofs.fields.Step.{bind-ok, bind-err, told-out}
+use Rattle.records.proofs.fields.Step.{bind-ok, told_out}
 use Rattle.records.proofs.changes.Lemmas.{length_from}
 
 made-key : (k : Kind) (x : Key) (b : List ℕ) → key_of (made k x b) ≡ x
@@ -23,29 +23,14 @@ made-key Withdraw x b = refl
 
 -- the mark, then the hour, then the rest as filing reads it
 module _ (s : List ℕ) (first : ℕ) where
-  pub hour-no-head : {j : ℕ} → bad j ≡ head (Only File) s → fault j ≡ hour_front_of s (hour_record first s)
-  unfolding hour_record
-  hour-no-head h = sym (ap (hour_front_of s) (bind-err _ h))
-
   module _ {k : Kind} {m : Mark} (a : ℕ) (h : got (record { kind = k; mark = m }) (from s a) ≡ head (Only File) s) where
-    pub not-of-hour : of_hour m ≡ false → fault mark_unknown ≡ hour_front_of s (hour_record first s)
-    unfolding hour_record
-    not-of-hour e = sym (ap (hour_front_of s) (bind-ok _ h ∙ ap (λ b. check b mark_unknown (hour (from s a) >>= λ o u. check (same_as first o) hour_outside
-        (rest (record { kind = k; mark = m }) (from s a)))) e))
-
     module _ (e : of_hour m ≡ true) where
       to-hour : hour_record first s ≡ (hour (from s a) >>= λ o u. check (same_as first o) hour_outside (rest (record { kind = k; mark = m }) (from s a)))
       unfolding hour_record
       to-hour = bind-ok _ h ∙ ap (λ b. check b mark_unknown (hour (from s a) >>= λ o u. check (same_as first o) hour_outside
           (rest (record { kind = k; mark = m }) (from s a)))) e
 
-      pub hour-no-hour : {j : ℕ} → bad j ≡ hour (from s a) → fault j ≡ hour_front_of s (hour_record first s)
-      hour-no-hour f = sym (ap (hour_front_of s) (to-hour ∙ bind-err _ f))
-
       module _ {o : ℕ} (b : ℕ) (p : got o (from s b) ≡ hour (from s a)) where
-        pub another-hour : same_as first o ≡ false → fault hour_outside ≡ hour_front_of s (hour_record first s)
-        another-hour f = sym (ap (hour_front_of s) (to-hour ∙ bind-ok _ p ∙ ap (λ b. check b hour_outside (rest (record { kind = k; mark = m }) (from s a))) f))
-
         -- then the record is as filing reads it
         module _ (f : same_as first o ≡ true) where
           as-filed : hour_record first s ≡ change (Only File) s
@@ -63,4 +48,4 @@ module _ (s : List ℕ) (first : ℕ) where
               ∙ ap (hour_front_of s) (q.value ∙ sym as-filed)
 
 -- for `first_of_hour`
-pub ruleset fronts = (told-out, hour-no-head, not-of-hour, hour-no-hour, another-hour, filed-fault, filed-front)
+pub ruleset fronts = (told_out, filed-fault, filed-front)

@@ -1,7 +1,8 @@
 -- The mark of a question, by the tests that the code makes.
-use Rattle.records.proofs.fields.Step.{told-out}
+use Rattle.records.proofs.fields.Step.{told_out}
 use Rattle.std.proofs.Common.{◌≡◌, refl, List, [], ◌∷◌, ℕ, length, arith}
 use Rattle.money.specs.Refusals.{mark_unknown}
+use Rattle.money.proofs.laws.NameLaws.{name-eq}
 use Rattle.records.specs.Reading.{bad, from}
 use Rattle.records.specs.Marks.{mark}
 use Rattle.records.specs.Keys.{ask_mark}
@@ -21,4 +22,7 @@ mark-other (a ∷ b ∷ []) h = absurd (h refl)
 mark-other (a ∷ b ∷ c ∷ s) h = refl
 
 -- for `asked_mark`
-pub ruleset asks = (mark-two, mark-other, told-out)
+pub ruleset asks = (mark-two, mark-other, told_out)
+
+-- for `same_key`
+pub ruleset equals = (name-eq)

@@ -1,17 +1,17 @@
 -- Arrays that are filled from the front, two of them as one list of pairs, and the count of a list.
-use Rattle.std.proofs.Common.{◌≡◌, refl, sym, ap, ◌∙◌, List, [], ◌∷◌, ◌++◌, map, ℕ, zero, suc, ◌+◌, ◌≤◌, ◌<◌, arith, add-one, not-suc-le-zero, le_of_suc-le-suc, length, take, set, length-set, take-suc-set, length-take-le, true, false, le-leb}
+use Rattle.std.proofs.Common.{◌≡◌, refl, sym, ap, ◌∙◌, List, [], ◌∷◌, ◌++◌, map, ℕ, zero, suc, ◌+◌, ◌≤◌, ◌<◌, arith, add-one, not-suc-le-zero, le_of_suc-le-suc, length, take, set, length-set, take-suc-set, length-take-le}
 use Rattle.std.specs.List.{zip}
-use Rattle.std.proofs.lemmas.Bool.{lt-leb}
 use Rattle.std.proofs.lemmas.Slice.Zip.{length-zip}
 use Rattle.money.specs.Units.{no_price, no_quantity}
 use Rattle.money.specs.declared.units.Price.{Price}
 use Rattle.money.specs.declared.units.Quantity.{Quantity}
 use Rattle.money.specs.declared.offers.Offer.{Offer}
 use Rattle.records.specs.Reading.{Res, bad, got, ◌>>=◌, from}
-use Rattle.records.specs.Numbers.{between, pad, offer_of, pair, pairs}
+use Rattle.records.specs.Numbers.{pad, offer_of, pair, pairs}
 use Rattle.records.specs.tables.Inner.{pair_of}
 use Rattle.records.specs.declared.lists.Pair.{Pair}
 use Rattle.records.proofs.fields.Lemmas.{Filled, filled-bad, filled-first}
+use Rattle.records.proofs.fields.Step.{read_out}
 
 -- ---- a pair as it was read
 
@@ -97,13 +97,5 @@ pub pairs-bad : {s : List ℕ} {n at₀ i at k : ℕ} {xs : List (Price × Quant
 unfolding pairs
 pairs-bad h l e = ap (λ r. r >>= λ xs t. got (offer_of xs) t) (filled-bad h l e)
 
--- ---- a count
-
-pub count-in : (lo hi n : ℕ) → lo ≤ n → n ≤ hi → between lo hi n ≡ true
-count-in lo hi n h k = rw (le-leb lo n h, le-leb n hi k)
-
-pub count-few : (lo hi n : ℕ) → n < lo → between lo hi n ≡ false
-count-few lo hi n h = rw (lt-leb lo n h)
-
-pub count-many : (lo hi n : ℕ) → lo ≤ n → hi < n → between lo hi n ≡ false
-count-many lo hi n h k = rw (le-leb lo n h, lt-leb n hi k)
+-- for `pairs_at`
+pub ruleset many_pairs = (pair-back, pairs-bad, pairs-all, read_out)

@@ -1,8 +1,9 @@
 -- Names at a place of a list: one byte, plain or escaped, and a loop that decodes them.
-use Rattle.records.proofs.fields.Step.{read-out}
+use Rattle.records.proofs.fields.Step.{read_out}
 use Rattle.std.proofs.Common.{◌≡◌, refl, sym, ap, ◌∙◌, List, [], ◌∷◌, Bool, true, false, cond, Some, None, ℕ, zero, suc, ◌+◌, ◌*◌, ◌-◌, ◌≤◌, ◌<◌, ltb, arith, le-leb, add-one, length, take, drop, get_or, set, append-nil, length-drop, drop_of_length-le, drop-cons, drop-drop, take-suc-set, length-take-le}
 use Rattle.std.proofs.Math.Nat.{sub-zero, add-sub_cancel_left}
 use Rattle.std.proofs.lemmas.Bool.{lt-leb}
+use Rattle.std.specs.Char.{is_ascii_graphic}
 use Rattle.money.specs.Refusals.{ends_early, name_fault}
 use Rattle.money.specs.Names.{max_name}
 use Rattle.money.specs.declared.names.Name.{Name}
@@ -62,17 +63,17 @@ module _ (s : List ℕ) (at : ℕ) where
     escaped-low f = rw (at-two s at (omega arith) h, (hex-some (get_or s at 0) high e).0, hex-none (get_or s (at + 1) 0) f)
 
     module _ {low : ℕ} (f : hex_digit (get_or s (at + 1) 0) ≡ Some low) where
-      both : {b : Bool} → visible (16 * high + low) ≡ b → check b name_fault (got (16 * high + low) (from s (at + 2))) ≡ escaped (from s at)
-      unfolding escaped
+      both : {b : Bool} → is_ascii_graphic (16 * high + low) ≡ b → check b name_fault (got (16 * high + low) (from s (at + 2))) ≡ escaped (from s at)
+      unfolding escaped visible
       both k =
           let p = hex-some (get_or s at 0) high e in
           let q = hex-some (get_or s (at + 1) 0) low f in
           rw (at-two s at (omega arith) h, p.0, p.1, q.0, q.1, k)
 
-      pub escaped-seen : visible (16 * high + low) ≡ true → got (16 * high + low) (from s (at + 2)) ≡ escaped (from s at)
+      pub escaped-seen : is_ascii_graphic (16 * high + low) ≡ true → got (16 * high + low) (from s (at + 2)) ≡ escaped (from s at)
       escaped-seen k = both k
 
-      pub escaped-unseen : visible (16 * high + low) ≡ false → bad name_fault ≡ escaped (from s at)
+      pub escaped-unseen : is_ascii_graphic (16 * high + low) ≡ false → bad name_fault ≡ escaped (from s at)
       escaped-unseen k = both k
 
 -- ---- a loop over the bytes
@@ -192,8 +193,8 @@ module _ (s : List ℕ) (at : ℕ) where
 
 -- ---- for `escaped_at`, `name_at` and `decode`
 
-pub ruleset escapes = (escaped-short, escaped-high, escaped-low, escaped-seen, escaped-unseen, read-out)
+pub ruleset escapes = (escaped-short, escaped-high, escaped-low, escaped-seen, escaped-unseen, read_out)
 
-pub ruleset fields = (field-early, field-got, field-bad, read-out)
+pub ruleset fields = (field-early, field-got, field-bad, read_out)
 
-pub ruleset decodes = (decode-low, decode-high, decode-within, spelled-full, spelled-bad, name-all, read-out)
+pub ruleset decodes = (decode-low, decode-high, decode-within, spelled-full, spelled-bad, name-all, read_out)

@@ -13,7 +13,7 @@ use Rattle.records.specs.declared.parse.Act.{Act}
 use Rattle.records.specs.declared.parse.Act.TheVariants as act
 use Rattle.records.specs.declared.marks.Wanted.{Wanted}
 use Rattle.records.specs.declared.marks.Wanted.TheVariants.{Any}
-use Rattle.records.proofs.fields.Step.{bind-ok, bind-err, read-out, told-out}
+use Rattle.records.proofs.fields.Step.{bind-ok, bind-err, read_out, told_out}
 use Rattle.records.proofs.laws.ReaderLaws.{bad-got}
 use Rattle.records.proofs.changes.Lemmas.{length_from, whole-left, whole-all}
 
@@ -161,10 +161,10 @@ module _ (s : List ℕ) (h : 2 ≤ length s) where
 pub ruleset bares = (bare-short, bare-other, bare-left, bare-alone)
 
 -- for `act_at`
-pub ruleset entries = (entry-short, entry-back, entry-close, entry-fault, entry-change, read-out)
+pub ruleset entries = (entry-short, entry-back, entry-close, entry-fault, entry-change, read_out)
 
 -- for `parse_change` and `parse_any`
-pub ruleset parses = (told-out, parsed-bad, parsed-left, parsed-all, any-bad, any-left, any-all)
+pub ruleset parses = (told_out, parsed-bad, parsed-left, parsed-all, any-bad, any-left, any-all)
 
 -- for `first_change`
-pub ruleset fronts = (told-out, front-is)
+pub ruleset fronts = (told_out, front-is)

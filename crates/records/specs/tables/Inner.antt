@@ -1,6 +1,5 @@
 -- What the values that inner functions return say. No definition of 01 stands here. Assumes nothing.
 use Rattle.std.specs.Prelude.{◌≡◌, List, ℕ, ◌+◌, ◌-◌, ◌≤◌, length, take, Result, Ok, Err}
-use Rattle.money.specs.Offers.{max_pairs}
 use Rattle.money.specs.Names.{max_name}
 use Rattle.money.specs.Refusals.{number_of}
 use Rattle.money.specs.declared.refusals.Refusal.{Refusal}
@@ -13,7 +12,6 @@ use Rattle.records.specs.Changes.{Change, Head, Entry, made, body_of, change, pu
 use Rattle.records.specs.Answers.{view, act_of}
 use Rattle.records.specs.declared.fields.Got.{Got}
 use Rattle.records.specs.declared.lists.Pair.{Pair}
-use Rattle.records.specs.declared.layouts.Lists.{Lists}
 use Rattle.records.specs.declared.marks.Mark.{Mark}
 use Rattle.records.specs.declared.marks.Kind.{Kind}
 use Rattle.records.specs.declared.marks.Kind.TheVariants.{File, Correct, Withdraw}
@@ -47,10 +45,6 @@ pair_of r = r >>= λ x t. got (record { price = x.0; quantity = x.1 }) t
 
 abbrev pub pair_read : Reader Pair
 pair_read s = pair_of (pair s)
-
--- the lists of a unit's hour, of at most 20 pairs each
-abbrev pub Few : Lists → Type 0
-Few l = (l.ahead.count ≤ max_pairs) × (l.real.count ≤ max_pairs) × (l.spinning.count ≤ max_pairs) × (l.nonspinning.count ≤ max_pairs) × (l.thirty.count ≤ max_pairs)
 
 -- ---- changes
 
