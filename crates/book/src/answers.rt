@@ -11,7 +11,7 @@ use money::refusals::Refusal;
 use money::units::{HOURS, Ticks};
 use records::marks::HOUR_LIMIT;
 
-// The book as a change hands it back, and whether it was accepted. 01 hands the book back whole with each change.
+// The book as a change hands it back, and whether it was accepted. No bare Result: 01 hands the book back with a refusal, too.
 #[derive(Clone, Copy)]
 pub struct Done {
     pub book: Book,

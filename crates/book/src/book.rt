@@ -1,14 +1,15 @@
 // The book, and whether it belongs to the bytes that are lent.
-ghost use Rattle.std.specs.Prelude.{◌≡◌, List, Err, false, is_ok, length};
+ghost use Rattle.std.specs.Prelude.{◌≡◌, List, Ok, Err, false, is_ok};
 ghost use Rattle.money.specs.declared.refusals.Refusal.TheVariants.{NotTogether};
 ghost use Rattle.book.specs.Layer.{Change, Refusal};
-ghost use Rattle.book.specs.Meaning.{belongs, load};
+ghost use Rattle.book.specs.Meaning.{belongs, mismatched, load};
 ghost use Rattle.book.specs.tables.Rows.{Rows, Rowed};
 ghost use Rattle.book.specs.tables.CheckedLog.{Says};
-ghost use Rattle.book.specs.Register.{max_changes};
+ghost use Rattle.book.specs.declared.log.checked_log.CheckedLog.{CheckedLog};
 
 use crate::log::checked_log::CheckedLog;
 use crate::log::replay;
+use crate::log::row::Row;
 use money::refusals::Refusal;
 
 // Changes in a book, at most.
@@ -37,8 +38,7 @@ impl Book {
     }
 
     // A row for each change, where the book and the bytes belong together. The rows are the caller's array, as no function can hand them out.
-    pub(crate) fn check_rows(self, log: &[u8], rows: &mut [u32; CHANGES_MAX]) -> Result<(), Refusal>
-        requires { length rows.old ≡ max_changes }
+    pub(crate) fn check_rows(self, log: &[u8], rows: &mut [Row; CHANGES_MAX]) -> Result<(), Refusal>
         ensures rowed { Rowed (load self log.now) (is_ok result) rows.new }
         ensures apart { (e : Refusal) → result ≡ Err e → e ≡ NotTogether }
     {
@@ -52,11 +52,29 @@ impl Book {
         Err(Refusal::NotTogether)
     }
 
+    // What a question answers of the checked log: 16 where book and bytes are apart, then the fault of what is asked for.
+    pub(crate) fn asked<K: Drop, T, F: FnOnce(CheckedLog, K) -> Result<T, Refusal>>(
+        self,
+        log: &[u8],
+        key: Result<K, Refusal>,
+        ask: F,
+    ) -> Result<T, Refusal>
+        requires { (h : CheckedLog) (k : K) (l : List Change) → key ≡ Ok k → Says h l → F.pre ask h k }
+        ensures apart { load self log.now ≡ mismatched → result ≡ Err NotTogether }
+        ensures wrong { (l : List Change) (e : Refusal) → load self log.now ≡ belongs l → key ≡ Err e → result ≡ Err e }
+        ensures right { (l : List Change) (k : K) → load self log.now ≡ belongs l → key ≡ Ok k
+            → (h : CheckedLog) × (h.bytes.now ≡ log.now) × Says h l × F.post ask h k result }
+    {
+        let mut rows = [Row::default(); CHANGES_MAX];
+        self.check_rows(log, &mut rows)?;
+        ask(self.checked_log(log, &rows), key?)
+    }
+
     // The log that was checked, with its rows.
     pub(crate) fn checked_log<'a>(
         self,
         log: &'a [u8],
-        rows: &'a [u32; CHANGES_MAX],
+        rows: &'a [Row; CHANGES_MAX],
     ) -> CheckedLog<'a>
         requires { (l : List Change) × (load self log.now ≡ belongs l) × Rows rows.now l l }
         ensures bytes { result.bytes.now ≡ log.entry.now }

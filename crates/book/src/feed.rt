@@ -8,6 +8,7 @@ ghost use Rattle.book.specs.FeedPromise.{Ends, Feeds};
 
 use crate::book::{Book, CHANGES_MAX};
 use crate::log::index::{BUCKETS, bucket_of};
+use crate::log::row::Row;
 use money::refusals::Refusal;
 use records::keys::{Key, key_of};
 use records::marks::Mark;
@@ -40,7 +41,7 @@ fn search_from(latest: u16, changes: u16) -> usize
     latest.min(changes) as usize
 }
 
-// The key of a change of a record, and none of a mark that stands alone.
+// The key of a change of a record; a mark that stands alone has that of no record. An `Option` would put a second case into each promise of a change.
 fn key_in(act: Act) -> Key
     ensures { result ≡ key_in act }
 {
@@ -52,7 +53,7 @@ fn key_in(act: Act) -> Key
 
 // Takes the records into a book that was checked, up to the first that is refused. Each is read once. The latest changes stand in a
 // table by their keys' numbers: no map, as the book owns no heap.
-fn feed_checked(mut book: Book, log: &mut [u8], rows: &mut [u32; CHANGES_MAX], input: &[u8]) -> Fed
+fn feed_checked(mut book: Book, log: &mut [u8], rows: &mut [Row; CHANGES_MAX], input: &[u8]) -> Fed
     requires { Checked book log.old rows.old }
     ensures { (l : List Change) → load book log.old ≡ belongs l → Ends (feeding (length log.old)
         (record { list = l; closed = book.closed }) input.now) log.old result log.new }
@@ -71,10 +72,9 @@ fn feed_checked(mut book: Book, log: &mut [u8], rows: &mut [u32; CHANGES_MAX], i
         let act = f.act;
         let bucket = bucket_of(key_in(act));
         let from = search_from(latest[bucket], book.changes);
-        let done = book.checked_change(log, rows, from, act, &input[at..end]);
-        book = done.book;
-        if done.answer.is_err() {
-            return fed_so(book, count, at, done.answer);
+        match book.checked_change(log, rows, from, act, &input[at..end]) {
+            Ok(next) => book = next,
+            Err(refusal) => return fed_so(book, count, at, Err(refusal)),
         }
         latest[bucket] = book.changes;
         count = ordinal;
@@ -90,7 +90,7 @@ pub fn feed(mut book: Book, log: &mut [u8], input: &[u8]) -> Fed
     if input.len() == 0 {
         return fed_so(book, 0, 0, Ok(()));
     }
-    let mut rows = [0u32; CHANGES_MAX];
+    let mut rows = [Row::default(); CHANGES_MAX];
     if let Err(fault) = book.check_rows(log, &mut rows) {
         return fed_so(book, 0, 0, Err(fault));
     }

@@ -12,40 +12,42 @@ use Rattle.book.specs.tables.Rows.{row_live, row_place, Logged, key_at}
 use Rattle.book.specs.laws.RegisterLaws.{by-test}
 use Rattle.book.specs.laws.GatherLaws.{Pass, gather}
 use Rattle.book.proofs.log.rows.Lemmas.{Seen, WrittenAt, ruled-at, ruled-seen, written_at, key-at, Hit, find_pass, hit-or, find-is}
+use Rattle.book.specs.declared.log.row.Row.{Row}
+use Rattle.book.specs.tables.Rows.{no_row}
 
 -- ---- the change of a row
 
-module _ {s rows : List ℕ} {i : ℕ} (lt : i < length rows) {l : List Change} (g : Logged s rows (length rows) l) where
+module _ {s : List ℕ} {rows : List Row} {i : ℕ} (lt : i < length rows) {l : List Change} (g : Logged s rows (length rows) l) where
   abbrev pub turned : Change
   turned = (ruled-at g.ruled lt).what
 
-  pub turned-seen : Seen (get_or rows i 0) l (length (write_all (drop (length rows - i) l))) turned
+  pub turned-seen : Seen (get_or rows i no_row) l (length (write_all (drop (length rows - i) l))) turned
   turned-seen = ruled-seen g.ruled lt
 
   -- its record, where it stands
-  pub turned-there : row_live (get_or rows i 0) ≡ true → WrittenAt s (row_place (get_or rows i 0)) (key_of turned)
+  pub turned-there : row_live (get_or rows i no_row) ≡ true → WrittenAt s (row_place (get_or rows i no_row)) (key_of turned)
   turned-there t = subst (λ (x : ℕ). WrittenAt s x (key_of turned)) (sym turned-seen.place) (written_at g lt (sym turned-seen.live ∙ t))
 
-  pub turned-key : row_live (get_or rows i 0) ≡ true → key_at s (row_place (get_or rows i 0)) ≡ key_of turned
+  pub turned-key : row_live (get_or rows i no_row) ≡ true → key_at s (row_place (get_or rows i no_row)) ≡ key_of turned
   turned-key t = key-at (turned-there t)
 
 -- ---- a loop
 
-pub record Passed {B : Type 0} (p : Pass B) (s rows : List ℕ) (i : ℕ) (xs : B) : Type 0 where
+pub record Passed {B : Type 0} (p : Pass B) (s : List ℕ) (rows : List Row) (i : ℕ) (xs : B) : Type 0 where
   pub is : (l : List Change) → Logged s rows (length rows) l → xs ≡ gather p l (drop (length rows - i) l)
 
-pub passed-start : {B : Type 0} (p : Pass B) (s rows : List ℕ) (xs : B) → xs ≡ p.none → Passed p s rows 0 xs
+pub passed-start : {B : Type 0} (p : Pass B) (s : List ℕ) (rows : List Row) (xs : B) → xs ≡ p.none → Passed p s rows 0 xs
 unfolding gather
 passed-start p s rows xs e =
     record { is = λ l g. e ∙ ap (gather p l) (sym (drop_of_length-le l {i = length rows - 0} (omega (arith, g.ruled.count)))) }
 
-module _ {B : Type 0} {p : Pass B} {s rows : List ℕ} {i : ℕ} {xs : B} (h : Passed p s rows i xs) where
+module _ {B : Type 0} {p : Pass B} {s : List ℕ} {rows : List Row} {i : ℕ} {xs : B} (h : Passed p s rows i xs) where
   pub passed-all : length rows ≤ i → (l : List Change) → Logged s rows (length rows) l → xs ≡ gather p l l
   passed-all le l g = let w : length rows - i ≡ 0 = omega arith in h.is l g ∙ ap (λ (m : ℕ). gather p l (drop m l)) w
 
   module _ (lt : i < length rows) where
     pub passed-turn : (l : List Change) (g : Logged s rows (length rows) l)
-        → cond (p.pick (key_of (turned lt g)) && row_live (get_or rows i 0)) (p.put (key_of (turned lt g)) (row_place (get_or rows i 0)) xs) xs
+        → cond (p.pick (key_of (turned lt g)) && row_live (get_or rows i no_row)) (p.put (key_of (turned lt g)) (row_place (get_or rows i no_row)) xs) xs
         ≡ gather p l (drop (length rows - (i + 1)) l)
     unfolding gather
     passed-turn l g =
@@ -54,7 +56,7 @@ module _ {B : Type 0} {p : Pass B} {s rows : List ℕ} {i : ℕ} {xs : B} (h : P
         ∙ ap (gather p l) (sym (ruled-at g.ruled lt).rest)
 
     pub passed-next : (ys : B) → ((l : List Change) (g : Logged s rows (length rows) l)
-        → ys ≡ cond (p.pick (key_of (turned lt g)) && row_live (get_or rows i 0)) (p.put (key_of (turned lt g)) (row_place (get_or rows i 0)) xs) xs)
+        → ys ≡ cond (p.pick (key_of (turned lt g)) && row_live (get_or rows i no_row)) (p.put (key_of (turned lt g)) (row_place (get_or rows i no_row)) xs) xs)
         → Passed p s rows (i + 1) ys
     passed-next ys e = record { is = λ l g. e l g ∙ passed-turn l g }
 
@@ -63,26 +65,26 @@ module _ {B : Type 0} {p : Pass B} {s rows : List ℕ} {i : ℕ} {xs : B} (h : P
 abbrev pub by_hour : {A : Type 0} → (Key → Bool) → (ℕ → A) → Pass (List (Option A))
 by_hour {A} pick v = record { pick = pick; put = λ (k : Key) (x : ℕ) (t : List (Option A)). set t (k.hour - 1) (Some (v x)); none = replicate 24 None }
 
-module _ {A : Type 0} (pick : Key → Bool) (v : ℕ → A) {s rows : List ℕ} {i : ℕ} {t : List (Option A)} (h : Passed (by_hour pick v) s rows i t)
+module _ {A : Type 0} (pick : Key → Bool) (v : ℕ → A) {s : List ℕ} {rows : List Row} {i : ℕ} {t : List (Option A)} (h : Passed (by_hour pick v) s rows i t)
     (lt : i < length rows) {hour : Option ℕ}
     (told : (l : List Change) (g : Logged s rows (length rows) l)
-    → hour ≡ cond (pick (key_of (turned lt g)) && row_live (get_or rows i 0)) (Some (key_of (turned lt g)).hour) None) where
+    → hour ≡ cond (pick (key_of (turned lt g)) && row_live (get_or rows i no_row)) (Some (key_of (turned lt g)).hour) None) where
   -- what the pass does with the row's change
   turns_to : {l : List Change} (g : Logged s rows (length rows) l) → Bool → List (Option A)
-  turns_to g b = cond b (set t ((key_of (turned lt g)).hour - 1) (Some (v (row_place (get_or rows i 0))))) t
+  turns_to g b = cond b (set t ((key_of (turned lt g)).hour - 1) (Some (v (row_place (get_or rows i no_row))))) t
 
   tells : {l : List Change} (g : Logged s rows (length rows) l) → Bool → Option ℕ
   tells g b = cond b (Some (key_of (turned lt g)).hour) None
 
   pub hour-skip : hour ≡ None → Passed (by_hour pick v) s rows (i + 1) t
   unfolding turns_to tells
-  hour-skip z = passed-next h lt t (λ l g. by-test (pick (key_of (turned lt g)) && row_live (get_or rows i 0))
+  hour-skip z = passed-next h lt t (λ l g. by-test (pick (key_of (turned lt g)) && row_live (get_or rows i no_row))
       (λ b. let w : None ≡ Some (key_of (turned lt g)).hour = sym z ∙ told l g ∙ ap (tells g) b in absurd (let q : ◌≡◌ {A = ℕ} 0 1 = cc in omega arith))
       (λ b. sym (ap (turns_to g) b)))
 
-  pub hour-put : {n : ℕ} → hour ≡ Some n → (x : A) → x ≡ v (row_place (get_or rows i 0)) → Passed (by_hour pick v) s rows (i + 1) (set t (n - 1) (Some x))
+  pub hour-put : {n : ℕ} → hour ≡ Some n → (x : A) → x ≡ v (row_place (get_or rows i no_row)) → Passed (by_hour pick v) s rows (i + 1) (set t (n - 1) (Some x))
   unfolding turns_to tells
-  hour-put {n} z x ex = passed-next h lt (set t (n - 1) (Some x)) (λ l g. by-test (pick (key_of (turned lt g)) && row_live (get_or rows i 0))
+  hour-put {n} z x ex = passed-next h lt (set t (n - 1) (Some x)) (λ l g. by-test (pick (key_of (turned lt g)) && row_live (get_or rows i no_row))
       (λ b. let w : Some n ≡ Some (key_of (turned lt g)).hour = sym z ∙ told l g ∙ ap (tells g) b in
       let e : n ≡ (key_of (turned lt g)).hour = cc in
       (λ j. set t (e j - 1) (Some (ex j))) ∙ sym (ap (turns_to g) b))
@@ -151,7 +153,7 @@ module _ {A : Type 0} (pick : Key → Bool) (v : ℕ → A) (k : ℕ → Key)
       go true false false ee ih = ih
       go false b e ee ih = ih
 
-  module _ {s rows : List ℕ} {i : ℕ} {t : List (Option A)} (h : Passed (by_hour pick v) s rows i t) (le : length rows ≤ i) (l : List Change)
+  module _ {s : List ℕ} {rows : List Row} {i : ℕ} {t : List (Option A)} (h : Passed (by_hour pick v) s rows i t) (le : length rows ≤ i) (l : List Change)
       (g : Logged s rows (length rows) l) where
     pub hours-size : length t ≡ 24
     hours-size = ap length (passed-all h le l g) ∙ by-hour-size pick v l l

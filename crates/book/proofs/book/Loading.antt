@@ -7,13 +7,14 @@ use Rattle.book.specs.declared.book.Book.{Book}
 use Rattle.book.specs.Meaning.{Load, belongs, replay, load}
 use Rattle.book.specs.laws.LoadLaws.{Loaded, load-long, loaded-from}
 use Rattle.book.specs.tables.Rows.{Rows, Rowed, Logged, Log}
+use Rattle.book.specs.declared.log.row.Row.{Row}
 
 -- the used part is played
-pub rowed-long : (b : Book) (s : List ℕ) {ok : Bool} {rows : List ℕ} → b.used ≤ length s → Rowed (replay b.changes [] (take b.used s)) ok rows
+pub rowed-long : (b : Book) (s : List ℕ) {ok : Bool} {rows : List Row} → b.used ≤ length s → Rowed (replay b.changes [] (take b.used s)) ok rows
     → Rowed (load b s) ok rows
 rowed-long b s {ok} {rows} le w = subst⁻¹ (λ (d : Load). Rowed d ok rows) (load-long b s le) w
 
-module _ (b : Book) (s : List ℕ) {rows : List ℕ} where
+module _ (b : Book) (s : List ℕ) {rows : List Row} where
   pub loaded-logged : (x : Loaded b s) → Rows rows x.list x.list → Logged s rows b.changes x.list
   loaded-logged x k = record {
     ruled = record { valid = x.valid; kept = k; count = x.count-is };

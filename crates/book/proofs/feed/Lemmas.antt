@@ -1,5 +1,5 @@
 -- What the reading loop rests on.
-use Rattle.std.specs.Prelude.{◌≡◌, refl, ℕ, ◌+◌, ◌-◌, ◌≤◌, ◌<◌, List, Bool, true, false, cond, Result, Ok, Err, is_err, length, take, drop, get_or, set, replicate, eqb}
+use Rattle.std.specs.Prelude.{◌≡◌, refl, ℕ, ◌+◌, ◌-◌, ◌≤◌, ◌<◌, List, Bool, cond, Result, Ok, Err, length, take, drop, get_or, set, replicate, eqb}
 use Rattle.std.proofs.Common.{sym, ap, ◌∙◌, subst, arith, length-take, length-drop, length-set, take_all, drop-drop, get_or-set_same, get_or-set_other, eqb-true, eq-eqb}
 use Rattle.std.proofs.lemmas.List.{length-replicate, get_or-replicate}
 use Rattle.std.proofs.lemmas.Bool.{eqb-false}
@@ -23,8 +23,8 @@ use Rattle.book.specs.Feed.{front, first_record, FeedReply, stopped, later, feed
 use Rattle.book.specs.laws.FeedLaws.{first-front, first-within, first_some, first-whole, first_then, none_before, both-before}
 use Rattle.book.specs.FeedPromise.{Ends, Feeds}
 use Rattle.book.proofs.log.index.Lemmas.{latest-few}
-use Rattle.book.proofs.log.replay.Lemmas.{no-fault, some-fault}
 use Rattle.book.proofs.log.checked.Lemmas.{unread-refused}
+use Rattle.book.specs.declared.log.row.Row.{Row}
 
 -- ---- the first record
 
@@ -59,11 +59,6 @@ module _ (s : List ℕ) where
 
 -- ---- what the code answers
 
--- the reply's number of a change is its refusal's
-told-fault : (a : Result (Unit {0}) Refusal) → fault_in a ≡ replied (change_reply a)
-told-fault (Ok x) = refl
-told-fault (Err y) = refl
-
 -- a result that is the one shown
 ends_by : {f : FeedReply} {s s' : List ℕ} {r r' : Fed} → r ≡ r' → Ends f s r' s' → Ends f s r s'
 ends_by {f} {s} {s'} e w = subst⁻¹ (λ (y : Fed). Ends f s y s') e w
@@ -79,7 +74,7 @@ pub record On (f : FeedReply) (lent : ℕ) (input : List ℕ) (b : Book) (s : Li
   pub so_far : f ≡ later n at (feeding lent reg (drop at input))
 
 -- after n records, which end at a place
-pub record Going (b₀ : Book) (s₀ input : List ℕ) (b : Book) (rows latest s : List ℕ) (n at : ℕ) : Type 0 where
+pub record Going (b₀ : Book) (s₀ input : List ℕ) (b : Book) (rows : List Row) (latest s : List ℕ) (n at : ℕ) : Type 0 where
   pub size : length s ≡ length s₀
   pub within : at ≤ length input
   pub few : n ≤ at
@@ -103,7 +98,7 @@ first_of b s input l e x =
       so_far = none_before (feeding (length s) (record { list = x.list; closed = b.closed }) input);
     })
 
-pub started : {b : Book} {s input rows : List ℕ} → Checked b s rows → Going b s input b rows (replicate 8192 b.changes) s 0 0
+pub started : {b : Book} {s input : List ℕ} {rows : List Row} → Checked b s rows → Going b s input b rows (replicate 8192 b.changes) s 0 0
 started {b} {s} {input} h = record {
   size = refl;
   within = omega arith;
@@ -185,7 +180,7 @@ finishes f s₀ input b s n at x size kept all =
       kept = λ o. kept (omega arith);
     })
 
-module _ {b₀ : Book} {s₀ input : List ℕ} {b : Book} {rows latest s : List ℕ} {n at : ℕ} (g : Going b₀ s₀ input b rows latest s n at) where
+module _ {b₀ : Book} {s₀ input : List ℕ} {b : Book} {rows : List Row} {latest s : List ℕ} {n at : ℕ} (g : Going b₀ s₀ input b rows latest s n at) where
   pub finished : length input ≤ at → {r : Fed} → r ≡ record { book = b; count = n; taken = at; end = Ok tt } → (l : List Change) → load b₀ s₀ ≡ belongs l
       → Ends (feeding (length s₀) (record { list = l; closed = b₀.closed }) input) s₀ r s
   finished h er l e = ends_by er (finishes _ s₀ input b s n at (g.on l e) g.size g.kept (omega (arith, g.within)))
@@ -240,17 +235,17 @@ module _ {b₀ : Book} {s₀ input : List ℕ} {b : Book} {rows latest s : List 
       read-there = subst⁻¹ (λ (p : List ℕ). IsEntry p f.act) between (front_read (drop at input) (front-is e₀))
 
       -- and what the book said to it
-      module _ {r : Done} {s' rows' : List ℕ} (m : Makes (general (take (at + f.end - at) (drop at input))) b s (key_in f.act) r s' rows') where
+      module _ {r : Done} {s' : List ℕ} {rows' : List Row} (m : Makes (general (take (at + f.end - at) (drop at input))) b s (key_in f.act) r s' rows') where
         said : Meets (change (first_record (drop at input))) b s r.book (change_reply r.answer) s'
         said = subst (λ (p : List ℕ). Meets (change p) b s r.book (change_reply r.answer) s') between m.leaves
 
-        pub stops : true ≡ is_err r.answer → {z : Fed} → z ≡ record { book = r.book; count = n; taken = at; end = r.answer } → (l : List Change)
+        pub stops : {y : Refusal} → r.answer ≡ Err y → {z : Fed} → z ≡ record { book = r.book; count = n; taken = at; end = Err y } → (l : List Change)
             → load b₀ s₀ ≡ belongs l → Ends (feeding (length s₀) (record { list = l; closed = b₀.closed }) input) s₀ z s'
-        stops y ez l e = ends_by ez
-            (ends _ s₀ input b s n at (g.on l e) g.size g.kept some r.book (change_reply r.answer) s' said r.answer (told-fault r.answer)
-            (some-fault r.answer y refl))
+        stops {y} ey ez l e = ends_by ez
+            (ends _ s₀ input b s n at (g.on l e) g.size g.kept some r.book (change_reply r.answer) s' said (Err y)
+            (ap (λ (a : Result (Unit {0}) Refusal). replied (change_reply a)) (sym ey)) (number-some y))
 
-        pub continues : false ≡ is_err r.answer → {j : ℕ} → j ≡ bucket (key_in f.act) → j < 8192
+        pub continues : r.answer ≡ Ok tt → {j : ℕ} → j ≡ bucket (key_in f.act) → j < 8192
             → Going b₀ s₀ input r.book rows' (set latest j r.book.changes) s' (n + 1) (at + f.end)
         continues y {j} ej lt = record {
           size = m.leaves.size ∙ g.size;
@@ -279,7 +274,7 @@ module _ {b₀ : Book} {s₀ input : List ℕ} {b : Book} {rows latest s : List 
               (λ (j : ℕ). On (feeding (length s₀) (record { list = l; closed = b₀.closed }) input) (length s₀) input r.book s' (n + 1) (at + j))
               front-there
               (on-with _ s₀ input b s n at (g.on l e) g.size g.kept some r.book (change_reply r.answer) s' said
-              (sym (told-fault r.answer) ∙ no-fault r.answer y refl));
+              (ap (λ (a : Result (Unit {0}) Refusal). replied (change_reply a)) y));
         }
 
 -- no record at all

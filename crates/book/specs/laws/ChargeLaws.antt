@@ -1,8 +1,7 @@
 -- What is charged from the places is what 01's formulas give for the standing failures.
-use Rattle.std.specs.Prelude.{ℕ, zero, suc, ◌<◌, ◌≡◌, Bool, true, false, cond, length, drop, get_or}
+use Rattle.std.specs.Prelude.{ℕ, zero, suc, ◌<◌, ◌≡◌, List, [], ◌∷◌, map, Bool, true, false, cond, length, drop, get_or}
 use Rattle.std.proofs.Math.Path.{refl, sym, ap, ap₂}
 use Rattle.std.proofs.Common.{◌∙◌, arith, not-suc-le-zero, le_of_suc-le-suc}
-use mathlib.Core.List.{List, [], ◌∷◌, map}
 use Rattle.laws.specs.Lists.{All, also}
 use Rattle.money.specs.Refusals.{no_such_key, price_missing}
 use Rattle.book.specs.Layer.{Key, Rec, Change, Mark, HourPrices, Ticks, is_failure, charge_in, charge_ticks, Amount}

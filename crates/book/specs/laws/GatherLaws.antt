@@ -1,11 +1,10 @@
 -- A pass over the changes finds exactly the standing records: a record stands where it is written if the newest change of its key wrote it there.
 use Rattle.std.specs.Prelude.{ℕ, ◌+◌, ◌≤◌, ◌<◌, ◌≡◌, List, [], ◌∷◌, ◌++◌, map, Bool, not, ◌&&◌}
 use Rattle.std.proofs.Math.Path.{refl, sym, ap, ap₂}
-use Rattle.std.proofs.Common.{◌∙◌, subst, append_assoc, arith}
+use Rattle.std.proofs.Common.{◌∙◌, subst, append_assoc, arith, eq-eqb, ne_eqb}
 use Rattle.std.proofs.Math.Bool.{true, false, cond}
 use Rattle.std.proofs.Math.ListN.{length, length-append}
 use Rattle.std.proofs.Math.Dec.{eqb}
-use borrow.Author.Tests.{eq-eqb, ne_eqb}
 use Rattle.book.specs.Layer.{Key, same_key_mark, Name, Rec, Change, filed, corrected, withdrawn, key_of, kind_of, write, same, same_hour, decoded_bytes, name_before, is_correction, is_withdrawal}
 use Rattle.book.specs.laws.LayerLaws.{same_refl, same-sym, write-pos, write-co}
 use Rattle.book.specs.Register.{write_all, without, standing}

@@ -1,9 +1,7 @@
 -- An hour's imports and exports at places in some bytes: the offset that is worked from them, which is not refused where their list can be played.
-use Prim.Native.Nat.{ℕ, zero, suc, ◌+◌, ◌*◌, ◌≤◌, ◌<◌}
-use Rattle.std.specs.Prelude.{◌≡◌, Bool, true, false, cond, length, drop, get_or}
+use Rattle.std.specs.Prelude.{◌≡◌, ℕ, zero, suc, ◌+◌, ◌*◌, ◌≤◌, ◌<◌, List, [], ◌∷◌, map, Bool, true, false, cond, length, drop, get_or}
 use Rattle.std.proofs.Math.Path.{refl, ap, ap₂}
 use Rattle.std.proofs.Common.{sym, ◌∙◌, subst, arith, not-suc-le-zero, le_of_suc-le-suc}
-use mathlib.Core.List.{List, [], ◌∷◌, map}
 use Rattle.records.specs.Amounts.{same_name}
 use Rattle.book.specs.Layer.{Key, Name, Rec, Change, filed, Good, HourPrices, Quantity, Import, Amount, Pr, Im, Ex, decoded_bytes, name_before, quantity_at, series_of, totals_with, totals_more, entry, entry_fault, offset, offset_answer, offset_entry, export_of, same_hour}
 use Rattle.book.specs.laws.LayerLaws.{PricesFit, series-none, series-at, series-same, totals-more, quantity-most, rates-ok, offset-amount, standing-export, entry-sound, same_names, hour-mark}

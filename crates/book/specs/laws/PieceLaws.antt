@@ -1,10 +1,8 @@
 -- Reading in pieces is reading at once.
 use Rattle.std.proofs.Math.Path.{◌≡◌, refl, sym, ap, subst⁻¹}
-use Rattle.std.proofs.Common.{◌∙◌, subst, arith, length-append, length-drop, drop-drop}
-use mathlib.Core.List.{List, [], ◌∷◌, ◌++◌, append_assoc, append-nil}
-use Rattle.std.specs.Prelude.{Bool, cond, length, drop}
+use Rattle.std.proofs.Common.{◌∙◌, subst, append_assoc, append-nil, arith, length-append, length-drop, drop-drop}
+use Rattle.std.specs.Prelude.{ℕ, zero, suc, ◌+◌, ◌≤◌, ◌<◌, List, [], ◌∷◌, ◌++◌, Bool, cond, length, drop}
 use Rattle.std.proofs.Math.Bool.{true, false}
-use Prim.Native.Nat.{ℕ, zero, suc, ◌+◌, ◌≤◌, ◌<◌}
 use Rattle.std.proofs.lemmas.List.{drop-append-le}
 use Rattle.std.proofs.Math.Seq.{drop-length}
 use Rattle.std.proofs.Math.Dec.{ltb}

@@ -1,6 +1,6 @@
 -- What a change owes on a book that was checked, and whose rows are carried along.
-use Rattle.std.specs.Prelude.{ℕ, ◌+◌, ◌-◌, ◌%◌, ◌≤◌, ◌<◌, ◌≡◌, List, ◌∷◌, true, length, drop}
-use Rattle.book.specs.Layer.{Key, View, Act, Changing, TakeBack, Close, no_key, Change, Entry, key_of, fine, parse, parse_any, act_of, same, Wanted, kind_of}
+use Rattle.std.specs.Prelude.{ℕ, ◌+◌, ◌-◌, ◌%◌, ◌≤◌, ◌<◌, ◌≡◌, List, ◌∷◌, true, Result, Ok, Err, length, drop}
+use Rattle.book.specs.Layer.{Key, View, Act, Changing, TakeBack, Close, no_key, Change, Entry, Refusal, key_of, fine, parse, parse_any, act_of, same, Wanted, kind_of}
 use Rattle.book.specs.tables.LayerTables.{nameable, name_head}
 use Rattle.book.specs.declared.book.Book.{Book}
 use Rattle.book.specs.declared.answers.Done.{Done}
@@ -11,15 +11,21 @@ use Rattle.book.specs.tables.Tables.{survey, viewed}
 use Rattle.book.specs.tables.Places.{live_at}
 use Rattle.book.specs.tables.Index.{hour_slot, bucket, latest_of}
 use Rattle.book.specs.tables.Rows.{Rows, Logged, live_unit}
+use Rattle.book.specs.declared.log.row.Row.{Row}
 
 -- book and bytes belong together, and the rows are those of their changes
-pub record Checked (b : Book) (s rows : List ℕ) : Type 0 where
+pub record Checked (b : Book) (s : List ℕ) (rows : List Row) : Type 0 where
   pub base : Loaded b s
   pub kept : Rows rows base.list base.list
   pub size : length rows ≡ max_changes
 
+-- a book, or the refusal with which a book stays, as a change hands them back
+abbrev pub done_of : Book → Result Book Refusal → Done
+done_of b (Ok c) = record { book = c; answer = Ok tt }
+done_of b (Err e) = record { book = b; answer = Err e }
+
 -- what every call leaves, accepted or refused, and the rows are those of the book that is handed back
-pub record Makes (f : ℕ → Reg → Step) (b : Book) (s : List ℕ) (k : Key) (r : Done) (s' rows' : List ℕ) : Type 0 where
+pub record Makes (f : ℕ → Reg → Step) (b : Book) (s : List ℕ) (k : Key) (r : Done) (s' : List ℕ) (rows' : List Row) : Type 0 where
   pub leaves : Leaves f b s r.book (change_reply r.answer) s'
   pub checked : Checked r.book s' rows'
   -- but for the number of the key, the latest change of a number is no later than before
@@ -56,11 +62,11 @@ key_in Close = no_key
 -- ---- the last change taken back
 
 -- a row whose record stands
-abbrev pub row_stands : ℕ → ℕ
-row_stands row = row % live_unit + live_unit
+abbrev pub row_stands : Row → Row
+row_stands row = record { 0 = row.0 % live_unit + live_unit }
 
 -- the last of n changes replaced or removed a record of its key: the key's mark and hour, and the bytes of its name
-pub record Undoing (s rows : List ℕ) (hs : ℕ) (name : List ℕ) (c : Change) (l : List Change) : Type 0 where
+pub record Undoing (s : List ℕ) (rows : List Row) (hs : ℕ) (name : List ℕ) (c : Change) (l : List Change) : Type 0 where
   pub logged : Logged s rows (length rows) (c ∷ l)
   pub slot_is : hs ≡ hour_slot (key_of c)
   pub able : nameable (key_of c) ≡ true

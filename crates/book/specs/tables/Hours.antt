@@ -5,6 +5,7 @@ use Rattle.book.specs.Layer.{Key, Rec, Change, filed, write, begins, Good, key_o
 use Rattle.book.specs.tables.Tables.{survey}
 use Rattle.book.specs.tables.Rows.{row_live, row_slot, row_place}
 use Rattle.book.specs.tables.Index.{mark_slots}
+use Rattle.book.specs.declared.log.row.Row.{Row}
 
 -- the place of an hour's record says what stands under its key
 pub record PlaceIs (k : Key) (l : List Change) (p : Option ℕ) : Type 0 where
@@ -16,11 +17,11 @@ pub record DayIs (k : Key) (l : List Change) (d : List (Option ℕ)) : Type 0 wh
   pub each : (j : ℕ) → j < day_hours → (e : Option ℕ) → PlaceIs (at_hour k (1 + j)) l (get_or d j e)
 
 -- the hour of a row whose record stands and is of a mark, by the mark's order
-abbrev pub mark_hour : ℕ → ℕ → Option ℕ
+abbrev pub mark_hour : ℕ → Row → Option ℕ
 mark_hour m row = cond (row_live row && eqb (row_slot row / mark_slots) m) (Some (row_slot row % mark_slots)) None
 
 -- the same, where behind mark and hour its bytes begin with a name
-abbrev pub name_hour : ℕ → List ℕ → List ℕ → ℕ → Option ℕ
+abbrev pub name_hour : ℕ → List ℕ → List ℕ → Row → Option ℕ
 name_hour m name s row = cond ((row_live row && eqb (row_slot row / mark_slots) m) && begins name (drop (row_place row + 3) s)) (Some (row_slot row % mark_slots)) None
 
 -- bytes by which the records of a key's mark and name are told from others of the mark

@@ -1,11 +1,9 @@
 -- What the code's prices say: of one hour, and of each hour of a day. The amounts are promised for every price of an hour that they hold.
-use Rattle.std.specs.Prelude.{ℕ, ◌+◌, ◌<◌, ◌≡◌, cond, ◌&&◌, Option, Some, None, List, length, drop, get_or, ltb}
+use Rattle.std.specs.Prelude.{ℕ, ◌+◌, ◌<◌, ◌≡◌, Option, Some, None, List, length, drop, get_or}
 use Rattle.money.specs.Units.{day_hours}
 use Rattle.book.specs.Layer.{HourPrices, prices_in}
 use Rattle.book.specs.tables.LayerTables.{PricesFit}
 use Rattle.book.specs.Amounts.{HourPricing, priced, unpriced}
-use Rattle.book.specs.tables.Rows.{row_live, row_slot}
-use Rattle.book.specs.tables.Index.{mark_slots}
 
 -- the price that an entry holds
 abbrev pub price_in : Option HourPrices → HourPricing
@@ -25,7 +23,3 @@ pub record TableOf (price : ℕ → HourPricing) (t : List (Option HourPrices)) 
 -- the entry of the `PR` that is written at a place
 abbrev pub price_at : List ℕ → ℕ → Option HourPrices
 price_at s x = Some (prices_in (drop x s))
-
--- the hour of a row whose record is a `PR` that stands: `PR` is the first of the marks
-abbrev pub price_hour : ℕ → Option ℕ
-price_hour row = cond (row_live row && ltb (row_slot row) mark_slots) (Some (row_slot row)) None

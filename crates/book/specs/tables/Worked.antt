@@ -8,6 +8,7 @@ use Rattle.book.specs.Register.{write_all, Reply, refused, guarantees, unit_day,
 use Rattle.book.specs.Meaning.{Valid}
 use Rattle.book.specs.tables.Rows.{Logged}
 use Rattle.book.specs.tables.Places.{max_places}
+use Rattle.book.specs.declared.log.row.Row.{Row}
 
 -- ---- lent bytes that begin with changes as written, which can be played
 
@@ -16,7 +17,7 @@ pub record Begun (s : List ℕ) (l : List Change) : Type 0 where
   pub within : length (write_all l) ≤ length s
   pub bytes : take (length (write_all l)) s ≡ write_all l
 
-pub begun : {s rows : List ℕ} {n : ℕ} {l : List Change} → Logged s rows n l → Begun s l
+pub begun : {s : List ℕ} {rows : List Row} {n : ℕ} {l : List Change} → Logged s rows n l → Begun s l
 begun g = record { valid = g.ruled.valid; within = g.within; bytes = g.bytes }
 
 -- ---- an hour's records at their places

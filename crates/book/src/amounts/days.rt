@@ -1,8 +1,8 @@
-// A unit's day.
+// A unit's day. A type for keys that are well formed would be made where the clause is shown now, and taken apart by a `.key` in each promise.
 ghost use Rattle.std.specs.Prelude.{◌≡◌, Some, List, length, is_none, ℕ, ◌≤◌};
 ghost use Rattle.money.specs.Units.{day_hours};
 ghost use Rattle.laws.specs.Sums.{every};
-ghost use Rattle.book.specs.Layer.{Change, Gh, no_part};
+ghost use Rattle.book.specs.Layer.{Change, Gh};
 ghost use Rattle.book.specs.tables.LayerTables.{Wellformed};
 ghost use Rattle.book.specs.tables.CheckedLog.{Says};
 ghost use Rattle.book.specs.Register.{standing, ask, day_of};
@@ -13,7 +13,7 @@ ghost use Rattle.book.specs.tables.Worked.{InDay, place_in, price_for, paid, par
 
 use crate::amounts::hours::DayPlaces;
 use crate::amounts::prices::PriceTable;
-use crate::book::{Book, CHANGES_MAX};
+use crate::book::Book;
 use crate::log::checked_log::CheckedLog;
 use money::production::DayTotals;
 use money::refusals::Refusal;
@@ -22,8 +22,8 @@ use records::amounts::{UnitPart, day_of, unit_part};
 use records::keys::{Key, unit_key};
 use records::layouts::HourPrices;
 
-// The amounts of the day's hours and their start-ups, 0 where the unit has no hour: two series, as money's rule takes them.
-#[derive(Clone, Copy)]
+// The amounts of the day's hours and their start-ups, 0 where the unit has no hour: two series, as at money's `ReadyDay`.
+#[derive(Clone, Copy, Default)]
 struct DayParts {
     ticks: [Ticks; HOURS],
     starts: [CentsPerStart; HOURS],
@@ -46,36 +46,24 @@ fn payable(units: &DayPlaces, table: &PriceTable) -> bool
         .all(|(unit, price)| unit.is_none() || price.is_some())
 }
 
-// What an hour without a record adds.
-fn no_part() -> UnitPart
-    ensures { result ≡ no_part }
-{
-    UnitPart {
-        ticks: Ticks(0),
-        start: CentsPerStart(0),
-    }
-}
-
-// What an hour adds that has a record and its prices.
-#[tactic(auto, unfolding(crate::specs::tables::Worked::part_of))]
+// What an hour adds: nothing without a record or its prices.
+#[tactic(auto, using(crate::proofs::amounts::days::Lemmas::no_parts), unfolding(crate::specs::tables::Worked::part_of))]
 fn part_at(log: &[u8], unit: Option<usize>, price: Option<HourPrices>) -> UnitPart
     requires { (start : ℕ) → unit ≡ Some start → start ≤ length log.now }
     ensures { result ≡ part_of log.now unit price }
 {
     match (unit, price) {
-        (Some(start), Some(prices)) => unit_part(&log[start..], prices).unwrap_or(no_part()),
-        _ => no_part(),
+        (Some(start), Some(prices)) => unit_part(&log[start..], prices).unwrap_or_default(),
+        _ => UnitPart::default(),
     }
 }
 
+// The parts of each hour. It is numbered, as it writes in both series.
 fn parts_of(log: &[u8], units: &DayPlaces, table: &PriceTable) -> DayParts
     requires { InDay log.now units.now }
     ensures { Parts log.now units.now table.now result.ticks result.starts day_hours }
 {
-    let mut d = DayParts {
-        ticks: [Ticks(0); HOURS],
-        starts: [CentsPerStart(0); HOURS],
-    };
+    let mut d = DayParts::default();
     for (h, (unit, price)) in units.iter().zip(table).enumerate() {
         let p = part_at(log, *unit, *price);
         d.ticks[h] = p.ticks;
@@ -108,10 +96,10 @@ impl Book {
     pub fn unit_day(self, log: &[u8], name: &[u8]) -> Result<DayTotals, Refusal>
         ensures { Meets (ask (day_of name.now)) self log.now self (day_reply result) log.now }
     {
-        let mut rows = [0u32; CHANGES_MAX];
-        self.check_rows(log, &mut rows)?;
-        let key = unit_key(name)?;
-        let held = self.checked_log(log, &rows);
-        held.unit_day(key, &held.prices())
+        self.asked(
+            log,
+            unit_key(name),
+            |held, key| held.unit_day(key, &held.prices()),
+        )
     }
 }

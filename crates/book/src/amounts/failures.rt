@@ -1,19 +1,21 @@
 // Failure charges.
-// Hours are asked below 32, where rows have a slot: a type of its own would be made at four places.
-ghost use Rattle.std.specs.Prelude.{◌≡◌, true, List, ◌<◌, ℕ};
-ghost use Rattle.book.specs.Layer.{Change, is_failure, answer_of};
+// Hours are asked below 32, where rows have a slot, and keys are well formed: types for that would be made where the clauses are shown now, and
+// taken apart by a `.key` or an `.hour` in each promise.
+ghost use Rattle.std.specs.Prelude.{◌≡◌, true, cond, List, ◌<◌, ℕ};
+ghost use Rattle.money.specs.Refusals.{mark_unknown};
+ghost use Rattle.book.specs.Layer.{Change, is_failure, answer_of, told, input_of, fault, ask_hour_of};
 ghost use Rattle.book.specs.tables.LayerTables.{Wellformed};
 ghost use Rattle.book.specs.tables.CheckedLog.{Says};
 ghost use Rattle.book.specs.Register.{standing, ask, failure_charge};
 ghost use Rattle.book.specs.Meaning.{Meets, load, charge_reply, charges_reply, hour_charges};
-ghost use Rattle.book.specs.Amounts.{HourPricing, hour_key, charge_of, charges_of};
+ghost use Rattle.book.specs.Amounts.{HourPricing, hour_key, price_of, charge_of, charges_of};
 ghost use Rattle.book.specs.tables.Worked.{Inside, ticks_of, charges_in, named_of};
 ghost use Rattle.book.specs.tables.Prices.{PriceIs};
 ghost use Rattle.book.specs.tables.Index.{mark_slots};
 
 use crate::amounts::places::Spot;
 use crate::answers::{Charges, NamedAmount};
-use crate::book::{Book, CHANGES_MAX};
+use crate::book::Book;
 use crate::log::checked_log::CheckedLog;
 use money::refusals::Refusal;
 use money::units::Ticks;
@@ -27,6 +29,16 @@ fn ticks_of(a: Result<Ticks, Refusal>) -> Ticks
     ensures { result ≡ ticks_of (answer_of a) }
 {
     a.unwrap_or(Ticks(0))
+}
+
+// The key of the failures of a mark and hour.
+fn failure_hour(mark: Mark, hour: u8) -> Result<Key, Refusal>
+    ensures { told result ≡ cond (is_failure mark) (input_of (ask_hour_of mark hour)) (fault mark_unknown) }
+{
+    if !is_failure(mark) {
+        return Err(Refusal::MarkUnknown);
+    }
+    hour_key(mark, hour)
 }
 
 // The charges of the failures at the places, with their names.
@@ -45,18 +57,18 @@ fn charges_at(log: &[u8], places: &[Spot], mark: Mark, prices: HourPrices) -> Ch
 }
 
 impl<'a> CheckedLog<'a> {
-    // The charge of a key's failure, at a price of its hour.
-    pub(crate) fn charge(&self, key: Key, price: Option<HourPrices>) -> Result<Ticks, Refusal>
+    // The charge of a key's failure.
+    pub(crate) fn charge(&self, key: Key) -> Result<Ticks, Refusal>
         requires { Wellformed key }
-        ensures { (l : List Change) → Says self.now l → is_failure key.mark ≡ true → (q : ℕ → HourPricing)
-            → PriceIs (q key.hour) price → charge_reply result ≡ charge_of key (standing l) q }
+        ensures { (l : List Change) → Says self.now l → is_failure key.mark ≡ true
+            → charge_reply result ≡ charge_of key (standing l) (price_of (standing l)) }
     {
         let standing = self.find(key).ok_or(Refusal::NoSuchKey)?;
-        let prices = price.ok_or(Refusal::PriceMissing)?;
+        let prices = self.price(key.hour).ok_or(Refusal::PriceMissing)?;
         failure_charge(&self.bytes[standing.start..], key.mark, prices)
     }
 
-    // The charges of a mark and hour, at a price of the hour. Hour and price are two: which hour a price is of, only the promise can say.
+    // The charges of a mark and hour, at a price of the hour. Hour and price are two: which hour a price is of depends on the log.
     pub(crate) fn charges(
         &self,
         mark: Mark,
@@ -87,24 +99,22 @@ impl Book {
     ) -> Result<Ticks, Refusal>
         ensures { Meets (ask (failure_charge mark.now hour name.now)) self log.now self (charge_reply result) log.now }
     {
-        let mut rows = [0u32; CHANGES_MAX];
-        self.check_rows(log, &mut rows)?;
-        let key = ask_failure(mark, hour, name)?;
-        let held = self.checked_log(log, &rows);
-        held.charge(key, held.price(key.hour))
+        self.asked(
+            log,
+            ask_failure(mark, hour, name),
+            |held, key| held.charge(key),
+        )
     }
 
     // The charges of an hour's failed imports (FI) or exports (FE), by name.
     pub fn charges(self, log: &[u8], mark: Mark, hour: u8) -> Result<Charges, Refusal>
         ensures { charges_reply result ≡ hour_charges mark hour (load self log.now) }
     {
-        let mut rows = [0u32; CHANGES_MAX];
-        self.check_rows(log, &mut rows)?;
-        if !is_failure(mark) {
-            return Err(Refusal::MarkUnknown);
-        }
-        hour_key(mark, hour)?;
-        let held = self.checked_log(log, &rows);
-        held.charges(mark, hour, held.price(hour))
+        self.asked(
+            log,
+            failure_hour(mark, hour),
+            // The key is asked for its refusals.
+            |held, _| held.charges(mark, hour, held.price(hour)),
+        )
     }
 }

@@ -1,5 +1,5 @@
 // An hour's guarantees and its wheel offset.
-// Hours are asked below 32, where rows have a slot: a type of its own would be made at four places.
+// Hours are asked below 32, where rows have a slot: a type for that would be made where the clause is shown now, and taken apart by an `.hour` in each promise.
 ghost use Rattle.std.specs.Prelude.{◌≡◌, List, map, take, length, ℕ, ◌≤◌, ◌<◌};
 ghost use Rattle.book.specs.Layer.{Change, no_entry};
 ghost use Rattle.book.specs.tables.CheckedLog.{Says};
@@ -13,34 +13,21 @@ ghost use Rattle.book.specs.tables.Index.{mark_slots};
 
 use crate::amounts::places::{Places, Spot};
 use crate::answers::{CREDITS_MAX, Credits, Guarantees, NamedAmount};
-use crate::book::{Book, CHANGES_MAX};
+use crate::book::Book;
 use crate::log::checked_log::CheckedLog;
 use money::imports::Import;
-use money::offers::{Offer, PAIRS_MAX};
 use money::refusals::Refusal;
-use money::units::{INTERVALS, Price, Quantity, Ticks};
+use money::units::{INTERVALS, Quantity, Ticks};
 use records::amounts::{hour_offset, offset_entry, totals_with_export};
 use records::keys::{hour_key, key_of};
 use records::layouts::HourPrices;
 use records::marks::Mark;
-use records::names::no_name;
 
 // What stands for an entry where none is read.
 fn no_entry() -> Import
     ensures { result ≡ no_entry }
 {
-    let offer = Offer {
-        count: 0,
-        prices: [Price(0); PAIRS_MAX],
-        quantities: [Quantity(0); PAIRS_MAX],
-    };
-    let name = no_name();
-    Import {
-        name,
-        credit: Ticks(0),
-        quantities: [Quantity(0); INTERVALS],
-        offer,
-    }
+    Import::default()
 }
 
 // The offset's entries of the imports at the places. A place beyond the log's end reads from the end.
@@ -101,7 +88,7 @@ fn worked(
 }
 
 impl<'a> CheckedLog<'a> {
-    // The guarantees of an hour, at a price of it. Hour and price are two: only the promise can say which hour a price is of.
+    // The guarantees of an hour, at a price of it. Hour and price are two: which hour a price is of depends on the log.
     pub(crate) fn guarantees(
         &self,
         hour: u8,
@@ -129,10 +116,11 @@ impl Book {
     pub fn guarantees(self, log: &[u8], hour: u8) -> Result<Guarantees, Refusal>
         ensures { Meets (ask (hour_guarantees hour)) self log.now self (guarantees_reply result) log.now }
     {
-        let mut rows = [0u32; CHANGES_MAX];
-        self.check_rows(log, &mut rows)?;
-        hour_key(Mark::Im, hour)?;
-        let held = self.checked_log(log, &rows);
-        held.guarantees(hour, held.price(hour))
+        self.asked(
+            log,
+            hour_key(Mark::Im, hour),
+            // The key is asked for its refusal.
+            |held, _| held.guarantees(hour, held.price(hour)),
+        )
     }
 }

@@ -1,5 +1,5 @@
 // Where the standing records of a mark and hour are written, by decoded name.
-// Hours are asked below 32, where rows have a slot: a type of its own would be made at four places.
+// Hours are asked below 32, where rows have a slot: a type for that would be made where the clause is shown now, and taken apart by a `.key` in each promise.
 ghost use Rattle.std.specs.Prelude.{◌≡◌, cond, List, ◌∷◌, ◌++◌, map, ltb, length, take, drop, ◌<◌, ◌≤◌};
 ghost use Rattle.book.specs.Layer.{Change};
 ghost use Rattle.book.specs.Register.{standing};
@@ -11,7 +11,6 @@ ghost use Rattle.book.specs.tables.Index.{mark_slots};
 
 use crate::log::checked_log::CheckedLog;
 use crate::log::index::hour_slot;
-use crate::log::rows::{place_in, stands_in};
 use arrayvec::ArrayVec;
 use money::names::Name;
 use records::heads::head_key;
@@ -72,8 +71,8 @@ impl<'a> CheckedLog<'a> {
         let slot = hour_slot(key);
         let mut places = Places::new();
         for row in self.rows {
-            if stands_in(*row, slot) {
-                let start = place_in(*row);
+            if row.stands(slot) {
+                let start = row.place();
                 let name = name_at(self.bytes, start);
                 put_spot(&mut places, Spot { name, start });
             }

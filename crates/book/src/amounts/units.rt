@@ -1,6 +1,6 @@
 // The names of the units: those under which a GH stands.
 ghost use Rattle.std.specs.Prelude.{◌≡◌, ◌&&◌, ℕ, List, Some, eqb, length, ◌<◌, ◌≤◌, ◌+◌, ◌/◌};
-ghost use Rattle.book.specs.Layer.{Change};
+ghost use Rattle.book.specs.Layer.{Change, key_order};
 ghost use Rattle.book.specs.Register.{max_changes, standing};
 ghost use Rattle.book.specs.ByName.{add_name, names_of};
 ghost use Rattle.book.specs.Meaning.{load};
@@ -12,22 +12,22 @@ ghost use Rattle.book.specs.tables.Index.{mark_slots};
 use crate::amounts::places::name_at;
 use crate::book::{Book, CHANGES_MAX};
 use crate::log::checked_log::CheckedLog;
-use crate::log::rows::{LIVE_UNIT, ROW_MARK_SLOTS, ROW_SLOTS, SLOT_UNIT, place_in};
+use crate::log::row::Row;
 use arrayvec::ArrayVec;
 use money::names::Name;
 use money::refusals::Refusal;
 use records::keys::{Key, key_of};
-use records::marks::{Mark, key_order};
-use records::names::comes_before;
+use records::marks::Mark;
+use std::cmp::Ordering;
 
 // Decoded names in byte order, each once.
 pub type Units = ArrayVec<Name, CHANGES_MAX>;
 
-// Whether the record that a row's change wrote stands, and is of the mark at a place of the listing.
-fn of_mark(row: u32, mark: u32) -> bool
-    ensures { result ≡ (row_live row && eqb (row_slot row / mark_slots) mark) }
+// Whether the record that a row's change wrote stands, and is of the mark.
+fn of_mark(row: Row, mark: Mark) -> bool
+    ensures { result ≡ (row_live row && eqb (row_slot row / mark_slots) (key_order mark)) }
 {
-    LIVE_UNIT <= row && row / SLOT_UNIT % ROW_SLOTS / ROW_MARK_SLOTS == mark
+    row.hour_of(mark).is_some()
 }
 
 // The place of a name that is not yet there: the first whose name comes after it, their number where none does. No
@@ -37,11 +37,10 @@ fn place_for(names: &[Name], name: Name) -> Option<usize>
     ensures added { add_name name names.now ≡ with_new result name names.now }
 {
     for (i, x) in names.iter().enumerate() {
-        if comes_before(name, *x) {
-            return Some(i);
-        }
-        if !comes_before(*x, name) {
-            return None;
+        match name.cmp(x) {
+            Ordering::Less => return Some(i),
+            Ordering::Equal => return None,
+            Ordering::Greater => {}
         }
     }
     Some(names.len())
@@ -62,11 +61,10 @@ impl<'a> CheckedLog<'a> {
     pub(crate) fn names(&self, key: Key) -> Units
         ensures { (l : List Change) → Says self.now l → result.items ≡ names_of key (standing l) }
     {
-        let mark = key_order(key.mark) as u32;
         let mut names = Units::new();
         for row in self.rows {
-            if of_mark(*row, mark) {
-                add_name(&mut names, name_at(self.bytes, place_in(*row)));
+            if of_mark(*row, key.mark) {
+                add_name(&mut names, name_at(self.bytes, row.place()));
             }
         }
         names
@@ -78,8 +76,6 @@ impl Book {
     pub fn units(self, log: &[u8]) -> Result<Units, Refusal>
         ensures { unit_list_of result ≡ unit_names (load self log.now) }
     {
-        let mut rows = [0u32; CHANGES_MAX];
-        self.check_rows(log, &mut rows)?;
-        Ok(self.checked_log(log, &rows).names(key_of(Mark::Gh, 1)))
+        self.asked(log, Ok(()), |held, _| Ok(held.names(key_of(Mark::Gh, 1))))
     }
 }

@@ -1,5 +1,5 @@
 // All amounts of a day, from one check of the book.
-// Hours are asked below 32, where rows have a slot: a type of its own would be made at four places.
+// Hours are asked below 32, where rows have a slot: a type for that would be made where the clause is shown now, and taken apart by an `.hour` in each promise.
 ghost use Rattle.std.specs.Prelude.{◌≡◌, List, map, ℕ, ◌<◌, ◌+◌};
 ghost use Rattle.money.specs.Units.{day_hours};
 ghost use Rattle.book.specs.Layer.{Change};
@@ -19,6 +19,7 @@ use crate::amounts::units::Units;
 use crate::answers::{DayAmounts, HourAmounts, UnitAmounts};
 use crate::book::{Book, CHANGES_MAX};
 use crate::log::checked_log::CheckedLog;
+use crate::log::row::Row;
 use arrayvec::ArrayVec;
 use money::refusals::Refusal;
 use money::units::HOURS;
@@ -28,7 +29,7 @@ use records::marks::Mark;
 use std::array;
 
 impl<'a> CheckedLog<'a> {
-    // The amounts of an hour, at a price of it. Hour and price are two: only the promise can say which hour a price is of.
+    // The amounts of an hour, at a price of it. Hour and price are two: which hour a price is of depends on the log.
     fn hour_amounts(&self, hour: u8, price: Option<HourPrices>) -> HourAmounts
         requires { hour < mark_slots }
         ensures { (l : List Change) → Says self.now l → (q : ℕ → HourPricing) → PriceIs (q hour) price
@@ -82,7 +83,9 @@ impl Book {
     pub fn day(self, log: &[u8]) -> Result<DayAmounts, Refusal>
         ensures { told_day result ≡ day_amounts (load self log.now) }
     {
-        let mut rows = [0u32; CHANGES_MAX];
+        // Not by `asked`, which would move the day's 49,480 bytes once more: settle took 606,208 bytes of stack on a busy day so, where its manual page says
+        // 576 KiB.
+        let mut rows = [Row::default(); CHANGES_MAX];
         self.check_rows(log, &mut rows)?;
         let held = self.checked_log(log, &rows);
         let table = held.prices();

@@ -6,11 +6,12 @@ ghost use Rattle.book.specs.Register.{max_changes};
 ghost use Rattle.book.specs.tables.Rows.{InReach, Logged, Log};
 
 use crate::book::CHANGES_MAX;
+use crate::log::row::Row;
 
 #[derive(Clone, Copy)]
 pub(crate) struct CheckedLog<'a> {
     pub(crate) bytes: &'a [u8],
-    pub(crate) rows: &'a [u32],
+    pub(crate) rows: &'a [Row],
     ghost in_reach: { InReach bytes.now rows.now },
     ghost few: { length rows.now ≤ max_changes },
     ghost log: { ∥ Log bytes.now rows.now (length rows.now) ∥₁ },
@@ -18,7 +19,7 @@ pub(crate) struct CheckedLog<'a> {
 
 impl<'a> CheckedLog<'a> {
     // With the first n rows.
-    pub(crate) fn new(bytes: &'a [u8], rows: &'a [u32; CHANGES_MAX], n: usize) -> CheckedLog<'a>
+    pub(crate) fn new(bytes: &'a [u8], rows: &'a [Row; CHANGES_MAX], n: usize) -> CheckedLog<'a>
         requires { Log bytes.now rows.now n }
         ensures bytes { result.bytes.now ≡ bytes.entry.now }
         ensures rows { result.rows.now ≡ take n rows.entry.now }

@@ -13,17 +13,11 @@ pub(crate) const SLOTS: usize = 512;
 // The numbers that a key may have.
 pub(crate) const BUCKETS: usize = 8192;
 
-fn wide(b: u8) -> usize
-    ensures { (result ≡ b) × (result < 256) }
-{
-    b as usize
-}
-
 pub(crate) fn hour_slot(key: Key) -> usize
     ensures { (result ≡ hour_slot key) × (result < slots) }
 {
     let mark = key.mark;
-    wide(key_order(mark)) * MARK_SLOTS + wide(key.hour)
+    usize::from(key_order(mark)) * MARK_SLOTS + usize::from(key.hour)
 }
 
 pub(crate) fn bucket_of(key: Key) -> usize
@@ -34,7 +28,7 @@ pub(crate) fn bucket_of(key: Key) -> usize
     let mut sum = hour_slot(key);
     let mut weight: usize = 449;
     for b in bytes {
-        sum += wide(b) * weight;
+        sum += usize::from(b) * weight;
         weight = weight * 31 % BUCKETS;
     }
     sum % BUCKETS

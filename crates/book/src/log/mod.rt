@@ -4,4 +4,5 @@ pub(crate) mod checked_log;
 pub(crate) mod index;
 pub(crate) mod refusal;
 pub(crate) mod replay;
+pub(crate) mod row;
 pub(crate) mod rows;

@@ -27,7 +27,8 @@ fn check_space(changes: usize, used: usize, len: usize, lent: usize) -> Result<(
     Ok(())
 }
 
-// Whether a change can be made, by what stands under its key, by how many stand of its mark and hour, and by what is free.
+// Whether a change can be made, by what stands under its key, by how many stand of its mark and hour, and by what is free. A struct of
+// the seven would be made at the two calls and taken apart here.
 #[tactic(auto, unfolding(crate::specs::tables::Tables::change_fault))]
 pub(crate) fn check_change(
     view: View,

@@ -8,22 +8,20 @@ use Rattle.std.proofs.lemmas.List.{get_or_default}
 use Rattle.std.proofs.lemmas.List.Sums.{AllPass-from_list_all, list_all-from_AllPass}
 use Rattle.std.proofs.lemmas.Slice.Zip.{get_or-zip, length-zip}
 use Rattle.laws.specs.Sums.{every}
+use Rattle.records.specs.tables.Defaults.{default-part}
 use Rattle.laws.specs.SumLaws.{every-ext, every-yes, every-at}
 use Rattle.money.specs.declared.production.DayTotals.{DayTotals}
-use Rattle.book.specs.Layer.{Key, Change, Gh, UnitPart, no_ticks, no_start, HourPrices, Ticks, CentsPerStart, Refusal, at_hour, day_answer, day_answer_of, reversal, Asked, got, bad, ask_unit, input_of, fine, fault}
+use Rattle.book.specs.Layer.{Key, Change, Gh, UnitPart, no_ticks, no_start, HourPrices, Ticks, CentsPerStart, Refusal, at_hour, day_answer, day_answer_of, reversal, Asked, got, bad, ask_unit, input_of, fine}
 use Rattle.book.specs.laws.LayerLaws.{unit-marked}
-use Rattle.book.specs.declared.book.Book.{Book}
-use Rattle.book.specs.Register.{standing, ask, day_of, Reply, refused, unit_day}
-use Rattle.book.specs.Amounts.{HourPricing, price_of, absent, payable, unit_at, day_total, unit_day_of}
-use Rattle.book.specs.Meaning.{load, belongs, Meets, day_reply}
+use Rattle.book.specs.Register.{standing, Reply, refused, unit_day}
+use Rattle.book.specs.Amounts.{HourPricing, absent, payable, unit_at, day_total, unit_day_of}
+use Rattle.book.specs.Meaning.{day_reply}
 use Rattle.book.specs.tables.Hours.{DayIs}
 use Rattle.book.specs.tables.Prices.{TableOf}
-use Rattle.book.specs.tables.Rows.{Rowed, Logged}
 use Rattle.book.specs.tables.Worked.{Begun, place_in, price_for, part_of, InDay, paid, Parts, total_reply}
 use Rattle.book.specs.laws.RegisterLaws.{by-test}
 use Rattle.book.specs.laws.StandLaws.{found_at}
 use Rattle.book.specs.laws.DayLaws.{places-in, payable-is, day-is}
-use Rattle.book.proofs.book.Rows.{question-wrong, question-right}
 
 -- ---- a test of all of a list, as one of each number
 
@@ -46,6 +44,10 @@ all-paid u t eu et =
     every-all 24 _ (λ (x : Option ℕ × Option HourPrices). paid x.0 x.1) (zip u t) (None, None) (omega (arith, length-zip u t))
     (λ j x h. ap (λ (y : Option ℕ × Option HourPrices). paid y.0 y.1) (get_or-zip u t j x (omega arith) (omega arith))
     ∙ ap₂ paid (get_or_default u j x.0 None (omega arith)) (get_or_default t j x.1 None (omega arith)))
+
+-- ---- the default part is none
+
+pub ruleset no_parts = (default-part)
 
 -- ---- the loop over the hours
 
@@ -174,27 +176,11 @@ module _ {s : List ℕ} {l : List Change} (o : Begun s l) (k : Key) (u : List (O
           let y = sym (payable-is o k marked u du price t dt) ∙ h in
           day-told r ∙ ap total_reply e ∙ day-is o k marked u du price t dt ts ss ps y ∙ sym (day-somewhere some ∙ ap priced-day y)
 
--- ---- the question of a book whose bytes are checked
+-- ---- the mark of the key that is asked for
 
-module _ (b : Book) (s : List ℕ) {rows : List ℕ} (w : Rowed (load b s) true rows) (name : List ℕ) where
-  abbrev day-for : List Change → Key → Reply
-  day-for l k = unit_day_of k (standing l) (price_of (standing l))
-
-  pub unit-wrong : {n : ℕ} → fault n ≡ input_of (ask_unit name) → Meets (ask (day_of name)) b s b (refused n) s
-  unit-wrong e = question-wrong b s w (day_of name) (ask_unit name) day-for (λ l. refl) e
-
-  module _ {k : Key} (e : fine k ≡ input_of (ask_unit name)) where
-    unit-asked : k.mark ≡ Gh
-    unit-asked = go (ask_unit name) refl e
-      where
-        go : (a : Asked) → ask_unit name ≡ a → fine k ≡ input_of a → k.mark ≡ Gh
-        go (got j t) q v = let p : k ≡ j = cc in ap (λ (y : Key). y.mark) p ∙ unit-marked name j t q
-        go (bad m) q v = cc
-
-    pub unit-right : {hs hr : List ℕ} → ((l : List Change) → load b s ≡ belongs l → Logged hs hr (length hr) l) → {t : List (Option HourPrices)}
-        → ((l : List Change) → Logged hs hr (length hr) l → TableOf (price_of (standing l)) t) → {y : Reply}
-        → ((l : List Change) → Logged hs hr (length hr) l → k.mark ≡ Gh → (price : ℕ → HourPricing) → TableOf price t → y ≡ unit_day_of k (standing l) price)
-        → Meets (ask (day_of name)) b s b y s
-    unit-right says table f =
-        question-right b s w (day_of name) (ask_unit name) day-for (λ l. refl) e
-        (λ l d. f l (says l d) unit-asked (price_of (standing l)) (table l (says l d)))
+pub unit-is : (name : List ℕ) {k : Key} → fine k ≡ input_of (ask_unit name) → k.mark ≡ Gh
+unit-is name {k} e = go (ask_unit name) refl e
+  where
+    go : (a : Asked) → ask_unit name ≡ a → fine k ≡ input_of a → k.mark ≡ Gh
+    go (got j t) q v = let p : k ≡ j = cc in ap (λ (y : Key). y.mark) p ∙ unit-marked name j t q
+    go (bad m) q v = cc

@@ -1,26 +1,30 @@
 -- What each answer of failure charges rests on.
-use Rattle.std.proofs.Common.{ℕ, suc, ◌+◌, ◌≤◌, ◌<◌, ◌≡◌, refl, sym, ap, ap₂, ◌∙◌, subst, List, [], ◌∷◌, ◌++◌, map, Bool, true, cond, Option, Some, None, is_some, Result, Ok, Err, arith, length, length-drop, drop, drop-cons, get_or}
+use Rattle.std.proofs.Common.{ℕ, suc, ◌+◌, ◌≤◌, ◌<◌, ◌≡◌, refl, sym, ap, ap₂, ◌∙◌, subst, List, [], ◌∷◌, ◌++◌, map, Bool, true, false, cond, Option, Some, None, is_some, Result, Ok, Err, arith, length, length-drop, drop, drop-cons, get_or}
 use Rattle.std.proofs.lemmas.List.{length-map}
-use Rattle.book.specs.Layer.{Key, Change, Mark, HourPrices, Ticks, Refusal, is_failure, charge_in, answer_of, Asked, got, bad, ask_hour_of, ask_failure, input_of, fine, fault}
+use Rattle.arrayvec.specs.ArrayVec.{ArrayVec as Items}
+use Rattle.money.specs.Refusals.{mark_unknown}
+use Rattle.money.specs.declared.refusals.Refusal.TheVariants.{NotTogether}
+use Rattle.book.specs.Layer.{Key, Change, Mark, HourPrices, Ticks, Refusal, is_failure, charge_in, answer_of, Asked, got, bad, ask_hour_of, ask_failure, input_of, fine, fault, told, number_of}
 use Rattle.book.specs.laws.LayerLaws.{Padded, Wellformed, hour-asked, failure-marked, mark-hour-formed}
 use Rattle.book.specs.declared.book.Book.{Book}
 use Rattle.book.specs.declared.answers.NamedAmount.{NamedAmount}
 use Rattle.book.specs.declared.amounts.places.Spot.{Spot}
 use Rattle.book.specs.declared.log.rows.Standing.{Standing}
-use Rattle.book.specs.Register.{standing, ask, failure_charge, Reply, refused}
-use Rattle.book.specs.Amounts.{HourPricing, hour_key, price_of, charge_of, ChargesReply, charged, no, charges_of}
+use Rattle.book.specs.Register.{standing, refused}
+use Rattle.book.specs.Amounts.{HourPricing, hour_key, price_of, charge_of, charged, no, charges_of}
 use Rattle.book.specs.ByName.{by_name}
-use Rattle.book.specs.Meaning.{load, belongs, Meets, charge_reply, charges_keyed, hour_charges}
+use Rattle.book.specs.Meaning.{Load, load, belongs, mismatched, charge_reply, charges_reply, charges_keyed, hour_charges}
 use Rattle.book.specs.tables.Places.{max_places, spot_of}
 use Rattle.book.specs.tables.Prices.{PriceIs, price_in}
-use Rattle.book.specs.tables.Rows.{Rowed, Logged, Log, Sought}
+use Rattle.book.specs.tables.Rows.{Logged, Log, Sought}
 use Rattle.book.specs.tables.Worked.{begun, no_spot, Inside, amount_reply, charge_at_spot, charges_in, named_of}
 use Rattle.book.specs.laws.StandLaws.{found_at}
 use Rattle.book.specs.laws.WorkedLaws.{inside}
 use Rattle.book.specs.laws.ChargeLaws.{charge-absent, charge-unpriced, charge-found, charges-absent, charges-unpriced, charges-found}
-use Rattle.book.proofs.book.Rows.{loaded-by, question-wrong, question-right}
+use Rattle.book.proofs.book.Rows.{by-load}
 use Rattle.book.proofs.log.rows.Lemmas.{bound-by}
 use Rattle.book.proofs.amounts.guarantees.Pairing.{pair_of, Naming, naming-start, naming-more, naming-room, naming-all}
+use Rattle.book.specs.declared.log.row.Row.{Row}
 
 -- ---- the loop over the places
 
@@ -55,10 +59,10 @@ charge-told : (r : Result Ticks Refusal) → charge_reply r ≡ amount_reply (an
 charge-told (Ok t) = refl
 charge-told (Err e) = refl
 
-abbrev pub Seeks : List ℕ → List ℕ → Key → Option Standing → Type 0
+abbrev pub Seeks : List ℕ → List Row → Key → Option Standing → Type 0
 Seeks s rows k f = (l : List Change) → Logged s rows (length rows) l → k.hour < 32 → Padded k.name → Sought rows k f l
 
-module _ {s rows : List ℕ} {k : Key} {f : Option Standing} (ef : Seeks s rows k f) (wk : Wellformed k) where
+module _ {s : List ℕ} {rows : List Row} {k : Key} {f : Option Standing} (ef : Seeks s rows k f) (wk : Wellformed k) where
   sought : (l : List Change) → Logged s rows (length rows) l → Sought rows k f l
   sought l g = ef l g wk.low wk.padded
 
@@ -85,14 +89,14 @@ module _ {s rows : List ℕ} {k : Key} {f : Option Standing} (ef : Seeks s rows 
 
 -- ---- what a pass over the rows gathered for a mark and hour
 
-pub record Placed (s rows : List ℕ) (m : Mark) (h : ℕ) (xs : List Spot) : Type 0 where
+pub record Placed (s : List ℕ) (rows : List Row) (m : Mark) (h : ℕ) (xs : List Spot) : Type 0 where
   pub are : (l : List Change) → Logged s rows (length rows) l → xs ≡ map (spot_of l) (by_name (hour_key m h) (standing l))
 
-pub placed : {s rows : List ℕ} {h : ℕ} {m : Mark} {k : Key} {xs : List Spot} → k ≡ hour_key m h
+pub placed : {s : List ℕ} {rows : List Row} {h : ℕ} {m : Mark} {k : Key} {xs : List Spot} → k ≡ hour_key m h
     → ((l : List Change) → Logged s rows (length rows) l → xs ≡ map (spot_of l) (by_name k (standing l))) → Placed s rows m h xs
 placed e w = record { are = λ l g. w l g ∙ ap (λ (x : Key). map (spot_of l) (by_name x (standing l))) e }
 
-module _ {s rows : List ℕ} {h : ℕ} {m : Mark} {xs : List Spot} (w : Placed s rows m h xs) where
+module _ {s : List ℕ} {rows : List Row} {h : ℕ} {m : Mark} {xs : List Spot} (w : Placed s rows m h xs) where
   pub placed-size : {l : List Change} → Logged s rows (length rows) l → length (by_name (hour_key m h) (standing l)) ≡ length xs
   placed-size {l} g = sym (length-map (by_name (hour_key m h) (standing l)) (spot_of l)) ∙ ap length (sym (w.are l g))
 
@@ -126,6 +130,14 @@ hour-is m h {k} e = go (ask_hour_of m h) refl e
     go (got j t) q w = let p : k ≡ j = cc in p ∙ hour-asked m h j t q
     go (bad n) q w = cc
 
+-- its mark, of a failure
+pub failure-is : (mark : List ℕ) (h : ℕ) (name : List ℕ) {k : Key} → fine k ≡ input_of (ask_failure mark h name) → is_failure k.mark ≡ true
+failure-is mark h name {k} e = go (ask_failure mark h name) refl e
+  where
+    go : (a : Asked) → ask_failure mark h name ≡ a → fine k ≡ input_of a → is_failure k.mark ≡ true
+    go (got j t) q v = let p : k ≡ j = cc in ap (λ (y : Key). is_failure y.mark) p ∙ failure-marked mark h name j t q
+    go (bad n) q v = cc
+
 -- its hour
 pub hour-low : (m : Mark) (h : ℕ) {k : Key} → fine k ≡ input_of (ask_hour_of m h) → h < 32
 hour-low m h {k} e = subst (λ (j : Key). j.hour < 32) (hour-is m h e) (mark-hour-formed m h k e).low
@@ -138,40 +150,35 @@ keyed-hour m h {k} e l = go (ask_hour_of m h) refl e
     go (got j t) q w = ap (λ (y : Key). charges_of y (standing l) (price_of (standing l))) (sym (hour-asked m h j t q))
     go (bad n) q w = cc
 
-module _ (b : Book) (s : List ℕ) {rows : List ℕ} (w : Rowed (load b s) true rows) where
-  module _ (mark : List ℕ) (h : ℕ) (name : List ℕ) where
-    abbrev charge-for : List Change → Key → Reply
-    charge-for l k = charge_of k (standing l) (price_of (standing l))
+-- the key of a mark and hour that a question for charges asks for
+module _ (m : Mark) (h : ℕ) {r : Result Key Refusal} (er : told r ≡ cond (is_failure m) (input_of (ask_hour_of m h)) (fault mark_unknown)) where
+  failed : {k : Key} → r ≡ Ok k → (is_failure m ≡ true) × (fine k ≡ input_of (ask_hour_of m h))
+  failed {k} q = go (is_failure m) refl (ap told (sym q) ∙ er)
+    where
+      go : (x : Bool) → is_failure m ≡ x → fine k ≡ cond x (input_of (ask_hour_of m h)) (fault mark_unknown)
+          → (is_failure m ≡ true) × (fine k ≡ input_of (ask_hour_of m h))
+      go true p v = (p, v)
+      go false p v = cc
 
-    pub failure-wrong : {n : ℕ} → fault n ≡ input_of (ask_failure mark h name) → Meets (ask (failure_charge mark h name)) b s b (refused n) s
-    failure-wrong e = question-wrong b s w (failure_charge mark h name) (ask_failure mark h name) charge-for (λ l. refl) e
+  pub failure-low : {k : Key} → r ≡ Ok k → h < 32
+  failure-low q = hour-low m h (failed q).1
 
-    module _ {k : Key} (e : fine k ≡ input_of (ask_failure mark h name)) where
-      failure-asked : is_failure k.mark ≡ true
-      failure-asked = go (ask_failure mark h name) refl e
-        where
-          go : (a : Asked) → ask_failure mark h name ≡ a → fine k ≡ input_of a → is_failure k.mark ≡ true
-          go (got j t) q v = let p : k ≡ j = cc in ap (λ (y : Key). is_failure y.mark) p ∙ failure-marked mark h name j t q
-          go (bad n) q v = cc
+  unfailed : (l : List Change) {e : Refusal} → r ≡ Err e → no (number_of e) ≡ hour_charges m h (belongs l)
+  unfailed l {e} q = go (is_failure m) (ask_hour_of m h) (ap told (sym q) ∙ er)
+    where
+      go : (x : Bool) (a : Asked) → fault (number_of e) ≡ cond x (input_of a) (fault mark_unknown) → no (number_of e) ≡ cond x (charges_keyed l a) (no mark_unknown)
+      go true (got k t) v = cc
+      go true (bad n) v = let p : number_of e ≡ n = cc in ap no p
+      go false a v = let p : number_of e ≡ mark_unknown = cc in ap no p
 
-      pub failure-right : {hs hr : List ℕ} → ((l : List Change) → load b s ≡ belongs l → Logged hs hr (length hr) l) → {p : Option HourPrices}
-          → ((l : List Change) → Logged hs hr (length hr) l → PriceIs (price_of (standing l) k.hour) p) → {y : Reply}
-          → ((l : List Change) → Logged hs hr (length hr) l → is_failure k.mark ≡ true → (q : ℕ → HourPricing) → PriceIs (q k.hour) p
-          → y ≡ charge_of k (standing l) q) → Meets (ask (failure_charge mark h name)) b s b y s
-      failure-right says price f =
-          question-right b s w (failure_charge mark h name) (ask_failure mark h name) charge-for (λ l. refl) e
-          (λ l d. f l (says l d) failure-asked (price_of (standing l)) (price l (says l d)))
-
-  module _ (m : Mark) (h : ℕ) (f : is_failure m ≡ true) where
-    charges-so : (l : List Change) → load b s ≡ belongs l → hour_charges m h (load b s) ≡ charges_keyed l (ask_hour_of m h)
-    charges-so l d = ap (hour_charges m h) d ∙ ap (λ (t : Bool). cond t (charges_keyed l (ask_hour_of m h)) (no 2)) f
-
-    pub charges-right : {k : Key} → fine k ≡ input_of (ask_hour_of m h) → {hs hr : List ℕ}
-        → ((l : List Change) → load b s ≡ belongs l → Logged hs hr (length hr) l) → {p : Option HourPrices}
-        → ((l : List Change) → Logged hs hr (length hr) l → PriceIs (price_of (standing l) h) p) → {y : ChargesReply}
-        → ((l : List Change) → Logged hs hr (length hr) l → is_failure m ≡ true → (q : ℕ → HourPricing) → PriceIs (q h) p
-        → y ≡ charges_of (hour_key m h) (standing l) q) → y ≡ hour_charges m h (load b s)
-    charges-right {k} e says price v =
-        let x = loaded-by b s w in
-        v x.list (says x.list x.is) f (price_of (standing x.list)) (price x.list (says x.list x.is)) ∙ keyed-hour m h e x.list
-        ∙ sym (charges-so x.list x.is)
+  pub charges-so : (b : Book) (s : List ℕ) {t : Result (Items NamedAmount) Refusal} → (load b s ≡ mismatched → t ≡ Err NotTogether)
+      → ((l : List Change) (e : Refusal) → load b s ≡ belongs l → r ≡ Err e → t ≡ Err e)
+      → ((l : List Change) (k : Key) → load b s ≡ belongs l → r ≡ Ok k → is_failure m ≡ true
+      → charges_reply t ≡ charges_of (hour_key m h) (standing l) (price_of (standing l))) → charges_reply t ≡ hour_charges m h (load b s)
+  charges-so b s {t} apart wrong right = by-load (λ (d : Load). charges_reply t ≡ hour_charges m h d) b s (λ e. ap charges_reply (apart e)) (λ l e. go l e r refl)
+    where
+      go : (l : List Change) → load b s ≡ belongs l → (x : Result Key Refusal) → r ≡ x → charges_reply t ≡ hour_charges m h (belongs l)
+      go l e (Err n) q = ap charges_reply (wrong l n e q) ∙ unfailed l q
+      go l e (Ok k) q =
+          let f = failed q in
+          right l k e q f.0 ∙ keyed-hour m h f.1 l ∙ sym (ap (λ (x : Bool). cond x (charges_keyed l (ask_hour_of m h)) (no mark_unknown)) f.0)

@@ -1,23 +1,21 @@
 -- What an hour's guarantees rest on.
-use Rattle.std.proofs.Common.{ℕ, ◌≡◌, refl, sym, ap, ap₂, ◌∙◌, List, [], ◌∷◌, map, true, Option, Some, None, Result, Ok, Err, arith, length, take, get_or, get_or-take, pos}
+use Rattle.std.proofs.Common.{ℕ, ◌≡◌, refl, sym, ap, ap₂, ◌∙◌, List, [], ◌∷◌, map, Option, Some, None, Result, Ok, Err, arith, length, take, get_or, get_or-take, pos}
 use Rattle.records.specs.Amounts.{no_import}
-use Rattle.book.specs.Layer.{Key, Rec, Change, ask_hour_of, input_of, fine, fault, Im, Ex, HourPrices, Quantity, Ticks, Import, Refusal, Amount, answer_of, offset, offset_answer, offset_entry}
+use Rattle.book.specs.declared.log.row.Row.{Row}
+use Rattle.book.specs.Layer.{Rec, Change, Im, Ex, HourPrices, Quantity, Ticks, Import, Refusal, Amount, answer_of, offset, offset_answer, offset_entry}
 use Rattle.book.specs.laws.LayerLaws.{answer-front}
-use Rattle.book.specs.declared.book.Book.{Book}
 use Rattle.book.specs.declared.answers.NamedAmount.{NamedAmount}
 use Rattle.book.specs.declared.amounts.places.Spot.{Spot}
-use Rattle.book.specs.Register.{standing, ask, hour_guarantees, guarantees, refused, Reply}
-use Rattle.book.specs.Amounts.{HourPricing, unpriced, hour_key, price_of, totals_of, guarantees_at, guarantees_of}
+use Rattle.book.specs.Register.{standing, guarantees, refused, Reply}
+use Rattle.book.specs.Amounts.{HourPricing, unpriced, hour_key, totals_of, guarantees_at, guarantees_of}
 use Rattle.book.specs.ByName.{by_name}
-use Rattle.book.specs.Meaning.{load, belongs, Meets}
 use Rattle.book.specs.tables.Prices.{PriceIs, price_in}
-use Rattle.book.specs.tables.Rows.{Rowed, Logged}
+use Rattle.book.specs.tables.Rows.{Logged}
 use Rattle.book.specs.tables.Worked.{begun, Workable, entries_in, entry_credit, totals_in, named_of, worked_in}
 use Rattle.book.specs.laws.ValidLaws.{by_name-few}
 use Rattle.book.specs.laws.OffsetLaws.{offset-given, priced-some}
 use Rattle.book.specs.laws.WorkedLaws.{here, entries-are, totals-are, named-are}
-use Rattle.book.proofs.book.Rows.{question-wrong, question-right}
-use Rattle.book.proofs.amounts.failures.Lemmas.{Placed, placed-size, hour-is}
+use Rattle.book.proofs.amounts.failures.Lemmas.{Placed, placed-size}
 
 -- ---- worked from the places: the first of the sixteen entries are those of the imports
 
@@ -60,7 +58,7 @@ some-unpriced : (rs : List Rec) → (length rs ≡ 0 → ⊥) → (es : List Rec
 some-unpriced [] e es = absurd (e refl)
 some-unpriced (r ∷ rs) e es = refl
 
-module _ {s rows : List ℕ} {h : ℕ} {xs : List Spot} (wi : Placed s rows Im h xs) (l : List Change) (g : Logged s rows (length rows) l) (q : ℕ → HourPricing)
+module _ {s : List ℕ} {rows : List Row} {h : ℕ} {xs : List Spot} (wi : Placed s rows Im h xs) (l : List Change) (g : Logged s rows (length rows) l) (q : ℕ → HourPricing)
   where
     abbrev imports : List Rec
     imports = by_name (hour_key Im h) (standing l)
@@ -107,21 +105,3 @@ module _ {s rows : List ℕ} {h : ℕ} {xs : List Spot} (wi : Placed s rows Im h
             (named-are l ps imports)
             ∙ priced-some ps imports exports (λ e. some (sym (placed-size wi g) ∙ e))
             ∙ ap (λ (x : HourPricing). guarantees_at x imports exports) (sym (ap price_in z) ∙ w.is)
-
--- ---- the question of a book whose bytes are checked
-
-module _ (b : Book) (s : List ℕ) {rows : List ℕ} (w : Rowed (load b s) true rows) (h : ℕ) where
-  abbrev guarantees-for : List Change → Key → Reply
-  guarantees-for l k = guarantees_of (standing l) (price_of (standing l)) k.hour
-
-  pub hour-wrong : {n : ℕ} → fault n ≡ input_of (ask_hour_of Im h) → Meets (ask (hour_guarantees h)) b s b (refused n) s
-  hour-wrong e = question-wrong b s w (hour_guarantees h) (ask_hour_of Im h) guarantees-for (λ l. refl) e
-
-  pub hour-right : {k : Key} → fine k ≡ input_of (ask_hour_of Im h) → {hs hr : List ℕ}
-      → ((l : List Change) → load b s ≡ belongs l → Logged hs hr (length hr) l) → {p : Option HourPrices}
-      → ((l : List Change) → Logged hs hr (length hr) l → PriceIs (price_of (standing l) h) p) → {y : Reply}
-      → ((l : List Change) → Logged hs hr (length hr) l → (q : ℕ → HourPricing) → PriceIs (q h) p → y ≡ guarantees_of (standing l) q h)
-      → Meets (ask (hour_guarantees h)) b s b y s
-  hour-right e says price f =
-      question-right b s w (hour_guarantees h) (ask_hour_of Im h) guarantees-for (λ l. refl) e
-      (λ l d. f l (says l d) (price_of (standing l)) (price l (says l d)) ∙ ap (guarantees-for l) (sym (hour-is Im h e)))

@@ -1,7 +1,6 @@
 -- The loop over the rows that puts what it finds to the place of its hour, and the day that it finds so.
-use Rattle.std.proofs.Common.{ℕ, ◌+◌, ◌/◌, ◌%◌, ◌≤◌, ◌<◌, ◌≡◌, refl, sym, ap, ap₂, ◌∙◌, List, ◌++◌, Bool, true, false, cond, ◌&&◌, arith, length, drop, get_or, replicate, drop-drop, eqb, eq-eqb, ne_eqb, eqb-true}
+use Rattle.std.proofs.Common.{ℕ, ◌+◌, ◌/◌, ◌%◌, ◌≤◌, ◌<◌, ◌≡◌, refl, sym, ap, ap₂, ◌∙◌, List, ◌++◌, Bool, true, false, cond, ◌&&◌, arith, length, drop, get_or, replicate, drop-drop, eqb, eq-eqb}
 use Rattle.std.specs.Prelude.{Option, Some, None, is_some}
-use Rattle.std.proofs.lemmas.Bool.{eqb-false}
 use Rattle.money.specs.Names as names
 use Rattle.arrayvec.specs.ArrayVec.{ArrayVec}
 use Rattle.book.specs.Layer.{Key, Change, filed, key_of, write, begins, Good, key_mark, key_order, same_key_mark, same, same_name, at_hour}
@@ -14,27 +13,24 @@ use Rattle.book.specs.tables.Hours.{PlaceIs, DayIs, name_hour, Written}
 use Rattle.book.specs.tables.Worked.{begun}
 use Rattle.book.specs.laws.RegisterLaws.{by-test, true≠false}
 use Rattle.book.specs.laws.StandLaws.{found_at, pick-key}
-use Rattle.book.proofs.log.rows.Lemmas.{and_left, and-turned}
+use Rattle.book.proofs.log.rows.Lemmas.{and_left, and-turned, eqb-turned}
 use Rattle.book.proofs.amounts.Passing.{turned, turned-seen, turned-there, Passed, by_hour, kept, blank-at, hours-size, hour-at}
-
-eqb-turned : (a b : ℕ) → eqb a b ≡ eqb b a
-eqb-turned a b = by-test (eqb b a)
-    (λ t. eq-eqb a b (sym (eqb-true b a t)) ∙ sym t)
-    (λ t. ne_eqb a b (λ e. eqb-false b a t (sym e)) ∙ sym t)
+use Rattle.book.specs.declared.log.row.Row.{Row}
+use Rattle.book.specs.tables.Rows.{no_row}
 
 abbrev pub own_place : ℕ → ℕ
 own_place x = x
 
 -- ---- what a row says of a mark and name
 
-module _ {s rows : List ℕ} {i : ℕ} (lt : i < length rows) {l : List Change} (g : Logged s rows (length rows) l) where
-  slot-hour : row_slot (get_or rows i 0) % 32 ≡ (key_of (turned lt g)).hour
+module _ {s : List ℕ} {rows : List Row} {i : ℕ} (lt : i < length rows) {l : List Change} (g : Logged s rows (length rows) l) where
+  slot-hour : row_slot (get_or rows i no_row) % 32 ≡ (key_of (turned lt g)).hour
   slot-hour = let sn = turned-seen lt g in omega (arith, sn.slot, sn.low)
 
-  slot-mark : row_slot (get_or rows i 0) / 32 ≡ key_order (key_of (turned lt g)).mark
+  slot-mark : row_slot (get_or rows i no_row) / 32 ≡ key_order (key_of (turned lt g)).mark
   slot-mark = let sn = turned-seen lt g in omega (arith, sn.slot, sn.low)
 
-  mark-is : (k : Key) {m : ℕ} → m ≡ key_order k.mark → eqb (row_slot (get_or rows i 0) / 32) m ≡ same_key_mark k (key_of (turned lt g))
+  mark-is : (k : Key) {m : ℕ} → m ≡ key_order k.mark → eqb (row_slot (get_or rows i no_row) / 32) m ≡ same_key_mark k (key_of (turned lt g))
   mark-is k em = (λ j. eqb (slot-mark j) (em j)) ∙ eqb-turned (key_order (key_of (turned lt g)).mark) (key_order k.mark)
 
   other-mark : (k : Key) → same_key_mark k (key_of (turned lt g)) ≡ false → same_name k (key_of (turned lt g)) ≡ false
@@ -47,18 +43,18 @@ module _ {s rows : List ℕ} {i : ℕ} (lt : i < length rows) {l : List Change} 
       (λ y. y)
 
   -- the name is told where it is written
-  name-there : {k : Key} {m : ℕ} {name : List ℕ} → Written k m name → row_live (get_or rows i 0) ≡ true → same_key_mark k (key_of (turned lt g)) ≡ true
-      → begins name (drop (row_place (get_or rows i 0) + 3) s) ≡ same_name k (key_of (turned lt g))
+  name-there : {k : Key} {m : ℕ} {name : List ℕ} → Written k m name → row_live (get_or rows i no_row) ≡ true → same_key_mark k (key_of (turned lt g)) ≡ true
+      → begins name (drop (row_place (get_or rows i no_row) + 3) s) ≡ same_name k (key_of (turned lt g))
   name-there {k} {m} {name} w live mk =
       let b = turned-there lt g live in
-      ap (begins name) (sym (drop-drop 3 (row_place (get_or rows i 0)) s) ∙ ap (drop 3) b.at.bytes)
+      ap (begins name) (sym (drop-drop 3 (row_place (get_or rows i no_row)) s) ∙ ap (drop 3) b.at.bytes)
       ∙ w.told b.what b.at.good (ap (same_key_mark k) b.key ∙ mk) b.at.rest
       ∙ ap (same_name k) b.key
 
   pub name-told : (k : Key) {m : ℕ} {name : List ℕ} → Written k m name
-      → name_hour m name s (get_or rows i 0) ≡ cond (same_name k (key_of (turned lt g)) && row_live (get_or rows i 0)) (Some (key_of (turned lt g)).hour) None
+      → name_hour m name s (get_or rows i no_row) ≡ cond (same_name k (key_of (turned lt g)) && row_live (get_or rows i no_row)) (Some (key_of (turned lt g)).hour) None
   name-told k {m} {name} w =
-      let row = get_or rows i 0 in
+      let row = get_or rows i no_row in
       let own = key_of (turned lt g) in
       let told = begins name (drop (row_place row + 3) s) in
       by-test (row_live row)
@@ -82,7 +78,7 @@ found-place k l p e = by-test (survey k l).found
 at-told : (k : Key) (h : ℕ) (c : Change) → Good c → same (at_hour k h) (key_of c) ≡ (same_name k (key_of c) && eqb h (key_of c).hour)
 at-told k h c g = same_at k (key_of c) h
 
-pub day-end : (k : Key) {s rows : List ℕ} {i : ℕ} {hours : List (Option ℕ)} → Passed (by_hour (same_name k) own_place) s rows i hours → length rows ≤ i
+pub day-end : (k : Key) {s : List ℕ} {rows : List Row} {i : ℕ} {hours : List (Option ℕ)} → Passed (by_hour (same_name k) own_place) s rows i hours → length rows ≤ i
     → (l : List Change) → Logged s rows (length rows) l → DayIs k l hours
 day-end k {hours = hours} h le l g = record {
   size = hours-size (same_name k) own_place (at_hour k) (at-told k) h le l g;
@@ -108,7 +104,7 @@ named-so k p em h w e = record {
 }
 
 -- no record can have the name
-pub day-none : (k : Key) → Padded k.name → nameable k ≡ false → {s rows : List ℕ} {n : ℕ} (l : List Change) → Logged s rows n l → DayIs k l (replicate 24 None)
+pub day-none : (k : Key) → Padded k.name → nameable k ≡ false → {s : List ℕ} {rows : List Row} {n : ℕ} (l : List Change) → Logged s rows n l → DayIs k l (replicate 24 None)
 day-none k p z {s} l g = record {
   size = refl;
   each = λ j lt d. found-place (at_hour k (1 + j)) l (get_or (replicate 24 None) j d)

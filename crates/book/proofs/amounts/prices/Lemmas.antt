@@ -1,7 +1,6 @@
 -- The price of an hour, and the loop over the rows that finds each hour's.
-use Rattle.std.proofs.Common.{ℕ, zero, suc, ◌+◌, ◌≤◌, ◌<◌, ◌≡◌, refl, sym, ap, ◌∙◌, List, Bool, true, false, cond, ◌&&◌, arith, length, drop, eqb, ltb, eqb-true, lt-ltb, le-ltb}
+use Rattle.std.proofs.Common.{ℕ, ◌+◌, ◌/◌, ◌%◌, ◌≤◌, ◌<◌, ◌≡◌, refl, sym, ap, ◌∙◌, List, Bool, true, cond, ◌&&◌, arith, length, drop, eqb}
 use Rattle.std.specs.Prelude.{Option, Some, None, is_some}
-use Rattle.std.proofs.lemmas.Bool.{eqb-false}
 use Rattle.std.proofs.Math.Path.{subst⁻¹}
 use Rattle.money.specs.Names.{same_name}
 use Rattle.records.specs.Marks.{has_name}
@@ -12,14 +11,15 @@ use Rattle.book.specs.declared.log.rows.Standing.{Standing}
 use Rattle.book.specs.Register.{standing}
 use Rattle.book.specs.Amounts.{hour_key, price_of}
 use Rattle.book.specs.tables.Tables.{survey}
-use Rattle.book.specs.tables.Index.{hour_slot}
-use Rattle.book.specs.tables.Rows.{row_live, Logged, Sought}
-use Rattle.book.specs.tables.Prices.{PriceIs, TableOf, price_at, price_hour}
+use Rattle.book.specs.tables.Rows.{row_live, row_slot, Logged, Sought}
+use Rattle.book.specs.tables.Prices.{PriceIs, TableOf, price_at}
 use Rattle.book.specs.tables.Worked.{Begun, begun}
 use Rattle.book.specs.laws.RegisterLaws.{by-test}
 use Rattle.book.specs.laws.PriceLaws.{price-found, price-gone}
-use Rattle.book.proofs.log.rows.Lemmas.{Seen}
+use Rattle.book.proofs.log.rows.Lemmas.{Seen, and-turned, eqb-turned}
+use Rattle.book.specs.tables.Hours.{mark_hour}
 use Rattle.book.proofs.amounts.Passing.{Passed, by_hour, kept, hours-size, hour-at}
+use Rattle.book.specs.declared.log.row.Row.{Row}
 
 -- ---- of an hour, by the survey of its key
 
@@ -36,7 +36,7 @@ module _ {s : List ℕ} {l : List Change} (o : Begun s l) (h : ℕ) where
 pub price-formed : {k : Key} {h : ℕ} → k ≡ hour_key Pr h → h < 32 → Wellformed k
 price-formed e low = subst⁻¹ Wellformed e (record { low = low; padded = refl })
 
-module _ {s rows : List ℕ} {h : ℕ} {k : Key} (e : k ≡ hour_key Pr h) {r : Option Standing} {l : List Change} (w : Sought rows k r l) (o : Begun s l) where
+module _ {s : List ℕ} {rows : List Row} {h : ℕ} {k : Key} (e : k ≡ hour_key Pr h) {r : Option Standing} {l : List Change} (w : Sought rows k r l) (o : Begun s l) where
   survey-is : survey k l ≡ survey (hour_key Pr h) l
   survey-is = ap (λ (x : Key). survey x l) e
 
@@ -66,31 +66,17 @@ price-told h c g = by-test (same_hour (hour_key Pr h) (key_of c))
     ap (same (hour_key Pr h)) e ∙ same_refl (hour_key Pr h) ∙ sym t)
     (λ t. ap (λ (b : Bool). b && same_name empty_name (key_of c).name) t ∙ sym t)
 
-above : (m : ℕ) → (0 ≡ m → ⊥) → 1 ≤ m
-above zero z = absurd (z refl)
-above (suc m) z = omega arith
-
 -- the hour that a row tells
-pub price-row : {row : ℕ} {all : List Change} {q : ℕ} {c : Change} → Seen row all q c
-    → price_hour row ≡ cond (is_price (key_of c) && row_live row) (Some (key_of c).hour) None
-price-row {row} {all} {q} {c} sn =
-    ap (λ (x : ℕ). cond (row_live row && ltb x 32) (Some x) None) sn.slot ∙ go (row_live row) (is_price (key_of c)) refl
-  where
-    k : Key
-    k = key_of c
+pub price-row : {row : Row} {all : List Change} {q : ℕ} {c : Change} → Seen row all q c
+    → mark_hour (key_order Pr) row ≡ cond (is_price (key_of c) && row_live row) (Some (key_of c).hour) None
+price-row {row} {c = c} sn =
+    let mark : row_slot row / 32 ≡ key_order (key_of c).mark = omega (arith, sn.slot, sn.low) in
+    let hour : row_slot row % 32 ≡ (key_of c).hour = omega (arith, sn.slot, sn.low) in
+    (λ i. cond (row_live row && eqb (mark i) (key_order Pr)) (Some (hour i)) None)
+    ∙ ap (λ (b : Bool). cond b (Some (key_of c).hour) None)
+    (and-turned (row_live row) (eqb (key_order (key_of c).mark) (key_order Pr)) ∙ ap (λ (b : Bool). b && row_live row) (eqb-turned (key_order (key_of c).mark) (key_order Pr)))
 
-    go : (b p : Bool) → is_price k ≡ p → cond (b && ltb (hour_slot k) 32) (Some (hour_slot k)) None ≡ cond (p && b) (Some k.hour) None
-    go true true e =
-        let z = eqb-true (key_order Pr) (key_order k.mark) e in
-        let y : hour_slot k ≡ k.hour = omega (arith, z) in
-        ap (λ (x : Bool). cond x (Some (hour_slot k)) None) (lt-ltb (hour_slot k) 32 (omega (arith, z, sn.low))) ∙ ap (λ (x : ℕ). Some x) y
-    go true false e =
-        ap (λ (x : Bool). cond x (Some (hour_slot k)) None)
-        (le-ltb (hour_slot k) 32 (omega (arith, above (key_order k.mark) (eqb-false (key_order Pr) (key_order k.mark) e))))
-    go false true e = refl
-    go false false e = refl
-
-pub table-end : {s rows : List ℕ} {i : ℕ} {t : List (Option HourPrices)} → Passed (by_hour is_price (prices_from s)) s rows i t → length rows ≤ i
+pub table-end : {s : List ℕ} {rows : List Row} {i : ℕ} {t : List (Option HourPrices)} → Passed (by_hour is_price (prices_from s)) s rows i t → length rows ≤ i
     → (l : List Change) → Logged s rows (length rows) l → TableOf (price_of (standing l)) t
 table-end {s} {t = t} h le l g = record {
   size = hours-size is_price (prices_from s) (hour_key Pr) price-told h le l g;

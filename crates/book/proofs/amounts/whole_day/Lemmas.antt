@@ -1,23 +1,21 @@
 -- The loops over the hours and the units of a day, and the answer that they make.
-use Rattle.std.proofs.Common.{ℕ, zero, suc, ◌+◌, ◌≤◌, ◌<◌, ◌≡◌, refl, sym, ap, ◌∙◌, subst, List, [], ◌∷◌, ◌++◌, map, Option, Result, Ok, Err, IsErrAnd, arith, append_assoc, length-append, length, get_or}
+use Rattle.std.proofs.Common.{ℕ, zero, suc, ◌+◌, ◌≤◌, ◌<◌, ◌≡◌, refl, sym, ap, ◌∙◌, subst, List, [], ◌∷◌, ◌++◌, map, Option, Result, Ok, arith, append_assoc, length-append, length, get_or}
 use Rattle.std.proofs.Math.Path.{subst⁻¹}
 use Rattle.std.specs.Array.{IsFromFnResultFrom, IsFromFnResult}
 use Rattle.std.proofs.lemmas.List.{map_push}
 use Rattle.arrayvec.specs.ArrayVec.{ArrayVec as Items}
-use denote.Param.Members.{Mut, Called}
+use Rattle.std.specs.Fn.{Mut, Called}
 use Rattle.money.specs.Units.{day_hours}
 use Rattle.money.specs.declared.production.DayTotals.{DayTotals}
-use Rattle.money.specs.declared.refusals.Refusal.TheVariants.{NotTogether}
 use Rattle.book.specs.Layer.{Name, Change, filed, Gh, HourPrices, Refusal}
 use Rattle.book.specs.laws.LayerLaws.{Padded, good-padded}
 use Rattle.book.specs.declared.answers.HourAmounts.{HourAmounts}
 use Rattle.book.specs.declared.answers.UnitAmounts.{UnitAmounts}
-use Rattle.book.specs.declared.answers.DayAmounts.{DayAmounts}
 use Rattle.book.specs.declared.log.checked_log.CheckedLog.{CheckedLog}
 use Rattle.book.specs.Register.{standing, max_changes}
 use Rattle.book.specs.Amounts.{HourPricing, price_of, unit_day_of}
 use Rattle.book.specs.ByName.{names_of}
-use Rattle.book.specs.Meaning.{Load, belongs, mismatched, Valid, day_reply}
+use Rattle.book.specs.Meaning.{Load, belongs, Valid, day_reply}
 use Rattle.book.specs.UnitNames.{gh_key, unit_key}
 use Rattle.book.specs.tables.CheckedLog.{Says}
 use Rattle.book.specs.tables.Prices.{TableOf}
@@ -101,8 +99,3 @@ pub day-made : {b : Load} {l : List Change} (hs : List HourAmounts) (us : Items 
     → map told_unit us.items ≡ map (unit_reply (standing l) (price_of (standing l))) (names_of gh_key (standing l))
     → told_day (Ok (record { hours = hs; units = us })) ≡ day_amounts b
 day-made hs us e h u = (λ i. whole (h i) (u i)) ∙ sym (ap day_amounts e)
-
-pub day-apart : {b : Load} (r : Result DayAmounts Refusal) (e : Refusal) → IsErrAnd r (λ x. x ≡ e) → e ≡ NotTogether → b ≡ mismatched
-    → told_day r ≡ day_amounts b
-day-apart (Ok d) e h z m = absurd h
-day-apart {b} (Err x) e h z m = ap (λ (y : Refusal). told_day (Err y)) (h ∙ z) ∙ sym (ap day_amounts m)

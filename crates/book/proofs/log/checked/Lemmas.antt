@@ -20,7 +20,7 @@ use Rattle.book.specs.Meaning.{belongs, load, Valid, book_of, stepped, Leaves}
 use Rattle.book.specs.tables.Tables.{viewed, change_fault}
 use Rattle.book.specs.tables.Index.{hour_slot, bucket, latest_of}
 use Rattle.book.specs.tables.Rows.{packed, row_start, Rows, Rowed, Logged, Log, Sought, cleared}
-use Rattle.book.specs.tables.Checked.{Checked, Makes, Since, IsChange, IsEntry}
+use Rattle.book.specs.tables.Checked.{Checked, Makes, Since, IsChange, IsEntry, done_of}
 use Rattle.book.specs.laws.RegisterLaws.{by-test, survey-found, refusal-judge}
 use Rattle.book.specs.laws.ReplayLaws.{listed-valid}
 use Rattle.book.specs.laws.LoadLaws.{Loaded, load-whole, loaded-whole}
@@ -32,17 +32,19 @@ use Rattle.book.proofs.book.Loading.{loaded-logged}
 use Rattle.book.proofs.book.Rows.{is-rowed}
 use Rattle.book.specs.Layer.{Act, seen_view, seen_act, Refusal, number_of}
 use Rattle.book.proofs.book.Lemmas.{reg_of, step_is, leaves-answered, leaves-accepted, bare-fault}
+use Rattle.book.specs.declared.log.row.Row.{Row}
+use Rattle.book.specs.tables.Rows.{no_row}
 
 -- ---- a checked book
 
-pub checked-from : (b : Book) (s : List ℕ) {ok : Bool} {rows : List ℕ} → Rowed (load b s) ok rows → ok ≡ true → Checked b s rows
+pub checked-from : (b : Book) (s : List ℕ) {ok : Bool} {rows : List Row} → Rowed (load b s) ok rows → ok ≡ true → Checked b s rows
 checked-from b s w t = let x = is-rowed b s w t in record { base = x; kept = w.kept x.list x.is; size = w.size }
 
 -- a log that holds n rows
-pub held-says : {hs hr : List ℕ} {n : ℕ} {l : List Change} → length hr ≡ n → Logged hs hr n l → Logged hs hr (length hr) l
+pub held-says : {hs : List ℕ} {hr : List Row} {n : ℕ} {l : List Change} → length hr ≡ n → Logged hs hr n l → Logged hs hr (length hr) l
 held-says {hs} {hr} {n} {l} e g = subst⁻¹ (λ (m : ℕ). Logged hs hr m l) e g
 
-module _ {b : Book} {s rows : List ℕ} (h : Checked b s rows) where
+module _ {b : Book} {s : List ℕ} {rows : List Row} (h : Checked b s rows) where
   checked-logged : Logged s rows b.changes h.base.list
   checked-logged = loaded-logged b s h.base h.kept
 
@@ -54,27 +56,25 @@ module _ {b : Book} {s rows : List ℕ} (h : Checked b s rows) where
 belongs-one : {l l' : List Change} → belongs l ≡ belongs l' → l ≡ l'
 belongs-one e = cc
 
-module _ {f : ℕ → Reg → Step} {b : Book} {s rows : List ℕ} {k : Key} (h : Checked b s rows) where
-  makes-refused : (x : Refusal) {d : Done} → d ≡ record { book = b; answer = Err x } → stepped f b s (load b s) ≡ answered (refused (number_of x))
-      → Makes f b s k d s rows
-  makes-refused x d e = subst⁻¹ (λ (y : Done). Makes f b s k y s rows) d (record {
+module _ {f : ℕ → Reg → Step} {b : Book} {s : List ℕ} {rows : List Row} {k : Key} (h : Checked b s rows) where
+  makes-refused : (x : Refusal) → stepped f b s (load b s) ≡ answered (refused (number_of x)) → Makes f b s k (done_of b (Err x)) s rows
+  makes-refused x e = record {
     leaves = leaves-answered f b s (refused (number_of x)) e;
     checked = h;
     older = λ l l' p p' m z. omega (arith, ap (latest_of m) (belongs-one (sym p ∙ p')));
-  })
+  }
 
-  makes-accepted : (g : Reg) (b' : Book) (s' rows' : List ℕ) {d : Done} → d ≡ record { book = b'; answer = Ok tt }
-      → stepped f b s (load b s) ≡ becomes g → b' ≡ book_of g → length s' ≡ length s
+  makes-accepted : (g : Reg) (b' : Book) (s' : List ℕ) (rows' : List Row) → stepped f b s (load b s) ≡ becomes g → b' ≡ book_of g → length s' ≡ length s
       → take (length (write_all g.list)) s' ≡ write_all g.list → Valid g.list → Rows rows' g.list g.list → length rows' ≡ 512
-      → ((m : ℕ) → (m ≡ bucket k → ⊥) → latest_of m g.list ≤ latest_of m h.base.list) → Makes f b s k d s' rows'
-  makes-accepted g b' s' rows' d e is size q v kept n o = subst⁻¹ (λ (y : Done). Makes f b s k y s' rows') d (record {
+      → ((m : ℕ) → (m ≡ bucket k → ⊥) → latest_of m g.list ≤ latest_of m h.base.list) → Makes f b s k (done_of b (Ok b')) s' rows'
+  makes-accepted g b' s' rows' e is size q v kept n o = record {
     leaves = leaves-accepted f b s g b' s' e is size q;
     checked = subst⁻¹ (λ (y : Book). Checked y s' rows') is (record { base = loaded-whole g s' v q; kept = kept; size = n });
     older = λ l l' p p' m z.
         let was : h.base.list ≡ l = belongs-one (sym h.base.is ∙ p) in
         let now-is : g.list ≡ l' = belongs-one (sym (load-whole g s' v q) ∙ ap (λ (y : Book). load y s') (sym is) ∙ p') in
         omega (arith, o m z, ap (latest_of m) was, ap (latest_of m) now-is);
-  })
+  }
 
 -- the latest change of a number after one change more, and after one less
 newer-other : (c : Change) (l : List Change) (m : ℕ) → (m ≡ bucket (key_of c) → ⊥) → latest_of m (c ∷ l) ≤ latest_of m l
@@ -95,7 +95,7 @@ judged-no : (c : Change) (g : Reg) (n : ℕ) → (n ≡ 0 → ⊥) → judged c 
 judged-no c g zero z = absurd (z refl)
 judged-no c g (suc n) z = refl
 
-module _ {b : Book} {s rows : List ℕ} (h : Checked b s rows) {want : Wanted} {rec : List ℕ} {v : View} (r : IsChange want rec v) where
+module _ {b : Book} {s : List ℕ} {rows : List Row} (h : Checked b s rows) {want : Wanted} {rec : List ℕ} {v : View} (r : IsChange want rec v) where
   good : Good r.what
   good = (parse-fine want rec r.what r.input).good
 
@@ -117,11 +117,11 @@ module _ {b : Book} {s rows : List ℕ} (h : Checked b s rows) {want : Wanted} {
   open-or t e = step-listed ∙ ap
       (λ (y : Bool). cond y (answered (refused 9)) (judged r.what (reg_of b s h.base) (refusal h.base.list (length s) r.what))) e
 
-  pub listed-closed : b.closed ≡ true → {d : Done} → d ≡ record { book = b; answer = Err Closed } → Makes (listed (parse want rec)) b s v.key d s rows
-  listed-closed t d = makes-refused h Closed d (open-or true t)
+  pub listed-closed : b.closed ≡ true → Makes (listed (parse want rec)) b s v.key (done_of b (Err Closed)) s rows
+  listed-closed t = makes-refused h Closed (open-or true t)
 
   -- it is open; the key was looked for, and the records of its mark and hour were counted
-  module _ (t : b.closed ≡ false) {from : ℕ} (sn : Since b s v.key from) {hs hr : List ℕ}
+  module _ (t : b.closed ≡ false) {from : ℕ} (sn : Since b s v.key from) {hs : List ℕ} {hr : List Row}
       (front : hr ≡ take b.changes rows) (size : length hr ≡ b.changes)
       (says : (l : List Change) → Logged s rows b.changes l → Logged hs hr b.changes l) {x : Option Standing}
       (fs : (l : List Change) → Logged hs hr (length hr) l → v.key.hour < 32 → Padded v.key.name → latest_of (bucket v.key) l ≤ from → Sought hr v.key x l)
@@ -145,9 +145,8 @@ module _ {b : Book} {s rows : List ℕ} (h : Checked b s rows) {want : Wanted} {
           sym (ew ∙ (λ i. change_fault (r.is i).kind (fd i) (cs i) (ms i) (sym h.base.count-is i) (sym h.base.size i) (r.is i).len (length s))
           ∙ sym (refusal-judge l (length s) c))
 
-      pub listed-refused : (y : Refusal) → w ≡ number_of y → {d : Done} → d ≡ record { book = b; answer = Err y }
-          → Makes (listed (parse want rec)) b s v.key d s rows
-      listed-refused y e d = makes-refused h y d
+      pub listed-refused : (y : Refusal) → w ≡ number_of y → Makes (listed (parse want rec)) b s v.key (done_of b (Err y)) s rows
+      listed-refused y e = makes-refused h y
           (open-or false t ∙ ap (judged r.what (reg_of b s h.base)) (judged-is ∙ e) ∙ judged-no r.what (reg_of b s h.base) (number_of y) (number-some y))
 
       -- it is taken
@@ -168,11 +167,10 @@ module _ {b : Book} {s rows : List ℕ} (h : Checked b s rows) {want : Wanted} {
         step-taken = open-or false t ∙ ap (judged r.what (reg_of b s h.base)) (judged-is ∙ z)
 
         pub makes-listed : {hour : ℕ} → hour ≡ hour_slot v.key → {s' : List ℕ} → s' ≡ viewed_bytes v b.used rec s
-            → {rows₁ : List ℕ} → rows₁ ≡ cleared rows x → {row : ℕ} → row ≡ packed (not (is_withdrawal v.kind)) v.kind hour b.used
-            → {d : Done} → d ≡ record { book = record { changes = b.changes + 1; used = b.used + v.len; closed = b.closed }; answer = Ok tt }
-            → Makes (listed (parse want rec)) b s v.key d s' (set rows₁ b.changes row)
+            → {rows₁ : List Row} → rows₁ ≡ cleared rows x → {row : Row} → row ≡ packed (not (is_withdrawal v.kind)) v.kind hour b.used
+            → Makes (listed (parse want rec)) b s v.key (done_of b (Ok (record { changes = b.changes + 1; used = b.used + v.len; closed = b.closed }))) s' (set rows₁ b.changes row)
         unfolding write_all
-        makes-listed {hour} eh {s'} ev {rows₁} ex {row} er d =
+        makes-listed {hour} eh {s'} ev {rows₁} ex {row} er =
             let c = r.what in
             let es : s' ≡ put_bytes (parse want rec) b.used s = ev ∙ (viewed-put want rec v
             (ap seen_view r.input ∙ ap fine (sym r.is)) b.used s).1 in
@@ -185,18 +183,18 @@ module _ {b : Book} {s rows : List ℕ} (h : Checked b s rows) {want : Wanted} {
             let u : b.changes + 1 ≡ suc (length l) = omega (arith, y.count-is) in
             let st : listed (parse want rec) (length s) (reg_of b s y) ≡ becomes g = sym (step_is (listed (parse want rec)) b s y) ∙ step-taken in
             let f : Sought (take b.changes rows) (key_of c) x l = subst (λ (k : Key). Sought (take b.changes rows) k x l) (sym key-is)
-            (subst (λ (y : List ℕ). Sought y v.key x l) front sought) in
+            (subst (λ (y : List Row). Sought y v.key x l) front sought) in
             let hr : hour ≡ hour_slot (key_of c) = eh ∙ ap hour_slot (sym key-is) in
             let er' : row ≡ packed (not (is_withdrawal (kind_of c))) (kind_of c) (hour_slot (key_of c)) (length (write_all l)) =
             er ∙ (λ i. packed (not (is_withdrawal (r.is i).kind)) (r.is i).kind (hr i) (sym y.size i)) in
-            makes-accepted h g _ s' (set rows₁ b.changes row) d step-taken
+            makes-accepted h g _ s' (set rows₁ b.changes row) step-taken
             (λ i. record { changes = u i; used = (ap (λ (k : ℕ). b.used + k) len ∙ sym n) i; closed = b.closed })
             (ap length es ∙ store_length (parse want rec) b.used s)
             (ap₂ take n es ∙ store-front (parse want rec) c b.used s r.input (omega (arith, listed-few.1)) ∙ ap (λ (k : List ℕ). k ++ write c)
             (sym y.bytes))
             (subst (λ (k : Step). Valid (after k (reg_of b s y)).list) st
             (listed-valid (parse want rec) (length s) (reg_of b s y) (λ k e. (parse-fine want rec k e).good) y.valid))
-            (subst (λ (k : List ℕ). Rows (set k b.changes row) (c ∷ l) (c ∷ l)) (sym ex) (rows_next (checked-logged h) h.size listed-few.0 c x f row er'))
+            (subst (λ (k : List Row). Rows (set k b.changes row) (c ∷ l) (c ∷ l)) (sym ex) (rows_next (checked-logged h) h.size listed-few.0 c x f row er'))
             (length-set rows₁ b.changes row ∙ ap length ex ∙ cleared-size rows x ∙ h.size)
             (λ m z. newer-other c l m (λ e. z (e ∙ ap bucket key-is)))
 
@@ -224,16 +222,15 @@ module _ (b : Book) (s : List ℕ) (x : Loaded b s) (rec : List ℕ) {n : ℕ} w
 
 -- ---- the last change taken back
 
-module _ {b : Book} {s rows : List ℕ} (h : Checked b s rows) where
+module _ {b : Book} {s : List ℕ} {rows : List Row} (h : Checked b s rows) where
   back_step : (t : Bool) → b.closed ≡ t → stepped (taken_back 0) b s (load b s) ≡ cond t (answered (refused 9)) (shorter b.closed h.base.list)
   back_step t e = step_is (taken_back 0) b s h.base ∙ ap (λ (y : Bool). cond y (answered (refused 9)) (shorter b.closed h.base.list)) e
 
-  pub back-closed : {k : Key} → b.closed ≡ true → {d : Done} → d ≡ record { book = b; answer = Err Closed } → Makes (taken_back 0) b s k d s rows
-  back-closed t d = makes-refused h Closed d (back_step true t)
+  pub back-closed : {k : Key} → b.closed ≡ true → Makes (taken_back 0) b s k (done_of b (Err Closed)) s rows
+  back-closed t = makes-refused h Closed (back_step true t)
 
-  pub back_none : {k : Key} → b.closed ≡ false → b.changes ≡ 0 → {d : Done} → d ≡ record { book = b; answer = Err NothingToTakeBack }
-      → Makes (taken_back 0) b s k d s rows
-  back_none t e d = makes-refused h NothingToTakeBack d (back_step false t ∙ go h.base.list h.base.count-is)
+  pub back_none : {k : Key} → b.closed ≡ false → b.changes ≡ 0 → Makes (taken_back 0) b s k (done_of b (Err NothingToTakeBack)) s rows
+  back_none t e = makes-refused h NothingToTakeBack (back_step false t ∙ go h.base.list h.base.count-is)
     where
       go : (l : List Change) → length l ≡ b.changes → shorter b.closed l ≡ answered (refused 14)
       go [] w = refl
@@ -245,7 +242,7 @@ module _ {b : Book} {s rows : List ℕ} (h : Checked b s rows) where
       pub what : Change
       pub rest : List Change
       pub list-is : h.base.list ≡ what ∷ rest
-      pub start : row_start (get_or rows (b.changes - 1) 0) ≡ length (write_all rest)
+      pub start : row_start (get_or rows (b.changes - 1) no_row) ≡ length (write_all rest)
 
     pub above : 0 < b.changes
     above = go b.changes some
@@ -285,41 +282,39 @@ module _ {b : Book} {s rows : List ℕ} (h : Checked b s rows) where
     unfolding Valid
     rest-valid = (subst Valid last.list-is h.base.valid).2
 
-    module _ {q : ℕ} (eq : q ≡ row_start (get_or rows (b.changes - 1) 0)) where
+    module _ {q : ℕ} (eq : q ≡ row_start (get_or rows (b.changes - 1) no_row)) where
       book-is : record { changes = b.changes - 1; used = q; closed = b.closed } ≡ book_of less
       book-is =
           let n : b.changes - 1 ≡ length last.rest = omega (arith, h.base.count-is, ap length last.list-is) in
           λ i. record { changes = n i; used = (eq ∙ last.start) i; closed = b.closed }
 
-      back-taken : {k : Key} {rows' : List ℕ} → Rows rows' last.rest last.rest → length rows' ≡ 512
-          → {d : Done} → d ≡ record { book = record { changes = b.changes - 1; used = q; closed = b.closed }; answer = Ok tt }
-          → Makes (taken_back 0) b s k d s rows'
-      back-taken {rows' = rows'} kept n d =
-          makes-accepted h less _ s rows' d (back_step false t ∙ ap (shorter b.closed) last.list-is) book-is refl rest-bytes rest-valid kept n
+      back-taken : {k : Key} {rows' : List Row} → Rows rows' last.rest last.rest → length rows' ≡ 512
+          → Makes (taken_back 0) b s k (done_of b (Ok (record { changes = b.changes - 1; used = q; closed = b.closed }))) s rows'
+      back-taken {rows' = rows'} kept n =
+          makes-accepted h less _ s rows' (back_step false t ∙ ap (shorter b.closed) last.list-is) book-is refl rest-bytes rest-valid kept n
           (λ m z. omega (arith, older-less last.what last.rest m, ap (latest_of m) last.list-is))
 
-      pub back-makes : {k : Key} {rows' : List ℕ}
+      pub back-makes : {k : Key} {rows' : List Row}
           → ((c : Change) (l : List Change) → Logged s rows b.changes (c ∷ l) → Rows rows' l l) × (length rows' ≡ 512)
-          → {d : Done} → d ≡ record { book = record { changes = b.changes - 1; used = q; closed = b.closed }; answer = Ok tt }
-          → Makes (taken_back 0) b s k d s rows'
-      back-makes w d = back-taken (w.0 last.what last.rest (subst (Logged s rows b.changes) last.list-is (checked-logged h))) w.1 d
+          → Makes (taken_back 0) b s k (done_of b (Ok (record { changes = b.changes - 1; used = q; closed = b.closed }))) s rows'
+      back-makes w = back-taken (w.0 last.what last.rest (subst (Logged s rows b.changes) last.list-is (checked-logged h))) w.1
 
 -- ---- a book that is closed
 
-module _ {b : Book} {s rows : List ℕ} (h : Checked b s rows) where
+module _ {b : Book} {s : List ℕ} {rows : List Row} (h : Checked b s rows) where
   close-step : (t : Bool) → b.closed ≡ t
       → stepped (closing 0) b s (load b s) ≡ cond t (answered (refused 9)) (becomes (record { list = h.base.list; closed = true }))
   close-step t e = step_is (closing 0) b s h.base ∙ ap
       (λ (y : Bool). cond y (answered (refused 9)) (becomes (record { list = h.base.list; closed = true }))) e
 
-  pub close-closed : {k : Key} → b.closed ≡ true → {d : Done} → d ≡ record { book = b; answer = Err Closed } → Makes (closing 0) b s k d s rows
-  close-closed t d = makes-refused h Closed d (close-step true t)
+  pub close-closed : {k : Key} → b.closed ≡ true → Makes (closing 0) b s k (done_of b (Err Closed)) s rows
+  close-closed t = makes-refused h Closed (close-step true t)
 
-  pub close-taken : {k : Key} → b.closed ≡ false → {d : Done}
-      → d ≡ record { book = record { changes = b.changes; used = b.used; closed = true }; answer = Ok tt } → Makes (closing 0) b s k d s rows
-  close-taken t d =
+  pub close-taken : {k : Key} → b.closed ≡ false
+      → Makes (closing 0) b s k (done_of b (Ok (record { changes = b.changes; used = b.used; closed = true }))) s rows
+  close-taken t =
       let x = h.base in
-      makes-accepted h (record { list = x.list; closed = true }) _ s rows d (close-step false t)
+      makes-accepted h (record { list = x.list; closed = true }) _ s rows (close-step false t)
       (λ i. record { changes = sym x.count-is i; used = sym x.size i; closed = true }) refl
       (ap (λ (k : ℕ). take k s) x.size ∙ sym x.bytes) x.valid h.kept h.size (λ m z. omega arith)
 
@@ -456,7 +451,7 @@ module _ {rec : List ℕ} {a : Act} (r : IsEntry rec a) where
       go taking_back e k = absurd (let y : ◌≡◌ {A = ℕ} 0 1 = cc in omega arith)
       go closing_entry e k = absurd (let y : ◌≡◌ {A = ℕ} 0 1 = cc in omega arith)
 
-pub makes-by : {f g : ℕ → Reg → Step} {b : Book} {s : List ℕ} {k : Key} {d : Done} {s' rows' : List ℕ} → g ≡ f → Makes f b s k d s' rows'
+pub makes-by : {f g : ℕ → Reg → Step} {b : Book} {s : List ℕ} {k : Key} {d : Done} {s' : List ℕ} {rows' : List Row} → g ≡ f → Makes f b s k d s' rows'
     → Makes g b s k d s' rows'
 makes-by {b = b} {s = s} {k = k} {d = d} {s' = s'} {rows' = rows'} e m = subst⁻¹ (λ (y : ℕ → Reg → Step). Makes y b s k d s' rows') e m
 
@@ -469,7 +464,7 @@ any-refused b s x rec {n} e = leaves-answered (general rec) b s (refused n) (ste
     go (fault m) q e = let p : fault m ≡ fault n = cc in general-fault rec n (q ∙ p) (length s) (reg_of b s x)
 
 -- bytes of which no record can be read
-pub unread-refused : {b : Book} {s rows : List ℕ} → Checked b s rows → (rec : List ℕ) (j : ℕ) → entry rec ≡ bad j → Leaves (general rec) b s b (refused j) s
+pub unread-refused : {b : Book} {s : List ℕ} {rows : List Row} → Checked b s rows → (rec : List ℕ) (j : ℕ) → entry rec ≡ bad j → Leaves (general rec) b s b (refused j) s
 unfolding parse_any
 unread-refused {b} {s} h rec j e = leaves-answered (general rec) b s (refused j)
     (step_is (general rec) b s h.base ∙ general-fault rec j (ap whole e) (length s) (reg_of b s h.base))

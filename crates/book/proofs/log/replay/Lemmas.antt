@@ -15,6 +15,9 @@ use Rattle.book.specs.laws.RegisterLaws.{by-test, true≠false, survey-found, su
 use Rattle.book.proofs.log.Survey.{survey-few, judge-room, room-facts}
 use Rattle.book.proofs.log.index.Lemmas.{latest-few, latest-next, counts-next}
 use Rattle.book.proofs.log.rows.Lemmas.{rows_at, ruled-at, ruled-low, ruled-start, ruled-seen, code-few, slot-few, live-true, live-away, survey-same}
+use Rattle.book.specs.declared.log.row.Row.{Row}
+use Rattle.book.specs.tables.Rows.{no_row}
+use Rattle.book.proofs.log.rows.Lemmas.{as_row}
 
 -- ---- no two changes wrote at one place
 
@@ -29,7 +32,7 @@ drops zero l = omega arith
 drops (suc m) [] = omega arith
 drops (suc m) (c ∷ l) = omega (arith, drops m l, length-append (write_all l) (write c))
 
-module _ {rows : List ℕ} {n : ℕ} {l : List Change} (r : Ruled rows n l) where
+module _ {rows : List Row} {n : ℕ} {l : List Change} (r : Ruled rows n l) where
   -- a change ends where or before a later one begins
   before : (a b : ℕ) → a < b → b ≤ n → length (write_all (drop (n - (a + 1)) l)) ≤ length (write_all (drop (n - b) l))
   before a b h hb =
@@ -42,12 +45,12 @@ module _ {rows : List ℕ} {n : ℕ} {l : List Change} (r : Ruled rows n l) wher
   unfolding write_all
   ends {a} la = ap (λ (y : List Change). length (write_all y)) (ruled-at r la).rest ∙ length-append (write_all (drop (n - a) l)) (write (ruled-at r la).what)
 
-  place-less : (a b : ℕ) → a < b → b < n → row_place (get_or rows a 0) < row_place (get_or rows b 0)
+  place-less : (a b : ℕ) → a < b → b < n → row_place (get_or rows a no_row) < row_place (get_or rows b no_row)
   place-less a b h hb =
       let la : a < n = omega arith in
       omega (arith, (ruled-seen r la).place, (ruled-seen r hb).place, ends la, before a b h (omega arith), short (ruled-at r la).what)
 
-  pub place-one : (a b : ℕ) → a < n → b < n → row_place (get_or rows a 0) ≡ row_place (get_or rows b 0) → a ≡ b
+  pub place-one : (a b : ℕ) → a < n → b < n → row_place (get_or rows a no_row) ≡ row_place (get_or rows b no_row) → a ≡ b
   place-one a b la lb e =
       by-test (ltb a b)
       (λ t. absurd (omega (arith, place-less a b (ltb-true a b t) lb, e)))
@@ -90,11 +93,11 @@ module _ (c : Change) (l : List Change) (k : Key) (v : Kind) (q : ℕ) where
       least false m = omega arith
 
 gone-packed : (b : Bool) (k : Kind) (s q : ℕ) → s < 512 → q < 65536 → row_gone (packed b k s q) ≡ packed false k s q
-gone-packed true k s q hs hq = omega (arith, code-few k)
-gone-packed false k s q hs hq = omega (arith, code-few k)
+gone-packed true k s q hs hq = ap as_row (omega (arith, code-few k))
+gone-packed false k s q hs hq = ap as_row (omega (arith, code-few k))
 
-pub rows-build : (rows : List ℕ) (all l : List Change) (n : ℕ) → length l ≡ n
-    → ((j : ℕ) (d : Change) (m : List Change) → j < n → drop (n - (j + 1)) l ≡ d ∷ m → get_or rows j 0 ≡ row_of all (length (write_all m)) d) → Rows rows all l
+pub rows-build : (rows : List Row) (all l : List Change) (n : ℕ) → length l ≡ n
+    → ((j : ℕ) (d : Change) (m : List Change) → j < n → drop (n - (j + 1)) l ≡ d ∷ m → get_or rows j no_row ≡ row_of all (length (write_all m)) d) → Rows rows all l
 unfolding Rows
 rows-build rows all [] n e f = tt
 rows-build rows all (c ∷ l) n e f =
@@ -104,9 +107,9 @@ rows-build rows all (c ∷ l) n e f =
           (λ j d m lt w. let y : n - (j + 1) ≡ suc (length l - (j + 1)) = omega arith in f j d m (omega arith) (ap (λ (x : ℕ). drop x (c ∷ l)) y ∙ w)),
     )
 
-pub cleared-size : (rows : List ℕ) (x : Option Standing) → length (cleared rows x) ≡ length rows
+pub cleared-size : (rows : List Row) (x : Option Standing) → length (cleared rows x) ≡ length rows
 cleared-size rows None = refl
-cleared-size rows (Some y) = length-set rows y.at (row_gone (get_or rows y.at 0))
+cleared-size rows (Some y) = length-set rows y.at (row_gone (get_or rows y.at no_row))
 
 -- whether it is the row of the record that was found
 abbrev at_row : Option Standing → ℕ → Bool
@@ -121,7 +124,7 @@ found-some : (x : Option Standing) → is_some x ≡ true → (y : Standing) × 
 found-some None e = true≠false e refl
 found-some (Some y) e = (y, refl)
 
-module _ {s rows : List ℕ} {n : ℕ} {l : List Change} (g : Logged s rows n l) (size : length rows ≡ 512) (few : n < 512)
+module _ {s : List ℕ} {rows : List Row} {n : ℕ} {l : List Change} (g : Logged s rows n l) (size : length rows ≡ 512) (few : n < 512)
     (c : Change) (x : Option Standing) (f : Sought (take n rows) (key_of c) x l) where
   front : length (take n rows) ≡ n
   front = length-take-le n rows (omega arith)
@@ -129,24 +132,24 @@ module _ {s rows : List ℕ} {n : ℕ} {l : List Change} (g : Logged s rows n l)
   found-inside : (y : Standing) → x ≡ Some y → y.at < n
   found-inside y e = omega (arith, (f.stood y e).inside, front)
 
-  found-place : (y : Standing) → x ≡ Some y → row_place (get_or rows y.at 0) ≡ y.start
-  found-place y e = ap row_place (sym (get_or-take n rows y.at 0 (found-inside y e))) ∙ (f.stood y e).place
+  found-place : (y : Standing) → x ≡ Some y → row_place (get_or rows y.at no_row) ≡ y.start
+  found-place y e = ap row_place (sym (get_or-take n rows y.at no_row (found-inside y e))) ∙ (f.stood y e).place
 
-  entered_at : (row j : ℕ) → j < n → get_or (set (cleared rows x) n row) j 0 ≡ cond (at_row x j) (row_gone (get_or rows j 0)) (get_or rows j 0)
-  entered_at row j lt = get_or-set_other (cleared rows x) n j row 0 (λ e. omega arith) ∙ go x found-inside
+  entered_at : (row : Row) (j : ℕ) → j < n → get_or (set (cleared rows x) n row) j no_row ≡ cond (at_row x j) (row_gone (get_or rows j no_row)) (get_or rows j no_row)
+  entered_at row j lt = get_or-set_other (cleared rows x) n j row no_row (λ e. omega arith) ∙ go x found-inside
     where
       go : (x : Option Standing) → ((y : Standing) → x ≡ Some y → y.at < n)
-          → get_or (cleared rows x) j 0 ≡ cond (at_row x j) (row_gone (get_or rows j 0)) (get_or rows j 0)
+          → get_or (cleared rows x) j no_row ≡ cond (at_row x j) (row_gone (get_or rows j no_row)) (get_or rows j no_row)
       go None h = refl
       go (Some y) h =
-          let gone = row_gone (get_or rows y.at 0) in
+          let gone = row_gone (get_or rows y.at no_row) in
           by-test (eqb j y.at)
           (λ t. let e = eqb-true j y.at t in
-          ap (λ (m : ℕ). get_or (set rows y.at gone) m 0) e ∙ get_or-set_same rows y.at gone 0 (omega (arith, h y refl)) ∙ ap
-          (λ (m : ℕ). row_gone (get_or rows m 0)) (sym e)
-          ∙ sym (ap (λ (b : Bool). cond b (row_gone (get_or rows j 0)) (get_or rows j 0)) t))
-          (λ t. get_or-set_other rows y.at j gone 0 (λ e. true≠false (eq-eqb j y.at e) t)
-          ∙ sym (ap (λ (b : Bool). cond b (row_gone (get_or rows j 0)) (get_or rows j 0)) t))
+          ap (λ (m : ℕ). get_or (set rows y.at gone) m no_row) e ∙ get_or-set_same rows y.at gone no_row (omega (arith, h y refl)) ∙ ap
+          (λ (m : ℕ). row_gone (get_or rows m no_row)) (sym e)
+          ∙ sym (ap (λ (b : Bool). cond b (row_gone (get_or rows j no_row)) (get_or rows j no_row)) t))
+          (λ t. get_or-set_other rows y.at j gone no_row (λ e. true≠false (eq-eqb j y.at e) t)
+          ∙ sym (ap (λ (b : Bool). cond b (row_gone (get_or rows j no_row)) (get_or rows j no_row)) t))
 
   -- an earlier change
   module _ (j : ℕ) (lt : j < n) (d : Change) (m : List Change) (e : drop (n - (j + 1)) l ≡ d ∷ m) where
@@ -165,10 +168,10 @@ module _ {s rows : List ℕ} {n : ℕ} {l : List Change} (g : Logged s rows n l)
     q-few : length (write_all m) < 65536
     q-few = subst (λ (y : List Change). length (write_all y) < 65536) rest-is (ruled-start g.ruled lt)
 
-    row_is : get_or rows j 0 ≡ row_of l (length (write_all m)) d
+    row_is : get_or rows j no_row ≡ row_of l (length (write_all m)) d
     row_is = (ruled-at g.ruled lt).row ∙ (λ t. row_of l (length (write_all (rest-is t))) (what-is t))
 
-    place_is : row_place (get_or rows j 0) ≡ length (write_all m) + lead_length (kind_of d)
+    place_is : row_place (get_or rows j no_row) ≡ length (write_all m) + lead_length (kind_of d)
     place_is = (ruled-seen g.ruled lt).place ∙ (λ t. length (write_all (rest-is t)) + lead_length (kind_of (what-is t)))
 
     below : length (write_all m) + lead_length (kind_of d) < length (write_all l)
@@ -189,13 +192,13 @@ module _ {s rows : List ℕ} {n : ℕ} {l : List Change} (g : Logged s rows n l)
         (λ o. let w = live-true (survey (key_of d) l) (kind_of d) (length (write_all m)) o in
         let kd = survey-same (key_of d) (key_of c) t l in
         let fd = found-some x (f.found ∙ ap (λ (y : Survey). y.found) (sym kd) ∙ w.0) in
-        let p : row_place (get_or rows fd.0.at 0) ≡ row_place (get_or rows j 0) = found-place fd.0 fd.1 ∙ (f.stood fd.0 fd.1).start
+        let p : row_place (get_or rows fd.0.at no_row) ≡ row_place (get_or rows j no_row) = found-place fd.0 fd.1 ∙ (f.stood fd.0 fd.1).start
         ∙ ap (λ (y : Survey). y.start) (sym kd) ∙ w.1 ∙ sym place_is in
         let a : fd.0.at ≡ j = place-one g.ruled fd.0.at j (found-inside fd.0 fd.1) lt p in
         true≠false (ap (λ (y : Option Standing). at_row y j) fd.1 ∙ eq-eqb j fd.0.at (sym a)) h)
         (λ o. o)
 
-    row_next : cond (at_row x j) (row_gone (get_or rows j 0)) (get_or rows j 0) ≡ row_of (c ∷ l) (length (write_all m)) d
+    row_next : cond (at_row x j) (row_gone (get_or rows j no_row)) (get_or rows j no_row) ≡ row_of (c ∷ l) (length (write_all m)) d
     unfolding old new
     row_next =
         let k = kind_of d in
@@ -206,21 +209,21 @@ module _ {s rows : List ℕ} {n : ℕ} {l : List Change} (g : Logged s rows n l)
         let kd : same (key_of d) (key_of c) ≡ true =
         (f.stood fd.0 fd.1).wrote d m (ap₂ (λ (a b : ℕ). drop (a - (b + 1)) l) front (sym fd.2) ∙ e) in
         let nf : new ≡ false = live-over c l (key_of d) (kind_of d) q kd below in
-        ap (λ (b : Bool). cond b (row_gone (get_or rows j 0)) (get_or rows j 0)) h ∙ ap row_gone row_is
+        ap (λ (b : Bool). cond b (row_gone (get_or rows j no_row)) (get_or rows j no_row)) h ∙ ap row_gone row_is
         ∙ gone-packed old k sl q (slot-few (key_of d) low) q-few ∙ ap (λ (b : Bool). packed b k sl q) (sym nf))
-        (λ h. ap (λ (b : Bool). cond b (row_gone (get_or rows j 0)) (get_or rows j 0)) h ∙ row_is
+        (λ h. ap (λ (b : Bool). cond b (row_gone (get_or rows j no_row)) (get_or rows j no_row)) h ∙ row_is
         ∙ ap (λ (b : Bool). packed b k sl q)
         (by-test (same (key_of d) (key_of c))
         (λ t. old-false t h ∙ sym (live-over c l (key_of d) (kind_of d) q t below))
         (λ t. sym (live-passed c l (key_of d) (kind_of d) q t))))
 
   -- the rows with the change in them
-  pub rows_next : (row : ℕ) → row ≡ packed (not (is_withdrawal (kind_of c))) (kind_of c) (hour_slot (key_of c)) (length (write_all l))
+  pub rows_next : (row : Row) → row ≡ packed (not (is_withdrawal (kind_of c))) (kind_of c) (hour_slot (key_of c)) (length (write_all l))
       → Rows (set (cleared rows x) n row) (c ∷ l) (c ∷ l)
   unfolding Rows
   rows_next row er = (
-    ap (λ (m : ℕ). get_or (set (cleared rows x) n row) m 0) g.ruled.count
-        ∙ get_or-set_same (cleared rows x) n row 0 (omega (arith, cleared-size rows x)) ∙ er
+    ap (λ (m : ℕ). get_or (set (cleared rows x) n row) m no_row) g.ruled.count
+        ∙ get_or-set_same (cleared rows x) n row no_row (omega (arith, cleared-size rows x)) ∙ er
         ∙ ap (λ (b : Bool). packed b (kind_of c) (hour_slot (key_of c)) (length (write_all l))) (sym (live-newest c l)),
     rows-build (set (cleared rows x) n row) (c ∷ l) l n g.ruled.count (λ j d m lt e. entered_at row j lt ∙ row_next j lt d m e),
   )
@@ -251,7 +254,7 @@ some-fault r e h = go r (sym e ∙ h)
     go (Ok x) e = true≠false e refl
     go (Err y) e = number-some y
 
-pub record Head (part : List ℕ) (n : ℕ) (rows latest counts : List ℕ) (q i : ℕ) : Type 0 where
+pub record Head (part : List ℕ) (n : ℕ) (rows : List Row) (latest counts : List ℕ) (q i : ℕ) : Type 0 where
   pub acc : List Change
   pub valid : Valid acc
   pub inside : i ≤ n
@@ -272,7 +275,7 @@ zeros zero h = refl
 zeros (suc n) zero = refl
 zeros (suc n) (suc h) = zeros n h
 
-pub head-start : (part : List ℕ) (n : ℕ) (rows : List ℕ) → length rows ≡ 512 → Head part n rows (replicate 8192 0) (replicate 512 0) 0 0
+pub head-start : (part : List ℕ) (n : ℕ) (rows : List Row) → length rows ≡ 512 → Head part n rows (replicate 8192 0) (replicate 512 0) 0 0
 unfolding Valid write_all Rows survey latest_of
 head-start part n rows e =
     let p : n ≡ n - 0 = omega arith in
@@ -293,14 +296,14 @@ head-start part n rows e =
       goes = ap (λ (m : ℕ). replay m [] part) p;
     }
 
-pub mismatched-rowed : (d : Load) (rows : List ℕ) → length rows ≡ 512 → d ≡ mismatched → Rowed d false rows
+pub mismatched-rowed : (d : Load) (rows : List Row) → length rows ≡ 512 → d ≡ mismatched → Rowed d false rows
 mismatched-rowed d rows size e = record {
   checked = sym (ap together e);
   kept = λ l b. let z : ◌≡◌ {A = ℕ} 0 1 = cc in absurd (omega arith);
   size = size;
 }
 
-module _ {part : List ℕ} {n : ℕ} {rows latest counts : List ℕ} {q i : ℕ} (h : Head part n rows latest counts q i) where
+module _ {part : List ℕ} {n : ℕ} {rows : List Row} {latest counts : List ℕ} {q i : ℕ} (h : Head part n rows latest counts q i) where
   pub head-within : q ≤ length part
   head-within = omega (arith, ap length h.split, length-append (write_all h.acc) (drop q part), h.at)
 
@@ -404,7 +407,7 @@ module _ {part : List ℕ} {n : ℕ} {rows latest counts : List ℕ} {q i : ℕ}
             pub head-row : (hour < 512) × (q < 65536)
             head-row = (omega (arith, eh, slot-few v.key low-key), omega (arith, head_few.1))
 
-            pub head-next : sl < 8192 → {rows' : List ℕ} → rows' ≡ cleared rows x → {row : ℕ}
+            pub head-next : sl < 8192 → {rows' : List Row} → rows' ≡ cleared rows x → {row : Row}
                 → row ≡ packed (not (is_withdrawal v.kind)) v.kind hour q
                 → {m : ℕ} → m ≡ cond (is_filing v.kind) (get_or counts hour 0 + 1)
                 (cond (is_withdrawal v.kind) (get_or counts hour 0 - 1) (get_or counts hour 0))
@@ -426,7 +429,7 @@ module _ {part : List ℕ} {n : ℕ} {rows latest counts : List ℕ} {q i : ℕ}
                   inside = omega arith;
                   few = omega arith;
                   size = length-set rows' i row ∙ ap length ex ∙ cleared-size rows x ∙ h.size;
-                  kept = subst (λ (t : List ℕ). Rows (set t i row) (c ∷ h.acc) (c ∷ h.acc)) (sym ex) (rows_next head-logged h.size space_fault c x f row er');
+                  kept = subst (λ (t : List Row). Rows (set t i row) (c ∷ h.acc) (c ∷ h.acc)) (sym ex) (rows_next head-logged h.size space_fault c x f row er');
                   latest-size = length-set latest sl (i + 1) ∙ h.latest-size;
                   latest-is = λ k. (λ j. get_or (set latest (sk j) (i-is j)) k 0) ∙ latest-next latest c h.acc k (omega (arith, sk, h.latest-size))
                       (h.latest-is k);
@@ -452,14 +455,14 @@ under d m l n e = omega (arith, short d, length-append (write_all m) (write d), 
 
 -- ---- a filing taken back: the rows before it are those of the changes before it
 
-pub rows_back : (rows : List ℕ) (r : Rec) (l : List Change) → Valid (filed r ∷ l) → Rows rows (filed r ∷ l) (filed r ∷ l) → Rows rows l l
+pub rows_back : (rows : List Row) (r : Rec) (l : List Change) → Valid (filed r ∷ l) → Rows rows (filed r ∷ l) (filed r ∷ l) → Rows rows l l
 unfolding Valid Rows
 rows_back rows r l v k = rows-build rows l l (length l) refl at
   where
     gone : (survey r.key l).found ≡ false
     gone = survey-found r.key l ∙ refusal-found l 65535 (filed r) v.1
 
-    at : (j : ℕ) (d : Change) (m : List Change) → j < length l → drop (length l - (j + 1)) l ≡ d ∷ m → get_or rows j 0 ≡ row_of l (length (write_all m)) d
+    at : (j : ℕ) (d : Change) (m : List Change) → j < length l → drop (length l - (j + 1)) l ≡ d ∷ m → get_or rows j no_row ≡ row_of l (length (write_all m)) d
     at j d m lt e =
         let w = rows_at rows (filed r ∷ l) l j (length l) k.1 refl lt in
         let p : w.what ∷ drop (length l - j) l ≡ d ∷ m = sym w.rest ∙ e in

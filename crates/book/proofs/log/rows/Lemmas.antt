@@ -21,9 +21,15 @@ use Rattle.book.specs.laws.GatherLaws.{Pass, gather, collect, gather-standing}
 use Rattle.book.specs.declared.log.rows.Standing.{Standing}
 use Rattle.book.specs.tables.Rows.{kind_code, kind_at, packed, row_start, row_slot, row_kind, row_live, row_place, row_of, Rows, Ruled, Logged, Log, InReach, key_at, Search, Stood, Sought}
 use Rattle.book.proofs.log.Survey.{to_end, valid-size, valid-drop}
+use Rattle.book.proofs.log.LastTaken.{LastTaken, refused, taken}
 use Rattle.book.proofs.log.index.Lemmas.{other-slot, slot-hour}
+use Rattle.book.specs.declared.log.row.Row.{Row}
+use Rattle.book.specs.tables.Rows.{no_row}
 
 -- ---- a number taken apart
+
+abbrev pub as_row : ℕ → Row
+as_row n = record { 0 = n }
 
 pub code-few : (kind : Kind) → kind_code kind < 4
 code-few File = omega arith
@@ -56,7 +62,7 @@ module _ (b : Bool) (kind : Kind) (slot q : ℕ) (hs : slot < 512) (hq : q < 655
   unpack-kind : row_kind (packed b kind slot q) ≡ kind
   unpack-kind = ap kind_at (go b) ∙ code-back kind
     where
-      go : (b : Bool) → packed b kind slot q / 33554432 % 4 ≡ kind_code kind
+      go : (b : Bool) → (packed b kind slot q).0 / 33554432 % 4 ≡ kind_code kind
       go true = omega (arith, hk)
       go false = omega (arith, hk)
 
@@ -64,12 +70,12 @@ module _ (b : Bool) (kind : Kind) (slot q : ℕ) (hs : slot < 512) (hq : q < 655
   unpack-live = go b
     where
       go : (b : Bool) → row_live (packed b kind slot q) ≡ b
-      go true = le-leb 134217728 (packed true kind slot q) (omega (arith, hk))
-      go false = lt-leb 134217728 (packed false kind slot q) (omega (arith, hk))
+      go true = le-leb 134217728 (packed true kind slot q).0 (omega (arith, hk))
+      go false = lt-leb 134217728 (packed false kind slot q).0 (omega (arith, hk))
 
 -- ---- what a row says of its change
 
-pub record Seen (row : ℕ) (all : List Change) (q : ℕ) (c : Change) : Type 0 where
+pub record Seen (row : Row) (all : List Change) (q : ℕ) (c : Change) : Type 0 where
   pub live : row_live row ≡ live_at (survey (key_of c) all) (kind_of c) q
   pub slot : row_slot row ≡ hour_slot (key_of c)
   pub kind : row_kind row ≡ kind_of c
@@ -80,7 +86,7 @@ pub record Seen (row : ℕ) (all : List Change) (q : ℕ) (c : Change) : Type 0 
 pub slot-few : (k : Key) → k.hour < 32 → hour_slot k < 512
 slot-few k h = omega (arith, order-few (key_mark k.mark))
 
-pub row_seen : (row : ℕ) (all : List Change) (q : ℕ) (c : Change) → row ≡ row_of all q c → (key_of c).hour < 32 → q < 65536 → Seen row all q c
+pub row_seen : (row : Row) (all : List Change) (q : ℕ) (c : Change) → row ≡ row_of all q c → (key_of c).hour < 32 → q < 65536 → Seen row all q c
 row_seen row all q c e low hq =
     let b = live_at (survey (key_of c) all) (kind_of c) q in
     let hs = slot-few (key_of c) low in
@@ -95,12 +101,12 @@ row_seen row all q c e low hq =
     }
 
 -- the change at a place, and those before it
-pub record RowAt (rows : List ℕ) (all : List Change) (n : ℕ) (l : List Change) (j : ℕ) : Type 0 where
+pub record RowAt (rows : List Row) (all : List Change) (n : ℕ) (l : List Change) (j : ℕ) : Type 0 where
   pub what : Change
   pub rest : drop (n - (j + 1)) l ≡ what ∷ drop (n - j) l
-  pub row : get_or rows j 0 ≡ row_of all (length (write_all (drop (n - j) l))) what
+  pub row : get_or rows j no_row ≡ row_of all (length (write_all (drop (n - j) l))) what
 
-pub rows_at : (rows : List ℕ) (all l : List Change) (j n : ℕ) → Rows rows all l → length l ≡ n → j < n → RowAt rows all n l j
+pub rows_at : (rows : List Row) (all l : List Change) (j n : ℕ) → Rows rows all l → length l ≡ n → j < n → RowAt rows all n l j
 unfolding Rows
 rows_at rows all [] j n k e h = absurd (omega arith)
 rows_at rows all (c ∷ l) j n k e h = go (leb (length l) j) refl (λ lt. rows_at rows all l j (length l) k.1 refl lt)
@@ -114,7 +120,7 @@ rows_at rows all (c ∷ l) j n k e h = go (leb (length l) j) refl (λ lt. rows_a
         record {
           what = c;
           rest = ap (λ (m : ℕ). drop m (c ∷ l)) e1 ∙ ap (λ (m : ℕ). c ∷ drop m (c ∷ l)) (sym e2);
-          row = ap (λ (m : ℕ). get_or rows m 0) ej ∙ k.0 ∙ ap (λ (m : ℕ). row_of all (length (write_all (drop m (c ∷ l)))) c) (sym e2);
+          row = ap (λ (m : ℕ). get_or rows m no_row) ej ∙ k.0 ∙ ap (λ (m : ℕ). row_of all (length (write_all (drop m (c ∷ l)))) c) (sym e2);
         }
     go false t ih =
         let lt = leb-false (length l) j t in
@@ -128,7 +134,7 @@ rows_at rows all (c ∷ l) j n k e h = go (leb (length l) j) refl (λ lt. rows_a
         }
 
 -- what the row of a place says
-module _ {rows : List ℕ} {n : ℕ} {l : List Change} (r : Ruled rows n l) {j : ℕ} (lt : j < n) where
+module _ {rows : List Row} {n : ℕ} {l : List Change} (r : Ruled rows n l) {j : ℕ} (lt : j < n) where
   pub ruled-at : RowAt rows l n l j
   ruled-at = rows_at rows l l j n r.kept r.count lt
 
@@ -149,22 +155,22 @@ module _ {rows : List ℕ} {n : ℕ} {l : List Change} (r : Ruled rows n l) {j :
   unfolding Valid
   ruled-start = omega (arith, (valid-size (drop (n - j) l) ruled-valid.2).1)
 
-  pub ruled-seen : Seen (get_or rows j 0) l (length (write_all (drop (n - j) l))) ruled-at.what
+  pub ruled-seen : Seen (get_or rows j no_row) l (length (write_all (drop (n - j) l))) ruled-at.what
   ruled-seen = row_seen _ l (length (write_all (drop (n - j) l))) ruled-at.what ruled-at.row ruled-low ruled-start
 
-pub ruled-most : {rows : List ℕ} {n : ℕ} {l : List Change} → Ruled rows n l → n ≤ 512
+pub ruled-most : {rows : List Row} {n : ℕ} {l : List Change} → Ruled rows n l → n ≤ 512
 ruled-most {l = l} r = omega (arith, (valid-size l r.valid).0, r.count)
 
-pub log-few : {s rows : List ℕ} {n : ℕ} → Log s rows n → n ≤ 512
+pub log-few : {s : List ℕ} {rows : List Row} {n : ℕ} → Log s rows n → n ≤ 512
 log-few o = ruled-most o.logged.ruled
 
 -- the rows of the first n changes alone
-rows-front : (rows : List ℕ) (n : ℕ) (all l : List Change) → Rows rows all l → length l ≤ n → Rows (take n rows) all l
+rows-front : (rows : List Row) (n : ℕ) (all l : List Change) → Rows rows all l → length l ≤ n → Rows (take n rows) all l
 unfolding Rows
 rows-front rows n all [] k le = tt
-rows-front rows n all (c ∷ l) k le = (get_or-take n rows (length l) 0 (omega arith) ∙ k.0, rows-front rows n all l k.1 (omega arith))
+rows-front rows n all (c ∷ l) k le = (get_or-take n rows (length l) no_row (omega arith) ∙ k.0, rows-front rows n all l k.1 (omega arith))
 
-pub logged-front : {s rows : List ℕ} {n : ℕ} {l : List Change} → Logged s rows n l → Logged s (take n rows) n l
+pub logged-front : {s : List ℕ} {rows : List Row} {n : ℕ} {l : List Change} → Logged s rows n l → Logged s (take n rows) n l
 logged-front {rows = rows} {n = n} {l = l} g =
     let r = g.ruled in
     record {
@@ -173,20 +179,20 @@ logged-front {rows = rows} {n = n} {l = l} g =
       bytes = g.bytes;
     }
 
-pub log-front : {s rows : List ℕ} {n : ℕ} → Log s rows n → Log s (take n rows) n
+pub log-front : {s : List ℕ} {rows : List Row} {n : ℕ} → Log s rows n → Log s (take n rows) n
 log-front o = record { list = o.list; logged = logged-front o.logged }
 
-pub log-whole : {s rows : List ℕ} {n : ℕ} → Log s rows n → n ≤ length rows → Log s (take n rows) (length (take n rows))
+pub log-whole : {s : List ℕ} {rows : List Row} {n : ℕ} → Log s rows n → n ≤ length rows → Log s (take n rows) (length (take n rows))
 log-whole {s} {rows} {n} o h = subst (Log s (take n rows)) (sym (length-take-le n rows h)) (log-front o)
 
 -- a bound that holds of every list of changes that a checked log can say
-pub bound-by : {s rows : List ℕ} {n a b : ℕ} → ∥ Log s rows n ∥₁ → ((l : List Change) → Logged s rows n l → a ≤ b) → a ≤ b
+pub bound-by : {s : List ℕ} {rows : List Row} {n a b : ℕ} → ∥ Log s rows n ∥₁ → ((l : List Change) → Logged s rows n l → a ≤ b) → a ≤ b
 bound-by o f = ∥∥₁_elim o le_prop (λ x. f x.list x.logged)
 
-pub row-in : (rows : List ℕ) (n : ℕ) {i : ℕ} → i < length (take n rows) → i < n
+pub row-in : (rows : List Row) (n : ℕ) {i : ℕ} → i < length (take n rows) → i < n
 row-in rows n h = omega (arith, length-take n rows)
 
-pub rows-out : (rows : List ℕ) (n : ℕ) {i : ℕ} → length (take n rows) ≤ i → n ≤ length rows → n ≤ i
+pub rows-out : (rows : List Row) (n : ℕ) {i : ℕ} → length (take n rows) ≤ i → n ≤ length rows → n ≤ i
 rows-out rows n h le = omega (arith, length-take-le n rows le)
 
 -- ---- mark and hour by their number
@@ -197,6 +203,11 @@ and-turned true false = refl
 and-turned false true = refl
 and-turned false false = refl
 
+pub eqb-turned : (a b : ℕ) → eqb a b ≡ eqb b a
+eqb-turned a b = by-test (eqb a b)
+    (λ t. t ∙ sym (eq-eqb b a (sym (eqb-true a b t))))
+    (λ t. t ∙ sym (ne_eqb b a (λ e. true≠false (eq-eqb a b (sym e)) t)))
+
 pub slot_same : (a b : Key) → a.hour < 32 → b.hour < 32 → eqb (hour_slot a) (hour_slot b) ≡ same_hour b a
 slot_same a b ha hb =
     by-test (same_hour b a)
@@ -204,25 +215,25 @@ slot_same a b ha hb =
     (λ t. ne_eqb (hour_slot a) (hour_slot b) (λ e. true≠false (slot-hour b a hb ha (sym e)) t) ∙ sym t)
 
 -- a row that stands, of the mark and hour
-pub picked : {row : ℕ} {all : List Change} {q : ℕ} {c : Change} → Seen row all q c → (k : Key) (slot : ℕ) → slot ≡ hour_slot k → k.hour < 32
+pub picked : {row : Row} {all : List Change} {q : ℕ} {c : Change} → Seen row all q c → (k : Key) (slot : ℕ) → slot ≡ hour_slot k → k.hour < 32
     → (row_live row && eqb (row_slot row) slot) ≡ (same_hour k (key_of c) && live_at (survey (key_of c) all) (kind_of c) q)
 picked {row} {all} {q} {c} s k slot e h =
     ap₂ ◌&&◌ s.live (ap₂ eqb s.slot e ∙ slot_same (key_of c) k s.low h) ∙ and-turned (live_at (survey (key_of c) all) (kind_of c) q) (same_hour k (key_of c))
 
 -- ---- the loop of any pass over the rows
 
-pub record Ran {B : Type 0} (p : Key → Pass B) (rows : List ℕ) (n slot i : ℕ) (xs : B) : Type 0 where
+pub record Ran {B : Type 0} (p : Key → Pass B) (rows : List Row) (n slot i : ℕ) (xs : B) : Type 0 where
   pub inside : i ≤ n
   pub is : (l : List Change) → Ruled rows n l → (k : Key) → slot ≡ hour_slot k → k.hour < 32 → xs ≡ gather (p k) l (drop (n - i) l)
 
-pub ran-start : {B : Type 0} (p : Key → Pass B) (rows : List ℕ) (n slot : ℕ) (xs : B) → ((k : Key) → xs ≡ (p k).none) → Ran p rows n slot 0 xs
+pub ran-start : {B : Type 0} (p : Key → Pass B) (rows : List Row) (n slot : ℕ) (xs : B) → ((k : Key) → xs ≡ (p k).none) → Ran p rows n slot 0 xs
 unfolding gather
 ran-start p rows n slot xs e = record {
   inside = omega arith;
   is = λ l r k ek hk. e k ∙ ap (gather (p k) l) (sym (drop_of_length-le l {i = n - 0} (omega (arith, r.count))));
 }
 
-module _ {B : Type 0} {p : Key → Pass B} {rows : List ℕ} {n slot i : ℕ} {xs : B} (h : Ran p rows n slot i xs) where
+module _ {B : Type 0} {p : Key → Pass B} {rows : List Row} {n slot i : ℕ} {xs : B} (h : Ran p rows n slot i xs) where
   pub ran-end : n ≤ i → (l : List Change) → Ruled rows n l → (k : Key) → slot ≡ hour_slot k → k.hour < 32 → xs ≡ collect (p k) l (standing l)
   ran-end le l r k ek hk =
       let w : n - i ≡ 0 = omega arith in h.is l r k ek hk ∙ ap (λ (m : ℕ). gather (p k) l (drop m l)) w ∙ gather-standing (p k) l (valid-new l r.valid)
@@ -255,16 +266,16 @@ unfolding collect count
 collect-count k all [] = refl
 collect-count k all (r ∷ rs) = ap (λ (m : ℕ). cond (same_hour k r.key) (m + 1) m) (collect-count k all rs)
 
-counted-more : (p : ℕ → Bool) (rows : List ℕ) (i : ℕ) → i < length rows
-    → count_by p (take (i + 1) rows) ≡ cond (p (get_or rows i 0)) (count_by p (take i rows) + 1) (count_by p (take i rows))
+counted-more : (p : Row → Bool) (rows : List Row) (i : ℕ) → i < length rows
+    → count_by p (take (i + 1) rows) ≡ cond (p (get_or rows i no_row)) (count_by p (take i rows) + 1) (count_by p (take i rows))
 counted-more p rows i lt =
     let m = count_by p (take i rows) in
-    by-test (p (get_or rows i 0))
-    (λ t. count_by_more_yes p rows i 0 lt t ∙ sym (ap (λ (b : Bool). cond b (m + 1) m) t))
-    (λ t. count_by_more_no p rows i 0 lt t ∙ sym (ap (λ (b : Bool). cond b (m + 1) m) t))
+    by-test (p (get_or rows i no_row))
+    (λ t. count_by_more_yes p rows i no_row lt t ∙ sym (ap (λ (b : Bool). cond b (m + 1) m) t))
+    (λ t. count_by_more_no p rows i no_row lt t ∙ sym (ap (λ (b : Bool). cond b (m + 1) m) t))
 
-module _ (rows : List ℕ) (n slot : ℕ) (long : n ≤ length rows) where
-  in_slot : ℕ → Bool
+module _ (rows : List Row) (n slot : ℕ) (long : n ≤ length rows) where
+  in_slot : Row → Bool
   in_slot row = row_live row && eqb (row_slot row) slot
 
   counting : (i : ℕ) → i ≤ n → Ran count_pass rows n slot i (count_by in_slot (take i rows))
@@ -277,11 +288,11 @@ module _ (rows : List ℕ) (n slot : ℕ) (long : n ≤ length rows) where
       (ran-next (counting i (omega arith)) lt (count_by in_slot (take (i + 1) rows))
       (λ l r k ek hk. counted-more in_slot rows i (omega arith) ∙ ap (λ (b : Bool). cond b (m + 1) m) (picked (ruled-seen r lt) k slot ek hk)))
 
-pub counted-all : {rows : List ℕ} {slot : ℕ} {l : List Change} → Ruled rows (length rows) l → (key : Key) → slot ≡ hour_slot key → key.hour < 32
+pub counted-all : {rows : List Row} {slot : ℕ} {l : List Change} → Ruled rows (length rows) l → (key : Key) → slot ≡ hour_slot key → key.hour < 32
     → count_by (λ row. row_live row && eqb (row_slot row) slot) rows ≡ count key (standing l)
 unfolding in_slot
 counted-all {rows} {slot} {l} r key e hk =
-    ap (count_by (λ (row : ℕ). row_live row && eqb (row_slot row) slot)) (sym (take_all (length rows) rows (omega arith)))
+    ap (count_by (λ (row : Row). row_live row && eqb (row_slot row) slot)) (sym (take_all (length rows) rows (omega arith)))
     ∙ ran-end (counting rows (length rows) slot (omega arith) (length rows) (omega arith)) (omega arith) l r key e hk ∙ collect-count key l (standing l)
 
 -- ---- what is live, by the survey of its key
@@ -356,7 +367,7 @@ pub record ChangeAt (s : List ℕ) (q : ℕ) (d : Change) : Type 0 where
   pub rest : List ℕ
   pub bytes : drop q s ≡ write d ++ rest
 
-pub change-at : {s rows : List ℕ} {n : ℕ} {l : List Change} (g : Logged s rows n l) (m : ℕ) (d : Change) (r : List Change) → drop m l ≡ d ∷ r
+pub change-at : {s : List ℕ} {rows : List Row} {n : ℕ} {l : List Change} (g : Logged s rows n l) (m : ℕ) (d : Change) (r : List Change) → drop m l ≡ d ∷ r
     → ChangeAt s (length (write_all r)) d
 change-at {s} {l = l} g m d r e =
     let w = split_at m l d r e in
@@ -378,13 +389,13 @@ lead-long (corrected r) = omega (arith, (write-co r).0, write-long (filed r))
 lead-long (withdrawn k) = omega (arith, write-long (withdrawn k))
 
 -- so what the rows say is in reach
-pub in-reach : {s rows : List ℕ} {n : ℕ} {l : List Change} → Logged s rows n l → length rows ≤ n → InReach s rows
+pub in-reach : {s : List ℕ} {rows : List Row} {n : ℕ} {l : List Change} → Logged s rows n l → length rows ≤ n → InReach s rows
 in-reach {rows} {n} {l} g long j lt =
     let h : j < n = omega arith in
     let d = (ruled-at g.ruled h).what in
     let w = change-at g (n - (j + 1)) d (drop (n - j) l) (ruled-at g.ruled h).rest in
     let z = ruled-seen g.ruled h in
-    let hour : row_slot (get_or rows j 0) % 32 ≡ (key_of d).hour = omega (arith, z.slot, z.low) in (
+    let hour : row_slot (get_or rows j no_row) % 32 ≡ (key_of d).hour = omega (arith, z.slot, z.low) in (
       omega (arith, z.place, w.inside, lead-long d),
       omega (arith, hour, (good-hour d (ruled-good g.ruled h)).0),
       omega (arith, hour, (good-hour d (ruled-good g.ruled h)).1),
@@ -416,7 +427,7 @@ record-at {s} {q} (corrected r) w g z = record {
 record-at (withdrawn k) w g z = true≠false refl z
 
 -- the record that stands under a key, where it is written
-pub logged-at : {s rows : List ℕ} {n : ℕ} {l : List Change} → Logged s rows n l → (k : Key) → (survey k l).found ≡ true → Found s l k
+pub logged-at : {s : List ℕ} {rows : List Row} {n : ℕ} {l : List Change} → Logged s rows n l → (k : Key) → (survey k l).found ≡ true → Found s l k
 logged-at g k h = found_at (begun g) k h
 
 live-wrote : (s : Survey) (v : Kind) (q : ℕ) → live_at s v q ≡ true → is_withdrawal v ≡ false
@@ -427,7 +438,7 @@ live-wrote s v q = go (is_withdrawal v)
     go true h = true≠false h refl
     go false h = refl
 
-module _ {s rows : List ℕ} {n : ℕ} {l : List Change} (g : Logged s rows n l) {j : ℕ} (lt : j < n) where
+module _ {s : List ℕ} {rows : List Row} {n : ℕ} {l : List Change} (g : Logged s rows n l) {j : ℕ} (lt : j < n) where
   abbrev writer : Change
   writer = (ruled-at g.ruled lt).what
 
@@ -503,10 +514,10 @@ unfolding hit-or
 hit-none true x e = sym (ap (λ (h : Hit). h.found) e)
 hit-none false x e = refl
 
-not-sought : {rows : List ℕ} (k : Key) (l : List Change) → false ≡ (survey k l).found → Sought rows k None l
+not-sought : {rows : List Row} (k : Key) (l : List Change) → false ≡ (survey k l).found → Sought rows k None l
 not-sought k l e = record { found = e; stood = λ x h. cc }
 
-pub record Seeking (s rows : List ℕ) (from hs : ℕ) (name : List ℕ) (i : ℕ) : Type 0 where
+pub record Seeking (s : List ℕ) (rows : List Row) (from hs : ℕ) (name : List ℕ) (i : ℕ) : Type 0 where
   pub inside : i ≤ length rows
   pub is : (k : Key) (l : List Change) → Search s rows from hs name k l → gather (find_pass k) l l ≡ gather (find_pass k) l (drop (length rows - i) l)
 
@@ -532,14 +543,14 @@ skip-newer k p all (c ∷ l) v from h le = by-test (leb from (length l)) (inside
         ∙ ih (omega (arith, h, ap (λ (b : Bool). cond b (length l + 1) (latest_of (key_number k) l)) u)) lt
         ∙ ap (λ (m : ℕ). gather (find_pass k) all (drop m (c ∷ l))) (sym e))
 
-pub seeking-start : (s rows : List ℕ) (from hs : ℕ) (name : List ℕ) → from ≤ length rows → Seeking s rows from hs name from
+pub seeking-start : (s : List ℕ) (rows : List Row) (from hs : ℕ) (name : List ℕ) → from ≤ length rows → Seeking s rows from hs name from
 seeking-start s rows from hs name le = record {
   inside = le;
   is = λ k l w. skip-newer k w.padded l l w.logged.ruled.valid from w.few (omega (arith, w.logged.ruled.count)) ∙ ap
       (λ (m : ℕ). gather (find_pass k) l (drop (m - from) l)) w.logged.ruled.count;
 }
 
-pub seeking-end : {s rows : List ℕ} {from hs : ℕ} {name : List ℕ} {i : ℕ} → Seeking s rows from hs name i → i ≤ 0 → (k : Key) (l : List Change)
+pub seeking-end : {s : List ℕ} {rows : List Row} {from hs : ℕ} {name : List ℕ} {i : ℕ} → Seeking s rows from hs name i → i ≤ 0 → (k : Key) (l : List Change)
     → Search s rows from hs name k l
     → Sought rows k None l
 unfolding gather
@@ -549,7 +560,7 @@ seeking-end {rows = rows} {i = i} h z k l w =
     (hit-none (survey k l).found (survey k l).start (sym (find-is k l w.logged.ruled.valid) ∙ h.is k l w ∙ ap (gather (find_pass k) l) e))
 
 -- no change has the number of the key
-pub seeking-none : {s rows : List ℕ} {from : ℕ} → from ≡ 0 → (k : Key) (l : List Change) → Logged s rows (length rows) l → Padded k.name
+pub seeking-none : {s : List ℕ} {rows : List Row} {from : ℕ} → from ≡ 0 → (k : Key) (l : List Change) → Logged s rows (length rows) l → Padded k.name
     → latest_of (key_number k) l ≤ from
     → Sought rows k None l
 unfolding gather
@@ -561,7 +572,7 @@ seeking-none {rows = rows} {from = from} z k l g hp few =
     ∙ ap (gather (find_pass k) l) e))
 
 -- no record can have the name
-pub seeking-untold : {s rows : List ℕ} {n : ℕ} (k : Key) (l : List Change) → Logged s rows n l → Padded k.name → nameable k ≡ false
+pub seeking-untold : {s : List ℕ} {rows : List Row} {n : ℕ} (k : Key) (l : List Change) → Logged s rows n l → Padded k.name → nameable k ≡ false
     → Sought rows k None l
 seeking-untold k l g p e = not-sought k l (sym (by-test (survey k l).found
     (λ t. let f = found_at (begun g) k t in
@@ -572,7 +583,7 @@ seeking-untold k l g p e = not-sought k l (sym (by-test (survey k l).found
     (λ t. t)))
 
 -- a turn: the change before i
-module _ {s rows : List ℕ} {from hs : ℕ} {name : List ℕ} {i : ℕ} (h : Seeking s rows from hs name i) (above : 0 < i) (j : ℕ) (ej : j ≡ i - 1) where
+module _ {s : List ℕ} {rows : List Row} {from hs : ℕ} {name : List ℕ} {i : ℕ} (h : Seeking s rows from hs name i) (above : 0 < i) (j : ℕ) (ej : j ≡ i - 1) where
   pub turn_inside : j < length rows
   turn_inside = omega (arith, h.inside)
 
@@ -604,7 +615,7 @@ module _ {s rows : List ℕ} {from hs : ℕ} {name : List ℕ} {i : ℕ} (h : Se
   }
 
   -- its record does not stand, or is of another mark or hour
-  pub seeking-skip : (row_live (get_or rows j 0) && eqb (row_slot (get_or rows j 0)) hs) ≡ false → Seeking s rows from hs name j
+  pub seeking-skip : (row_live (get_or rows j no_row) && eqb (row_slot (get_or rows j no_row)) hs) ≡ false → Seeking s rows from hs name j
   unfolding what begun-at live
   seeking-skip m = skip (λ k l w.
       let c = what w.logged in
@@ -614,10 +625,10 @@ module _ {s rows : List ℕ} {from hs : ℕ} {name : List ℕ} {i : ℕ} (h : Se
       ap (λ (x : Bool). x && live w.logged) (t ∙ sym sh) ∙ sym (picked (ruled-seen w.logged.ruled turn_inside) k hs w.slot_is w.low) ∙ m)
       (λ t. ap (λ (x : Bool). x && live w.logged) t))
 
-  module _ (m : (row_live (get_or rows j 0) && eqb (row_slot (get_or rows j 0)) hs) ≡ true) (x : ℕ) (ex : x ≡ row_place (get_or rows j 0)) where
+  module _ (m : (row_live (get_or rows j no_row) && eqb (row_slot (get_or rows j no_row)) hs) ≡ true) (x : ℕ) (ex : x ≡ row_place (get_or rows j no_row)) where
     live-there : {l : List Change} (g : Logged s rows (length rows) l) → live g ≡ true
     unfolding what begun-at live
-    live-there g = sym (ruled-seen g.ruled turn_inside).live ∙ and_left (row_live (get_or rows j 0)) (eqb (row_slot (get_or rows j 0)) hs) m
+    live-there g = sym (ruled-seen g.ruled turn_inside).live ∙ and_left (row_live (get_or rows j no_row)) (eqb (row_slot (get_or rows j no_row)) hs) m
 
     -- its record is written there
     there : {l : List Change} (g : Logged s rows (length rows) l) → WrittenAt s x (key_of (what g))
@@ -663,11 +674,40 @@ module _ {s rows : List ℕ} {from hs : ℕ} {name : List ℕ} {i : ℕ} (h : Se
         } in
         record { found = f.0; stood = λ y r. let p : record { at = j; start = x } ≡ y = cc in subst (λ (z : Standing). Stood rows k z l) p here }
 
+-- ---- the search from the end of the first rows on
+
+-- a row whose record stands, is of the mark and hour, and has the name behind them
+abbrev pub named : List ℕ → ℕ → List ℕ → Row → Bool
+named s hs name row = (row_live row && eqb (row_slot row) hs) && begins name (drop (row_place row + 3) s)
+
+module _ {s : List ℕ} {rows : List Row} {from hs : ℕ} {name : List ℕ} (long : from ≤ length rows) {r : Option ℕ} (w : LastTaken (named s hs name) (take from rows) r) where
+  on : (i j : ℕ) → Seeking s rows from hs name i → 0 < i → j ≡ i - 1 → named s hs name (get_or rows j no_row) ≡ false → Seeking s rows from hs name j
+  on i j h above ej e =
+      let row = get_or rows j no_row in
+      by-test (row_live row && eqb (row_slot row) hs)
+      (λ t. seeking-other h above j ej t (row_place row) refl (sym (ap (λ (b : Bool). b && begins name (drop (row_place row + 3) s)) t) ∙ e))
+      (λ t. seeking-skip h above j ej t)
+
+  pub sought-none : r ≡ None → (k : Key) (l : List Change) → Search s rows from hs name k l → Sought rows k None l
+  sought-none e = seeking-end
+      (refused (named s hs name) no_row rows from long (Seeking s rows from hs name) (seeking-start s rows from hs name long) on w e) (omega arith)
+
+  pub sought-some : {i : ℕ} → r ≡ Some i → (x : ℕ) → x ≡ row_place (get_or (take from rows) i no_row) → (k : Key) (l : List Change) → Search s rows from hs name k l
+      → Sought rows k (Some (record { at = i; start = x })) l
+  sought-some {i} e x ex =
+      let v = taken (named s hs name) no_row rows from long (Seeking s rows from hs name) (seeking-start s rows from hs name long) on w i e in
+      let row = get_or rows i no_row in
+      let here : x ≡ row_place row = ex ∙ ap row_place (get_or-take from rows i no_row v.0) in
+      let a = row_live row && eqb (row_slot row) hs in
+      let b = begins name (drop (row_place row + 3) s) in
+      seeking-hit v.2 (omega arith) i (omega arith) (and_left a b v.1) x here
+      (ap (λ (y : ℕ). begins name (drop (y + 3) s)) here ∙ and_right a b v.1)
+
 -- ---- of a log whose rows are the first n
 
-pub sought-front : {s rows hs hr : List ℕ} {n from : ℕ} {k : Key} {x : Option Standing} → hr ≡ take n rows → length hr ≡ n
+pub sought-front : {s : List ℕ} {rows : List Row} {hs : List ℕ} {hr : List Row} {n from : ℕ} {k : Key} {x : Option Standing} → hr ≡ take n rows → length hr ≡ n
     → ((l : List Change) → Logged s rows n l → Logged hs hr n l)
     → ((l : List Change) → Logged hs hr (length hr) l → k.hour < 32 → Padded k.name → latest_of (key_number k) l ≤ from → Sought hr k x l)
     → (l : List Change) → Logged s rows n l → k.hour < 32 → Padded k.name → latest_of (key_number k) l ≤ from → Sought (take n rows) k x l
 sought-front {hs} {hr} {k} {x} er en says f l g hk hp few =
-    subst (λ (y : List ℕ). Sought y k x l) er (f l (subst (λ (m : ℕ). Logged hs hr m l) (sym en) (says l g)) hk hp few)
+    subst (λ (y : List Row). Sought y k x l) er (f l (subst (λ (m : ℕ). Logged hs hr m l) (sym en) (says l g)) hk hp few)

@@ -1,10 +1,10 @@
-use Rattle.std.proofs.Common.{None, refl, sym, ◌∙◌, inl, inr, rules}
+use Rattle.std.proofs.Common.{None, sym, ◌∙◌, inl, inr, rules}
 use Rattle.std.proofs.Math.Logic.{⊎_elim}
 use Rattle.book.proofs.amounts.days.Lemmas.{walked-start, walked-unit, walked-more, walked-all}
 use Rattle.book.proofs.amounts.days.parts_of.Goals as goal
 
 pub loop-h-init : goal.loop-h-init
-loop-h-init c = walked-start refl refl (search rules) (search rules) (search rules)
+loop-h-init c = walked-start (search rules) (search rules) (search rules) (search rules) (search rules)
 
 pub part_at-p-requires : goal.part_at-p-requires
 part_at-p-requires c = λ start e.

@@ -1,12 +1,13 @@
-use Rattle.std.proofs.Common.{refl}
-use Rattle.book.proofs.book.Rows.{apart-on, handed-on, uncounted, count-rowed}
+use Rattle.std.proofs.Common.{refl, sym, ap, ◌∙◌, rules}
+use Rattle.book.specs.Layer.{told}
+use Rattle.book.specs.laws.LayerLaws.{hour-formed}
+use Rattle.book.specs.Register.{count_of}
+use Rattle.book.proofs.book.Rows.{asked-so}
 use Rattle.book.proofs.book.Book.count_of.Goals as goal
 
-pub returns-in_err-check_rows : goal.returns-in_err-check_rows
-returns-in_err-check_rows c = apart-on c.in_err-check_rows.ensures.rowed _ _ _ c.from_residual.ensures.1 (c.in_err-check_rows.ensures.apart _ refl)
-
-pub returns-in_err-key : goal.returns-in_err-key
-returns-in_err-key c = handed-on _ _ _ c.from_residual-in_err-key.ensures.1 (uncounted _ _ c.in_ok-check_rows.ensures.rowed _ _ c.in_err-key.ensures)
-
 pub returns : goal.returns
-returns c = count-rowed _ _ c.in_ok-check_rows.ensures.rowed c.checked_log.ensures.says _ _ c.in_ok-key.ensures c.count.ensures
+returns c =
+    asked-so _ _ (count_of c.args.mark.now c.args.hour) _ _ (λ l. refl) _ c.asked.ensures.apart c.asked.ensures.wrong c.ask_hour.ensures (λ l k e q.
+    let w = c.asked.ensures.right l k e q in
+    let formed = hour-formed c.args.mark.now c.args.hour k (ap told (sym q) ∙ c.ask_hour.ensures) in
+    search rules)

@@ -1,21 +1,19 @@
-use Rattle.std.proofs.Common.{refl}
+use Rattle.std.proofs.Common.{◌≡◌, true, refl, sym, ap, ◌∙◌, rules}
+use Rattle.book.specs.Layer.{told, is_failure}
 use Rattle.book.specs.laws.LayerLaws.{failure-formed}
-use Rattle.book.proofs.book.Rows.{apart-on, handed-on}
-use Rattle.book.proofs.amounts.failures.Lemmas.{failure-wrong, failure-right}
+use Rattle.book.specs.Register.{failure_charge}
+use Rattle.book.proofs.book.Rows.{asked-so}
+use Rattle.book.proofs.amounts.failures.Lemmas.{failure-is}
 use Rattle.book.proofs.book.Book.failure_charge.Goals as goal
 
-pub returns-in_err-check_rows : goal.returns-in_err-check_rows
-returns-in_err-check_rows c = apart-on c.in_err-check_rows.ensures.rowed _ _ _ c.from_residual.ensures.1 (c.in_err-check_rows.ensures.apart _ refl)
-
-pub returns-in_err-key : goal.returns-in_err-key
-returns-in_err-key c = handed-on _ _ _ c.from_residual-in_err-key.ensures.1 (failure-wrong _ _ c.in_ok-check_rows.ensures.rowed _ _ _ c.in_err-key.ensures)
-
-pub price-requires : goal.price-requires
-price-requires c = (failure-formed c.args.mark.now c.args.hour c.args.name.now c.in_ok-key.key c.in_ok-key.ensures).low
-
-pub charge-requires : goal.charge-requires
-charge-requires c = failure-formed c.args.mark.now c.args.hour c.args.name.now c.in_ok-key.key c.in_ok-key.ensures
+pub asked-requires : goal.asked-requires
+asked-requires c = λ h k l q s.
+    let formed = failure-formed c.args.mark.now c.args.hour c.args.name.now k (ap told (sym q) ∙ c.ask_failure.ensures) in search rules
 
 pub returns : goal.returns
 returns c =
-    failure-right _ _ c.in_ok-check_rows.ensures.rowed _ _ _ c.in_ok-key.ensures c.checked_log-held.ensures.says c.price.ensures c.charge.ensures
+    asked-so _ _ (failure_charge c.args.mark.now c.args.hour c.args.name.now) _ _ (λ l. refl) _ c.asked.ensures.apart c.asked.ensures.wrong
+    c.ask_failure.ensures (λ l k e q.
+    let w = c.asked.ensures.right l k e q in
+    let failed : is_failure k.mark ≡ true = failure-is c.args.mark.now c.args.hour c.args.name.now (ap told (sym q) ∙ c.ask_failure.ensures) in
+    search rules)

@@ -1,9 +1,11 @@
-use Rattle.std.proofs.Common.{refl}
-use Rattle.book.proofs.book.Rows.{apart-on, free-by}
+use Rattle.std.proofs.Common.{refl, rules}
+use Rattle.book.specs.Register.{free_bytes}
+use Rattle.book.specs.laws.LoadLaws.{loaded-from}
+use Rattle.book.proofs.book.Rows.{question-so}
 use Rattle.book.proofs.book.Book.free_bytes.Goals as goal
 
-pub returns-in_err-check_rows : goal.returns-in_err-check_rows
-returns-in_err-check_rows c = apart-on c.in_err-check_rows.ensures.rowed _ _ _ c.from_residual.ensures.1 (c.in_err-check_rows.ensures.apart _ refl)
-
 pub returns : goal.returns
-returns c = free-by _ _ c.in_ok-check_rows.ensures.rowed c.capacity.ensures c.saturating_sub.ensures
+returns c = question-so _ _ free_bytes _ c.asked.ensures.apart (λ l e.
+    let w = c.asked.ensures.right l _ e refl in
+    let size = (loaded-from c.args.self c.args.log.now l e).size in
+    search rules)

@@ -1,23 +1,18 @@
-use Rattle.std.proofs.Common.{refl}
-use Rattle.book.specs.Layer.{Im}
-use Rattle.book.proofs.book.Rows.{apart-on, handed-on}
-use Rattle.book.proofs.amounts.failures.Lemmas.{hour-low}
-use Rattle.book.proofs.amounts.guarantees.Lemmas.{hour-wrong, hour-right}
+use Rattle.std.proofs.Common.{◌≡◌, refl, sym, ap, ◌∙◌, rules}
+use Rattle.book.specs.Layer.{Key, Im, told}
+use Rattle.book.specs.Register.{hour_guarantees}
+use Rattle.book.proofs.book.Rows.{asked-so}
+use Rattle.book.proofs.amounts.failures.Lemmas.{hour-is, hour-low}
 use Rattle.book.proofs.book.Book.guarantees.Goals as goal
 
-pub returns-in_err-check_rows : goal.returns-in_err-check_rows
-returns-in_err-check_rows c = apart-on c.in_err-check_rows.ensures.rowed _ _ _ c.from_residual.ensures.1 (c.in_err-check_rows.ensures.apart _ refl)
-
-pub returns-in_err-hour_key : goal.returns-in_err-hour_key
-returns-in_err-hour_key c =
-    handed-on _ _ _ c.from_residual-in_err-hour_key.ensures.1 (hour-wrong _ _ c.in_ok-check_rows.ensures.rowed _ c.in_err-hour_key.ensures)
-
-pub price-requires : goal.price-requires
-price-requires c = hour-low Im c.args.hour c.in_ok-hour_key.ensures
-
-pub guarantees-requires : goal.guarantees-requires
-guarantees-requires c = hour-low Im c.args.hour c.in_ok-hour_key.ensures
+pub asked-requires : goal.asked-requires
+asked-requires c = λ h k l q s.
+    let low = hour-low Im c.args.hour (ap told (sym q) ∙ c.hour_key.ensures) in search rules
 
 pub returns : goal.returns
 returns c =
-    hour-right _ _ c.in_ok-check_rows.ensures.rowed _ c.in_ok-hour_key.ensures c.checked_log-held.ensures.says c.price.ensures c.guarantees.ensures
+    asked-so _ _ (hour_guarantees c.args.hour) _ _ (λ l. refl) _ c.asked.ensures.apart c.asked.ensures.wrong c.hour_key.ensures
+    (λ l k e q.
+    let w = c.asked.ensures.right l k e q in
+    let same : k.hour ≡ c.args.hour = ap (λ (x : Key). x.hour) (hour-is Im c.args.hour (ap told (sym q) ∙ c.hour_key.ensures)) in
+    search rules)

@@ -1,24 +1,15 @@
-use Rattle.std.proofs.Common.{refl}
-use Rattle.book.proofs.book.Rows.{apart-on, handed-on, unasked, place-within, record-rowed, record-unrowed}
+use Rattle.std.proofs.Common.{refl, sym, ap, ◌∙◌, rules}
+use Rattle.book.specs.Layer.{told}
+use Rattle.book.specs.laws.LayerLaws.{key-formed}
+use Rattle.book.specs.Register.{record_of}
+use Rattle.book.proofs.book.Rows.{asked-so}
 use Rattle.book.proofs.book.Book.record_of.Goals as goal
 
-pub returns-in_err-check_rows : goal.returns-in_err-check_rows
-returns-in_err-check_rows c = apart-on c.in_err-check_rows.ensures.rowed _ _ _ c.from_residual.ensures.1 (c.in_err-check_rows.ensures.apart _ refl)
-
-pub returns-in_err-key : goal.returns-in_err-key
-returns-in_err-key c = handed-on _ _ _ c.from_residual-in_err-key.ensures.1 (unasked _ _ c.in_ok-check_rows.ensures.rowed _ _ _ c.in_err-key.ensures)
-
-pub returns-in_err-start : goal.returns-in_err-start
-returns-in_err-start c =
-    handed-on _ _ _ c.from_residual-in_err-start.ensures.1 (record-unrowed _ _ c.in_ok-check_rows.ensures.rowed c.checked_log.ensures.bytes
-    c.checked_log.ensures.says _ _ _ c.in_ok-key.ensures c.find-standing.ensures c.in_err-start.ensures.value)
-
-pub written_len-len-requires : goal.written_len-len-requires
-written_len-len-requires c =
-    place-within _ _ c.in_ok-check_rows.ensures.rowed c.checked_log.ensures.bytes c.checked_log.ensures.says _ _ _ c.in_ok-key.ensures c.find-standing.ensures
-    c.in_ok-start.ensures.ok_part
+pub asked-requires : goal.asked-requires
+asked-requires c = λ h k l q s.
+    let formed = key-formed c.args.mark.now c.args.hour c.args.name.now k (ap told (sym q) ∙ c.ask_key.ensures) in search rules
 
 pub returns : goal.returns
 returns c =
-    record-rowed _ _ c.in_ok-check_rows.ensures.rowed c.checked_log.ensures.bytes c.checked_log.ensures.says _ _ _ c.in_ok-key.ensures c.find-standing.ensures
-    c.in_ok-start.ensures.ok_part c.written_len-len.ensures
+    asked-so _ _ (record_of c.args.mark.now c.args.hour c.args.name.now) _ _ (λ l. refl) _ c.asked.ensures.apart c.asked.ensures.wrong c.ask_key.ensures
+    (λ l k e q. let w = c.asked.ensures.right l k e q in search rules)

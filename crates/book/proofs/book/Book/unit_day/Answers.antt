@@ -1,18 +1,18 @@
-use Rattle.std.proofs.Common.{refl}
+use Rattle.std.proofs.Common.{◌≡◌, refl, sym, ap, ◌∙◌, rules}
+use Rattle.book.specs.Layer.{Gh, told}
 use Rattle.book.specs.laws.LayerLaws.{unit-formed}
-use Rattle.book.proofs.book.Rows.{apart-on, handed-on}
-use Rattle.book.proofs.amounts.days.Lemmas.{unit-wrong, unit-right}
+use Rattle.book.specs.Register.{day_of}
+use Rattle.book.proofs.book.Rows.{asked-so}
+use Rattle.book.proofs.amounts.days.Lemmas.{unit-is}
 use Rattle.book.proofs.book.Book.unit_day.Goals as goal
 
-pub returns-in_err-check_rows : goal.returns-in_err-check_rows
-returns-in_err-check_rows c = apart-on c.in_err-check_rows.ensures.rowed _ _ _ c.from_residual.ensures.1 (c.in_err-check_rows.ensures.apart _ refl)
-
-pub returns-in_err-key : goal.returns-in_err-key
-returns-in_err-key c = handed-on _ _ _ c.from_residual-in_err-key.ensures.1 (unit-wrong _ _ c.in_ok-check_rows.ensures.rowed _ c.in_err-key.ensures)
-
-pub unit_day-requires : goal.unit_day-requires
-unit_day-requires c = unit-formed c.args.name.now c.in_ok-key.key c.in_ok-key.ensures
+pub asked-requires : goal.asked-requires
+asked-requires c = λ h k l q s.
+    let formed = unit-formed c.args.name.now k (ap told (sym q) ∙ c.unit_key.ensures) in search rules
 
 pub returns : goal.returns
 returns c =
-    unit-right _ _ c.in_ok-check_rows.ensures.rowed _ c.in_ok-key.ensures c.checked_log-held.ensures.says c.prices.ensures c.unit_day.ensures
+    asked-so _ _ (day_of c.args.name.now) _ _ (λ l. refl) _ c.asked.ensures.apart c.asked.ensures.wrong c.unit_key.ensures (λ l k e q.
+    let w = c.asked.ensures.right l k e q in
+    let marked : k.mark ≡ Gh = unit-is c.args.name.now (ap told (sym q) ∙ c.unit_key.ensures) in
+    search rules)

@@ -1,11 +1,11 @@
-use Rattle.std.proofs.Common.{arith}
+use Rattle.std.proofs.Common.{arith, rules}
 use Rattle.book.proofs.log.Survey.{read_there, unread_there}
 use Rattle.book.proofs.log.replay.Lemmas.{head-start, head_near, head-bad, head-end, head_clear, head-fewer, head-refused, head_few, head-row, head-next, no-fault, some-fault}
 use Rattle.book.proofs.log.rows.Lemmas.{sought-front}
 use Rattle.book.proofs.log.replay.replayed_rows.Goals as goal
 
 pub loop-i-init : goal.loop-i-init
-loop-i-init c = head-start c.args.part.now c.args.n c.args.rows.now c.requires
+loop-i-init c = head-start c.args.part.now c.args.n c.args.rows.now (search rules)
 
 pub returns-in_default : goal.returns-in_default
 returns-in_default c = head-bad c.loop-i.invariant c.loop-i-test.true (unread_there c.args.part.now c.loop-i.q c.peek.ensures c.in_default.is)
@@ -30,8 +30,8 @@ clear_row-requires c =
     (read_there c.args.part.now c.loop-i.q c.peek.ensures c.in-Some.is) c.bucket_of-bucket.ensures.0
     (sought-front c.new.ensures.rows c.new.ensures.count c.new.ensures.says c.find_from-standing.ensures)
 
-pub row_for-row-requires : goal.row_for-row-requires
-row_for-row-requires c =
+pub of-row-requires : goal.of-row-requires
+of-row-requires c =
     head-row c.loop-i.invariant c.loop-i-test.true
     (read_there c.args.part.now c.loop-i.q c.peek.ensures c.in-Some.is) c.bucket_of-bucket.ensures.0
     (sought-front c.new.ensures.rows c.new.ensures.count c.new.ensures.says c.find_from-standing.ensures)
@@ -68,7 +68,7 @@ loop-i-preserved c =
     (read_there c.args.part.now c.loop-i.q c.peek.ensures c.in-Some.is) c.bucket_of-bucket.ensures.0
     (sought-front c.new.ensures.rows c.new.ensures.count c.new.ensures.says c.find_from-standing.ensures)
     c.hour_slot-hour.ensures.0 c.limit_of-most.ensures c.check_change.ensures (no-fault c.check_change.result c.is_err.ensures.value c.if-is_err.false)
-    c.bucket_of-bucket.ensures.1 c.clear_row.ensures c.row_for-row.ensures c.count_with.ensures
+    c.bucket_of-bucket.ensures.1 c.clear_row.ensures c.of-row.ensures c.count_with.ensures
 
 pub returns : goal.returns
 returns c = head-end c.loop-i.invariant c.loop-i-test.false

@@ -1,9 +1,9 @@
-use Rattle.std.proofs.Common.{◌≡◌, ◌≤◌, List, None, Some, length, sym, ap, ◌∙◌, rules, tests}
-use Rattle.book.specs.Amounts.{no}
+use Rattle.std.proofs.Common.{◌≡◌, ◌≤◌, List, length, sym, ap, ◌∙◌, rules, tests}
 use Rattle.book.specs.Meaning.{charges_reply}
 use Rattle.book.specs.tables.Places.{max_places}
 use Rattle.book.specs.tables.Worked.{named_of, charges_in}
 use Rattle.book.specs.declared.amounts.places.Spot.{Spot}
+use Rattle.book.proofs.book.Rows.{lacked}
 use Rattle.book.proofs.amounts.failures.Lemmas.{placed, placed-inside, hour-absent, hour-unpriced, hour-charged}
 use Rattle.book.proofs.log.checked_log.CheckedLog.charges.Goals as goal
 
@@ -15,9 +15,8 @@ returns-then-is_empty c =
 pub returns-in_err-prices : goal.returns-in_err-prices
 returns-in_err-prices c =
     let some : length c.places-failures.result.items ≡ 0 → ⊥ = search (rules, tests) in
-    let n : c.args.price ≡ None = search (rules, tests) in
-    let r : charges_reply c.from_residual.result ≡ no 15 = search (rules, tests) in
-    λ l g b q w. r ∙ hour-unpriced (placed c.key_of.ensures c.places-failures.ensures) l g q some w n
+    λ l g b q w. ap charges_reply (lacked _ c.in_err-prices.ensures.value _ c.from_residual.ensures.1)
+    ∙ hour-unpriced (placed c.key_of.ensures c.places-failures.ensures) l g q some w c.in_err-prices.ensures.ok_part
 
 pub charges_at-requires : goal.charges_at-requires
 charges_at-requires c =
@@ -28,7 +27,6 @@ charges_at-requires c =
 pub returns : goal.returns
 returns c =
     let some : length c.places-failures.result.items ≡ 0 → ⊥ = search (rules, tests) in
-    let p : c.args.price ≡ Some c.in_ok-prices.prices = search (rules, tests) in
     let is : c.deref.result.now ≡ c.places-failures.result.items = search rules in
-    λ l g b q w. hour-charged (placed c.key_of.ensures c.places-failures.ensures) l g q some w b p
+    λ l g b q w. hour-charged (placed c.key_of.ensures c.places-failures.ensures) l g q some w b c.in_ok-prices.ensures.ok_part
     (c.charges_at.ensures ∙ ap (λ (xs : List Spot). named_of xs (charges_in c.args.self.now.bytes.now c.args.mark c.in_ok-prices.prices xs)) is)

@@ -16,7 +16,7 @@ loop-row-preserved c =
       | in-Some w ↦ record {
         size = ap length w.hours-is ∙ length-set _ _ _ ∙ c.loop-row.invariant.size;
         passed = λ k b. subst⁻¹ (Passed _ _ _ _) w.hours-is (hour-put (same_name k) own_place (c.loop-row.invariant.passed k b) lt
-            (λ l g. c.hour_for.ensures ∙ name-told lt g k b) w.in-Some.is _ w.place_in.ensures.0);
+            (λ l g. c.hour_for.ensures ∙ name-told lt g k b) w.in-Some.is _ w.place.ensures.0);
       }
       | in_default w ↦ record {
         size = ap length w.hours-is ∙ c.loop-row.invariant.size;

@@ -1,4 +1,4 @@
-use Rattle.std.proofs.Common.{sym, ◌∙◌, ap, arith, length}
+use Rattle.std.proofs.Common.{refl, sym, ◌∙◌, ap, arith, length}
 use Rattle.std.proofs.Math.Path.{subst⁻¹}
 use Rattle.book.specs.tables.Rows.{key_at}
 use Rattle.book.proofs.amounts.Passing.{Passed, passed-start}
@@ -16,13 +16,13 @@ loop-row-preserved c =
       | then-of_mark w ↦ record {
         few = omega (arith, ap (λ y. length y.items) w.names-is, w.add_name.ensures.one_more);
         passed = subst⁻¹ (Passed _ _ _ _) (ap (λ y. y.items) w.names-is ∙ w.add_name.ensures.added)
-            (listed-with c.args.key c.loop-row.invariant.passed lt c.key_order-mark.ensures (sym c.of_mark.ensures ∙ w.if-of_mark.true) _
-            (w.name_at.ensures ∙ ap (λ x. (key_at c.args.self.now.bytes.now x).name) w.place_in.ensures.0));
+            (listed-with c.args.key c.loop-row.invariant.passed lt refl (sym c.of_mark.ensures ∙ w.if-of_mark.true) _
+            (w.name_at.ensures ∙ ap (λ x. (key_at c.args.self.now.bytes.now x).name) w.place.ensures.0));
       }
       | else-of_mark w ↦ record {
         few = omega (arith, ap (λ y. length y.items) w.names-is);
         passed = subst⁻¹ (Passed _ _ _ _) (ap (λ y. y.items) w.names-is)
-            (listed-skip c.args.key c.loop-row.invariant.passed lt c.key_order-mark.ensures (sym c.of_mark.ensures ∙ w.if-of_mark.false));
+            (listed-skip c.args.key c.loop-row.invariant.passed lt refl (sym c.of_mark.ensures ∙ w.if-of_mark.false));
       }
     ]
 

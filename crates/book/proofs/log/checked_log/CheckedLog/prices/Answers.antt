@@ -12,17 +12,17 @@ loop-row-init c = record { size = refl; passed = passed-start _ _ _ _ refl }
 pub loop-row-preserved : goal.loop-row-preserved
 loop-row-preserved c =
     let lt = c.loop-row-test.true in
-    elim c.match-price_hour.branch [
+    elim c.match-hour_of.branch [
       | in-Some w ↦ record {
         size = ap length w.table-is ∙ length-set _ _ _ ∙ c.loop-row.invariant.size;
         passed = subst⁻¹ (Passed _ _ _ _) w.table-is (hour-put is_price (prices_from c.args.self.now.bytes.now) c.loop-row.invariant.passed lt
-            (λ l g. c.price_hour.ensures ∙ price-row (turned-seen lt g)) w.in-Some.is _
-            (w.prices_at.ensures ∙ ap (λ x. prices_in (drop x c.args.self.now.bytes.now)) w.place_in.ensures.0));
+            (λ l g. c.hour_of.ensures ∙ price-row (turned-seen lt g)) w.in-Some.is _
+            (w.prices_at.ensures ∙ ap (λ x. prices_in (drop x c.args.self.now.bytes.now)) w.place.ensures.0));
       }
       | in_default w ↦ record {
         size = ap length w.table-is ∙ c.loop-row.invariant.size;
         passed = subst⁻¹ (Passed _ _ _ _) w.table-is (hour-skip is_price (prices_from c.args.self.now.bytes.now) c.loop-row.invariant.passed lt
-            (λ l g. c.price_hour.ensures ∙ price-row (turned-seen lt g)) w.in_default.is);
+            (λ l g. c.hour_of.ensures ∙ price-row (turned-seen lt g)) w.in_default.is);
       }
     ]
 
