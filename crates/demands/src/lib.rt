@@ -36,7 +36,7 @@ enum Method {
     FailureCharge,
 }
 
-// A number beyond them is the last one's.
+// A method's number comes from outside, so the functions below take any: one beyond these is the last one's.
 impl From<u8> for Method {
     ghost from_gives = { λ number method. method ≡ method_of number };
 
@@ -116,7 +116,8 @@ pub fn put_question(
     }
 }
 
-// Any call of the register: a change (0 to 5), an hour's guarantees (6), a unit's day (10), or another question (7 to 11).
+// Any call of the register: a change (0 to 5), an hour's guarantees (6), a unit's day (10), or another question (7 to 11). The number is handed on, as the two
+// functions above take it.
 pub fn step(b: Book, log: &mut [u8], method: u8, mark: &[u8], hour: u8, bytes: &[u8]) -> Turned
     ensures { Demanded (call_of method mark.now hour bytes.now) b log.old result.book (said_reply result.said) log.new }
 {
