@@ -3,7 +3,7 @@ ghost use Rattle.std.specs.Prelude.{◌≡◌, IfOk};
 ghost use Rattle.money.specs.Answers.{answer_of, fault_in};
 ghost use Rattle.records.specs.Names.{empty_name};
 ghost use Rattle.book.specs.tables.Places.{put_spot};
-ghost use Rattle.hour_offset.specs.tables.Tally.{sheet_of, no_sheet, among, placed_fault, with_price, with_import, with_export, add_fault, adding, end_of};
+ghost use Rattle.hour_offset.specs.tables.Tally.{sheet_of, among, placed_fault, with_price, add_fault, adding, end_of};
 
 use book::amounts::guarantees::{entries_at, totals_at};
 use book::amounts::places::{Places, Spot, put_spot};
@@ -15,23 +15,12 @@ use records::amounts::hour_offset;
 use records::keys::Key;
 use records::marks::Mark;
 
-// The place of the hour's prices, if there is one, and those of its imports and its exports, by name.
-#[derive(Drop)]
+// The place of the hour's prices, if there is one, and those of its imports and its exports, by name; none before the first record.
+#[derive(Default, Drop)]
 pub struct Tally {
     pub price: Option<usize>,
     pub imports: Places,
     pub exports: Places,
-}
-
-// The tally before the first record.
-pub(crate) fn no_records() -> Tally
-    ensures { sheet_of result ≡ no_sheet }
-{
-    Tally {
-        price: None,
-        imports: Places::new(),
-        exports: Places::new(),
-    }
 }
 
 // Whether one of the places has the name.
@@ -68,26 +57,8 @@ fn with_price(mut t: Tally, at: usize) -> Result<Tally, Refusal>
     Ok(t)
 }
 
-// With an import's name and place.
-fn with_import(mut t: Tally, s: Spot) -> Result<Tally, Refusal>
-    ensures fault { fault_in result ≡ placed_fault s.name (sheet_of t).imports }
-    ensures tallied { IfOk result (λ u. sheet_of u ≡ with_import s (sheet_of t)) }
-{
-    with_place(&mut t.imports, s)?;
-    Ok(t)
-}
-
-// With an export's name and place.
-fn with_export(mut t: Tally, s: Spot) -> Result<Tally, Refusal>
-    ensures fault { fault_in result ≡ placed_fault s.name (sheet_of t).exports }
-    ensures tallied { IfOk result (λ u. sheet_of u ≡ with_export s (sheet_of t)) }
-{
-    with_place(&mut t.exports, s)?;
-    Ok(t)
-}
-
 // With the record of a key that begins at a place, or its refusal.
-pub(crate) fn with_record(t: Tally, key: Key, at: usize) -> Result<Tally, Refusal>
+pub(crate) fn with_record(mut t: Tally, key: Key, at: usize) -> Result<Tally, Refusal>
     ensures fault { fault_in result ≡ add_fault key.mark key.name (sheet_of t) }
     ensures tallied { IfOk result (λ u. sheet_of u ≡ adding key.mark (record { name = key.name; start = at }) (sheet_of t)) }
 {
@@ -96,11 +67,12 @@ pub(crate) fn with_record(t: Tally, key: Key, at: usize) -> Result<Tally, Refusa
         start: at,
     };
     match key.mark {
-        Mark::Pr => with_price(t, at),
-        Mark::Im => with_import(t, spot),
-        Mark::Ex => with_export(t, spot),
-        Mark::Gh | Mark::Fi | Mark::Fe => Err(Refusal::MarkUnknown),
+        Mark::Pr => t = with_price(t, at)?,
+        Mark::Im => with_place(&mut t.imports, spot)?,
+        Mark::Ex => with_place(&mut t.exports, spot)?,
+        Mark::Gh | Mark::Fi | Mark::Fe => return Err(Refusal::MarkUnknown),
     }
+    Ok(t)
 }
 
 // ---- at the end

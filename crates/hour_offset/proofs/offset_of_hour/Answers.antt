@@ -1,11 +1,11 @@
-use Rattle.std.proofs.Common.{◌∙◌, arith}
+use Rattle.std.proofs.Common.{◌∙◌, arith, rules}
 use Rattle.std.proofs.lemmas.Result.{err_from_is_err_and}
 use Rattle.money.proofs.laws.UnitLaws.{number-some}
 use Rattle.hour_offset.proofs.OffsetOfHour.{started, finished, faulty, end-within, end_after, stops, continues}
 use Rattle.hour_offset.proofs.offset_of_hour.Goals as goal
 
 pub loop-at-init : goal.loop-at-init
-loop-at-init c = started c.args.records.now _ c.no_records-tally.ensures
+loop-at-init c = started c.args.records.now _ (search rules)
 
 pub returns-in_err-key : goal.returns-in_err-key
 returns-in_err-key c =
