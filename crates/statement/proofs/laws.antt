@@ -1,4 +1,3 @@
-pub mod DayLaws
 pub mod DecimalLaws
 pub mod LineLaws
 pub mod TotalLaws

@@ -5,8 +5,9 @@ ghost use Rattle.statement.specs.Lines.{name_bytes, figure, max_figure};
 ghost use Rattle.statement.specs.Pages.{line_size, blanks, left_in, right_in, entry_bytes, sum_line, blank_line, blank_lines, page_head};
 ghost use Rattle.statement.specs.tables.Inner.{Writes};
 
-use crate::bytes::{put_byte, put_decimal, put_part};
+use crate::bytes::{put_byte, put_part};
 use crate::lines::{FIGURE_MAX, Kind, Line, put_figure, put_label, put_name};
+use itoa::Buffer;
 use money::names::Name;
 use money::units::Cents;
 use records::names::SPELLING_MAX;
@@ -15,9 +16,6 @@ use records::names::SPELLING_MAX;
 pub(crate) const COLUMNS: usize = 72;
 
 const AMOUNT_COLUMNS: usize = COLUMNS - 7 - SPELLING_MAX;
-
-// The most digits of a number of 64 bits.
-const DIGITS_MAX: usize = 20;
 
 fn put_blanks(out: &mut [u8], at: usize, n: usize) -> usize
     requires { at + n ≤ length out.old }
@@ -94,9 +92,7 @@ pub(crate) fn put_head(out: &mut [u8], at: usize, page: u64) -> usize
     requires { at + line_size * 2 ≤ length out.old }
     ensures { Writes out.old at (page_head page) out.new result × (result ≡ at + line_size * 2) }
 {
-    let mut digits = [0u8; DIGITS_MAX];
-    let len = put_decimal(&mut digits, 0, page);
-    let end = put_right(out, at, COLUMNS, &digits[..len]);
+    let end = put_right(out, at, COLUMNS, Buffer::new().format(page).as_bytes());
     let second = put_byte(out, end, b'\n');
     put_blank_line(out, second)
 }

@@ -1,4 +1,5 @@
-// Lines written one behind the other, on pages or without. The cursor holds no lent bytes, for the reason in `bytes`.
+// Lines written one behind the other, on pages or without. The cursor holds no lent bytes, for the reason in `bytes`. Room is a fact of the bytes at a
+// step, and of no value; and a line is of any amount where the definitions speak of it, so that it is bounded (`Countable`) only where it is counted.
 ghost use Rattle.std.specs.Prelude.{◌≡◌, [], ◌∷◌, None, ◌<◌};
 ghost use Rattle.statement.specs.Pages.{page_entries};
 ghost use Rattle.statement.specs.tables.Inner.{Countable};
@@ -20,7 +21,8 @@ pub(crate) struct Sheet {
     pub(crate) sum: Cents,
 }
 
-// Where the next line is written, the sum of the lines before it, and the page, where the text has pages.
+// Where the next line is written, the sum of the lines before it, and the page, where the text has pages. It is asked at each line: a type parameter would
+// have the walk of hours and units proved for each of the two texts.
 #[derive(Clone, Copy)]
 pub(crate) struct Cursor {
     pub(crate) at: usize,

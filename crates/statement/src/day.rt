@@ -1,4 +1,4 @@
-// The statement of the day that a book holds.
+// The statement of the day that a book holds. Book, log and output are three arguments, as 01 hands them over.
 ghost use Rattle.std.specs.Prelude.{◌≡◌, ℕ, List, [], ◌∷◌, ◌+◌, ◌*◌, ◌^◌, ◌≤◌, ◌<◌, pos, length};
 ghost use Rattle.money.specs.Units.{day_hours};
 ghost use Rattle.book.specs.Meaning.{load};

@@ -1,7 +1,7 @@
 // The lines of the statement, and their text.
 ghost use Rattle.std.specs.Prelude.{◌≡◌, ◌+◌, ◌≤◌, ◌<◌, nat_abs, length};
 ghost use Rattle.records.specs.Names.{max_spelling};
-ghost use Rattle.statement.specs.Lines.{when_bytes, kind_bytes, is_number, name_bytes, sign, figure, line_bytes, max_figure, max_line};
+ghost use Rattle.statement.specs.Lines.{when_bytes, kind_bytes, name_bytes, sign, figure, line_bytes, max_figure, max_line};
 ghost use Rattle.statement.specs.tables.Inner.{Writes, label_bytes, label_size};
 
 use crate::bytes::{put_byte, put_decimal, put_part, put_two};
@@ -14,7 +14,7 @@ pub(crate) const FIGURE_MAX: usize = 21;
 
 pub const LINE_MAX: usize = 9 + SPELLING_MAX + FIGURE_MAX;
 
-#[derive(Clone, Copy)]
+#[derive(Clone, Copy, PartialEq, Eq)]
 pub enum Kind {
     Iog,
     Off,
@@ -44,7 +44,9 @@ impl Kind {
     }
 }
 
-// Hour 0 is the day. A name that breaks its rule, as one of no bytes, is none. The cents of an `Err` are its number.
+// Hour 0 is the day. A name that breaks its rule, as one of no bytes, is none. The cents of an `Err` are its number. No `Option`s for hour and name: the
+// definitions of lines and their theorems speak of this form, and each of the two is told at the one place that writes it. No enum of an amount and a
+// number: it would be told apart where the kind is, in what is written and in what counts, in code and in the definitions.
 #[derive(Clone, Copy)]
 pub struct Line {
     pub hour: u8,
@@ -88,13 +90,6 @@ pub(crate) fn put_name(out: &mut [u8], at: usize, name: Name) -> usize
     }
 }
 
-// No derived `==` says it: a kind is compared with one case, and the line's definition has the word.
-fn is_number(kind: Kind) -> bool
-    ensures { result ≡ is_number kind }
-{
-    matches!(kind, Kind::Err)
-}
-
 fn put_sign(out: &mut [u8], at: usize, cents: Cents) -> usize
     requires { at < length out.old }
     ensures { Writes out.old at (sign cents.0) out.new result }
@@ -112,7 +107,7 @@ pub(crate) fn put_figure(out: &mut [u8], at: usize, kind: Kind, cents: Cents) ->
 {
     let n = cents.magnitude();
     let first = put_sign(out, at, cents);
-    if is_number(kind) {
+    if kind == Kind::Err {
         return put_decimal(out, first, n);
     }
     let point = put_decimal(out, first, n / 100);

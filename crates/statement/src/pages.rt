@@ -55,6 +55,7 @@ impl Layout<PAGES_MAX> for Paged {
         let last = put_lines(out, first, day);
         match last.sheet {
             Some(sheet) => close_last(out, last.at, sheet),
+            // Not reached: the walk keeps the sheet, which its type does not say.
             None => last.at,
         }
     }

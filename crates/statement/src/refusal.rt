@@ -22,7 +22,8 @@ fn put_refusal(out: &mut [u8], ordinal: u64, number: u8) -> usize
     put_byte(out, e, b'\n')
 }
 
-// Writes `REF n r` from the first lent byte on: 13 where it is longer than what is lent. It never needs more than LINE_MAX bytes.
+// Writes `REF n r` from the first lent byte on: 13 where it is longer than what is lent. It never needs more than LINE_MAX bytes. The number is any `u8`:
+// a `Refusal` would ask more of callers.
 pub fn refusal(ordinal: u64, number: u8, out: &mut [u8]) -> Result<usize, Refusal>
     ensures { Fits (refusal_line ordinal number) out.old out.new result × (length (refusal_line ordinal number) ≤ max_line) }
 {

@@ -1,6 +1,8 @@
 -- Laws of numbers in decimal digits. Assumes nothing.
-use Rattle.std.specs.Prelude.{◌≡◌, refl, [], ◌∷◌, ◌++◌, Bool, true, false, ℕ, zero, suc, ◌+◌, ◌/◌, ◌%◌, ◌^◌, ◌≤◌, ◌<◌, ltb, length}
+use Rattle.std.specs.Prelude.{◌≡◌, refl, [], ◌∷◌, ◌++◌, Bool, true, false, ℕ, zero, suc, ◌/◌, ◌%◌, ◌^◌, ◌≤◌, ◌<◌, ltb, length}
 use Rattle.std.proofs.Common.{arith, pow-suc, length-append, lt-ltb, le-ltb, ltb-true, ltb-false}
+use Rattle.std.proofs.lemmas.Fmt.{decimal_from_appends, length-decimal-le_succ}
+use Rattle.std.specs.Fmt.{decimal as printed}
 use Rattle.statement.specs.Decimal.{digit, digits, decimal}
 
 -- how many digits are allowed for does not matter, if they are enough
@@ -23,8 +25,12 @@ pub decimal-more : (n : ℕ) → 10 ≤ n → decimal n ≡ decimal (n / 10) ++ 
 unfolding decimal digits
 decimal-more n h = rw (le-ltb n 10 h, enough n (suc (n / 10)) (n / 10) (omega arith) (omega arith))
 
-pub decimal-longer : (n : ℕ) → 10 ≤ n → length (decimal n) ≡ length (decimal (n / 10)) + 1
-decimal-longer n h = rw (decimal-more n h, length-append)
+-- what std prints of a number of 64 bits
+pub decimal-printed : (n : ℕ) → n < 2 ^ 64 → decimal n ≡ printed n
+unfolding decimal digits
+decimal-printed n h = decimal_from_appends digits
+    (record { one = λ k m l. rw (lt-ltb m 10 l); more = λ k m l. rw (le-ltb m 10 l) })
+    (suc n) n h (omega (arith, length-decimal-le_succ n h))
 
 tenth : (k n : ℕ) → n < 10 ^ suc k → n / 10 < 10 ^ k
 tenth k n h = omega (arith, rw pow-suc at h)

@@ -1,6 +1,6 @@
 -- Laws of lines and of their text. Assumes nothing.
-use Rattle.std.specs.Prelude.{◌≡◌, refl, List, [], ◌∷◌, ◌++◌, Bool, true, false, cond, ℕ, ◌/◌, ◌%◌, ◌≤◌, ◌<◌, eqb, ℤ, pos, negsuc, nat_abs, ◌≤ℤ◌, ◌<ℤ◌, length}
-use Rattle.std.proofs.Common.{sym, ◌∙◌, append_assoc, append-nil, arith, ltb→lt, length-append, length-take}
+use Rattle.std.specs.Prelude.{◌≡◌, ◌≢◌, refl, List, [], ◌∷◌, ◌++◌, Bool, true, false, cond, ℕ, ◌/◌, ◌%◌, ◌≤◌, ◌<◌, eqb, ℤ, pos, negsuc, nat_abs, ◌≤ℤ◌, ◌<ℤ◌, length}
+use Rattle.std.proofs.Common.{sym, ap, ◌∙◌, append_assoc, append-nil, arith, ltb→lt, length-append, length-take}
 use Rattle.laws.specs.Text.{bytes}
 use Rattle.money.specs.Names.{name_ok}
 use Rattle.money.specs.Refusals.{name_fault}
@@ -104,6 +104,21 @@ kind-length Err = refl
 kind-length Tot = refl
 
 -- ---- figures
+
+-- the kind whose figure is a number
+pub number_err : (k : Kind) → k ≡ Err → is_number k ≡ true
+number_err k e = ap is_number e
+
+pub number-other : (k : Kind) → k ≢ Err → is_number k ≡ false
+number-other Iog e = refl
+number-other Off e = refl
+number-other Ifc e = refl
+number-other Efc e = refl
+number-other Pcg e = refl
+number-other Rev e = refl
+number-other Err e = absurd (e refl)
+number-other Tot e = refl
+
 pub figure-number : (k : Kind) (z : ℤ) → is_number k ≡ true → figure k z ≡ sign z ++ decimal (nat_abs z)
 unfolding figure number
 figure-number k z e = rw e

@@ -25,6 +25,7 @@ use Rattle.book.specs.Register.{standing}
 use Rattle.book.specs.Handed.{max_credits, max_charges}
 use Rattle.book.specs.Meaning.{Valid, guarantees_reply, charges_reply, day_reply}
 use Rattle.book.specs.laws.StandLaws.{all_map}
+use Rattle.book.specs.laws.WholeDayLaws.{day_for_list, list-told}
 use Rattle.book.specs.tables.Sizes.{AllBounded, BoundedGuarantees, BoundedTotals, BoundedUnit}
 use Rattle.statement.specs.Lines.{newline}
 use Rattle.statement.specs.Total.{towards, effect_of, sum_of, total_of, with_total}
@@ -34,7 +35,6 @@ use Rattle.statement.specs.tables.Inner.{max_printed, no_hour, lines_of_hour, li
 use Rattle.statement.proofs.laws.LineLaws.{Fits64}
 use Rattle.statement.proofs.laws.TotalLaws.{signed-size, sum-none, sum-append}
 use Rattle.statement.proofs.laws.StatementLaws.{day-lines, day-printable, statement-sum}
-use Rattle.statement.proofs.laws.DayLaws.{day_for_list, list-told}
 use Rattle.statement.proofs.laws.PageLineLaws.{all_append, all_take, all_drop, PageLine, entry-line, number-line, sum-line, blank-line}
 use Rattle.statement.specs.declared.lines.Kind.{Kind}
 use Rattle.statement.specs.declared.lines.Kind.TheVariants.{Iog, Ifc, Efc}

@@ -1,26 +1,20 @@
 -- The lines of a day's amounts, as the book hands them over, are those of the statement; its last line is their total. Assumes nothing.
-use Rattle.std.specs.Prelude.{◌≡◌, refl, Result, Ok, Err, IfOk, length, take, get_or}
-use Rattle.std.proofs.Common.{sym, ◌∙◌, add-one, take-suc, List, [], ◌∷◌, ◌++◌, map, append_assoc, append-nil, ℕ, zero, suc, ◌+◌, ◌-◌, ◌≤◌, ◌<◌, arith}
-use Rattle.std.proofs.lemmas.List.{length-map}
+use Rattle.std.specs.Prelude.{◌≡◌, refl, Ok, length, take, get_or}
+use Rattle.std.proofs.Common.{sym, ◌∙◌, add-one, take-suc, List, [], ◌∷◌, ◌++◌, map, append_assoc, append-nil, ℕ, zero, suc, ◌+◌, ◌-◌, ◌<◌, arith}
 use Rattle.std.proofs.Math.Path.{ap, subst}
 use Rattle.money.specs.Units.{day_hours}
 use Rattle.money.specs.declared.names.Name.{Name}
-use Rattle.arrayvec.specs.ArrayVec.{ArrayVec as Items}
-use Rattle.book.specs.Layer.{Rec, Change, Refusal, Im, Fi, Fe}
-use Rattle.book.specs.declared.answers.NamedAmount.{NamedAmount}
-use Rattle.book.specs.declared.answers.Guarantees.{Guarantees}
+use Rattle.book.specs.Layer.{Rec, Change}
 use Rattle.book.specs.declared.answers.HourAmounts.{HourAmounts}
 use Rattle.book.specs.declared.answers.UnitAmounts.{UnitAmounts}
 use Rattle.book.specs.declared.answers.DayAmounts.{DayAmounts}
-use Rattle.book.specs.Amounts.{HourPricing, priced, unpriced, hour_key, price_of, credit_at, charge_line, guarantees_at, guarantees_of, charges_at, charges_of}
+use Rattle.book.specs.Amounts.{HourPricing, price_of}
 use Rattle.book.specs.ByName.{names_of}
 use Rattle.book.specs.laws.ChargeLaws.{get_or-same}
 use Rattle.book.specs.UnitNames.{gh_key}
 use Rattle.book.specs.Register.{standing}
-use Rattle.book.specs.Handed.{max_credits, max_charges}
-use Rattle.book.specs.Meaning.{belongs, Valid, guarantees_reply, charges_reply}
+use Rattle.book.specs.Meaning.{belongs, Valid}
 use Rattle.book.specs.WholeDay.{UnitReply, unit_reply, day_amounts, told_unit, told_day}
-use Rattle.book.specs.laws.ValidLaws.{by_name-few}
 use Rattle.book.specs.laws.WholeDayLaws.{HourIs, hour-is, units-are}
 use Rattle.book.specs.laws.SizeLaws.{hours-bounded, units-bounded}
 use Rattle.book.specs.tables.Sizes.{BoundedHour}
@@ -79,24 +73,6 @@ units-same l (u ∷ us) (n ∷ ns) e =
     let s = units-same l us ns cc in
     λ i. t i ++ s i
 
--- an hour holds few records of a mark, so few credits are handed back
-few-credits : (r : Result Guarantees Refusal) (q : HourPricing) (is es : List Rec) → guarantees_reply r ≡ guarantees_at q is es → length is ≤ max_credits
-    → IfOk r (λ g. length g.credits.items ≤ max_credits)
-few-credits (Err k) q is es e h = tt
-few-credits (Ok g) q [] es e h = let x : g.credits.items ≡ [] = cc in omega (arith, ap length x)
-few-credits (Ok g) unpriced (i ∷ rest) es e h = cc
-few-credits (Ok g) (priced p) (i ∷ rest) es e h =
-    let x : g.credits.items ≡ map (credit_at p) (i ∷ rest) = cc in omega (arith, ap length x, length-map (i ∷ rest) (credit_at p))
-
--- and few charges
-few-charges : (r : Result (Items NamedAmount) Refusal) (q : HourPricing) (fs : List Rec) → charges_reply r ≡ charges_at q fs → length fs ≤ max_charges
-    → IfOk r (λ c. length c.items ≤ max_charges)
-few-charges (Err k) q fs e h = tt
-few-charges (Ok c) q [] e h = let x : c.items ≡ [] = cc in omega (arith, ap length x)
-few-charges (Ok c) unpriced (f ∷ fs) e h = cc
-few-charges (Ok c) (priced p) (f ∷ fs) e h =
-    let x : c.items ≡ map (charge_line p) (f ∷ fs) = cc in omega (arith, ap length x, length-map (f ∷ fs) (charge_line p))
-
 -- a day that was handed back for a list
 module _ (l : List Change) (v : Valid l) (day : DayAmounts) (told : told_day (Ok day) ≡ day_amounts (belongs l)) where
   hour-lines : (h : ℕ) → h < day_hours → lines_of_hour (suc h) (get_or day.hours (suc h - 1) no_hour) ≡ hour_of (standing l) (price_of (standing l)) (suc h)
@@ -121,13 +97,7 @@ module _ (l : List Change) (v : Valid l) (day : DayAmounts) (told : told_day (Ok
   day-text = ap (λ (ls : List Line). text_of (with_total ls)) day-lines
 
   hour-printable : (h : ℕ) (a : HourAmounts) → HourIs l h a → BoundedHour a → PrintableHour a
-  unfolding guarantees_of charges_of
-  hour-printable h a x b = record {
-    credits = few-credits a.guarantees _ _ _ x.guaranteed (by_name-few (hour_key Im h) l v);
-    imports = few-charges a.imports _ _ x.imports (by_name-few (hour_key Fi h) l v);
-    exports = few-charges a.exports _ _ x.exports (by_name-few (hour_key Fe h) l v);
-    bounded = b;
-  }
+  hour-printable h a x b = record { credits = x.few-credits; imports = x.few-imports; exports = x.few-exports; bounded = b }
 
   pub day-printable : PrintableDay day
   day-printable = record {

@@ -1,6 +1,6 @@
-use Rattle.std.proofs.Common.{sym, ◌∙◌, arith}
+use Rattle.std.proofs.Common.{arith, rules}
 use Rattle.statement.specs.Lines.{max_figure}
-use Rattle.statement.proofs.laws.LineLaws.{figure-number, figure-dollars, sign-length, number_digits, dollar-digits}
+use Rattle.statement.proofs.laws.LineLaws.{number_err, number-other, figure-number, figure-dollars, sign-length, number_digits, dollar-digits}
 use Rattle.statement.proofs.bytes.Lemmas.{writes_then, room-behind}
 use Rattle.statement.proofs.lines.put_figure.Goals as goal
 
@@ -9,9 +9,9 @@ put_decimal-requires c =
     let a = room-behind max_figure 20 c.put_sign-first.ensures c.requires (omega (arith, sign-length c.args.cents.0)) in
     omega (arith, a, number_digits c.magnitude-n.result c.magnitude-n.ensures.bounded)
 
-pub returns-then-is_number : goal.returns-then-is_number
-returns-then-is_number c = (
-  rw (figure-number _ _ (sym c.is_number.ensures ∙ c.if-is_number.true), ← c.magnitude-n.ensures.value)
+pub returns-then-eq : goal.returns-then-eq
+returns-then-eq c = (
+  rw (figure-number _ _ (number_err c.args.kind (search rules)), ← c.magnitude-n.ensures.value)
       (writes_then c.put_sign-first.ensures c.put_decimal.ensures),
   omega (arith, c.magnitude-n.ensures.value, c.magnitude-n.ensures.bounded),
 )
@@ -37,7 +37,7 @@ put_two-requires c =
 
 pub returns : goal.returns
 returns c = (
-  rw (figure-dollars _ _ (sym c.is_number.ensures ∙ c.if-is_number.false), ← c.magnitude-n.ensures.value)
+  rw (figure-dollars _ _ (number-other c.args.kind (search rules)), ← c.magnitude-n.ensures.value)
       (writes_then (writes_then (writes_then c.put_sign-first.ensures c.put_decimal-point.ensures) c.put_byte-decimals.ensures) c.put_two.ensures),
   omega (arith, c.magnitude-n.ensures.value, c.magnitude-n.ensures.bounded),
 )
