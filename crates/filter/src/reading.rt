@@ -10,10 +10,11 @@ use money::refusals::Refusal;
 use records::parse::first_change;
 
 // The most that is counted: 2^64 - 1.
-pub const COUNT_MAX: u64 = 18446744073709551615;
+pub const COUNT_MAX: u64 = u64::MAX;
 
 // The book so far, and the records that it took; how many bytes of the next one are held, at the front of the input's bytes; and the refusal
-// at which the reading stands, if it does. Bytes that end early may still go on.
+// at which the reading stands, if it does. Bytes that end early may still go on. The held bytes stay in the buffer that is lent to each read, so that a
+// reading has their number alone.
 #[derive(Clone, Copy)]
 pub struct Reading {
     pub book: Book,
