@@ -1,13 +1,10 @@
 -- 01, "The statement and its examples": "reads records back to back from standard input". The program's reads one after the other, whatever each of
 -- them brings. Assumes nothing.
-use Rattle.std.specs.Prelude.{◌≡◌, Bool, true, false, cond, ◌||◌, List, [], ◌∷◌, ℕ, ◌-◌, ◌/◌, ◌≤◌, eqb, ℤ, pos, length, take, drop}
-use Rattle.std.specs.Int.Signed.{lt_z}
+use Rattle.std.specs.Prelude.{◌≡◌, Bool, true, false, cond, ◌||◌, Option, is_none, unwrap_or, List, [], ◌∷◌, ℕ, ◌+◌, ◌/◌, ◌≤◌, eqb, length, take, drop}
 use Rattle.filter.specs.Reading.{max_count, begun, is_over, ReadsOn}
-use Rattle.filter.specs.declared.reading.Reading.{Reading}
 use Rattle.stdin.specs.declared.Extent.{Extent}
 use Rattle.stdin.specs.declared.Extent.TheVariants.{Open, Whole, Broken}
 use Rattle.stdin.specs.declared.Input.{Input}
-use Rattle.io.specs.Counts.{clamp_len}
 
 -- ---- a read
 
@@ -16,12 +13,12 @@ abbrev pub max_read : ℕ
 max_read = 65536
 
 -- a read answers how many bytes it brought, 0 at the input's end; it is lent the bytes behind those that are held
-abbrev pub brought : ℤ → Reading → List ℕ → ℕ
-brought got r bytes = clamp_len got (length bytes - r.held)
+abbrev pub brought : Option ℕ → ℕ
+brought got = unwrap_or got 0
 
--- or it answers less than 0: it broke off
-abbrev pub broke_off : ℤ → Bool
-broke_off got = lt_z got (pos 0)
+-- or it answers none: it broke off
+abbrev pub broke_off : Option ℕ → Bool
+broke_off got = is_none got
 
 -- by whether the read broke off, and how many bytes it brought: there may be more to read where it brought some, unless a refusal stands that no more bytes
 -- can change
@@ -29,11 +26,11 @@ abbrev pub extent_after : Bool → ℕ → Bool → Extent
 extent_after broke n over = cond broke Broken (cond (eqb n 0 || over) Whole Open)
 
 -- from the log and the bytes as a read left them, what is made of its answer
-pub record TakesIn (i : Input) (got : ℤ) (log bytes : List ℕ) (i' : Input) (log' bytes' : List ℕ) : Type 0 where
+pub record TakesIn (i : Input) (got : Option ℕ) (log bytes : List ℕ) (i' : Input) (log' bytes' : List ℕ) : Type 0 where
   -- the records that are whole with what it brought are taken
-  pub reading : ReadsOn i.reading log bytes (brought got i.reading bytes) i'.reading log' bytes'
+  pub reading : ReadsOn i.reading log bytes (brought got) i'.reading log' bytes'
   -- how far the input was read
-  pub extent : i'.extent ≡ extent_after (broke_off got) (brought got i.reading bytes) (is_over i'.reading)
+  pub extent : i'.extent ≡ extent_after (broke_off got) (brought got) (is_over i'.reading)
 
 -- ---- all reads
 
@@ -42,13 +39,13 @@ abbrev pub unread : Input
 unread = record { reading = begun; extent = Open }
 
 -- what the reads brought, the newest first, and input, log and bytes as they were left. A read is made where there may be more to read; it keeps the
--- bytes that are held, and what it brought stands behind them
+-- bytes that are held, and what it brought stands behind them, no more than there is room for
 pub data Rounds : List (List ℕ) → Input → List ℕ → List ℕ → Type 0 where
   none : (log bytes : List ℕ) → length bytes ≡ max_read → Rounds [] unread log bytes
   round : {ps : List (List ℕ)} {i : Input} {log bytes : List ℕ} → Rounds ps i log bytes → i.extent ≡ Open
-      → (got : ℤ) (lent : List ℕ) → length lent ≡ max_read → take i.reading.held lent ≡ take i.reading.held bytes
-      → (i' : Input) (log' bytes' : List ℕ) → TakesIn i got log lent i' log' bytes'
-      → Rounds (take (brought got i.reading lent) (drop i.reading.held lent) ∷ ps) i' log' bytes'
+      → (got : Option ℕ) (lent : List ℕ) → length lent ≡ max_read → take i.reading.held lent ≡ take i.reading.held bytes
+      → i.reading.held + brought got ≤ length lent → (i' : Input) (log' bytes' : List ℕ) → TakesIn i got log lent i' log' bytes'
+      → Rounds (take (brought got) (drop i.reading.held lent) ∷ ps) i' log' bytes'
 
 -- so few reads that all that they bring can be counted
 abbrev pub max_reads : ℕ

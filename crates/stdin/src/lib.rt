@@ -1,8 +1,8 @@
 // Standard input, read to its end into a book.
 #![tactic(auto)]
 
-ghost use Rattle.std.specs.Prelude.{◌≡◌, ◌≤◌, length, take};
-ghost use Rattle.stdin.specs.Rounds.{TakesIn, broke_off, extent_after, unread, ReadAll, failed};
+ghost use Rattle.std.specs.Prelude.{◌≡◌, ◌+◌, ◌≤◌, length, take};
+ghost use Rattle.stdin.specs.Rounds.{TakesIn, brought, broke_off, extent_after, unread, ReadAll, failed};
 
 use filter::reading::{COUNT_MAX, Reading};
 use std::io::Read;
@@ -27,16 +27,14 @@ pub struct Input {
     pub extent: Extent,
 }
 
-// How far the input was read after a read that answered so, and brought n bytes.
-fn extent_after(got: isize, n: usize, over: bool) -> Extent
-    ensures { result ≡ extent_after (broke_off got) n over }
+// How far the input was read after a read that answered so.
+fn extent_after(got: Option<usize>, over: bool) -> Extent
+    ensures { result ≡ extent_after (broke_off got) (brought got) over }
 {
-    if got < 0 {
-        Extent::Broken
-    } else if n == 0 || over {
-        Extent::Whole
-    } else {
-        Extent::Open
+    match got {
+        None => Extent::Broken,
+        Some(n) if n == 0 || over => Extent::Whole,
+        Some(_) => Extent::Open,
     }
 }
 
@@ -52,13 +50,11 @@ impl Input {
     }
 
     // Takes in what a read left in the bytes behind those that are held, and what it answered.
-    fn take_in(self, got: isize, log: &mut [u8], bytes: &mut [u8]) -> Input
-        requires { self.reading.held ≤ length bytes.old }
+    fn take_in(self, got: Option<usize>, log: &mut [u8], bytes: &mut [u8]) -> Input
         ensures { TakesIn self got log.old bytes.old result log.new bytes.new }
     {
-        let n = io::count(got, &bytes[self.reading.held..]);
-        let reading = self.reading.read_on(log, bytes, n);
-        let extent = extent_after(got, n, reading.is_over());
+        let reading = self.reading.read_on(log, bytes, got.unwrap_or(0));
+        let extent = extent_after(got, reading.is_over());
         Input { reading, extent }
     }
 
@@ -70,15 +66,13 @@ impl Input {
     }
 }
 
-// One read of the input into the bytes behind those that are held: how many it brought, or less than 0. No contract can say what it brings.
-fn read_behind<R: Read>(source: &mut R, bytes: &mut [u8], held: usize) -> isize
+// One read of the input into the bytes behind those that are held: how many it brought, or none where it broke off. No contract can say what it brings.
+fn read_behind<R: Read>(source: &mut R, bytes: &mut [u8], held: usize) -> Option<usize>
     requires { held ≤ length bytes.old }
-    ensures { (length bytes.new ≡ length bytes.old) × (take held bytes.new ≡ take held bytes.old) }
+    ensures kept { (length bytes.new ≡ length bytes.old) × (take held bytes.new ≡ take held bytes.old) }
+    ensures within { held + brought result ≤ length bytes.new }
 {
-    match source.read(&mut bytes[held..]) {
-        Ok(n) => n as isize,
-        Err(_) => -1,
-    }
+    source.read(&mut bytes[held..]).ok()
 }
 
 // Reads an input, as a program's standard input, to its end, over the lent log.

@@ -7,8 +7,8 @@ loop-init g c = (reached-none c.unread-input.ensures _ _ (sym c.large_buffer-byt
 
 pub loop-preserved : goal.loop-preserved
 loop-preserved g c = (
-  reached-more c.loop.invariant.0 (search rules) (c.read_behind-got.ensures.0 ∙ c.loop.invariant.1) c.read_behind-got.ensures.1
-      c.take_in-input.ensures,
+  reached-more c.loop.invariant.0 (search rules) (c.read_behind-got.ensures.kept.0 ∙ c.loop.invariant.1)
+      c.read_behind-got.ensures.kept.1 c.read_behind-got.ensures.within c.take_in-input.ensures,
   search rules,
   search rules,
 )
