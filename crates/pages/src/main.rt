@@ -9,7 +9,7 @@ use filter::text::Pages;
 use money::refusals::Refusal;
 use statement::pages::PAGES_MAX;
 use std::io::Read;
-use stdio::output::{has_argument, print, say, write_out};
+use stdio::output::{Words, print, run};
 
 // Puts into the lent bytes all that is printed for an input, as standard input.
 fn page_input<R: Read>(source: &mut R, out: &mut [u8]) -> Option<Result<usize, Refusal>>
@@ -18,24 +18,12 @@ fn page_input<R: Read>(source: &mut R, out: &mut [u8]) -> Option<Result<usize, R
     print::<Pages, R>(source, out)
 }
 
-// Prints what there is for standard input, or says what failed.
-fn run(rt: &HostRuntime) {
-    let mut out = [0u8; PAGES_MAX];
-    let printed = page_input(&mut rt.stdin(), &mut out);
-    write_out(
-        rt,
-        printed,
-        &out,
-        b"pages: the input can't be read\n",
-        b"pages: the output can't be written\n",
-    );
-}
-
-// It takes no argument: a file that is named here would not be read.
 fn main(rt: HostRuntime) {
-    if has_argument(&rt) {
-        say(&rt, b"usage: pages < records | lpr\n");
-        return;
-    }
-    run(&rt);
+    let mut out = [0u8; PAGES_MAX];
+    let words = Words {
+        usage: b"usage: pages < records | lpr\n",
+        unread: b"pages: the input can't be read\n",
+        unwritten: b"pages: the output can't be written\n",
+    };
+    run(&rt, &mut out, page_input, words);
 }
