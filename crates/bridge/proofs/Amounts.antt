@@ -1,5 +1,6 @@
 -- The prices of bytes that are a `PR`, in any spelling: they have them; and an amount that is refused.
-use Rattle.std.specs.Prelude.{◌≡◌, refl, Bool, true, false, cond, List, ◌++◌, ℕ, ltb, length, drop, Result, Ok, Err}
+use Rattle.std.specs.Prelude.{◌≡◌, refl, Bool, true, false, cond, is_some, List, ◌++◌, ℕ, ltb, length, drop, Result, Ok, Err}
+use Rattle.std.specs.Bool.{then_some}
 use Rattle.std.proofs.Common.{sym, ap, ◌∙◌, subst, arith}
 use Rattle.money.specs.Answers.{answer_of, fault_in}
 use Rattle.money.specs.declared.refusals.Refusal.{Refusal}
@@ -10,6 +11,7 @@ use Rattle.records.specs.Layouts.{hour_prices}
 use Rattle.records.specs.Changes.{Change, begins, head, change, body_for, Input, fine, fault, whole, parse}
 use Rattle.records.specs.Views.{ahead, viewed}
 use Rattle.records.specs.Answers.{input_of}
+use Rattle.records.specs.declared.marks.Mark.{Mark}
 use Rattle.records.specs.declared.marks.Mark.TheVariants.{Pr}
 use Rattle.records.specs.declared.marks.Kind.TheVariants.{File}
 use Rattle.records.specs.declared.marks.Wanted.TheVariants.{Only}
@@ -51,6 +53,11 @@ priced s {marked} {k} m z f = go (change (Only File) s) refl right.1
     go (bad j) q y = parse-fault (Only File) s j (ap whole q) y
     go (got c t) q y = filed-prices (drop 2 s) c t (subst (λ (x : List ℕ). change (Only File) x ≡ got c t) front q)
         (subst (λ (x : List ℕ). fault k ≡ input_of (viewed Pr hour_prices x)) front f)
+
+-- whether a mark was found by a test
+pub found_by : (b : Bool) (m : Mark) → is_some (then_some b m) ≡ b
+found_by true m = refl
+found_by false m = refl
 
 -- the number of a refusal, as an answer has it
 pub answered : (r : Result Ticks Refusal) → fault_in r ≡ answer_fault (answer_of r)

@@ -1,11 +1,12 @@
 -- What the exported functions answer and what they leave in the places that are lent to them. Assumes nothing.
-use Rattle.std.specs.Prelude.{◌≡◌, Bool, true, false, cond, not, ◌||◌, List, [], ◌∷◌, ℕ, ◌+◌, ◌*◌, ◌%◌, ltb, eqb, ℤ, length, get_or, set, take}
+use Rattle.std.specs.Prelude.{◌≡◌, Bool, true, false, cond, not, Option, None, Some, is_some, List, [], ◌∷◌, ℕ, ◌+◌, ◌*◌, ◌%◌, ltb, eqb, ℤ, length, get_or, set, take}
 use Rattle.laws.specs.Sums.{or_else}
 use Rattle.money.specs.Names.{decoded_bytes, name_before, same_name}
 use Rattle.money.specs.Refusals.{ends_early, mark_unknown, not_together}
 use Rattle.money.specs.declared.names.Name.{Name}
 use Rattle.money.specs.Answers.{Answer, Amount, Refused}
 use Rattle.records.specs.Names.{decode_name, stored_name, empty_name}
+use Rattle.records.specs.declared.marks.Mark.{Mark}
 use Rattle.records.specs.declared.marks.Mark.TheVariants.{Pr, Im, Gh, Fi, Fe}
 use Rattle.records.specs.Marks.{mark_bytes}
 use Rattle.records.specs.Views.{prices_in}
@@ -256,9 +257,14 @@ hour_amounts (charge t) row = row
 abbrev pub filing_fault : List ℕ → Bool → ℕ
 filing_fault s marked = cond (ltb (length s) 2) ends_early (cond marked (fault_of (parse (Only File) s)) mark_unknown)
 
--- an `IM`, `GH`, `FI` or `FE`
+-- which of the marks `IM`, `GH`, `FI` and `FE` they begin with
+abbrev pub amount_mark : List ℕ → Option Mark
+amount_mark s = cond (begins (mark_bytes Im) s) (Some Im) (cond (begins (mark_bytes Gh) s) (Some Gh) (cond (begins (mark_bytes Fi) s) (Some Fi)
+    (cond (begins (mark_bytes Fe) s) (Some Fe) None)))
+
+-- and whether it is one of them
 abbrev pub has_amount : List ℕ → Bool
-has_amount s = begins (mark_bytes Im) s || (begins (mark_bytes Gh) s || (begins (mark_bytes Fi) s || begins (mark_bytes Fe) s))
+has_amount s = is_some (amount_mark s)
 
 -- its amount at the prices of a `PR`, by its mark
 abbrev pub amount_at : HourPrices → List ℕ → Answer

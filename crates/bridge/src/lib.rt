@@ -1,10 +1,11 @@
 // The proved crates over numbers and slices, for a program in another language that holds them against its own. A slice is a
 // pointer and a count. Each function answers 0 or the number of the refusal, and promises what it leaves in every lent place: at a
-// refusal what stood there. Arguments that travel together are C's, each by itself; so are the numbers of methods and marks, which
-// each function tells apart once.
+// refusal what stood there. Exported functions take each argument by itself, as C does: a book is three numbers of `state` beside the
+// `lent` bytes, a key is mark, hour and name, and answers go to places in `sizes` and `amounts`, two rows for numbers of two types.
+// Private functions pass `out` and these rows on as they are lent. Numbers of methods are C's too: each function tells them apart once.
 #![tactic(auto)]
 
-ghost use Rattle.std.specs.Prelude.{◌≡◌, ◌+◌, ◌≤◌, cond, eqb, length, IfOk};
+ghost use Rattle.std.specs.Prelude.{◌≡◌, ◌+◌, ◌*◌, ◌≤◌, cond, eqb, Option, is_some, length, IfOk};
 ghost use Rattle.money.specs.Answers.{Amount, answer_of, fault_in};
 ghost use Rattle.records.specs.Changes.{parse, put_number, put_bytes, entry};
 ghost use Rattle.records.specs.Answers.{front_of};
@@ -15,7 +16,7 @@ ghost use Rattle.book.specs.Handed.{max_credits};
 ghost use Rattle.demands.specs.Script.{change_of};
 ghost use Rattle.statement.specs.Statement.{written};
 ghost use Rattle.bridge.specs.Bridge.{stored, told, fault_of, end_in, size_in, order, compare_fault, order_of, any_fault, any_size, any_bytes, write_fault, write_size, write_bytes, wanted_by};
-ghost use Rattle.bridge.specs.Bridge.{filing_fault, has_amount, amount_at, amount_in, amount_fault, amount_told};
+ghost use Rattle.bridge.specs.Bridge.{filing_fault, amount_mark, amount_at, amount_in, amount_fault, amount_told};
 ghost use Rattle.bridge.specs.Bridge.{no_book, book_from, book_in, handed_back, method_in, hour_in, Changed};
 ghost use Rattle.bridge.specs.Bridge.{asked, sizes_told, amounts_told, import_place, place_told, credit_sizes, credits_sizes, credits_amounts, hour_sizes, hour_amounts};
 ghost use Rattle.bridge.specs.Bridge.{feed_in, feed_state, feed_sizes, FeedBytes, statement_in, pages_in};
@@ -31,17 +32,14 @@ use money::units::Ticks;
 use records::amounts::{failure_charge, import_credit, unit_amount};
 use records::keys::ask_name;
 use records::layouts::HourPrices;
-use records::leads::begins_with;
-use records::marks::{Kind, Mark, Wanted};
+use records::marks::{Kind, Mark, Wanted, starts};
 use records::names::spell_name;
 use records::parse::{Act, first_change, parse_any, parse_change, parse_close, parse_take_back};
 use records::views::prices_of;
 use records::writing::put;
 use statement::day::statement;
 use statement::pages::pages;
-
-// The greatest number of 8 bits, an hour's.
-const U8_MAX: u32 = 255;
+use std::cmp::Ordering;
 
 #[unsafe(no_mangle)]
 pub extern "C" fn pewatuno_interface() -> u32
@@ -68,10 +66,37 @@ fn set<T: Copy>(row: &mut [T], i: usize, x: T)
     }
 }
 
-fn set_amount(amounts: &mut [i64], i: usize, t: Ticks)
-    ensures { amounts.new ≡ stored amounts.old i t.0 }
+// A call's number: 0, or that of its refusal.
+fn code<T>(answer: &Result<T, Refusal>) -> u32
+    ensures { result ≡ fault_in answer.now }
 {
-    set(amounts, i, t.0);
+    match answer {
+        Ok(_) => 0,
+        Err(refusal) => refusal.number() as u32,
+    }
+}
+
+// Start and length of a record, in two places from the i-th on.
+fn set_place(sizes: &mut [u64], i: usize, place: Place)
+    requires { i ≤ 2 * max_credits + 1 }
+    ensures { sizes.new ≡ stored (stored sizes.old i place.start) (i + 1) place.len }
+{
+    set(sizes, i, place.start as u64);
+    set(sizes, i + 1, place.len as u64);
+}
+
+// A number of records or of bytes, or the number of the refusal. Five functions tell a call's answer, one for each shape (number, place, guarantees, charge,
+// day), as each sets other places: one over a closure that sets them would state the promise for the places a second time, at the closure.
+fn tell_number(sizes: &mut [u64], answer: Result<usize, Refusal>) -> u32
+    ensures value { result ≡ fault_in answer }
+    ensures sizes_after { sizes.new ≡ told result (written answer) sizes.old }
+    ensures replied { replied (number_reply answer) ≡ fault_in answer }
+    ensures told_so { sizes_told (number_reply answer) sizes.old ≡ sizes.new }
+{
+    if let Ok(n) = answer {
+        set(sizes, 0, n as u64);
+    }
+    code(&answer)
 }
 
 fn write_change(want: Wanted, bytes: &[u8], out: &mut [u8], sizes: &mut [u64]) -> u32
@@ -80,22 +105,7 @@ fn write_change(want: Wanted, bytes: &[u8], out: &mut [u8], sizes: &mut [u64]) -
     ensures sizes_after { sizes.new ≡ told result (size_in (parse want bytes.now)) sizes.old }
 {
     let len = parse_change(bytes, want).map_or(0, |view| view.len);
-    if let Err(refusal) = put(out, 0, bytes, want) {
-        return refusal.number() as u32;
-    }
-    set(sizes, 0, len as u64);
-    0
-}
-
-fn mark_alone(read: Result<(), Refusal>, sizes: &mut [u64]) -> u32
-    ensures value { result ≡ fault_in read }
-    ensures sizes_after { sizes.new ≡ told result 0 sizes.old }
-{
-    if let Err(refusal) = read {
-        return refusal.number() as u32;
-    }
-    set(sizes, 0, 0);
-    0
+    tell_number(sizes, put(out, 0, bytes, want).map(|()| len))
 }
 
 fn write_any(bytes: &[u8], out: &mut [u8], sizes: &mut [u64]) -> u32
@@ -105,8 +115,7 @@ fn write_any(bytes: &[u8], out: &mut [u8], sizes: &mut [u64]) -> u32
 {
     match parse_any(bytes) {
         Ok(Act::Change(_)) => write_change(Wanted::Any, bytes, out, sizes),
-        Ok(Act::TakeBack | Act::Close) => mark_alone(Ok(()), sizes),
-        Err(refusal) => refusal.number() as u32,
+        read => tell_number(sizes, read.map(|_| 0)),
     }
 }
 
@@ -137,8 +146,8 @@ pub extern "C" fn pewatuno_write(
 {
     match method {
         0 => write_any(bytes, out, sizes),
-        4 => mark_alone(parse_take_back(bytes), sizes),
-        5 => mark_alone(parse_close(bytes), sizes),
+        4 => tell_number(sizes, parse_take_back(bytes).map(|()| 0)),
+        5 => tell_number(sizes, parse_close(bytes).map(|()| 0)),
         _ => write_change(wanted_by(method), bytes, out, sizes),
     }
 }
@@ -149,31 +158,23 @@ pub extern "C" fn pewatuno_next(bytes: &[u8], sizes: &mut [u64]) -> u32
     ensures value { result ≡ fault_of (front_of bytes.now (entry bytes.now)) }
     ensures sizes_after { sizes.new ≡ told result (end_in (front_of bytes.now (entry bytes.now))) sizes.old }
 {
-    match first_change(bytes) {
-        Ok(front) => {
-            set(sizes, 0, front.end as u64);
-            0
-        }
-        Err(refusal) => refusal.number() as u32,
-    }
+    tell_number(sizes, first_change(bytes).map(|front| front.end))
 }
 
 // 0 before, 1 same, 2 after.
 #[tactic(auto, using(crate::proofs::Names::orders))]
-fn order_of(a: Name, b: Name) -> u64
+fn order_of(a: Name, b: Name) -> usize
     ensures { result ≡ order a b }
 {
-    if a < b {
-        0
-    } else if a == b {
-        1
-    } else {
-        2
+    match a.cmp(&b) {
+        Ordering::Less => 0,
+        Ordering::Equal => 1,
+        Ordering::Greater => 2,
     }
 }
 
 // Two spelled names, by their decoded bytes.
-fn compare(a: &[u8], b: &[u8]) -> Result<u64, Refusal>
+fn compare(a: &[u8], b: &[u8]) -> Result<usize, Refusal>
     ensures fault { fault_in result ≡ compare_fault a.now b.now }
     ensures value { IfOk result (λ n. n ≡ order_of a.now b.now) }
 {
@@ -188,64 +189,58 @@ pub extern "C" fn pewatuno_compare(a: &[u8], b: &[u8], sizes: &mut [u64]) -> u32
     ensures value { result ≡ compare_fault a.now b.now }
     ensures sizes_after { sizes.new ≡ told result (order_of a.now b.now) sizes.old }
 {
-    match compare(a, b) {
-        Ok(order) => {
-            set(sizes, 0, order);
-            0
-        }
-        Err(refusal) => refusal.number() as u32,
-    }
+    tell_number(sizes, compare(a, b))
 }
 
 // ---- amounts of single records
 
-// Whether bytes are a record, of a mark that has been tested.
-fn check_filing(bytes: &[u8], marked: bool) -> Result<(), Refusal>
-    ensures { fault_in result ≡ filing_fault bytes.now marked }
+// The mark that was found in front of bytes, where they are a record.
+fn filed(bytes: &[u8], found: Option<Mark>) -> Result<Mark, Refusal>
+    ensures fault { fault_in result ≡ filing_fault bytes.now (is_some found) }
+    ensures value { IfOk result (λ m. found ≡ Option.Some m) }
 {
     if bytes.len() < 2 {
         return Err(Refusal::EndsEarly);
     }
-    if !marked {
-        return Err(Refusal::MarkUnknown);
-    }
+    let mark = found.ok_or(Refusal::MarkUnknown)?;
     parse_change(bytes, Wanted::Only(Kind::File))?;
-    Ok(())
+    Ok(mark)
 }
 
-fn has_amount(bytes: &[u8]) -> bool
-    ensures { result ≡ has_amount bytes.now }
+// The mark of a record that has an amount, where bytes begin with one.
+fn amount_mark(bytes: &[u8]) -> Option<Mark>
+    ensures { result ≡ amount_mark bytes.now }
 {
-    begins_with(bytes, b'I', b'M')
-        || begins_with(bytes, b'G', b'H')
-        || begins_with(bytes, b'F', b'I')
-        || begins_with(bytes, b'F', b'E')
+    match bytes {
+        [b'I', b'M', ..] => Some(Mark::Im),
+        [b'G', b'H', ..] => Some(Mark::Gh),
+        [b'F', b'I', ..] => Some(Mark::Fi),
+        [b'F', b'E', ..] => Some(Mark::Fe),
+        _ => None,
+    }
 }
 
-fn amount_of(prices: HourPrices, bytes: &[u8]) -> Result<Ticks, Refusal>
+// Its amount, by the mark that was found. A `PR` and an `EX` have none; `failure_charge` would refuse them.
+fn amount_of(mark: Mark, bytes: &[u8], prices: HourPrices) -> Result<Ticks, Refusal>
+    requires { amount_mark bytes.now ≡ Option.Some mark }
     ensures { answer_of result ≡ amount_at prices bytes.now }
 {
-    if begins_with(bytes, b'I', b'M') {
-        return import_credit(bytes, prices);
+    match mark {
+        Mark::Im => import_credit(bytes, prices),
+        Mark::Gh => unit_amount(bytes, prices),
+        Mark::Fi | Mark::Fe | Mark::Pr | Mark::Ex => failure_charge(bytes, mark, prices),
     }
-    if begins_with(bytes, b'G', b'H') {
-        return unit_amount(bytes, prices);
-    }
-    if begins_with(bytes, b'F', b'I') {
-        return failure_charge(bytes, Mark::Fi, prices);
-    }
-    failure_charge(bytes, Mark::Fe, prices)
 }
 
 // The amount of a record at the prices of a `PR`.
-#[tactic(auto, unfolding(crate::specs::Bridge::amount_fault))]
+#[tactic(auto, using(crate::proofs::Amounts::found_by), unfolding(crate::specs::Bridge::amount_fault))]
 fn amount(prices: &[u8], bytes: &[u8]) -> Result<Ticks, Refusal>
     ensures fault { fault_in result ≡ amount_fault prices.now bytes.now }
     ensures value { IfOk result (λ t. Amount t ≡ amount_in prices.now bytes.now) }
 {
-    check_filing(prices, begins_with(prices, b'P', b'R'))?;
-    check_filing(bytes, has_amount(bytes))?;
-    amount_of(prices_of(prices)?, bytes)
+    filed(prices, starts(prices, b"PR").then_some(Mark::Pr))?;
+    let mark = filed(bytes, amount_mark(bytes))?;
+    amount_of(mark, bytes, prices_of(prices)?)
 }
 
 // The credit of an IM, the amount of a GH without its start-up, the charge of an FI or FE, at the prices of a PR.
@@ -254,13 +249,7 @@ pub extern "C" fn pewatuno_amount(prices: &[u8], bytes: &[u8], amounts: &mut [i6
     ensures value { result ≡ amount_fault prices.now bytes.now }
     ensures amounts_after { amounts.new ≡ amount_told prices.now bytes.now amounts.old }
 {
-    match amount(prices, bytes) {
-        Ok(ticks) => {
-            set_amount(amounts, 0, ticks);
-            0
-        }
-        Err(refusal) => refusal.number() as u32,
-    }
+    tell_charge(amounts, amount(prices, bytes))
 }
 
 // ---- the book: its number of changes, its used bytes, and 0 where it is open
@@ -293,10 +282,10 @@ fn book_of(changes: u64, used: u64, closed: u64) -> Book
 fn book_in(state: &[u64]) -> Book
     ensures { result ≡ book_in state.now }
 {
-    if state.len() < 3 {
-        return no_book();
+    match state {
+        [changes, used, closed, ..] => book_of(*changes, *used, *closed),
+        _ => no_book(),
     }
-    book_of(state[0], state[1], state[2])
 }
 
 fn hand_back(state: &mut [u64], b: Book)
@@ -325,19 +314,17 @@ pub extern "C" fn pewatuno_change(
 {
     let b = book_in(&state[..]);
     let Done { book, answer } = make_change(b, lent, method_of(method), bytes);
-    match answer {
-        Ok(()) => {
-            hand_back(state, book);
-            0
-        }
-        Err(fault) => fault.number() as u32,
+    if answer.is_ok() {
+        hand_back(state, book);
     }
+    code(&answer)
 }
 
+// An hour of more than 8 bits is outside the day, as their greatest number is.
 fn hour_of(hour: u32) -> u8
     ensures { result ≡ hour_in hour }
 {
-    hour.min(U8_MAX) as u8
+    u8::try_from(hour).unwrap_or(u8::MAX)
 }
 
 // The place of a record, or the number of the refusal.
@@ -345,30 +332,10 @@ fn tell_place(sizes: &mut [u64], answer: Result<Place, Refusal>) -> u32
     ensures value { result ≡ replied (place_reply answer) }
     ensures sizes_after { sizes.new ≡ sizes_told (place_reply answer) sizes.old }
 {
-    match answer {
-        Ok(place) => {
-            set(sizes, 0, place.start as u64);
-            set(sizes, 1, place.len as u64);
-            0
-        }
-        Err(fault) => fault.number() as u32,
+    if let Ok(place) = answer {
+        set_place(sizes, 0, place);
     }
-}
-
-// A number of records or of bytes, or the number of the refusal.
-fn tell_number(sizes: &mut [u64], answer: Result<usize, Refusal>) -> u32
-    ensures value { result ≡ fault_in answer }
-    ensures sizes_after { sizes.new ≡ told result (written answer) sizes.old }
-    ensures replied { replied (number_reply answer) ≡ fault_in answer }
-    ensures told_so { sizes_told (number_reply answer) sizes.old ≡ sizes.new }
-{
-    match answer {
-        Ok(n) => {
-            set(sizes, 0, n as u64);
-            0
-        }
-        Err(fault) => fault.number() as u32,
-    }
+    code(&answer)
 }
 
 // The record of a key: where it starts, and its length.
@@ -423,78 +390,66 @@ fn tell_import(i: usize, answer: Result<Place, Refusal>, sizes: &mut [u64])
     ensures { sizes.new ≡ place_told i (place_reply answer) sizes.old }
 {
     if let Ok(place) = answer {
-        set(sizes, 2 * i + 1, place.start as u64);
-        set(sizes, 2 * i + 2, place.len as u64);
+        set_place(sizes, 2 * i + 1, place);
     }
 }
 
-// The record of an hour's import, by its decoded name.
-#[tactic(auto, unfolding(crate::specs::Bridge::import_place))]
-fn place_of(b: Book, lent: &[u8], hour: u8, name: Name) -> Result<Place, Refusal>
-    ensures { place_reply result ≡ import_place b lent.now hour name }
-{
-    match spell_name(name) {
-        Ok(s) => b.record_of(lent, b"IM", hour, s.as_slice()),
-        Err(_) => b.record_of(lent, b"IM", hour, b""),
+// An hour that is asked for on a book over lent bytes.
+#[derive(Clone, Copy)]
+struct AskedHour<'a> {
+    book: Book,
+    lent: &'a [u8],
+    hour: u8,
+}
+
+impl<'a> AskedHour<'a> {
+    // The record of the hour's import, by its decoded name.
+    #[tactic(auto, unfolding(crate::specs::Bridge::import_place))]
+    fn place_of(self, name: Name) -> Result<Place, Refusal>
+        ensures { place_reply result ≡ import_place self.entry.book self.entry.lent.now self.entry.hour name }
+    {
+        let spelled = spell_name(name).unwrap_or_default();
+        self.book.record_of(self.lent, b"IM", self.hour, &spelled)
     }
-}
 
-// The place of an hour's import i, and its credit.
-fn tell_credit(
-    b: Book,
-    lent: &[u8],
-    hour: u8,
-    i: usize,
-    c: NamedAmount,
-    sizes: &mut [u64],
-    amounts: &mut [i64],
-)
-    requires { i ≤ max_credits }
-    ensures sizes_after { sizes.new ≡ credit_sizes b lent.now hour i c sizes.old }
-    ensures amounts_after { amounts.new ≡ stored amounts.old (i + 1) c.ticks.0 }
-{
-    tell_import(i, place_of(b, lent, hour, c.name), sizes);
-    set_amount(amounts, i + 1, c.ticks);
-}
-
-#[tactic(auto, using(crate::proofs::Credits::all_told))]
-fn tell_credits(
-    b: Book,
-    lent: &[u8],
-    hour: u8,
-    credits: &[NamedAmount],
-    sizes: &mut [u64],
-    amounts: &mut [i64],
-)
-    requires { length credits.now ≤ max_credits }
-    ensures sizes_after { sizes.new ≡ credits_sizes b lent.now hour 0 credits.now (stored sizes.old 0 (length credits.now)) }
-    ensures amounts_after { amounts.new ≡ credits_amounts 0 credits.now amounts.old }
-{
-    set(sizes, 0, credits.len() as u64);
-    for (i, c) in credits.iter().enumerate() {
-        tell_credit(b, lent, hour, i, *c, sizes, amounts);
+    // The place of the hour's import i, and its credit.
+    fn tell_credit(self, i: usize, c: NamedAmount, sizes: &mut [u64], amounts: &mut [i64])
+        requires { i ≤ max_credits }
+        ensures sizes_after { sizes.new ≡ credit_sizes self.entry.book self.entry.lent.now self.entry.hour i c sizes.old }
+        ensures amounts_after { amounts.new ≡ stored amounts.old (i + 1) c.ticks.0 }
+    {
+        tell_import(i, self.place_of(c.name), sizes);
+        set(amounts, i + 1, c.ticks.0);
     }
-}
 
-fn tell_guarantees(
-    b: Book,
-    lent: &[u8],
-    hour: u8,
-    answer: Result<Guarantees, Refusal>,
-    sizes: &mut [u64],
-    amounts: &mut [i64],
-) -> u32
-    ensures value { result ≡ replied (guarantees_reply answer) }
-    ensures sizes_after { sizes.new ≡ hour_sizes b lent.now hour (guarantees_reply answer) sizes.old }
-    ensures amounts_after { amounts.new ≡ hour_amounts (guarantees_reply answer) amounts.old }
-{
-    match answer {
-        Ok(Guarantees { credits, offset }) => {
-            set_amount(amounts, 0, offset);
-            tell_credits(b, lent, hour, &credits, sizes, amounts);
-            0
+    #[tactic(auto, using(crate::proofs::Credits::all_told))]
+    fn tell_credits(self, credits: &[NamedAmount], sizes: &mut [u64], amounts: &mut [i64])
+        requires { length credits.now ≤ max_credits }
+        ensures sizes_after { sizes.new ≡ credits_sizes self.entry.book self.entry.lent.now self.entry.hour 0 credits.now
+            (stored sizes.old 0 (length credits.now)) }
+        ensures amounts_after { amounts.new ≡ credits_amounts 0 credits.now amounts.old }
+    {
+        set(sizes, 0, credits.len() as u64);
+        for (i, c) in credits.iter().enumerate() {
+            self.tell_credit(i, *c, sizes, amounts);
         }
-        Err(fault) => fault.number() as u32,
+    }
+
+    fn tell_guarantees(
+        self,
+        answer: Result<Guarantees, Refusal>,
+        sizes: &mut [u64],
+        amounts: &mut [i64],
+    ) -> u32
+        ensures value { result ≡ replied (guarantees_reply answer) }
+        ensures sizes_after { sizes.new ≡ hour_sizes self.entry.book self.entry.lent.now self.entry.hour (guarantees_reply answer) sizes.old }
+        ensures amounts_after { amounts.new ≡ hour_amounts (guarantees_reply answer) amounts.old }
+    {
+        if let Ok(Guarantees { credits, offset }) = &answer {
+            set(amounts, 0, offset.0);
+            self.tell_credits(credits, sizes, amounts);
+        }
+        code(&answer)
     }
 }
 
@@ -513,36 +468,30 @@ pub extern "C" fn pewatuno_guarantees(
         (asked (hour_guarantees (hour_in hour)) state.now lent.now) sizes.old }
     ensures amounts_after { amounts.new ≡ hour_amounts (asked (hour_guarantees (hour_in hour)) state.now lent.now) amounts.old }
 {
-    let b = book_in(state);
-    let h = hour_of(hour);
-    tell_guarantees(b, lent, h, b.guarantees(lent, h), sizes, amounts)
+    let book = book_in(state);
+    let hour = hour_of(hour);
+    AskedHour { book, lent, hour }.tell_guarantees(book.guarantees(lent, hour), sizes, amounts)
 }
 
 fn tell_charge(amounts: &mut [i64], answer: Result<Ticks, Refusal>) -> u32
     ensures value { result ≡ replied (charge_reply answer) }
     ensures amounts_after { amounts.new ≡ amounts_told (charge_reply answer) amounts.old }
 {
-    match answer {
-        Ok(ticks) => {
-            set_amount(amounts, 0, ticks);
-            0
-        }
-        Err(fault) => fault.number() as u32,
+    if let Ok(ticks) = answer {
+        set(amounts, 0, ticks.0);
     }
+    code(&answer)
 }
 
 fn tell_day(amounts: &mut [i64], answer: Result<DayTotals, Refusal>) -> u32
     ensures value { result ≡ replied (day_reply answer) }
     ensures amounts_after { amounts.new ≡ amounts_told (day_reply answer) amounts.old }
 {
-    match answer {
-        Ok(day) => {
-            set_amount(amounts, 0, day.total);
-            set_amount(amounts, 1, day.reversal);
-            0
-        }
-        Err(fault) => fault.number() as u32,
+    if let Ok(day) = answer {
+        set(amounts, 0, day.total.0);
+        set(amounts, 1, day.reversal.0);
     }
+    code(&answer)
 }
 
 // A unit's day: its total, and the reversal.
@@ -615,10 +564,7 @@ pub extern "C" fn pewatuno_feed(
     set(sizes, 0, count);
     set(sizes, 1, taken as u64);
     hand_back_fed(state, count, book);
-    match end {
-        Ok(()) => 0,
-        Err(fault) => fault.number() as u32,
-    }
+    code(&end)
 }
 
 // The text of the statement, and its length.
