@@ -166,10 +166,10 @@ mod tests {
         let steps = [
             "const MARK_SLOTS: usize = 32;",
             "const BUCKETS: usize = 8192;",
-            "wide(key_order(mark)) * MARK_SLOTS + wide(key.hour)",
+            "usize::from(key_order(mark)) * MARK_SLOTS + usize::from(key.hour)",
             "let mut weight: usize = 449;",
             "for b in bytes {",
-            "sum += wide(b) * weight;",
+            "sum += usize::from(b) * weight;",
             "weight = weight * 31 % BUCKETS;",
             "sum % BUCKETS",
         ];
