@@ -1,21 +1,34 @@
 // Decoded names: their rule and their order.
-ghost use Rattle.std.specs.Prelude.{◌≡◌, refl, Some, nat_eq};
+ghost use Rattle.std.specs.Prelude.{◌≡◌, refl, Some, nat_eq, replicate};
 ghost use Rattle.std.specs.Ordering.{nat_cmp, on};
 ghost use Rattle.std.specs.Cmp.{on_po, partial_equiv_from_equiv};
 ghost use Rattle.std.specs.Cmp.Lexicographic.{pointwise, slice_cmp, on_texts, on_texts_equal, texts_po, texts_ties};
-ghost use Rattle.money.specs.Names.{decoded_bytes, name_before, same_name, name_ok};
+ghost use Rattle.money.specs.Names.{max_name, decoded_bytes, name_before, same_name, name_ok};
 
+use fixed_list::Blank;
 use std::cmp::Ordering;
 
 // Bytes of a decoded name, at most.
 pub const NAME_MAX: usize = 12;
 
-// A decoded name: its length, and places for twelve bytes. No ArrayVec: that is no `Copy`, and keys and entries that hold a name go by value.
+// A decoded name: its length, and places for twelve bytes. No FixedList: a caller may make a name of any bytes behind its length.
 // No derived `==` and `<`: the places behind the length would count.
 #[derive(Clone, Copy, Default)]
 pub struct Name {
     pub len: u8,
     pub bytes: [u8; NAME_MAX],
+}
+
+// No name stands in a list's place without an element.
+impl Blank for Name {
+    ghost blank = { record { len = 0; bytes = replicate max_name 0 } };
+
+    fn blank() -> Self {
+        Name {
+            len: 0,
+            bytes: [0; NAME_MAX],
+        }
+    }
 }
 
 impl Name {
