@@ -14,7 +14,7 @@ use Rattle.records.specs.declared.layouts.HourPrices.{HourPrices}
 use Rattle.records.specs.Amounts.{credit_in, unit_amount_in, charge_in}
 use Rattle.records.specs.Changes.{begins, write, Entry, changed, taking_back, closing, Input, fine, fault, parse, parse_any, put_number, put_bytes, bare, take_back_bytes, close_bytes}
 use Rattle.records.specs.Answers.{input_of, spelling_of}
-use Rattle.arrayvec.specs.ArrayVec.{ArrayVec}
+use Rattle.fixed_list.specs.FixedList.{FixedList}
 use Rattle.records.specs.declared.parse.Front.{Front}
 use Rattle.records.specs.declared.marks.Kind.TheVariants.{File, Correct, Withdraw}
 use Rattle.records.specs.declared.marks.Wanted.{Wanted}
@@ -196,7 +196,7 @@ amounts_told (unit_day t v) row = stored (stored row 0 t) 1 v
 amounts_told (charge t) row = stored row 0 t
 
 -- the bytes of a name as it is written
-abbrev pub spelled_in : Input (ArrayVec ℕ) → List ℕ
+abbrev pub spelled_in : Input (FixedList ℕ) → List ℕ
 spelled_in (fine s) = s.items
 spelled_in (fault n) = []
 

@@ -7,7 +7,7 @@ use Rattle.money.specs.declared.refusals.Refusal.{Refusal}
 use Rattle.records.specs.Reading.{Res, bad, got}
 use Rattle.records.specs.Changes.{Change, key_of, kind, write, Entry, changed, taking_back, closing, Input, fine, fault, Scan, seen, unseen}
 use Rattle.records.specs.Names.{spell, bytes_of}
-use Rattle.arrayvec.specs.ArrayVec.{ArrayVec}
+use Rattle.fixed_list.specs.FixedList.{FixedList}
 use Rattle.records.specs.declared.scan.View.{View}
 use Rattle.records.specs.declared.parse.Act.{Act}
 use Rattle.records.specs.declared.parse.Act.TheVariants as act
@@ -60,5 +60,5 @@ front_of s (got x t) = fine (record { act = act_of x; end = length s - length t 
 -- ---- a name as it is written; or "name breaks its rule" of one that is none
 
 -- 4 of a name that breaks its rule
-unfoldable pub spelling_of : Name → Input (ArrayVec ℕ)
+unfoldable pub spelling_of : Name → Input (FixedList ℕ)
 spelling_of n = cond (name_ok n) (fine (record { items = spell (bytes_of n) })) (fault name_fault)

@@ -8,7 +8,7 @@ use crate::fields::{Got, hour_at};
 use crate::keys::Key;
 use crate::marks::{Head, Kind, Wanted, has_name, head_at};
 use crate::writing::{NAME_HEAD_MAX, push_key_name};
-use arrayvec::ArrayVec;
+use fixed_list::FixedList;
 use money::names::name_ok;
 use money::refusals::Refusal;
 
@@ -25,7 +25,7 @@ pub fn head_key(s: &[u8]) -> Result<Key, Refusal>
 }
 
 // The bytes by which the records of a mark and name are told from others of the mark: those behind the hour.
-pub type NameHead = ArrayVec<u8, NAME_HEAD_MAX>;
+pub type NameHead = FixedList<u8, NAME_HEAD_MAX>;
 
 // Whether a record of the key's mark can have its name.
 #[tactic(auto, unfolding(crate::specs::tables::Heads::nameable))]
@@ -46,7 +46,7 @@ pub fn name_head(key: Key) -> Option<NameHead>
     if !nameable(key) {
         return None;
     }
-    let mut out = ArrayVec::new();
+    let mut out = FixedList::new();
     push_key_name(Kind::File, key.mark, key.name, &mut out);
     Some(out)
 }

@@ -1,7 +1,6 @@
 // Names: read in any spelling, decoded once, written in one spelling. No type of this crate holds that a name is short: a `Key` holds a caller's `Name`, so
 // what spells the name of a key would ask again. It stays a clause.
 ghost use Rattle.std.specs.Prelude.{◌≡◌, ◌+◌, ◌≤◌, ◌<◌, ◌++◌, length, IfOk};
-ghost use Rattle.arrayvec.specs.ArrayVec.{array_vec_len};
 ghost use Rattle.money.specs.Names.{max_name, decoded_bytes, name_before};
 ghost use Rattle.records.specs.Reading.{from};
 ghost use Rattle.records.specs.Names.{max_spelling, hex_digit, escaped, one, decode_name, unreserved, digit, spell_byte, spell, name_field, empty_name, bytes_of, stored_name};
@@ -9,7 +8,7 @@ ghost use Rattle.records.specs.Answers.{told, spelling_of};
 ghost use Rattle.records.specs.tables.Inner.{read_as, InBytes};
 
 use crate::fields::{Got, byte_at};
-use arrayvec::ArrayVec;
+use fixed_list::FixedList;
 use money::names::{NAME_MAX, Name, name_before, name_ok};
 use money::refusals::Refusal;
 
@@ -17,7 +16,7 @@ use money::refusals::Refusal;
 pub const SPELLING_MAX: usize = 36;
 
 // The written spelling of a name.
-pub type Spelling = ArrayVec<u8, SPELLING_MAX>;
+pub type Spelling = FixedList<u8, SPELLING_MAX>;
 
 #[tactic(auto, unfolding(crate::specs::Names::hex_val))]
 fn hex(x: u8) -> Option<u8>
@@ -122,8 +121,8 @@ fn digit(n: u8) -> u8
 }
 
 #[tactic(auto, using(crate::proofs::names::SpellName::spellings), unfolding(crate::specs::Names::spell_byte))]
-fn push_byte<const N: usize>(x: u8, out: &mut ArrayVec<u8, N>)
-    requires { array_vec_len out.old + 3 ≤ N }
+fn push_byte<const N: usize>(x: u8, out: &mut FixedList<u8, N>)
+    requires { length out.old.items + 3 ≤ N }
     ensures { out.new.items ≡ out.old.items ++ spell_byte x }
 {
     if unreserved(x) {
@@ -136,9 +135,9 @@ fn push_byte<const N: usize>(x: u8, out: &mut ArrayVec<u8, N>)
 }
 
 #[tactic(auto, using(crate::proofs::names::SpellName::spellings), unfolding(crate::specs::Names::spell))]
-pub(crate) fn push_name<const N: usize>(name: Name, out: &mut ArrayVec<u8, N>)
+pub(crate) fn push_name<const N: usize>(name: Name, out: &mut FixedList<u8, N>)
     requires name_in { name.len ≤ max_name }
-    requires room { array_vec_len out.old + max_spelling ≤ N }
+    requires room { length out.old.items + max_spelling ≤ N }
     ensures { out.new.items ≡ out.old.items ++ spell (bytes_of name) }
 {
     for x in &name.bytes[..name.len as usize] {
@@ -154,7 +153,7 @@ pub fn spell_name(name: Name) -> Result<Spelling, Refusal>
     if !name_ok(name) {
         return Err(Refusal::NameFault);
     }
-    let mut out = ArrayVec::new();
+    let mut out = FixedList::new();
     push_name(name, &mut out);
     Ok(out)
 }

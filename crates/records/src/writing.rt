@@ -1,6 +1,5 @@
 // Changes written, each name in its one spelling.
 ghost use Rattle.std.specs.Prelude.{◌≡◌, ◌+◌, ◌≤◌, ◌++◌, length};
-ghost use Rattle.arrayvec.specs.ArrayVec.{array_vec_len};
 ghost use Rattle.money.specs.Answers.{fault_in};
 ghost use Rattle.money.specs.Names.{max_name};
 ghost use Rattle.records.specs.Changes.{lead_bytes, name_bytes, head_bytes, parse, put_number, put_bytes};
@@ -12,7 +11,7 @@ use crate::keys::Key;
 use crate::marks::{Kind, Mark, Wanted, bytes_of, has_name};
 use crate::names::{push_name, spelled_len};
 use crate::scan::View;
-use arrayvec::ArrayVec;
+use fixed_list::FixedList;
 use money::names::{NAME_MAX, Name};
 use money::refusals::Refusal;
 
@@ -34,8 +33,8 @@ fn copy(src: &[u8], out: &mut [u8], at: usize) -> usize
 }
 
 // What is pushed here asks for its room: the room that is left is a fact of each step, not of a value.
-fn push_lead<const N: usize>(kind: Kind, out: &mut ArrayVec<u8, N>)
-    requires { array_vec_len out.old + 2 ≤ N }
+fn push_lead<const N: usize>(kind: Kind, out: &mut FixedList<u8, N>)
+    requires { length out.old.items + 2 ≤ N }
     ensures { out.new.items ≡ out.old.items ++ lead_bytes kind }
 {
     match kind {
@@ -45,8 +44,8 @@ fn push_lead<const N: usize>(kind: Kind, out: &mut ArrayVec<u8, N>)
     }
 }
 
-fn push_two<const N: usize>(bytes: [u8; 2], out: &mut ArrayVec<u8, N>)
-    requires { array_vec_len out.old + 2 ≤ N }
+fn push_two<const N: usize>(bytes: [u8; 2], out: &mut FixedList<u8, N>)
+    requires { length out.old.items + 2 ≤ N }
     ensures { out.new.items ≡ out.old.items ++ bytes }
 {
     out.push(bytes[0]);
@@ -59,10 +58,10 @@ pub(crate) fn push_key_name<const N: usize>(
     kind: Kind,
     mark: Mark,
     name: Name,
-    out: &mut ArrayVec<u8, N>,
+    out: &mut FixedList<u8, N>,
 )
     requires name_in { name.len ≤ max_name }
-    requires room { array_vec_len out.old + max_name_head ≤ N }
+    requires room { length out.old.items + max_name_head ≤ N }
     ensures { out.new.items ≡ out.old.items ++ name_bytes kind mark name }
 {
     if has_name(mark) {
@@ -75,11 +74,11 @@ pub(crate) fn push_key_name<const N: usize>(
 
 // The bytes of a change before its fields.
 #[tactic(auto, using(crate::proofs::writing::Lemmas::heads), unfolding(crate::specs::Changes::head_bytes))]
-pub(crate) fn head_of(kind: Kind, key: Key) -> ArrayVec<u8, HEAD_MAX>
+pub(crate) fn head_of(kind: Kind, key: Key) -> FixedList<u8, HEAD_MAX>
     requires { key.name.len ≤ max_name }
     ensures { result.items ≡ head_bytes kind key }
 {
-    let mut out = ArrayVec::new();
+    let mut out = FixedList::new();
     push_lead(kind, &mut out);
     push_two(bytes_of(key.mark), &mut out);
     out.push(key.hour);

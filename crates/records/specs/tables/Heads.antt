@@ -5,7 +5,7 @@ use Rattle.records.specs.Reading.{got, Reader, ◌>>=◌}
 use Rattle.records.specs.Numbers.{hour}
 use Rattle.records.specs.Marks.{has_name}
 use Rattle.records.specs.Changes.{head, name_for, name_bytes}
-use Rattle.arrayvec.specs.ArrayVec.{ArrayVec}
+use Rattle.fixed_list.specs.FixedList.{FixedList}
 use Rattle.records.specs.declared.marks.Kind.TheVariants.{File}
 use Rattle.records.specs.declared.marks.Wanted.TheVariants.{Any}
 use Rattle.records.specs.declared.keys.Key.{Key}
@@ -22,6 +22,6 @@ nameable k = cond (has_name k.mark) (name_ok k.name) (eqb k.name.len 0)
 abbrev pub name_head : Key → List ℕ
 name_head k = name_bytes File k.mark k.name
 
-abbrev pub NameHeadIs : Key → Option (ArrayVec ℕ) → Type 0
+abbrev pub NameHeadIs : Key → Option (FixedList ℕ) → Type 0
 NameHeadIs k None = nameable k ≡ false
 NameHeadIs k (Some h) = (nameable k ≡ true) × (h.items ≡ name_head k)

@@ -9,7 +9,7 @@ use Rattle.records.specs.Names.{max_spelling, spell, bytes_of}
 use Rattle.records.specs.Changes.{fine, fault}
 use Rattle.records.specs.Answers.{spelling_of}
 use Rattle.records.proofs.laws.BookLaws.{name-most, spelled-short, spelling-full, spelling-none}
-use Rattle.arrayvec.specs.ArrayVec.{ArrayVec}
+use Rattle.fixed_list.specs.FixedList.{FixedList}
 use Rattle.statement.specs.Decimal.{digit, two_digits, decimal}
 use Rattle.statement.proofs.laws.DecimalLaws.{decimal-length}
 use Rattle.statement.specs.Lines.{when_bytes, kind_bytes, is_number, name_bytes, sign, dollars, number, figure, line_bytes, max_figure, max_line, text_of}
@@ -41,28 +41,28 @@ spelled-most : (n : Name) → name_ok n ≡ true → length (spell (bytes_of n))
 spelled-most n h = spelled-short (bytes_of n) (omega (arith, length-take n.len n.bytes, name-most n h))
 
 -- the spelling that records gives of a name is what its line shows
-pub record Spells (n : Name) (s : ArrayVec ℕ) : Type 0 where
+pub record Spells (n : Name) (s : FixedList ℕ) : Type 0 where
   pub bytes : s.items ≡ name_bytes n
   pub few : length s.items ≤ max_spelling
 
 -- a name that has a spelling keeps its rule
-pub name-spelled : (n : Name) {s : ArrayVec ℕ} → fine s ≡ spelling_of n → name_ok n ≡ true
+pub name-spelled : (n : Name) {s : FixedList ℕ} → fine s ≡ spelling_of n → name_ok n ≡ true
 name-spelled n {s} e = go (name_ok n) refl
   where
     go : (b : Bool) → name_ok n ≡ b → name_ok n ≡ true
     go true h = h
     go false h = let k : fine s ≡ fault name_fault = e ∙ spelling-none n h in absurd (let z : ◌≡◌ {A = ℕ} 0 1 = cc in omega arith)
 
-pub spells : (n : Name) (s : ArrayVec ℕ) → fine s ≡ spelling_of n → Spells n s
+pub spells : (n : Name) (s : FixedList ℕ) → fine s ≡ spelling_of n → Spells n s
 spells n s e =
     let h = name-spelled n e in
     let q : s ≡ record { items = spell (bytes_of n) } = let f : fine s ≡ fine (record { items = spell (bytes_of n) }) = e ∙ spelling-full n h in cc in
     rw q (record { bytes = sym (name-some n h); few = spelled-most n h })
 
-pub spelled-few : (n : Name) (s : ArrayVec ℕ) → fine s ≡ spelling_of n → length s.items ≤ max_spelling
+pub spelled-few : (n : Name) (s : FixedList ℕ) → fine s ≡ spelling_of n → length s.items ≤ max_spelling
 spelled-few n s e = (spells n s e).few
 
-pub spelled-bytes : (n : Name) (s : ArrayVec ℕ) → fine s ≡ spelling_of n → s.items ≡ name_bytes n
+pub spelled-bytes : (n : Name) (s : FixedList ℕ) → fine s ≡ spelling_of n → s.items ≡ name_bytes n
 spelled-bytes n s e = (spells n s e).bytes
 
 -- a name without a spelling is shown as none
@@ -70,7 +70,7 @@ pub name-unspelled : (n : Name) {k : ℕ} → fault k ≡ spelling_of n → name
 name-unspelled n {k} e = go (name_ok n) refl
   where
     go : (b : Bool) → name_ok n ≡ b → name_bytes n ≡ bytes "-"
-    go true h = let x : ArrayVec ℕ = record { items = spell (bytes_of n) } in let f : fault k ≡ fine x = e ∙ spelling-full n h in absurd (let z : ◌≡◌ {A = ℕ} 0 1 = cc in omega arith)
+    go true h = let x : FixedList ℕ = record { items = spell (bytes_of n) } in let f : fault k ≡ fine x = e ∙ spelling-full n h in absurd (let z : ◌≡◌ {A = ℕ} 0 1 = cc in omega arith)
     go false h = name-none n h
 
 pub ruleset spelled = (spelled-few, spelled-bytes, name-unspelled)

@@ -2,7 +2,7 @@
 use Rattle.std.proofs.Common.{ℕ, ◌+◌, ◌/◌, ◌%◌, ◌≤◌, ◌<◌, ◌≡◌, refl, sym, ap, ap₂, ◌∙◌, List, ◌++◌, Bool, true, false, cond, ◌&&◌, arith, length, drop, get_or, replicate, drop-drop, eqb, eq-eqb}
 use Rattle.std.specs.Prelude.{Option, Some, None, is_some}
 use Rattle.money.specs.Names as names
-use Rattle.arrayvec.specs.ArrayVec.{ArrayVec}
+use Rattle.fixed_list.specs.FixedList.{FixedList}
 use Rattle.book.specs.Layer.{Key, Change, filed, key_of, write, begins, Good, key_mark, key_order, same_key_mark, same, same_name, at_hour}
 use Rattle.book.specs.tables.LayerTables.{nameable, NameHeadIs}
 use Rattle.book.specs.laws.LayerLaws.{Padded, same_at, at-hour, same_by, same_alike, one-mark, mark-one, parts-hour, name-told as told-name, name-untold}
@@ -95,7 +95,7 @@ same-name-is k j f = sym (keep (same_at k j j.hour)) ∙ same_by (at_hour k j.ho
     keep : {b : Bool} → b ≡ (same_name k j && eqb j.hour j.hour) → b ≡ same_name k j
     keep e = e ∙ ap (λ (y : Bool). same_name k j && y) (eq-eqb j.hour j.hour refl) ∙ and-turned (same_name k j) true
 
-pub named-so : (k : Key) → Padded k.name → {m : ℕ} → m ≡ key_order k.mark → (h : ArrayVec ℕ) → NameHeadIs k (Some h)
+pub named-so : (k : Key) → Padded k.name → {m : ℕ} → m ≡ key_order k.mark → (h : FixedList ℕ) → NameHeadIs k (Some h)
     → {name : List ℕ} → name ≡ h.items → Written k m name
 named-so k p em h w e = record {
   mark = em;
