@@ -119,13 +119,15 @@ fn is_view(view: View, lent: usize) -> bool
     head.len() <= view.len && view.len - head.len() <= lent
 }
 
-// Writes the change that bytes end with, of which the view is known, at a place of the log. 13 where it does not fit there, 2 where the view is none.
+// Writes the change that bytes end with, of which the view is known, at a place of the log. 13 where it does not fit there, 2 where the view is none: `peek`'s
+// answer can be handed on as it is.
 // `put` ends alike, with a body of its own: one end for both would be promised a third time.
 #[tactic(auto, using(crate::proofs::writing::PutViewed::viewed))]
-pub fn put_viewed(log: &mut [u8], at: usize, s: &[u8], view: View) -> Result<(), Refusal>
+pub fn put_viewed(log: &mut [u8], at: usize, s: &[u8], view: Option<View>) -> Result<(), Refusal>
     ensures value { fault_in result ≡ viewed_number view at s.now log.old }
     ensures log_after { log.new ≡ viewed_bytes view at s.now log.old }
 {
+    let view = view.ok_or(Refusal::MarkUnknown)?;
     if !is_view(view, s.len()) {
         return Err(Refusal::MarkUnknown);
     }

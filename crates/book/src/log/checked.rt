@@ -87,7 +87,7 @@ impl Book {
         let count = held.count(view.key);
         let most = limit_of(view.key);
         check_change(view, standing, count, most, n, at, log.len())?;
-        put_viewed(log, at, rec, view).is_ok();
+        put_viewed(log, at, rec, Some(view)).is_ok();
         clear_row(rows, standing);
         let hour = hour_slot(view.key);
         let row = Row::of(view, hour, at);

@@ -1,5 +1,5 @@
 -- A change that is written of its view is the one that is written of what was read.
-use Rattle.std.specs.Prelude.{◌≡◌, refl, List, [], ◌∷◌, ◌++◌, Bool, true, cond, ℕ, ◌+◌, ◌-◌, leb, length, drop}
+use Rattle.std.specs.Prelude.{◌≡◌, refl, List, [], ◌∷◌, ◌++◌, Bool, true, cond, ℕ, ◌+◌, ◌-◌, leb, length, drop, Some}
 use Rattle.std.proofs.Common.{ap, ap₂, ◌∙◌, subst, append-nil, arith, length-append, drop_at, le-leb}
 use Rattle.money.specs.Refusals.{mark_unknown, no_space}
 use Rattle.records.specs.Reading.{Res, bad, got}
@@ -51,10 +51,10 @@ parse-right want s c = go (change want s) refl
 
 -- a view of what an argument is writes what the argument is
 pub viewed-put : (want : Wanted) (s : List ℕ) (v : View) → seen_view (parse want s) ≡ fine v → (at : ℕ) (d : List ℕ)
-    → (viewed_number v at s d ≡ put_number (parse want s) at d) × (viewed_bytes v at s d ≡ put_bytes (parse want s) at d)
+    → (viewed_number (Some v) at s d ≡ put_number (parse want s) at d) × (viewed_bytes (Some v) at s d ≡ put_bytes (parse want s) at d)
 viewed-put want s v e at d = go (parse want s) refl e
   where
-    both : (c : Change) (v : View) → Right v s c → (viewed_number v at s d ≡ put_number (fine c) at d) × (viewed_bytes v at s d ≡ put_bytes (fine c) at d)
+    both : (c : Change) (v : View) → Right v s c → (viewed_number (Some v) at s d ≡ put_number (fine c) at d) × (viewed_bytes (Some v) at s d ≡ put_bytes (fine c) at d)
     both c v x = (
       ap (λ (b : Bool). cond b (cond (leb (at + v.len) (length d)) 0 no_space) mark_unknown) x.is ∙ ap (λ (n : ℕ). cond (leb (at + n) (length d)) 0 no_space)
           x.len,
@@ -63,7 +63,7 @@ viewed-put want s v e at d = go (parse want s) refl e
     )
 
     go : (i : Input Change) → parse want s ≡ i → seen_view i ≡ fine v
-        → (viewed_number v at s d ≡ put_number i at d) × (viewed_bytes v at s d ≡ put_bytes i at d)
+        → (viewed_number (Some v) at s d ≡ put_number i at d) × (viewed_bytes (Some v) at s d ≡ put_bytes i at d)
     go (fine c) q f =
         let w : view c ≡ v = cc f in
         both c v (subst (λ (x : View). Right x s c) w (parse-right want s c q))

@@ -1,5 +1,5 @@
 -- Writing a change of which the view is known: what a view is, by the tests that the code makes, and the parts that are written.
-use Rattle.std.specs.Prelude.{◌≡◌, refl, List, ◌++◌, true, false, ℕ, ◌+◌, ◌-◌, ◌≤◌, ◌<◌, leb, length, take, drop}
+use Rattle.std.specs.Prelude.{◌≡◌, refl, List, ◌++◌, true, false, ℕ, ◌+◌, ◌-◌, ◌≤◌, ◌<◌, leb, length, take, drop, Some}
 use Rattle.std.proofs.Common.{ap, ◌∙◌, arith, length-drop, take_all, le-leb, leb-true}
 use Rattle.std.proofs.lemmas.Bool.{lt-leb}
 use Rattle.money.specs.Names.{max_name}
@@ -43,7 +43,7 @@ seen-view v n e =
 
 module _ (v : View) (at : ℕ) (s d : List ℕ) where
   pub viewed-done : is_view v (length s) ≡ true → at + v.len ≤ length d → (g : List ℕ) → g ≡ put d at (view_written v s)
-      → (0 ≡ viewed_number v at s d) × (g ≡ viewed_bytes v at s d)
+      → (0 ≡ viewed_number (Some v) at s d) × (g ≡ viewed_bytes (Some v) at s d)
   viewed-done e h g w = let f = le-leb (at + v.len) (length d) h in (rw (e, f) refl, rw (e, f) w)
 
   -- the head and then the body

@@ -1,5 +1,5 @@
 -- A change as it is written of its view and its bytes: the head of the view's kind and key, and the body that the bytes end with. Assumes nothing.
-use Rattle.std.specs.Prelude.{List, ◌++◌, Bool, cond, ◌&&◌, ℕ, ◌+◌, ◌-◌, leb, length, drop}
+use Rattle.std.specs.Prelude.{List, ◌++◌, Bool, cond, ◌&&◌, ℕ, ◌+◌, ◌-◌, leb, length, drop, Option, Some, None}
 use Rattle.money.specs.Names.{max_name}
 use Rattle.money.specs.Refusals.{mark_unknown, no_space}
 use Rattle.records.specs.Changes.{head_bytes, put}
@@ -19,9 +19,11 @@ is_view v n = leb v.key.name.len max_name && (leb (length (view_head v)) v.len &
 unfoldable pub view_written : View → List ℕ → List ℕ
 view_written v s = view_head v ++ drop (length s - view_rest v) s
 
--- written at a place of lent bytes: 13 where it does not fit, 2 of what is no view, and then the bytes remain
-abbrev pub viewed_number : View → ℕ → List ℕ → List ℕ → ℕ
-viewed_number v at s d = cond (is_view v (length s)) (cond (leb (at + v.len) (length d)) 0 no_space) mark_unknown
+-- written at a place of lent bytes: 13 where it does not fit, 2 where there is no view or what is none, and then the bytes remain
+abbrev pub viewed_number : Option View → ℕ → List ℕ → List ℕ → ℕ
+viewed_number None at s d = mark_unknown
+viewed_number (Some v) at s d = cond (is_view v (length s)) (cond (leb (at + v.len) (length d)) 0 no_space) mark_unknown
 
-abbrev pub viewed_bytes : View → ℕ → List ℕ → List ℕ → List ℕ
-viewed_bytes v at s d = cond (is_view v (length s)) (cond (leb (at + v.len) (length d)) (put d at (view_written v s)) d) d
+abbrev pub viewed_bytes : Option View → ℕ → List ℕ → List ℕ → List ℕ
+viewed_bytes None at s d = d
+viewed_bytes (Some v) at s d = cond (is_view v (length s)) (cond (leb (at + v.len) (length d)) (put d at (view_written v s)) d) d

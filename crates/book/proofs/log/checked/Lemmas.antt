@@ -166,7 +166,7 @@ module _ {b : Book} {s : List ℕ} {rows : List Row} (h : Checked b s rows) {wan
         step-taken : stepped (listed (parse want rec)) b s (load b s) ≡ becomes (record { list = r.what ∷ h.base.list; closed = b.closed })
         step-taken = open-or false t ∙ ap (judged r.what (reg_of b s h.base)) (judged-is ∙ z)
 
-        pub makes-listed : {hour : ℕ} → hour ≡ hour_slot v.key → {s' : List ℕ} → s' ≡ viewed_bytes v b.used rec s
+        pub makes-listed : {hour : ℕ} → hour ≡ hour_slot v.key → {s' : List ℕ} → s' ≡ viewed_bytes (Some v) b.used rec s
             → {rows₁ : List Row} → rows₁ ≡ cleared rows x → {row : Row} → row ≡ packed (not (is_withdrawal v.kind)) v.kind hour b.used
             → Makes (listed (parse want rec)) b s v.key (done_of b (Ok (record { changes = b.changes + 1; used = b.used + v.len; closed = b.closed }))) s' (set rows₁ b.changes row)
         unfolding write_all
