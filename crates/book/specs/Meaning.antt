@@ -3,7 +3,7 @@ use Rattle.std.specs.Prelude.{ℕ, zero, suc, ◌≡◌, List, [], ◌∷◌, co
 use Rattle.money.specs.Refusals.{mark_unknown, not_together}
 use Rattle.book.specs.Layer.{Change, Good, Scan, seen, unseen, scan, Mark, is_failure, Ticks, Refusal, number_of, Asked, got, bad, ask_hour_of}
 use Rattle.book.specs.declared.book.Book.{Book}
-use Rattle.arrayvec.specs.ArrayVec.{ArrayVec as Items}
+use Rattle.fixed_list.specs.FixedList.{FixedList as Items}
 use Rattle.money.specs.declared.production.DayTotals.{DayTotals}
 use Rattle.book.specs.declared.answers.NamedAmount.{NamedAmount}
 use Rattle.book.specs.declared.answers.Place.{Place}

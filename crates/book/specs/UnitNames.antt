@@ -1,6 +1,6 @@
 -- The names under which units stand, as `units` answers them.
 use Rattle.std.specs.Prelude.{ℕ, List, ◌∷◌, ◌++◌, Option, None, Some, Result, Ok, Err, take, drop}
-use Rattle.arrayvec.specs.ArrayVec.{ArrayVec as Items}
+use Rattle.fixed_list.specs.FixedList.{FixedList as Items}
 use Rattle.money.specs.Refusals.{not_together}
 use Rattle.book.specs.Layer.{Key, Name, Gh, Refusal, empty_name, number_of}
 use Rattle.book.specs.Register.{standing}

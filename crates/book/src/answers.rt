@@ -1,9 +1,10 @@
 // What a call brings back: a value, or 01's refusal.
 ghost use Rattle.std.specs.Prelude.{◌≡◌, Err};
 ghost use Rattle.money.specs.declared.refusals.Refusal.TheVariants.{NoSuchKey};
+ghost use Rattle.book.specs.Layer.{empty_name, no_ticks};
 
 use crate::book::{Book, CHANGES_MAX};
-use arrayvec::ArrayVec;
+use fixed_list::{Blank, FixedList};
 use money::imports::IMPORTS_MAX;
 use money::names::Name;
 use money::production::DayTotals;
@@ -38,21 +39,33 @@ pub struct NamedAmount {
     pub ticks: Ticks,
 }
 
+// No amount stands in a list's place without an element.
+impl Blank for NamedAmount {
+    ghost blank = { record { name = empty_name; ticks = no_ticks } };
+
+    fn blank() -> Self {
+        NamedAmount {
+            name: Blank::blank(),
+            ticks: Ticks(0),
+        }
+    }
+}
+
 // Credits by name.
-pub type Credits = ArrayVec<NamedAmount, CREDITS_MAX>;
+pub type Credits = FixedList<NamedAmount, CREDITS_MAX>;
 
 // Charges by name.
-pub type Charges = ArrayVec<NamedAmount, CHARGES_MAX>;
+pub type Charges = FixedList<NamedAmount, CHARGES_MAX>;
 
 // The credits of an hour's imports and its wheel offset.
-#[derive(Drop)]
+#[derive(Clone, Copy)]
 pub struct Guarantees {
     pub credits: Credits,
     pub offset: Ticks,
 }
 
 // An hour's guarantees, its charges of failed imports and those of failed exports.
-#[derive(Drop)]
+#[derive(Clone, Copy)]
 pub struct HourAmounts {
     pub guarantees: Result<Guarantees, Refusal>,
     pub imports: Result<Charges, Refusal>,
@@ -78,9 +91,21 @@ impl Default for UnitAmounts {
     }
 }
 
+// The same in a list's place without an element.
+impl Blank for UnitAmounts {
+    ghost blank = { record { name = empty_name; day = Err NoSuchKey } };
+
+    fn blank() -> Self {
+        UnitAmounts {
+            name: Blank::blank(),
+            day: Err(Refusal::NoSuchKey),
+        }
+    }
+}
+
 // All amounts of a day: those of hour h at h - 1, and the units by name.
-#[derive(Drop)]
+#[derive(Clone, Copy)]
 pub struct DayAmounts {
     pub hours: [HourAmounts; HOURS],
-    pub units: ArrayVec<UnitAmounts, CHANGES_MAX>,
+    pub units: FixedList<UnitAmounts, CHANGES_MAX>,
 }

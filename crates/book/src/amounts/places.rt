@@ -1,7 +1,7 @@
 // Where the standing records of a mark and hour are written, by decoded name.
 // Hours are asked below 32, where rows have a slot: a type for that would be made where the clause is shown now, and taken apart by a `.key` in each promise.
 ghost use Rattle.std.specs.Prelude.{◌≡◌, cond, List, ◌∷◌, ◌++◌, map, ltb, length, take, drop, ◌<◌, ◌≤◌};
-ghost use Rattle.book.specs.Layer.{Change};
+ghost use Rattle.book.specs.Layer.{Change, empty_name};
 ghost use Rattle.book.specs.Register.{standing};
 ghost use Rattle.book.specs.ByName.{by_name};
 ghost use Rattle.book.specs.tables.CheckedLog.{Says};
@@ -11,7 +11,7 @@ ghost use Rattle.book.specs.tables.Index.{mark_slots};
 
 use crate::log::checked_log::CheckedLog;
 use crate::log::index::hour_slot;
-use arrayvec::ArrayVec;
+use fixed_list::{Blank, FixedList};
 use money::names::Name;
 use records::heads::head_key;
 use records::keys::Key;
@@ -25,11 +25,23 @@ pub struct Spot {
     pub start: usize,
 }
 
+// No spot stands in a list's place without an element.
+impl Blank for Spot {
+    ghost blank = { record { name = empty_name; start = 0 } };
+
+    fn blank() -> Self {
+        Spot {
+            name: Blank::blank(),
+            start: 0,
+        }
+    }
+}
+
 // An hour holds no more records of a mark.
 pub const PLACES_MAX: usize = HOUR_LIMIT as usize;
 
 // Standing records, by decoded name in byte order.
-pub type Places = ArrayVec<Spot, PLACES_MAX>;
+pub type Places = FixedList<Spot, PLACES_MAX>;
 
 // The first place whose name comes after the spot's, their number where none does.
 fn position_for(places: &[Spot], spot: Spot) -> usize

@@ -13,7 +13,7 @@ use crate::amounts::places::name_at;
 use crate::book::{Book, CHANGES_MAX};
 use crate::log::checked_log::CheckedLog;
 use crate::log::row::Row;
-use arrayvec::ArrayVec;
+use fixed_list::FixedList;
 use money::names::Name;
 use money::refusals::Refusal;
 use records::keys::{Key, key_of};
@@ -21,7 +21,7 @@ use records::marks::Mark;
 use std::cmp::Ordering;
 
 // Decoded names in byte order, each once.
-pub type Units = ArrayVec<Name, CHANGES_MAX>;
+pub type Units = FixedList<Name, CHANGES_MAX>;
 
 // Whether the record that a row's change wrote stands, and is of the mark.
 fn of_mark(row: Row, mark: Mark) -> bool

@@ -20,7 +20,7 @@ use crate::answers::{DayAmounts, HourAmounts, UnitAmounts};
 use crate::book::{Book, CHANGES_MAX};
 use crate::log::checked_log::CheckedLog;
 use crate::log::row::Row;
-use arrayvec::ArrayVec;
+use fixed_list::FixedList;
 use money::refusals::Refusal;
 use money::units::HOURS;
 use records::keys::{Key, key_of};
@@ -59,12 +59,12 @@ impl<'a> CheckedLog<'a> {
 
     // The days of the units of these names in their order, at the prices of a table.
     #[inline(never)]
-    fn each_unit(&self, names: &Units, table: &PriceTable) -> ArrayVec<UnitAmounts, CHANGES_MAX>
+    fn each_unit(&self, names: &Units, table: &PriceTable) -> FixedList<UnitAmounts, CHANGES_MAX>
         requires { Named names.now.items }
         ensures { (l : List Change) → Says self.now l → names.now.items ≡ names_of gh_key (standing l) → (q : ℕ → HourPricing)
             → TableOf q table.now → map told_unit result.items ≡ map (unit_reply (standing l) q) (names_of gh_key (standing l)) }
     {
-        let mut units = ArrayVec::new();
+        let mut units = FixedList::new();
         for name in names {
             let key = Key {
                 mark: Mark::Gh,

@@ -11,7 +11,7 @@ use Rattle.money.specs.Units.{day_hours}
 use Rattle.money.specs.Refusals.{price_missing}
 use Rattle.money.specs.tables.Numbers.{Bounded}
 use Rattle.money.proofs.laws.UnitLaws.{cents-bounded}
-use Rattle.arrayvec.specs.ArrayVec.{ArrayVec as Items}
+use Rattle.fixed_list.specs.FixedList.{FixedList as Items}
 use Rattle.money.specs.declared.production.DayTotals.{DayTotals}
 use Rattle.book.specs.Layer.{Name, Rec, Change, Refusal, empty_name}
 use Rattle.book.specs.declared.answers.Guarantees.{Guarantees}

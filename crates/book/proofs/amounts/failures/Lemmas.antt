@@ -1,7 +1,7 @@
 -- What each answer of failure charges rests on.
 use Rattle.std.proofs.Common.{ℕ, suc, ◌+◌, ◌≤◌, ◌<◌, ◌≡◌, refl, sym, ap, ap₂, ◌∙◌, subst, List, [], ◌∷◌, ◌++◌, map, Bool, true, false, cond, Option, Some, None, is_some, Result, Ok, Err, arith, length, length-drop, drop, drop-cons, get_or}
 use Rattle.std.proofs.lemmas.List.{length-map}
-use Rattle.arrayvec.specs.ArrayVec.{ArrayVec as Items}
+use Rattle.fixed_list.specs.FixedList.{FixedList as Items}
 use Rattle.money.specs.Refusals.{mark_unknown}
 use Rattle.money.specs.declared.refusals.Refusal.TheVariants.{NotTogether}
 use Rattle.book.specs.Layer.{Key, Change, Mark, HourPrices, Ticks, Refusal, is_failure, charge_in, answer_of, Asked, got, bad, ask_hour_of, ask_failure, input_of, fine, fault, told, number_of}

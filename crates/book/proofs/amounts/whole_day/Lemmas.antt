@@ -3,7 +3,7 @@ use Rattle.std.proofs.Common.{ℕ, zero, suc, ◌+◌, ◌≤◌, ◌<◌, ◌�
 use Rattle.std.proofs.Math.Path.{subst⁻¹}
 use Rattle.std.specs.Array.{IsFromFnResultFrom, IsFromFnResult}
 use Rattle.std.proofs.lemmas.List.{map_push}
-use Rattle.arrayvec.specs.ArrayVec.{ArrayVec as Items}
+use Rattle.fixed_list.specs.FixedList.{FixedList as Items}
 use Rattle.std.specs.Fn.{Mut, Called}
 use Rattle.money.specs.Units.{day_hours}
 use Rattle.money.specs.declared.production.DayTotals.{DayTotals}
@@ -67,6 +67,11 @@ pub record Dealt (h : CheckedLog) (t : List (Option HourPrices)) (names : List N
   pub padded : (i : ℕ) → i < length rest → (d : Name) → Padded (get_or rest i d)
   pub both : (l : List Change) → Says h l → (q : ℕ → HourPricing) → TableOf q t
       → map told_unit units ++ map (unit_reply (standing l) q) rest ≡ map (unit_reply (standing l) q) names
+
+-- there is room for one more
+pub dealt-room : {h : CheckedLog} {t : List (Option HourPrices)} {names rest ns : List Name} {units : List UnitAmounts} → Dealt h t names units rest
+    → (n : Name) → rest ≡ n ∷ ns → length units < max_changes
+dealt-room d n e = omega (arith, d.few, ap length e)
 
 -- one name more
 pub dealt-more : {h : CheckedLog} {t : List (Option HourPrices)} {names rest ns : List Name} {units us : List UnitAmounts} → Dealt h t names units rest

@@ -11,11 +11,12 @@ loop-spot-init c =
     (search rules) (ap (map entry_credit) (search rules)) c.new-credits.ensures
 
 pub push-requires : goal.push-requires
-push-requires c = (omega arith, naming-room c.loop-spot.invariant c.in-Some.ensures.steps.0 c.requires)
+push-requires c = omega arith
 
 pub loop-spot-preserved : goal.loop-spot-preserved
 loop-spot-preserved c =
-    naming-more c.loop-spot.invariant c.in-Some.ensures.steps.0 (ap (map entry_credit) c.in-Some.ensures.steps.1) c.push.ensures.items
+    naming-more c.loop-spot.invariant c.in-Some.ensures.steps.0 (ap (map entry_credit) c.in-Some.ensures.steps.1)
+    (c.push.ensures.items (naming-room c.loop-spot.invariant c.in-Some.ensures.steps.0 c.requires))
 
 pub returns : goal.returns
 returns c =
