@@ -59,7 +59,7 @@ impl From<u8> for Method {
 }
 
 // What a call brings back that is not refused.
-#[derive(Drop)]
+#[derive(Clone, Copy)]
 pub enum Said {
     Accepted,
     Place(Place),
@@ -70,7 +70,7 @@ pub enum Said {
 }
 
 // What a call hands back: the book, and what it was told.
-#[derive(Drop)]
+#[derive(Clone, Copy)]
 pub struct Turned {
     pub book: Book,
     pub said: Result<Said, Refusal>,

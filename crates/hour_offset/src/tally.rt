@@ -16,7 +16,7 @@ use records::keys::Key;
 use records::marks::Mark;
 
 // The place of the hour's prices, if there is one, and those of its imports and its exports, by name; none before the first record.
-#[derive(Default, Drop)]
+#[derive(Clone, Copy, Default)]
 pub struct Tally {
     pub price: Option<usize>,
     pub imports: Places,
