@@ -1,9 +1,10 @@
 // What is kept of an hour's records as they are read: where its prices, imports and exports stand in the lent bytes.
-ghost use Rattle.std.specs.Prelude.{◌≡◌, IfOk};
+ghost use Rattle.std.specs.Prelude.{◌≡◌, IfOk, drop};
 ghost use Rattle.money.specs.Answers.{answer_of, fault_in};
 ghost use Rattle.records.specs.Names.{empty_name};
+ghost use Rattle.records.specs.Views.{prices_in};
 ghost use Rattle.book.specs.tables.Places.{put_spot};
-ghost use Rattle.hour_offset.specs.tables.Tally.{sheet_of, among, placed_fault, with_price, add_fault, adding, end_of};
+ghost use Rattle.hour_offset.specs.tables.Tally.{sheet_of, among, placed_fault, with_price, add_fault, adding, worked_at, end_of};
 
 use book::amounts::guarantees::{entries_at, totals_at};
 use book::amounts::places::{Places, Spot, put_spot};
@@ -77,6 +78,19 @@ pub(crate) fn with_record(mut t: Tally, key: Key, at: usize) -> Result<Tally, Re
 
 // ---- at the end
 
+// The offset of the imports and exports at their places, at the prices that stand at one. It stays a function of its own: a call without imports is not to
+// set the room of its entries.
+#[tactic(auto, using(crate::proofs::tally::AtEnd::ends))]
+#[inline(never)]
+fn worked(s: &[u8], t: &Tally, at: usize) -> Result<Ticks, Refusal>
+    ensures { answer_of result ≡ worked_at s.now (prices_in (drop at s.now)) (sheet_of t.now) }
+{
+    let prices = prices_at(s, at);
+    let entries = entries_at(s, &t.imports, prices);
+    let totals = totals_at(s, &t.exports);
+    hour_offset(t.imports.len() as u8, entries, prices, totals)
+}
+
 // The offset of the records that were tallied; 0 without imports, 15 for imports without prices.
 #[tactic(auto, using(crate::proofs::tally::AtEnd::ends))]
 pub(crate) fn at_end(s: &[u8], t: Tally) -> Result<Ticks, Refusal>
@@ -86,8 +100,5 @@ pub(crate) fn at_end(s: &[u8], t: Tally) -> Result<Ticks, Refusal>
         return Ok(Ticks(0));
     }
     let at = t.price.ok_or(Refusal::PriceMissing)?;
-    let prices = prices_at(s, at);
-    let entries = entries_at(s, &t.imports, prices);
-    let totals = totals_at(s, &t.exports);
-    hour_offset(t.imports.len() as u8, entries, prices, totals)
+    worked(s, &t, at)
 }

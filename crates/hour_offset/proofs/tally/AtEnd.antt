@@ -44,16 +44,19 @@ module _ (s : List ℕ) (t : Tally) where
         let u = unplaced t.price r e in
         ap (λ (x : Refusal). Refused (number_of x)) u.1 ∙ by_tests false None h u.0
 
-    pub end-worked : (at : ℕ) → Ok at ≡ ok_or t.price PriceMissing → (p : HourPrices) → p ≡ prices_in (drop at s) → (es : List Import)
-        → take (length t.imports.items) es ≡ entries_in s p t.imports.items
-        → (ts : List Quantity) → ts ≡ totals_in s t.exports.items → offset_answer (length t.imports.items) es p.emp ts ≡ end_of s (sheet_of t)
+    pub end-worked : (at : ℕ) → Ok at ≡ ok_or t.price PriceMissing → worked_at s (prices_in (drop at s)) (sheet_of t) ≡ end_of s (sheet_of t)
     unfolding ends_in
-    end-worked at e p ep es ee ts et =
-        let n = length t.imports.items in
-        answer-front n es (entries_in s p t.imports.items)
-        (λ i l. sym (get_or-take n es i no_import l) ∙ ap (λ (x : List Import). get_or x i no_import) ee) p.emp ts
-        ∙ ap (λ (x : List Quantity). offset_answer n (entries_in s p t.imports.items) p.emp x) et
-        ∙ ap (λ (q : HourPrices). worked_at s q (sheet_of t)) ep
-        ∙ by_tests false (Some at) h (placed t.price at e)
+    end-worked at e = by_tests false (Some at) h (placed t.price at e)
 
-pub ruleset ends = (end_none, end-unpriced, end-worked)
+  -- what is worked is that of the entries and sums as they are read
+  pub worked-read : (at : ℕ) (p : HourPrices) → p ≡ prices_in (drop at s) → (es : List Import)
+      → take (length t.imports.items) es ≡ entries_in s p t.imports.items → (ts : List Quantity) → ts ≡ totals_in s t.exports.items
+      → offset_answer (length t.imports.items) es p.emp ts ≡ worked_at s (prices_in (drop at s)) (sheet_of t)
+  worked-read at p ep es ee ts et =
+      let n = length t.imports.items in
+      answer-front n es (entries_in s p t.imports.items)
+      (λ i l. sym (get_or-take n es i no_import l) ∙ ap (λ (x : List Import). get_or x i no_import) ee) p.emp ts
+      ∙ ap (λ (x : List Quantity). offset_answer n (entries_in s p t.imports.items) p.emp x) et
+      ∙ ap (λ (q : HourPrices). worked_at s q (sheet_of t)) ep
+
+pub ruleset ends = (end_none, end-unpriced, end-worked, worked-read)
