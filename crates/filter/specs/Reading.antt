@@ -1,9 +1,8 @@
 -- Records that arrive in pieces: what a reading holds between two reads, and what each call for it answers. Assumes nothing.
-use Rattle.std.specs.Prelude.{◌≡◌, Bool, true, false, not, ◌&&◌, cond, Result, Ok, Err, List, ℕ, ◌+◌, ◌-◌, ◌≤◌, min, ltb, eqb, length, take, drop}
+use Rattle.std.specs.Prelude.{◌≡◌, Bool, true, false, not, ◌&&◌, cond, Result, List, ℕ, ◌+◌, ◌-◌, ◌≤◌, min, ltb, eqb, length, take, drop}
 use Rattle.money.specs.Refusals.{ends_early}
 use Rattle.money.specs.Answers.{fault_in}
 use Rattle.money.specs.declared.refusals.Refusal.{Refusal}
-use Rattle.money.specs.declared.refusals.Refusal.TheVariants.{EndsEarly}
 use Rattle.records.specs.Reading.{Res, bad, got}
 use Rattle.records.specs.Changes.{Change, Entry, entry, put}
 use Rattle.book.specs.Meaning.{Load, belongs}
@@ -25,11 +24,11 @@ counted n = min n max_count
 
 -- before the first read: a fresh book, and nothing is held
 abbrev pub begun : Reading
-begun = record { book = record { changes = 0; used = 0; closed = false }; count = 0; held = 0; end = Ok tt }
+begun = record { book = record { changes = 0; used = 0; closed = false }; count = 0; held = 0; number = 0 }
 
 -- "At the first refusal": of all numbers 1 alone, bytes end early, may turn with the next bytes
 abbrev pub is_over : Reading → Bool
-is_over r = ltb ends_early (fault_in r.end)
+is_over r = ltb ends_early r.number
 
 -- the bytes of s between two places
 abbrev pub part : ℕ → ℕ → List ℕ → List ℕ
@@ -50,7 +49,7 @@ waits s = not (eqb (length s) 0) && eqb (fault (entry s)) ends_early
 
 -- after the records that were taken of the bytes at hand: what is left of them is held
 abbrev pub read_on : Reading → Fed → List ℕ → Reading
-read_on r f left = record { book = f.book; count = counted (r.count + f.count); held = length left; end = f.end }
+read_on r f left = record { book = f.book; count = counted (r.count + f.count); held = length left; number = fault_in f.end }
 
 -- the records at hand are fed, and what is left of them is moved to the front
 pub record Takes (r : Reading) (log input : List ℕ) (n : ℕ) (r' : Reading) (log' input' : List ℕ) : Type 0 where
@@ -61,7 +60,7 @@ pub record Takes (r : Reading) (log input : List ℕ) (n : ℕ) (r' : Reading) (
 
 -- a record that is not whole is not fed: the bytes at hand are held
 pub record Waits (r : Reading) (log input : List ℕ) (n : ℕ) (r' : Reading) (log' input' : List ℕ) : Type 0 where
-  pub reading : r' ≡ record { book = r.book; count = r.count; held = length (at_hand r n input); end = Err EndsEarly }
+  pub reading : r' ≡ record { book = r.book; count = r.count; held = length (at_hand r n input); number = ends_early }
   pub kept : log' ≡ log
   pub rest : input' ≡ input
 
@@ -89,11 +88,11 @@ ordinal r = counted (r.count + 1)
 
 -- all of the output: the line of a refusal, or the text t of some changes
 abbrev pub text_in : (List Change → List ℕ) → Reading → List Change → List ℕ
-text_in t r l = cond (eqb (fault_in r.end) 0) (t l) (refusal_line (ordinal r) (fault_in r.end))
+text_in t r l = cond (eqb r.number 0) (t l) (refusal_line (ordinal r) r.number)
 
 -- a refusal is told whatever the book; a text is that of a book and its bytes
 abbrev pub printing : (List Change → List ℕ) → Reading → Load → List ℕ → Outcome
-printing t r x out = cond (eqb (fault_in r.end) 0) (outcome_by t x out) (fitted (refusal_line (ordinal r) (fault_in r.end)) out)
+printing t r x out = cond (eqb r.number 0) (outcome_by t x out) (fitted (refusal_line (ordinal r) r.number) out)
 
 -- what a call for it promises, from the bytes lent to the bytes left
 pub record Prints (t : List Change → List ℕ) (longest : ℕ) (r : Reading) (x : Load) (lent left : List ℕ) (w : Result ℕ Refusal) : Type 0 where

@@ -21,9 +21,9 @@ impl Reading {
     pub fn output<T: Text>(self, log: &[u8], out: &mut [u8]) -> Result<usize, Refusal>
         ensures { Prints T.text T.longest self (load self.book log.now) out.old out.new result }
     {
-        match self.end {
-            Ok(()) => T::write(self.book, log, out),
-            Err(fault) => refusal(self.ordinal(), fault.number(), out),
+        match self.number {
+            0 => T::write(self.book, log, out),
+            number => refusal(self.ordinal(), number, out),
         }
     }
 }

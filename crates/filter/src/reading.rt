@@ -1,5 +1,6 @@
 // Records that arrive in pieces of any size.
 ghost use Rattle.std.specs.Prelude.{◌≡◌, ◌+◌, ◌≤◌, min, length, take};
+ghost use Rattle.money.specs.Answers.{fault_in};
 ghost use Rattle.records.specs.Changes.{put};
 ghost use Rattle.book.specs.FeedPromise.{Feeds};
 ghost use Rattle.filter.specs.Reading.{counted, begun, is_over, waits, part, ReadsOn};
@@ -12,15 +13,15 @@ use records::parse::first_change;
 // The most that is counted: 2^64 - 1.
 pub const COUNT_MAX: u64 = u64::MAX;
 
-// The book so far, and the records that it took; how many bytes of the next one are held, at the front of the input's bytes; and the refusal
-// at which the reading stands, if it does. Bytes that end early may still go on. The held bytes stay in the buffer that is lent to each read, so that a
-// reading has their number alone.
+// The book so far, and the records that it took; how many bytes of the next one are held, at the front of the input's bytes; and the number
+// of the refusal at which the reading stands, 0 for none. Bytes that end early may still go on. The held bytes stay in the buffer that is lent to each
+// read, so that a reading has their number alone. The refusal's number is any `u8`: a `Refusal` would ask more of callers.
 #[derive(Clone, Copy)]
 pub struct Reading {
     pub book: Book,
     pub count: u64,
     pub held: usize,
-    pub end: Result<(), Refusal>,
+    pub number: u8,
 }
 
 // The sum, as far as 64 bits go.
@@ -56,6 +57,13 @@ fn feed_front(book: Book, log: &mut [u8], input: &[u8], end: usize) -> Fed
     feed(book, log, &input[..end])
 }
 
+// The number of the refusal at which a call ended, 0 for none.
+fn fault_in(end: Result<(), Refusal>) -> u8
+    ensures { result ≡ fault_in end }
+{
+    end.map_or_else(|refusal| refusal.number(), |()| 0)
+}
+
 // Moves the bytes between two places to the front. How many they are.
 fn to_front(bytes: &mut [u8], from: usize, end: usize) -> usize
     ensures { (bytes.new ≡ put bytes.old 0 (part from end bytes.old))
@@ -78,7 +86,7 @@ impl Reading {
             book: Book::fresh(),
             count: 0,
             held: 0,
-            end: Ok(()),
+            number: 0,
         }
     }
 
@@ -86,7 +94,7 @@ impl Reading {
     pub fn is_over(self) -> bool
         ensures { result ≡ is_over self }
     {
-        !matches!(self.end, Ok(()) | Err(Refusal::EndsEarly))
+        Refusal::EndsEarly.number() < self.number
     }
 
     // After a read of n bytes, which stand in the input's bytes behind those that were held: takes the records that are whole, and holds what is
@@ -104,7 +112,7 @@ impl Reading {
                 book,
                 count: self.count,
                 held: end,
-                end: Err(Refusal::EndsEarly),
+                number: Refusal::EndsEarly.number(),
             };
         }
         let f = feed_front(book, log, &input[..], end);
@@ -113,7 +121,7 @@ impl Reading {
             book: f.book,
             count: plus(self.count, f.count),
             held,
-            end: f.end,
+            number: fault_in(f.end),
         }
     }
 }

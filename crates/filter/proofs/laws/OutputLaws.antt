@@ -4,7 +4,6 @@ use Rattle.std.proofs.Math.Path.{refl, sym, subst⁻¹}
 use Rattle.std.proofs.Common.{ap, ◌∙◌, subst, arith, length-take, length-drop, drop-drop, ltb-true, ltb-false, le-leb, ne_eqb, ℕ, zero, suc, ◌+◌, ◌≤◌, ◌<◌}
 use Rattle.std.proofs.lemmas.List.{drop-append-le}
 use Rattle.std.proofs.Math.Seq.{drop-length}
-use Rattle.money.specs.Answers.{fault_in}
 use Rattle.money.specs.declared.refusals.Refusal.{Refusal}
 use Rattle.records.specs.Changes.{Change, put}
 use Rattle.book.specs.declared.book.Book.{Book}
@@ -40,7 +39,7 @@ module _ (lent : ℕ) where
     book : r.book ≡ book_of (reached s).reg
     loaded : load r.book log ≡ belongs (reached s).reg.list
     count : r.count ≡ counted (reached s).count
-    number : fault_in r.end ≡ (reached s).number
+    number : r.number ≡ (reached s).number
     held : is_over r ≡ false → r.held ≡ length (drop (reached s).taken s)
     bytes : is_over r ≡ false → take r.held input ≡ drop (reached s).taken s
 
@@ -78,7 +77,7 @@ module _ (lent : ℕ) where
     -- nothing more is read
     still : is_over r ≡ true → (r' : Reading) (log' input' : List ℕ) → Stays r log space r' log' input' → Stands (s ++ p) r' log' input'
     still o r' log' input' y =
-        let n : 1 < fault_in r.end = ltb-true 1 (fault_in r.end) o in
+        let n : 1 < r.number = ltb-true 1 r.number o in
         let f : reached (s ++ p) ≡ reached s = (pieces lent fresh s p).refused (λ z. omega (arith, x.number)) (λ z. omega (arith, x.number)) in
         let over : is_over r' ≡ true = ap is_over y.reading ∙ o in
         record {
@@ -86,7 +85,7 @@ module _ (lent : ℕ) where
           book = ap (λ (a : Reading). a.book) y.reading ∙ x.book ∙ ap (λ (a : FeedReply). book_of a.reg) (sym f);
           loaded = (λ i. load (y.reading i).book (y.kept i)) ∙ x.loaded ∙ ap (λ (a : FeedReply). belongs a.reg.list) (sym f);
           count = ap (λ (a : Reading). a.count) y.reading ∙ x.count ∙ ap (λ (a : FeedReply). counted a.count) (sym f);
-          number = ap (λ (a : Reading). fault_in a.end) y.reading ∙ x.number ∙ ap (λ (a : FeedReply). a.number) (sym f);
+          number = ap (λ (a : Reading). a.number) y.reading ∙ x.number ∙ ap (λ (a : FeedReply). a.number) (sym f);
           held = λ z. absurd (apart over z);
           bytes = λ z. absurd (apart over z);
         }
@@ -103,7 +102,7 @@ module _ (lent : ℕ) where
       at-hand = q ∙ ap (λ (l : List ℕ). l ++ p) (x.bytes o)
 
       all : reached (s ++ p) ≡ resumed lent (reached s) t
-      all = goes_on s p (omega (arith, ltb-false 1 (fault_in r.end) o, x.number))
+      all = goes_on s p (omega (arith, ltb-false 1 r.number o, x.number))
 
       -- what is left of them is what is left of all
       rest-is : drop (feeding lent (reached s).reg t).taken t ≡ drop (reached (s ++ p)).taken (s ++ p)
@@ -132,7 +131,7 @@ module _ (lent : ℕ) where
             book = ap (λ (a : Reading). a.book) y.reading ∙ x.book ∙ ap (λ (a : FeedReply). book_of a.reg) (sym f);
             loaded = (λ i. load (y.reading i).book (y.kept i)) ∙ x.loaded ∙ ap (λ (a : FeedReply). belongs a.reg.list) (sym f);
             count = ap (λ (a : Reading). a.count) y.reading ∙ x.count ∙ ap counted (omega (arith, ap (λ (a : FeedReply). a.count) f));
-            number = ap (λ (a : Reading). fault_in a.end) y.reading ∙ ap (λ (a : FeedReply). a.number) (sym f);
+            number = ap (λ (a : Reading). a.number) y.reading ∙ ap (λ (a : FeedReply). a.number) (sym f);
             held = λ e. h ∙ ap length (at-hand ∙ l);
             bytes = λ e. (λ i. take (h i) (y.rest i)) ∙ take-taken (r.held + length p) space ∙ at-hand ∙ l;
           }
@@ -156,7 +155,7 @@ module _ (lent : ℕ) where
                 ∙ ap (λ (a : FeedReply). belongs a.reg.list) same ∙ ap (λ (a : FeedReply). belongs a.reg.list) (sym all);
             count = ap (λ (a : Reading). a.count) z ∙ (λ j. counted (x.count j + w.count j)) ∙ counted-more (reached s).count f.count ∙ ap
                 (λ (a : FeedReply). counted a.count) (sym all);
-            number = ap (λ (a : Reading). fault_in a.end) z ∙ w.number ∙ ap (λ (a : FeedReply). a.number) (sym all);
+            number = ap (λ (a : Reading). a.number) z ∙ w.number ∙ ap (λ (a : FeedReply). a.number) (sym all);
             held = λ e. h ∙ ap length l;
             bytes = λ e. ap (λ (n : ℕ). take n input') h ∙ ap (take (length (drop g.taken t))) i ∙ put_first space (drop g.taken t) (short g.taken) ∙
                 l;
@@ -188,7 +187,7 @@ stands (next {ps} {r} {log} {input} before p space q r' log' input' m) =
 
 -- less is held than the longest record has: there is always room to read on
 pub held-short : {ps : List (List ℕ)} {r : Reading} {log input : List ℕ} → Run ps r log input → is_over r ≡ false → r.held < longest_record
-held-short {ps} {r} {log} {input} run o = go (reached (length log) s).number refl (omega (arith, ltb-false 1 (fault_in r.end) o, x.number))
+held-short {ps} {r} {log} {input} run o = go (reached (length log) s).number refl (omega (arith, ltb-false 1 r.number o, x.number))
   where
     s : List ℕ
     s = input_of ps
@@ -224,17 +223,17 @@ module _ (t : List Change → List ℕ) (longest : ℕ) where
         go (suc n) e =
             let k = stops max_used fresh s in
             let o : ordinal r ≡ (reached max_used s).count + 1 = omega (arith, x.count, k.few, k.refused (λ z. omega arith)) in
-            rw (ne_eqb (fault_in r.end) 0 (λ z. omega (arith, x.number)), x.number ∙ e) (ap (λ (m : ℕ). refusal_line m (suc n)) o)
+            rw (ne_eqb r.number 0 (λ z. omega (arith, x.number)), x.number ∙ e) (ap (λ (m : ℕ). refusal_line m (suc n)) o)
 
     module _ (lent left : List ℕ) (w : Result ℕ Refusal) (m : Prints t longest r (load r.book log) lent left w) where
       printing-is : printing t r (load r.book log) lent ≡ fitted (text_in t r (reached max_used s).reg.list) lent
-      printing-is = ap (λ (y : Load). printing t r y lent) x.loaded ∙ go (eqb (fault_in r.end) 0)
+      printing-is = ap (λ (y : Load). printing t r y lent) x.loaded ∙ go (eqb r.number 0)
         where
           l : List Change
           l = (reached max_used s).reg.list
 
-          go : (b : Bool) → cond b (fitted (t l) lent) (fitted (refusal_line (ordinal r) (fault_in r.end)) lent) ≡ fitted
-              (cond b (t l) (refusal_line (ordinal r) (fault_in r.end))) lent
+          go : (b : Bool) → cond b (fitted (t l) lent) (fitted (refusal_line (ordinal r) r.number) lent) ≡ fitted
+              (cond b (t l) (refusal_line (ordinal r) r.number)) lent
           go true = refl
           go false = refl
 
