@@ -28,7 +28,7 @@ pub struct Reading {
 pub(crate) fn plus(a: u64, b: u64) -> u64
     ensures { result ≡ counted (a + b) }
 {
-    a.saturating_add(b)
+    a.saturating_add(b).min(COUNT_MAX)
 }
 
 // The place behind the held bytes and n more, within so many.
