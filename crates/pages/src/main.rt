@@ -8,14 +8,27 @@ ghost use Rattle.stdio.specs.Printing.{Printed};
 use filter::text::Pages;
 use money::refusals::Refusal;
 use statement::pages::PAGES_MAX;
-use std::io::Read;
-use stdio::output::{Words, print, run};
+use std::io::{Read, Stdin};
+use stdio::output::{Program, Words, print, run};
 
 // Puts into the lent bytes all that is printed for an input, as standard input.
 fn page_input<R: Read>(source: &mut R, out: &mut [u8]) -> Option<Result<usize, Refusal>>
     ensures { Printed pages_of longest_pages out.old out.new result }
 {
     print::<Pages, R>(source, out)
+}
+
+// What `run` needs of the program.
+struct Paging;
+
+impl Program for Paging {
+    ghost text = { pages_of };
+
+    ghost longest = { longest_pages };
+
+    fn print(source: &mut Stdin, out: &mut [u8]) -> Option<Result<usize, Refusal>> {
+        page_input(source, out)
+    }
 }
 
 fn main(rt: HostRuntime) {
@@ -25,5 +38,5 @@ fn main(rt: HostRuntime) {
         unread: b"pages: the input can't be read\n",
         unwritten: b"pages: the output can't be written\n",
     };
-    run(&rt, &mut out, page_input, words);
+    run::<Paging>(&rt, &mut out, words);
 }

@@ -4,6 +4,7 @@ use Rattle.std.specs.Prelude.{◌≡◌, Option, Some, None, is_none, Result, Li
 use Rattle.records.specs.Changes.{Change}
 use Rattle.book.specs.Meaning.{load}
 use Rattle.money.specs.declared.refusals.Refusal.{Refusal}
+use Rattle.statement.specs.Statement.{written}
 use Rattle.filter.specs.Reading.{Prints}
 use Rattle.filter.specs.Program.{input_of, Settles}
 use Rattle.stdin.specs.Rounds.{ReadAll, failed}
@@ -36,3 +37,10 @@ pub record Printed (t : List Change → List ℕ) (longest : ℕ) (lent left : L
   pub read : ReadAll input log
   pub fails : is_none r ≡ failed input
   pub outputs : Outputs t longest (input_of read.pieces) lent left r
+
+-- ---- writing it out
+
+-- how many bytes were printed: none where the input was not read to its end
+abbrev pub printed_len : Option (Result ℕ Refusal) → ℕ
+printed_len None = 0
+printed_len (Some w) = written w

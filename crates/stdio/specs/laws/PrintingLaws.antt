@@ -12,7 +12,7 @@ use Rattle.filter.specs.Program.{input_of}
 use Rattle.filter.specs.Output.{output_by}
 use Rattle.filter.proofs.laws.OutputLaws.{every-input}
 use Rattle.stdin.specs.Rounds.{ReadAll, failed}
-use Rattle.stdio.specs.Printing.{Writes, Shows, Outputs, Printed}
+use Rattle.stdio.specs.Printing.{Writes, Shows, Outputs, Printed, printed_len}
 use Rattle.stdin.specs.laws.RoundLaws.{read-run, read-few}
 use Rattle.stdin.specs.declared.Input.{Input}
 
@@ -53,3 +53,8 @@ module _ {t : List Change → List ℕ} {longest : ℕ} where
   -- so many bytes as are written out are there
   pub printed-short : {lent left : List ℕ} {w : Result ℕ Refusal} → Printed t longest lent left (Some w) → written w ≤ length left
   printed-short {lent} {left} {w} x = fits-short (output_by t (input_of x.read.pieces)) lent left w x.outputs.fits
+
+  -- the same of any answer
+  pub printed-there : {lent left : List ℕ} {r : Option (Result ℕ Refusal)} → Printed t longest lent left r → printed_len r ≤ length left
+  printed-there {r = None} x = omega arith
+  printed-there {r = Some w} x = printed-short x
