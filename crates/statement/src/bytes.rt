@@ -3,7 +3,7 @@
 // No `Display` and `write!`: these promise a text where the writer answers `Ok`, and never that it does; here nothing can fail, and each function promises its
 // bytes at their place, and that all others stay.
 // A text of its own (a figure in its column, a refusal's line, a day aside) is an array and the place behind the text, as these functions take and answer
-// them: an `ArrayVec` would need each of them a second time.
+// them: a `FixedList` would need each of them a second time.
 ghost use Rattle.std.specs.Prelude.{[], ◌∷◌, ◌+◌, ◌≤◌, ◌<◌, length};
 ghost use Rattle.statement.specs.Decimal.{decimal, two_digits};
 ghost use Rattle.statement.specs.Statement.{Fits};
