@@ -22,14 +22,17 @@ const HEAD_MAX: usize = 42;
 
 // Copies bytes to a place, and answers the place behind them. The statement's `put_part` does not call it: each crate's promise is in its own word, `Wrote`
 // here and `Writes` there, and a public `copy` would be std's copy_from_slice under a second name.
-#[tactic(auto, using(crate::proofs::writing::Putting::wrote_part))]
+// Byte by byte, and not by `copy_from_slice`: of that the archives for C would need `memmove` from outside, which they did not before.
 fn copy(src: &[u8], out: &mut [u8], at: usize) -> usize
     requires { at + length src.now ≤ length out.old }
     ensures { Wrote out.old out.new at result src.now }
 {
-    let end = at + src.len();
-    out[at..end].copy_from_slice(src);
-    end
+    let mut i: usize = 0;
+    while i < src.len() {
+        out[at + i] = src[i];
+        i += 1;
+    }
+    at + i
 }
 
 // What is pushed here asks for its room: the room that is left is a fact of each step, not of a value.

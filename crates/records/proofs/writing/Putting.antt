@@ -1,6 +1,6 @@
 -- Laws of writing.
-use Rattle.std.specs.Prelude.{◌≡◌, refl, List, [], ◌∷◌, ◌++◌, ℕ, suc, ◌+◌, ◌-◌, ◌≤◌, length, set, take, drop}
-use Rattle.std.proofs.Common.{sym, ap, ◌∙◌, append_assoc, arith, add-suc, suc-add, add-zero, length-append, drop-drop}
+use Rattle.std.specs.Prelude.{◌≡◌, refl, List, [], ◌∷◌, ◌++◌, ℕ, suc, ◌+◌, ◌-◌, ◌≤◌, ◌<◌, length, set, take, drop, get_or}
+use Rattle.std.proofs.Common.{sym, ap, ◌∙◌, append_assoc, arith, add-suc, suc-add, add-zero, add-one, length-append, drop-drop, take-suc, take_all}
 use Rattle.std.proofs.Math.Numerals.{towards_suc}
 use Rattle.std.proofs.lemmas.List.Edits.{sets}
 use Rattle.records.proofs.laws.PutLaws.{put-length, put_whole}
@@ -39,6 +39,21 @@ wrote_one d at x = record { bytes = refl; after = refl }
 pub wrote-three : (d : List ℕ) (at x y z : ℕ) → Wrote d (set (set (set d at x) (at + 1) y) (at + 2) z) at (at + 3) (x ∷ y ∷ z ∷ [])
 unfolding put
 wrote-three d at x y z = record { bytes = simp towards_suc; after = refl }
+
+-- ---- copying
+
+pub copy-none : (d : List ℕ) (at : ℕ) (s : List ℕ) → Wrote d d at (at + 0) (take 0 s)
+unfolding put
+copy-none d at s = record { bytes = refl; after = refl }
+
+pub copy_more : (d e s : List ℕ) (at i : ℕ) → i < length s → Wrote d e at (at + i) (take i s)
+    → Wrote d (set e (at + i) (get_or s i 0)) at (at + (i + 1)) (take (i + 1) s)
+copy_more d e s at i h w =
+    let n : at + i + 1 ≡ at + (i + 1) = omega arith in
+    rw (add-one i, take-suc s i 0 h) (rw (n, add-one i) at (wrote_then w (wrote_one e (at + i) (get_or s i 0))))
+
+pub copy-all : {d e s : List ℕ} {at i : ℕ} → length s ≤ i → Wrote d e at (at + i) (take i s) → Wrote d e at (at + i) s
+copy-all {d} {e} {s} {at} {i} h w = rw (take_all i s h) at w
 
 -- for what writes a part of a head
 pub ruleset writes = (wrote_none, wrote_one)
