@@ -9,7 +9,7 @@ use filter::text::Pages;
 use money::refusals::Refusal;
 use statement::pages::PAGES_MAX;
 use std::io::{Read, Stdin};
-use stdio::output::{Program, Words, print, run};
+use stdio::output::{Program, Words, print, run_program};
 
 // Puts into the lent bytes all that is printed for an input, as standard input.
 fn page_input<R: Read>(source: &mut R, out: &mut [u8]) -> Option<Result<usize, Refusal>>
@@ -18,7 +18,7 @@ fn page_input<R: Read>(source: &mut R, out: &mut [u8]) -> Option<Result<usize, R
     print::<Pages, R>(source, out)
 }
 
-// What `run` needs of the program.
+// What `run_program` needs of the program.
 struct Paging;
 
 impl Program for Paging {
@@ -38,5 +38,5 @@ fn main(rt: HostRuntime) {
         unread: b"pages: the input can't be read\n",
         unwritten: b"pages: the output can't be written\n",
     };
-    run::<Paging>(&rt, &mut out, words);
+    run_program::<Paging>(&rt, &mut out, words);
 }

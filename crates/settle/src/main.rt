@@ -9,7 +9,7 @@ use filter::text::Statement;
 use money::refusals::Refusal;
 use statement::day::STATEMENT_MAX;
 use std::io::{Read, Stdin};
-use stdio::output::{Program, Words, print, run};
+use stdio::output::{Program, Words, print, run_program};
 
 // Puts into the lent bytes all that is printed for an input, as standard input.
 fn settle_input<R: Read>(source: &mut R, out: &mut [u8]) -> Option<Result<usize, Refusal>>
@@ -18,7 +18,7 @@ fn settle_input<R: Read>(source: &mut R, out: &mut [u8]) -> Option<Result<usize,
     print::<Statement, R>(source, out)
 }
 
-// What `run` needs of the program.
+// What `run_program` needs of the program.
 struct Settling;
 
 impl Program for Settling {
@@ -38,5 +38,5 @@ fn main(rt: HostRuntime) {
         unread: b"settle: the input can't be read\n",
         unwritten: b"settle: the output can't be written\n",
     };
-    run::<Settling>(&rt, &mut out, words);
+    run_program::<Settling>(&rt, &mut out, words);
 }

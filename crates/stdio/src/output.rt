@@ -104,11 +104,29 @@ pub fn write_out(
 
 // Prints into the lent bytes what there is for standard input and writes it out, or says what failed. A program takes no argument: a file that is named
 // there would not be read.
-pub fn run<P: Program>(rt: &HostRuntime, out: &mut [u8], words: Words) {
+pub fn run_program<P: Program>(rt: &HostRuntime, out: &mut [u8], words: Words) {
     if has_argument(rt) {
         say(rt, words.usage);
         return;
     }
     let printed = P::print(&mut rt.stdin(), out);
     put_out(rt, printed, out, words);
+}
+
+// The same with what a caller has that is no `Program`: anything that can be called. It promises nothing of its answer, so `write_out` asks whether so many
+// bytes are there.
+pub fn run<F: FnOnce(&mut Stdin, &mut [u8]) -> Option<Result<usize, Refusal>>>(
+    rt: &HostRuntime,
+    out: &mut [u8],
+    print: F,
+    words: Words,
+)
+    requires { F.IsAlwaysCallable print }
+{
+    if has_argument(rt) {
+        say(rt, words.usage);
+        return;
+    }
+    let printed = print(&mut rt.stdin(), out);
+    write_out(rt, printed, out, words);
 }

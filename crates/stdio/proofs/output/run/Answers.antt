@@ -1,5 +1,7 @@
-use Rattle.stdio.specs.laws.PrintingLaws.{printed-there}
+use Rattle.std.proofs.Common.{of_calls}
 use Rattle.stdio.proofs.output.run.Goals as goal
 
-pub put_out-requires : goal.put_out-requires
-put_out-requires g c = printed-there c.print-printed.ensures
+-- The check finds it by itself: it stands here for must-fail/asks_nothing, which is to be refused at a written answer.
+
+pub print-printed-requires : goal.print-printed-requires
+print-printed-requires g c = search of_calls
